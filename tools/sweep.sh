@@ -95,9 +95,18 @@ turns_of() {
         { print NR, NR }' "$1"
 }
 
+# goes_along_line COMMAND: whether the command's frames go along the line.
+goes_along_line() {
+    case $1 in
+    scan | name | program | cycle*) true ;;
+    *) false ;;
+    esac
+}
+
 # expect_refusals INPUT: numbers the commands that a run reaches from 1, and writes what the program must print where growths
 # are refused for command I: in `alone.I` what it prints with blank lines in place of the command, but for the refusal in
-# its place; in `lasting.I` what it prints before the command, and the refusal for it and each command behind it.
+# its place; in `lasting.I` what it prints before the command, and the refusal for it and each command behind it. Where the
+# command's frames go along the line, `alone.I.chain` and `lasting.I.chain` have the line of a refused chain in its place.
 expect_refusals() {
     rm -f "$scratch"/alone.* "$scratch"/lasting.*
     turns_of "$1" >"$scratch/turns"
@@ -115,12 +124,36 @@ expect_refusals() {
         cp "$scratch/without.status" "$scratch/alone.$count.status"
         { cat "$scratch/front"; yes refused 28 Memory | head -n $((commands - count + 1)); } >"$scratch/lasting.$count"
         echo 0 >"$scratch/lasting.$count.status"
+        goes_along_line "$(sed -n "${first}p" "$1")" || continue
+        place=$(($(wc -l <"$scratch/front") + 1))
+        for kind in alone lasting; do
+            sed "${place}s/.*/chain fault 1 Memory/" "$scratch/$kind.$count" >"$scratch/$kind.$count.chain"
+        done
     done <"$scratch/turns"
 }
 
-# What was said, with the line of a refused chain told as any other refusal.
-told_alike() {
-    sed 's/^chain fault 1 Memory$/refused 28 Memory/' "$scratch/said"
+# said_refusal EXPECTED: whether the run printed the refusal of a growth, or that of the chain where the command's frames go
+# along the line. It notes which, in `EXPECTED.met_growth` or `EXPECTED.met_chain`.
+said_refusal() {
+    if cmp -s "$scratch/said" "$1"; then
+        : >"$1.met_growth"
+    else
+        [ -f "$1.chain" ] && cmp -s "$scratch/said" "$1.chain" && : >"$1.met_chain"
+    fi
+}
+
+# met_both MODE LABEL: each command whose frames go along the line met both refusals.
+met_both() {
+    for chain in "$scratch/$1".*.chain; do
+        [ -f "$chain" ] || continue
+        expected=${chain%.chain}
+        if [ -f "$expected.met_growth" ] && [ -f "$expected.met_chain" ]; then
+            passed=$((passed + 1))
+        else
+            echo "sweep: $2: command ${expected##*.} didn't meet both refusals, $1"
+            failed=$((failed + 1))
+        fi
+    done
 }
 
 # Whether the run ended as one does for which a growth is refused in a phase of it: while the input is read, which prints
@@ -129,7 +162,7 @@ ended_in_phase() {
     case $2 in
     reading) [ "$1" -eq 4 ] && [ ! -s "$scratch/said" ] ;;
     0) [ "$1" -eq 3 ] && grep -Eqx 'project fault 11 Memory|open fault 2 Memory' "$scratch/said" && [ "$(wc -l <"$scratch/said")" -eq 1 ] ;;
-    *) [ -f "$scratch/$refusals.$2" ] && told_alike | cmp -s - "$scratch/$refusals.$2" && [ "$1" -eq "$(cat "$scratch/$refusals.$2.status")" ] ;;
+    *) [ -f "$scratch/$refusals.$2" ] && said_refusal "$scratch/$refusals.$2" && [ "$1" -eq "$(cat "$scratch/$refusals.$2.status")" ] ;;
     esac
 }
 
@@ -162,6 +195,7 @@ sweep_program() {
     for mode in $1; do
         refusals=$mode phase=reading
         refuse_each "hotline, $2" run_ended_well "$mode" "$3" "$program"
+        met_both "$mode" "hotline, $2"
     done
 }
 

@@ -2,6 +2,7 @@ pub mod AtOnce
 pub mod Ends
 pub mod Kept
 pub mod Lists
+pub mod Refusals
 pub mod Seatings
 pub mod Takings
 pub mod Waiting

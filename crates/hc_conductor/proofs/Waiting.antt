@@ -12,7 +12,7 @@ use Rattle.hc_rings.specs.Post.{Post, count_of}
 use Rattle.hc_rings.specs.Ring.{PostsEach, SameReceiver, SameSender, given_back, handed_out, held, known_places, known_spares, left, posted, spare_places, taken}
 use Rattle.hc_rings.proofs.lemmas.Same.{ends-still, sender-same}
 use Rattle.hc_conductor.specs.Taking.{AreTaken, AreTakenFrom, EachTakesKnown, TakesKnown}
-use Rattle.hc_conductor.specs.Together.{EachRing, IsWhole, KnowAll, posts_waiting, waiting_between}
+use Rattle.hc_conductor.specs.Together.{AreJoined, EachRing, IsWhole, KnowAll, posts_waiting, waiting_between}
 
 -- ---- one post that is known comes out
 
@@ -27,47 +27,48 @@ first_known n (x ∷ l) m b few p =
     )
 
 pub none-known : (r : PostReceiver) → TakesKnown 0 r r
-none-known r few room = (sym (append-nil (taken r)), omega arith)
+none-known r few = sym (append-nil (taken r))
 
 pub one-known : (n : ℕ) (old mid back new : PostReceiver) (post : Post) → IsPrefix (left old) (post ∷ left mid) → taken mid ≡ taken old ++ post ∷ []
-    → given_back mid ≡ given_back old → spare_places mid ≡ spare_places old → taken back ≡ taken mid → left back ≡ left mid
-    → (0 < spare_places mid → given_back back ≡ given_back mid ++ post ∷ []) → spare_places mid ≤ spare_places back + 1
-    → TakesKnown n back new → TakesKnown (suc n) old new
-one-known n old mid back new post first one same places behind still kept fewer others few room =
+    → taken back ≡ taken mid → left back ≡ left mid → TakesKnown n back new → TakesKnown (suc n) old new
+one-known n old mid back new post first one behind still others few =
     let known = first_known n (left old) (left mid) post few first in
-    let place : 0 < spare_places mid = omega (arith, places) in
-    let rest = others (omega (arith, known.0, ap length still)) (omega (arith, places)) in
-    let grown = kept place in (
-      rest.0
-          ∙ (ap (λ ps. ps ++ take n (left back)) (behind ∙ one)
-          ∙ (append_assoc (taken old) (post ∷ []) (take n (left back))
-          ∙ ap (λ ps. taken old ++ ps) (ap (λ l. post ∷ take n l) still ∙ sym known.1))),
-      omega (arith, rest.1, ap length grown, length-append (given_back mid) (post ∷ []), ap length same),
-    )
+    others (omega (arith, known.0, ap length still))
+    ∙ (ap (λ ps. ps ++ take n (left back)) (behind ∙ one)
+    ∙ (append_assoc (taken old) (post ∷ []) (take n (left back))
+    ∙ ap (λ ps. taken old ++ ps) (ap (λ l. post ∷ take n l) still ∙ sym known.1)))
 
 -- ---- a ring whose ends look at each other
 
-pub ring-known : (s s' : PostSender) (r r' : PostReceiver) → IsWhole s r → SameReceiver r r' → SameSender s s' → taken r' ≡ taken r → posted s' ≡ posted s
+each-still : (s s' : PostSender) → PostsEach s → handed_out s' ≡ handed_out s → posted s' ≡ posted s → held s' ≡ held s → PostsEach s'
+each-still s s' each out made holds =
+    out ∙ (each ∙ (ap (λ (ps : List Post). length ps + count_of (held s)) (sym made) ∙ ap (λ (h : Option Post). length (posted s') + count_of h) (sym holds)))
+
+pub ring-known : (s s' : PostSender) (r r' : PostReceiver) → AreJoined s r → SameReceiver r r' → SameSender s s' → taken r' ≡ taken r → posted s' ≡ posted s
     → handed_out s' ≡ handed_out s → held s' ≡ held s → taken r' ++ left r' ≡ posted s' → POSTS_WAITING + 1 ≤ known_places s' + length (left r')
     → known_spares s' + handed_out s' ≡ length (given_back r') → 4 + handed_out s' ≤ spare_places r' + length (given_back r') → given_back r' ≡ given_back r
     → KnowAll s' r'
 ring-known s s' r r' is receiver sender took made out holds split places spares room back =
     let long : length (taken r') + length (left r') ≡ length (posted s') = sym (length-append (taken r') (left r')) ∙ ap length split in
-    let each : PostsEach s' =
-    out ∙ (is.each ∙ (ap (λ (ps : List Post). length ps + count_of (held s)) (sym made) ∙ ap (λ (h : Option Post). length (posted s') + count_of h) (sym holds))) in
-    let came : length (given_back r') ≡ 4 + length (taken r') = ap length back ∙ (is.back ∙ ap (λ (ps : List Post). 4 + length ps) (sym took)) in
+    let each = each-still s s' is.each out made holds in
+    let came : length (given_back r') ≤ 4 + length (taken r') = let before = is.back in omega (arith, before, ap length back, ap length took) in
     record {
-      whole = record {
-        ends = ends-still s s' r r' is.ends sender receiver;
-        each = each;
-        back = came;
-        order = (left r', split);
-      };
+      joined = record { ends = ends-still s s' r r' is.ends sender receiver; each = each; back = came };
+      order = (left r', split);
       left_are = sym (ap (drop (length (taken r'))) (sym split) ∙ drop-append_seam (taken r') (left r'));
-      spares = omega (arith, long, each, came, spares);
+      spares = omega (arith, long, each, spares);
       places = places;
       room = omega (arith, long, each, came, room);
     }
+
+pub ring-whole : (s s' : PostSender) (r r' : PostReceiver) → IsWhole s r → SameReceiver r r' → SameSender s s' → taken r' ≡ taken r → posted s' ≡ posted s
+    → handed_out s' ≡ handed_out s → held s' ≡ held s → taken r' ++ left r' ≡ posted s' → given_back r' ≡ given_back r → IsWhole s' r'
+ring-whole s s' r r' is receiver sender took made out holds split back = record {
+  ends = ends-still s s' r r' is.ends sender receiver;
+  each = each-still s s' is.each out made holds;
+  back = ap length back ∙ (is.back ∙ ap (λ (ps : List Post). 4 + length ps) (sym took));
+  order = (left r', split);
+}
 
 pub same-waiting : (s s' : PostSender) (r r' : PostReceiver) → taken r' ≡ taken r → posted s' ≡ posted s → waiting_between s' r' ≡ waiting_between s r
 same-waiting s s' r r' took made = ap (λ (ps : List Post). drop (length ps) (posted s')) took ∙ ap (drop (length (taken r))) made
@@ -76,7 +77,8 @@ same-waiting s s' r r' took made = ap (λ (ps : List Post). drop (length ps) (po
 
 pub record AllTaken (s : PostSender) (r r' : PostReceiver) (posts : List Post) : Type 0 where
   pub posts_are : posts ≡ waiting_between s r
-  pub whole : IsWhole s r'
+  pub joined : AreJoined s r'
+  pub whole : IsWhole s r → IsWhole s r'
   pub none : waiting_between s r' ≡ []
 
 drop_all : {X : Type 0} (xs : List X) → drop (length xs) xs ≡ []
@@ -93,17 +95,24 @@ ring-taken : (n most : ℕ) (s : PostSender) (r r' : PostReceiver) (posts : List
     → AllTaken s r r' posts
 ring-taken n most s r r' posts all count takes came =
     let many : n ≡ length (left r) = count ∙ ap length (sym all.left_are) in
-    let got = takes (omega (arith, many)) (omega (arith, many, all.room)) in
     let whole-left : take n (left r) ≡ waiting_between s r = ap (λ (k : ℕ). take k (left r)) many ∙ (take_all (left r) ∙ all.left_are) in
-    let reach : taken r' ≡ taken r ++ waiting_between s r = got.0 ∙ ap (λ ps. taken r ++ ps) whole-left in
-    let end : taken r' ≡ posted s = reach ∙ rest_of (taken r) (posted s) all.whole.order in
+    let reach : taken r' ≡ taken r ++ waiting_between s r = takes (omega (arith, many)) ∙ ap (λ ps. taken r ++ ps) whole-left in
+    let end : taken r' ≡ posted s = reach ∙ rest_of (taken r) (posted s) all.order in
     let long = ap length reach ∙ length-append (taken r) (waiting_between s r) in
+    let are : posts ≡ waiting_between s r = append_cancel_left (taken r) posts (waiting_between s r) (sym came.taken ∙ reach) in
+    let room = all.room in
+    let grown = ap length (came.back (omega (arith, ap length are, count, many, room))) ∙ length-append (given_back r) posts in
     record {
-      posts_are = append_cancel_left (taken r) posts (waiting_between s r) (sym came.taken ∙ reach);
-      whole = record {
-        ends = ends-still s s r r' all.whole.ends (sender-same s) came.ring;
-        each = all.whole.each;
-        back = omega (arith, got.1, all.whole.back, long, count);
+      posts_are = are;
+      joined = record {
+        ends = ends-still s s r r' all.joined.ends (sender-same s) came.ring;
+        each = all.joined.each;
+        back = let before = all.joined.back in omega (arith, grown, before, long, ap length are);
+      };
+      whole = λ is. record {
+        ends = ends-still s s r r' is.ends (sender-same s) came.ring;
+        each = is.each;
+        back = omega (arith, grown, is.back, long, ap length are);
         order = ([], append-nil (taken r') ∙ end);
       };
       none = ap (λ (ps : List Post). drop (length ps) (posted s)) end ∙ drop_all (posted s);
@@ -112,7 +121,8 @@ ring-taken n most s r r' posts all count takes came =
 -- so it is of each ring
 pub record EachTaken (ss : List PostSender) (rs rs' : List PostReceiver) (posts : List (List Post)) : Type 0 where
   pub posts_are : posts ≡ posts_waiting ss rs
-  pub whole : EachRing IsWhole ss rs'
+  pub joined : EachRing AreJoined ss rs'
+  pub whole : EachRing IsWhole ss rs → EachRing IsWhole ss rs'
   pub none : All (λ ps. ps ≡ []) (posts_waiting ss rs')
 
 abbrev IsEmpty : List Post → Type 0
@@ -120,7 +130,7 @@ IsEmpty posts = posts ≡ []
 
 pub all-taken : (ss : List PostSender) (ns : List ℕ) (rs rs' : List PostReceiver) (posts : List (List Post)) → EachRing KnowAll ss rs → ns ≡ map length (posts_waiting ss rs)
     → EachTakesKnown ns rs rs' → AreTaken rs rs' posts → EachTaken ss rs rs' posts
-all-taken [] [] [] [] [] know count takes came = record { posts_are = refl; whole = tt; none = All-nil IsEmpty }
+all-taken [] [] [] [] [] know count takes came = record { posts_are = refl; joined = tt; whole = λ is. tt; none = All-nil IsEmpty }
 all-taken (s ∷ ss) (n ∷ ns) (r ∷ rs) (r' ∷ rs') (ps ∷ posts) know count takes came =
     let head : n ≡ length (waiting_between s r) = cc (count) in
     let tail : ns ≡ map length (posts_waiting ss rs) = cc (count) in
@@ -128,7 +138,8 @@ all-taken (s ∷ ss) (n ∷ ns) (r ∷ rs) (r' ∷ rs') (ps ∷ posts) know coun
     let others = all-taken ss ns rs rs' posts know.1 tail takes.1 came.1 in
     record {
       posts_are = ap (λ (qs : List Post). qs ∷ posts) one.posts_are ∙ ap (λ (qs : List (List Post)). waiting_between s r ∷ qs) others.posts_are;
-      whole = (one.whole, others.whole);
+      joined = (one.joined, others.joined);
+      whole = λ is. (one.whole is.0, others.whole is.1);
       none = All-cons IsEmpty (waiting_between s r') (posts_waiting ss rs') one.none others.none;
     }
 all-taken [] (n ∷ ns) [] rs' posts know count takes came = cc
@@ -162,6 +173,6 @@ as-many P (s ∷ ss) [] each = absurd each
 pub few-waiting : (ss : List PostSender) (rs : List PostReceiver) → EachRing KnowAll ss rs → All (λ n. n ≤ POSTS_WAITING) (map length (posts_waiting ss rs))
 few-waiting [] [] each = All-nil (λ (n : ℕ). n ≤ POSTS_WAITING)
 few-waiting (s ∷ ss) (r ∷ rs) each =
-    All-cons (λ (n : ℕ). n ≤ POSTS_WAITING) (length (waiting_between s r)) (map length (posts_waiting ss rs)) (let spares = each.0.spares in omega (arith, spares, ap length each.0.left_are)) (few-waiting ss rs each.1)
+    All-cons (λ (n : ℕ). n ≤ POSTS_WAITING) (length (waiting_between s r)) (map length (posts_waiting ss rs)) (let spares = each.0.spares in let back = each.0.joined.back in omega (arith, spares, back, ap length each.0.left_are)) (few-waiting ss rs each.1)
 few-waiting [] (r ∷ rs) each = absurd each
 few-waiting (s ∷ ss) [] each = absurd each

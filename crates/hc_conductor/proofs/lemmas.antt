@@ -1,3 +1,4 @@
 -- What the crates above cite, a file a subject.
 pub mod Crossing
 pub mod Images
+pub mod Joined

@@ -16,11 +16,11 @@ pub record IsOpenable (groups : List Group) : Type 0 where
   pub project : lowest_fault groups ≡ None
   pub uncrowded : crowded_task (line (opened groups)) ≡ None
 
--- a fault with a task names the lowest task of the opened line that needs more than 16 datagrams
+-- a fault with a task names the lowest task of the opened line that needs more than 16 datagrams; a seat is refused only where the groups can be opened; a growth may be refused of any
 abbrev pub IsOpenFault : List Group → OpenFault → Type 0
 IsOpenFault groups (TooManyDatagrams task) = crowded_task (line (opened groups)) ≡ Some task
 IsOpenFault groups Memory = Unit {0}
-IsOpenFault groups NoSeat = Unit {0}
+IsOpenFault groups NoSeat = IsOpenable groups
 
 -- the output bytes of a task
 abbrev pub output_bytes : Table → ℕ → ℕ

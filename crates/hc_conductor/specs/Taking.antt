@@ -43,17 +43,17 @@ pub record Counts (past : Record) (steps : List Step) (told : Taken) : Type 0 wh
   pub accepted : told.accepted ≡ posted_in past steps
   pub all : told.accepted + told.refused ≡ length steps
 
--- these posts, so many at most, came out of the ring, in order
+-- these posts, so many at most, came out of the ring, in order. Their buffers went back, where a place for each was known; no other buffer did
 pub record AreTakenFrom (most : ℕ) (old new : PostReceiver) (posts : List Post) : Type 0 where
   pub few : length posts ≤ most
   pub ring : SameReceiver old new
   pub taken : taken new ≡ taken old ++ posts
+  pub back : length posts ≤ spare_places old → given_back new ≡ given_back old ++ posts
+  pub no_more : length (given_back new) ≤ length (given_back old) + length posts
 
--- where so many are known to be left, and so many places for their buffers, just these come out of the ring, and their buffers go back
+-- where so many are known to be left, just these come out of the ring
 abbrev pub TakesKnown : ℕ → PostReceiver → PostReceiver → Type 0
-TakesKnown n old new =
-    n ≤ length (left old) → n ≤ spare_places old
-    → (taken new ≡ taken old ++ take n (left old)) × (length (given_back new) ≡ length (given_back old) + n)
+TakesKnown n old new = n ≤ length (left old) → taken new ≡ taken old ++ take n (left old)
 
 -- of each ring so many, where they are known
 abbrev pub EachTakesKnown : List ℕ → List PostReceiver → List PostReceiver → Type 0

@@ -17,6 +17,12 @@ posts_waiting [] rs = []
 posts_waiting (s ∷ ss) [] = []
 posts_waiting (s ∷ ss) (r ∷ rs) = waiting_between s r ∷ posts_waiting ss rs
 
+-- the two ends of one ring, with seat and conductor: each buffer that was handed out was posted or is held, and no more came back than the first four and those that were taken
+pub record AreJoined (s : PostSender) (r : PostReceiver) : Type 0 where
+  pub ends : ArePostEnds s r
+  pub each : PostsEach s
+  pub back : length (given_back r) ≤ SPARE_BUFFERS + length (taken r)
+
 -- the two ends of one ring, of which no buffer was lost: each that was handed out was posted or is held, and each that was taken came back
 pub record IsWhole (s : PostSender) (r : PostReceiver) : Type 0 where
   pub ends : ArePostEnds s r
@@ -24,11 +30,12 @@ pub record IsWhole (s : PostSender) (r : PostReceiver) : Type 0 where
   pub back : length (given_back r) ≡ SPARE_BUFFERS + length (taken r)
   pub order : IsPrefix (taken r) (posted s)
 
--- each end knows what the other did: what waits is known to be left, and each other buffer and each place is known
+-- each end knows what the other did: what was taken is the beginning of what was posted, and what waits is known to be left; each other buffer that came back is known, and so is each place
 pub record KnowAll (s : PostSender) (r : PostReceiver) : Type 0 where
-  pub whole : IsWhole s r
+  pub joined : AreJoined s r
+  pub order : IsPrefix (taken r) (posted s)
   pub left_are : left r ≡ waiting_between s r
-  pub spares : known_spares s + count_of (held s) + length (left r) ≡ SPARE_BUFFERS
+  pub spares : known_spares s + count_of (held s) + length (left r) + length (taken r) ≡ length (given_back r)
   pub places : POSTS_WAITING + 1 ≤ known_places s + length (left r)
   pub room : length (left r) ≤ spare_places r
 

@@ -98,12 +98,17 @@ pub(crate) fn take_all(core: &mut Core, task: u8, rings: &mut [PostReceiver], mo
 }
 
 impl Conductor {
+    ghost use Rattle.std.specs.Prelude.{List};
+    ghost use Rattle.hc_rings.specs.declared.posts.PostSender.{PostSender};
+    ghost use Rattle.hc_conductor.specs.Together.{AreJoined, EachRing};
+
     /// Takes what tasks posted, at most four posts of each, and hands each to the core as a post of its task, for its
     /// epoch: the tasks ascending, each one's posts in order. A post that the core refuses, since another epoch has
-    /// begun, leaves nothing. Buffers go back to the seats. It waits for nobody and takes no memory; what is posted
-    /// meanwhile may be left for the next call.
+    /// begun, leaves nothing. Each buffer goes back to its seat, unless no place is found for it. It waits for nobody and
+    /// takes no memory; what is posted meanwhile may be left for the next call.
     pub fn take_posts(&mut self) -> Taken
         ensures taken { TakesPosts self.old self.new result }
+        ensures joined { (seats : List PostSender) → EachRing AreJoined seats self.old.rings → EachRing AreJoined seats self.new.rings }
         ensures changes { SameChanges self.old self.new }
     {
         let most = [POSTS_WAITING as u32; TASKS as usize];

@@ -5,7 +5,7 @@ ghost use Rattle.hc_rings.specs.Ring as ring;
 ghost use Rattle.hc_conductor.specs.Conducting.{SameChanges, past_of};
 ghost use Rattle.hc_conductor.specs.Seats.{sender, viewer_of};
 ghost use Rattle.hc_conductor.specs.Taking.{Counts, events_of_all};
-ghost use Rattle.hc_conductor.specs.Together.{EachRing, IsWhole, KnowAll, posts_waiting};
+ghost use Rattle.hc_conductor.specs.Together.{AreJoined, EachRing, IsWhole, KnowAll, posts_waiting};
 
 use crate::conductor::Conductor;
 use crate::seat::TaskSeat;
@@ -15,9 +15,10 @@ use hc_rings::PostReceiver;
 
 // Lets both ends of each ring know what the other did, and counts what waits; there are eight, so deep is this recursion.
 fn look(rings: &mut [PostReceiver], seats: &mut [TaskSeat], counts: &mut [u32])
-    requires whole { EachRing IsWhole (map sender seats.old) rings.old }
+    requires joined { EachRing AreJoined (map sender seats.old) rings.old }
     requires each { length counts.old ≡ length seats.old }
     ensures known { EachRing KnowAll (map sender seats.new) rings.new }
+    ensures whole { EachRing IsWhole (map sender seats.old) rings.old → EachRing IsWhole (map sender seats.new) rings.new }
     ensures viewers { map viewer_of seats.new ≡ map viewer_of seats.old }
     ensures held { map ring.held (map sender seats.new) ≡ map ring.held (map sender seats.old) }
     ensures waiting { posts_waiting (map sender seats.new) rings.new ≡ posts_waiting (map sender seats.old) rings.old }
@@ -38,12 +39,14 @@ fn look(rings: &mut [PostReceiver], seats: &mut [TaskSeat], counts: &mut [u32])
 
 impl Conductor {
     /// How many posts of each task wait to be taken, task i's at place i, for a thread that holds the conductor and all
-    /// its seats, in the order of their tasks. Each seat then knows of a place for every post that doesn't wait, and of
-    /// every buffer that is free: so its next `hold` is refused just where four of its posts wait, and its next `post`
-    /// for no want of a place. It waits for nobody and takes no memory.
+    /// its seats, in the order of their tasks; also where they worked in threads of their own before. Each seat then
+    /// knows of a place for every post that doesn't wait, and of every buffer that is free: so its next `post` is refused
+    /// for no want of a place, and its next `hold`, where no buffer of its ring was lost, just where four of its posts
+    /// wait. It waits for nobody and takes no memory.
     pub fn posts_waiting(&mut self, seats: &mut [TaskSeat]) -> [u32; TASKS as usize]
-        requires { EachRing IsWhole (map sender seats.old) self.old.rings }
+        requires { EachRing AreJoined (map sender seats.old) self.old.rings }
         ensures known { EachRing KnowAll (map sender seats.new) self.new.rings }
+        ensures whole { EachRing IsWhole (map sender seats.old) self.old.rings → EachRing IsWhole (map sender seats.new) self.new.rings }
         ensures viewers { map viewer_of seats.new ≡ map viewer_of seats.old }
         ensures held { map ring.held (map sender seats.new) ≡ map ring.held (map sender seats.old) }
         ensures waiting { posts_waiting (map sender seats.new) self.new.rings ≡ posts_waiting (map sender seats.old) self.old.rings }
@@ -58,14 +61,15 @@ impl Conductor {
 
     /// Takes all that the tasks posted, for a thread that holds the conductor and all its seats, in the order of their
     /// tasks, and hands each post to the core as a post of its task, for its epoch: the tasks ascending, each one's posts
-    /// in order. A post that the core refuses leaves nothing. Buffers go back to the seats. It waits for nobody and takes
-    /// no memory.
+    /// in order. A post that the core refuses leaves nothing. Each buffer goes back to its seat. It waits for nobody and
+    /// takes no memory.
     pub fn take_all_posts(&mut self, seats: &mut [TaskSeat]) -> Taken
-        requires { EachRing IsWhole (map sender seats.old) self.old.rings }
+        requires { EachRing AreJoined (map sender seats.old) self.old.rings }
         ensures entries { past_of self.new ≡ entries_after_all (past_of self.old) (events_of_all 0 (posts_waiting (map sender seats.old) self.old.rings)) }
         ensures counts { Counts (past_of self.old) (events_of_all 0 (posts_waiting (map sender seats.old) self.old.rings)) result }
         ensures changes { SameChanges self.old self.new }
-        ensures whole { EachRing IsWhole (map sender seats.new) self.new.rings }
+        ensures joined { EachRing AreJoined (map sender seats.new) self.new.rings }
+        ensures whole { EachRing IsWhole (map sender seats.old) self.old.rings → EachRing IsWhole (map sender seats.new) self.new.rings }
         ensures none { All (λ posts. posts ≡ []) (posts_waiting (map sender seats.new) self.new.rings) }
         ensures viewers { map viewer_of seats.new ≡ map viewer_of seats.old }
         ensures held { map ring.held (map sender seats.new) ≡ map ring.held (map sender seats.old) }

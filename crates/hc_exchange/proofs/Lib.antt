@@ -5,3 +5,4 @@ mod Packing
 mod Standing
 mod Meaning
 mod Alone
+mod Ready

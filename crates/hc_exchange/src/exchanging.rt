@@ -1,9 +1,10 @@
 //! One exchange of a task's process data over a programmed line.
-ghost use Rattle.std.specs.Prelude.{◌≡◌, All, IfOk, OnErr, map};
+ghost use Rattle.std.specs.Prelude.{◌≡◌, All, IfOk, OnErr, length, map};
 ghost use Rattle.hc_bits.specs.Bits.{AreBytes};
 ghost use Rattle.hc_records.specs.Line.{line};
 ghost use Rattle.hc_segment.specs.Line.{frame_through, frames_through, machines_after, machines_behind};
-ghost use Rattle.hc_programmed.specs.Writing.{AreMachinesOf};
+ghost use Rattle.hc_machine.specs.declared.limits.TheConstants.{MEMORY_BYTES};
+ghost use Rattle.hc_programmed.specs.Writing.{AreReadyFor};
 ghost use Rattle.hc_exchange.specs.Exchanged.{IsExchanged};
 ghost use Rattle.hc_exchange.specs.Sent.{IsSent};
 
@@ -20,10 +21,11 @@ fn are_bytes(bytes: &[u8])
     let _ = bytes;
 }
 
-/// Each number of the machines' memories is a byte. The call changes nothing: a list's value doesn't tell what its machines
-/// hold, each machine tells its own.
+/// Each machine has all its memory, and each number there is a byte. The call changes nothing: a list's value doesn't say
+/// what its machines hold, each machine says it of its own.
 fn hold_bytes(segment: &Segment)
-    ensures { All AreBytes segment.now }
+    ensures bytes { All AreBytes segment.now }
+    ensures sizes { All (λ memory. length memory ≡ MEMORY_BYTES) segment.now }
 {
     for machine in segment.machines() {
         are_bytes(machine.memory());
@@ -75,7 +77,7 @@ pub fn exchange(
     outputs: &[u8],
 ) -> Result<Vec<Vec<u8>>, AllocError>
     ensures sent { IfOk result (λ frames. IsSent (line plan.now) task outputs.now segment.old (map (λ frame. frame.items) frames.items) segment.new) }
-    ensures meant { IfOk result (λ frames. AreMachinesOf (line plan.now) segment.old → IsExchanged (line plan.now) task outputs.now segment.old (map (λ frame. frame.items) frames.items) segment.new) }
+    ensures meant { IfOk result (λ frames. AreReadyFor (line plan.now) segment.old → IsExchanged (line plan.now) task outputs.now segment.old (map (λ frame. frame.items) frames.items) segment.new) }
     ensures unchanged { OnErr result (segment.new ≡ segment.old) }
 {
     let places = plan.places();

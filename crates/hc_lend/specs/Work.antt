@@ -1,6 +1,6 @@
 -- A list in parts, and what work leaves of each.
 use Rattle.std.specs.Prelude.{ℕ, List, [], ◌∷◌, take, drop, map, All}
-use Rattle.std.specs.List.{enumerate_from}
+use Rattle.std.specs.List.{enumerate_from, range_with_len}
 
 -- the parts of these lengths, one after another
 abbrev pub parts_of : List ℕ → List ℕ → List (List ℕ)
@@ -18,3 +18,7 @@ worked_parts leaves first lengths bytes = map (λ part. leaves part.0 part.1) (n
 -- whether each part may be worked on, by its number and its bytes
 abbrev pub CanWorkOnEach : (ℕ → List ℕ → Type 0) → ℕ → List ℕ → List ℕ → Type 0
 CanWorkOnEach can first lengths bytes = All (λ part. can part.0 part.1) (numbered_parts first lengths bytes)
+
+-- so many workers have passed a gate, of which the first has this number
+abbrev pub HavePassed : (ℕ → Type 0) → ℕ → ℕ → Type 0
+HavePassed passed first count = All passed (range_with_len first count)

@@ -3,7 +3,7 @@
 ghost use Rattle.std.specs.Prelude.{◌≡◌, ◌+◌, ◌<◌, ◌^◌, length, sum, List, ℕ};
 ghost use Rattle.std.specs.List.{concat};
 ghost use Rattle.std.specs.Thread.{IsSync};
-ghost use Rattle.hc_lend.specs.Work.{parts_of, worked_parts, CanWorkOnEach};
+ghost use Rattle.hc_lend.specs.Work.{parts_of, worked_parts, CanWorkOnEach, HavePassed};
 
 use crate::parts::Parts;
 use std::thread::{Threads, join_mut};
@@ -25,8 +25,13 @@ pub trait PartWork {
 
 /// What each worker passes before its work.
 pub trait Gate {
+    /// What is so once the worker with this number has passed: nothing, unless the gate says otherwise. A caller of
+    /// any gate has it of `begun` alone, so a contract that names it says that the gate was called.
+    ghost passed: { Self → ℕ → Type 0 } = { λ _ _. Unit {0} };
+
     /// The worker of the part with this number has begun. It may be held here, and works once this returns.
-    fn begun(&self, worker: usize);
+    fn begun(&self, worker: usize)
+        ensures { passed self.now worker };
 }
 
 /// Works on all parts at once, with one worker for each: this thread for the last part, and a thread of
@@ -34,7 +39,7 @@ pub trait Gate {
 /// It returns once all workers are done. It takes no memory and is never refused. With no part it does nothing.
 ///
 /// A part for which the system makes no thread is worked on in this thread, after the parts behind it.
-/// No clause says that the workers run at once.
+/// No clause says that the workers run at once, or that a worker calls the gate no second time.
 pub fn each_at_once<R: Threads + Sync, W: PartWork + Sync, G: Gate + Sync>(
     rt: &R,
     parts: Parts<'_>,
@@ -46,6 +51,7 @@ pub fn each_at_once<R: Threads + Sync, W: PartWork + Sync, G: Gate + Sync>(
         ≡ worked_parts (W.leaves work.now) 0 parts.entry.lengths.now parts.entry.bytes.now }
     ensures whole { parts.exit.0.now
         ≡ concat (worked_parts (W.leaves work.now) 0 parts.entry.lengths.now parts.entry.bytes.now) }
+    ensures passed { HavePassed (G.passed gate.now) 0 (length parts.entry.lengths.now) }
 {
     let Parts { bytes, lengths } = parts;
     rest_at_once(rt, bytes, lengths, 0, work, gate);
@@ -63,8 +69,9 @@ fn rest_at_once<R: Threads + Sync, W: PartWork + Sync, G: Gate + Sync>(
     requires all { sum lengths.now ≡ length bytes.old }
     requires numbers { first + length lengths.now < 2 ^ 64 }
     requires can { CanWorkOnEach (W.can_work work.now) first lengths.now bytes.old }
-    ensures { parts_of lengths.now bytes.new
+    ensures left { parts_of lengths.now bytes.new
         ≡ worked_parts (W.leaves work.now) first lengths.now bytes.old }
+    ensures passed { HavePassed (G.passed gate.now) first (length lengths.now) }
 {
     let Some((size, lengths)) = lengths.split_first() else {
         return;
@@ -78,15 +85,16 @@ fn rest_at_once<R: Threads + Sync, W: PartWork + Sync, G: Gate + Sync>(
         rt,
         &mut ||
             requires { W.can_work work.now first part.now }
-            ensures { part.exit.now ≡ W.leaves work.entry.now first part.entry.now }
+            ensures { (part.exit.now ≡ W.leaves work.entry.now first part.entry.now) × G.passed gate.entry.now first }
         { work_alone(first, part, work, gate) },
         &mut ||
             requires { IsSync R.row × IsSync W.row × IsSync G.row
                 × (sum lengths.now ≡ length rest.now)
                 × (first + 1 + length lengths.now < 2 ^ 64)
                 × CanWorkOnEach (W.can_work work.now) (first + 1) lengths.now rest.now }
-            ensures { parts_of lengths.entry.now rest.exit.now
-                ≡ worked_parts (W.leaves work.entry.now) (first + 1) lengths.entry.now rest.entry.now }
+            ensures { (parts_of lengths.entry.now rest.exit.now
+                ≡ worked_parts (W.leaves work.entry.now) (first + 1) lengths.entry.now rest.entry.now)
+                × HavePassed (G.passed gate.entry.now) (first + 1) (length lengths.entry.now) }
         { rest_at_once(rt, rest, lengths, first + 1, work, gate) },
     );
 }
@@ -94,7 +102,8 @@ fn rest_at_once<R: Threads + Sync, W: PartWork + Sync, G: Gate + Sync>(
 // What one worker does.
 fn work_alone<W: PartWork, G: Gate>(part: usize, bytes: &mut [u8], work: &W, gate: &G)
     requires { W.can_work work.now part bytes.old }
-    ensures { bytes.new ≡ W.leaves work.now part bytes.old }
+    ensures left { bytes.new ≡ W.leaves work.now part bytes.old }
+    ensures passed { G.passed gate.now part }
 {
     gate.begun(part);
     work.work(part, bytes);

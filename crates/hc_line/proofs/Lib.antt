@@ -1,4 +1,5 @@
 pub mod Dealt
+pub mod Fourths
 pub mod Written
 pub mod Turning
 pub mod Counted

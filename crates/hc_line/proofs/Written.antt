@@ -1,9 +1,10 @@
 -- Machines to whose memory is written.
-use Rattle.std.proofs.Common.{◌≡◌, ◌<◌, ◌≤◌, ◌-◌, ℕ, zero, suc, List, [], ◌∷◌, ◌++◌, length, get_or, take, drop, refl, sym, ap, ◌∙◌, arith}
+use Rattle.std.proofs.Common.{◌≡◌, ◌<◌, ◌≤◌, ◌-◌, ℕ, zero, suc, List, [], ◌∷◌, ◌++◌, length, get_or, map, take, drop, refl, sym, ap, subst, ◌∙◌, arith}
 use Rattle.std.proofs.Math.ListN.{set}
 use Rattle.std.proofs.Math.Seq.{take-append_seam}
 use Rattle.hc_machine.specs.Memory.{with_part}
 use Rattle.hc_segment.specs.Line.{all_machines}
+use Rattle.hc_line.specs.Cutting.{IsCut}
 use Rattle.hc_line.specs.Machines.{poked}
 
 -- as many elements, written over all of them, are what is there
@@ -41,3 +42,13 @@ kept-count items new count len counted whole many same =
     ∙ sym same
     ∙ ap (λ (ss : List (List (List ℕ))). length (all_machines ss)) (sym (overwritten-whole items new many))
     ∙ ap (λ (n : ℕ). length (all_machines (take n (new ++ drop (length new) items)))) (sym whole)
+
+-- they are cut as before
+pub kept-cut : (items new : List (List (List ℕ))) (count len : ℕ) → IsCut count (map (length {A = List ℕ}) items) → len ≡ length items → length new ≡ length items
+    → map (length {A = List ℕ}) new ≡ map (length {A = List ℕ}) items → IsCut count (map (length {A = List ℕ}) (take len (new ++ drop (length new) items)))
+kept-cut items new count len cut whole many same =
+    subst (IsCut count)
+    (sym same
+    ∙ ap (λ (ss : List (List (List ℕ))). map (length {A = List ℕ}) ss) (sym (overwritten-whole items new many))
+    ∙ ap (λ (n : ℕ). map (length {A = List ℕ}) (take n (new ++ drop (length new) items))) (sym whole))
+    cut

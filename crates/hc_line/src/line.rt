@@ -1,5 +1,5 @@
 //! The line, and what goes through it.
-ghost use Rattle.std.specs.Prelude.{◌≡◌, ◌≤◌, ◌+◌, ◌<◌, IfOk, IfSome, OnErr, OnOk, length, slice_get};
+ghost use Rattle.std.specs.Prelude.{◌≡◌, ◌≤◌, ◌+◌, ◌<◌, IfOk, IfSome, OnErr, OnOk, length, map, slice_get};
 ghost use Rattle.std.specs.Option.{option_copied};
 ghost use Rattle.hc_machine.specs.declared.limits.TheConstants.{MEMORY_BYTES};
 ghost use Rattle.hc_segment.specs.Line.{all_machines, frames_through, machines_after};
@@ -24,14 +24,14 @@ pub struct SimulatedLine {
 }
 
 impl Model for SimulatedLine {
-    ghost use Rattle.std.specs.Prelude.{◌≡◌, ℕ, List, length};
-    ghost use Rattle.hc_segment.specs.Line.{all_machines};
+    ghost use Rattle.std.specs.Prelude.{ℕ, List};
+    ghost use Rattle.hc_line.specs.Segments.{IsLine, machines_in};
 
     ghost Value = { List (List ℕ) };
 
-    ghost view = { λ line. all_machines line.segments.items };
+    ghost view = { machines_in };
 
-    ghost invariant = { λ line. line.count ≡ length (all_machines line.segments.items) };
+    ghost invariant = { IsLine };
 }
 
 /// Holds no segment back.
@@ -66,7 +66,8 @@ fn write_one(segment: &mut Segment, number: usize, at: usize, bytes: &[u8])
 /// Writes to the memory of a machine of these segments; there are four at most, so deep is this recursion.
 fn write_in(segments: &mut [Segment], number: usize, at: usize, bytes: &[u8])
     requires { at + length bytes.now ≤ MEMORY_BYTES }
-    ensures { all_machines segments.new ≡ poked number at bytes.now (all_machines segments.old) }
+    ensures memory { all_machines segments.new ≡ poked number at bytes.now (all_machines segments.old) }
+    ensures sizes { map length segments.new ≡ map length segments.old }
 {
     let Some((first, others)) = segments.split_first_mut() else {
         return;

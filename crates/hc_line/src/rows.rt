@@ -1,7 +1,8 @@
 //! Machines are cut into segments, for which the room is taken before.
-ghost use Rattle.std.specs.Prelude.{◌≡◌, ◌≤◌, ◌+◌, ◌*◌, ◌/◌, [], ◌++◌, All, IfOk, drop, length, take, vec_len, vec_capacity};
+ghost use Rattle.std.specs.Prelude.{◌≡◌, ◌≤◌, ◌+◌, ◌*◌, ◌/◌, [], ◌++◌, All, IfOk, drop, length, map, take, vec_len, vec_capacity};
 ghost use Rattle.std.specs.Vec.Iter.{into_iter_items};
 ghost use Rattle.hc_segment.specs.Line.{all_machines};
+ghost use Rattle.hc_line.specs.Cutting.{fourth};
 
 use hc_machine::SlaveMachine;
 use hc_segment::Segment;
@@ -55,7 +56,8 @@ impl Row {
     }
 }
 
-/// Room for segments of machines. Contracts see it as the number of machines for which there is room.
+/// Room for segments of machines. Contracts see for how many segments there is room, and of how many machines each is at
+/// most.
 #[derive(Drop)]
 pub(crate) struct Cut {
     // no segment yet, but a place for one of each row
@@ -66,11 +68,12 @@ pub(crate) struct Cut {
 }
 
 impl Model for Cut {
-    ghost use Rattle.std.specs.Prelude.{◌≡◌, ◌≤◌, ◌*◌, ℕ, [], All, length, vec_capacity, vec_len};
+    ghost use Rattle.std.specs.Prelude.{◌≡◌, ◌≤◌, All, length, vec_capacity, vec_len};
+    ghost use Rattle.hc_line.specs.Cutting.{Room};
 
-    ghost Value = { ℕ };
+    ghost Value = { Room };
 
-    ghost view = { λ cut. length cut.rows.items * cut.size };
+    ghost view = { λ cut. record { number = length cut.rows.items; size = cut.size } };
 
     ghost invariant = { λ cut. (vec_len cut.segments ≡ 0) × (length cut.rows.items ≤ vec_capacity cut.segments) × All (λ row. cut.size ≤ row) cut.rows.items };
 }
@@ -88,9 +91,11 @@ fn rows_of(alloc: Global, number: usize, size: usize) -> Result<Vec<Row>, AllocE
 }
 
 impl Cut {
-    /// Room for so many machines: at most four segments, each of a fourth of them, rounded up.
+    /// Room for so many machines: at most four segments, each of at most a fourth of them, rounded up.
     pub(crate) fn new(alloc: Global, count: usize) -> Result<Cut, AllocError>
-        ensures { IfOk result (λ cut. count ≤ cut) }
+        ensures room { IfOk result (λ cut. count ≤ cut.number * cut.size) }
+        ensures few { IfOk result (λ cut. cut.number ≤ 4) }
+        ensures size { IfOk result (λ cut. cut.size ≡ fourth count) }
     {
         let size = count.div_ceil(MOST_SEGMENTS);
         let number = count.div_ceil(size.max(1));
@@ -101,10 +106,12 @@ impl Cut {
         })
     }
 
-    /// The segments of these machines, for which there is room.
+    /// The segments of these machines, for which there is room: all of them are used, though the last may be empty.
     pub(crate) fn segments(self, machines: Vec<SlaveMachine>) -> Vec<Segment>
-        requires { length machines.items ≤ self }
-        ensures { all_machines result.items ≡ machines.items }
+        requires { length machines.items ≤ self.number * self.size }
+        ensures machines { all_machines result.items ≡ machines.items }
+        ensures number { length result.items ≡ self.number }
+        ensures sizes { All (λ size. size ≤ self.size) (map length result.items) }
     {
         let Cut {
             mut segments,

@@ -18,22 +18,25 @@ use Rattle.hc_conductor.specs.Seats.{epoch_of, held, known, seat_origin, sender,
 use Rattle.hc_conductor.specs.Together.{EachRing, IsWhole, KnowAll, posts_waiting, waiting_between}
 use Rattle.hc_master.specs.Mastering.{IsMastering, Mastering, waiting}
 use Rattle.hc_master.specs.Posting.{with_post}
-use Rattle.hc_master.proofs.Posted.{PostsOne, known-at, known-whole, posted-at}
+use Rattle.hc_master.proofs.Posted.{PostsOne, known-at, posted-at}
 use Rattle.hc_master.proofs.Seated.{as-many-waiting, each-at, map-twice, seen-alike}
 
 -- the ends of its rings looked at each other, and nothing else happened
 pub record HasLooked (m : Mastering) (c : Conducting) (seats : List TaskSeat) : Type 0 where
   pub known : EachRing KnowAll (map sender seats) c.rings
+  pub whole : EachRing IsWhole (map sender seats) c.rings
   pub viewers : map viewer_of seats ≡ map viewer_of m.seats
   pub held : map ring.held (map sender seats) ≡ map ring.held (map sender m.seats)
   pub waits : posts_waiting (map sender seats) c.rings ≡ waiting m
   pub board : c.board ≡ m.conductor.board
 
-pub has-looked : (m : Mastering) (c : Conducting) (before seats : List TaskSeat) → before ≡ m.seats → EachRing KnowAll (map sender seats) c.rings → map viewer_of seats ≡ map viewer_of before
+pub has-looked : (m : Mastering) (c : Conducting) (before seats : List TaskSeat) → IsMastering m → before ≡ m.seats → EachRing KnowAll (map sender seats) c.rings
+    → (EachRing IsWhole (map sender before) m.conductor.rings → EachRing IsWhole (map sender seats) c.rings) → map viewer_of seats ≡ map viewer_of before
     → map ring.held (map sender seats) ≡ map ring.held (map sender before) → posts_waiting (map sender seats) c.rings ≡ posts_waiting (map sender before) m.conductor.rings → c.board ≡ m.conductor.board
     → HasLooked m c seats
-has-looked m c before seats same known viewers held waits board = record {
+has-looked m c before seats is same known whole viewers held waits board = record {
   known = known;
+  whole = whole (subst (λ (ss : List TaskSeat). EachRing IsWhole (map sender ss) m.conductor.rings) (sym same) is.whole);
   viewers = viewers ∙ ap (λ (ss : List TaskSeat). map viewer_of ss) same;
   held = held ∙ ap (λ (ss : List TaskSeat). map ring.held (map sender ss)) same;
   waits = waits ∙ ap (λ (ss : List TaskSeat). posts_waiting (map sender ss) m.conductor.rings) same;
@@ -53,7 +56,7 @@ looked-stands m c seats is looked = record {
   known = alike (λ (v : Viewer). inner.known v.seat) m c seats looked ∙ (is.known ∙ ap (λ (b : Board). replicate 8 (board.published b)) (sym looked.board));
   origins = alike (λ (v : Viewer). inner.seat_origin v.seat) m c seats looked ∙ (is.origins ∙ ap (λ (b : Board). replicate 8 (board.origin_of b)) (sym looked.board));
   none_held = none-held m c seats is looked;
-  whole = known-whole (map sender seats) c.rings looked.known;
+  whole = looked.whole;
 }
 
 pub eight-seats : (m : Mastering) → IsMastering m → length m.seats ≡ 8
@@ -81,7 +84,7 @@ pub has-room : (m : Mastering) (c : Conducting) (before seats : List TaskSeat) (
 has-room m c before seats counts task s is looked low there same told below =
     let few = few-wait m counts task 0 is (told ∙ ap (λ (ss : List TaskSeat). map length (posts_waiting (map sender ss) m.conductor.rings)) same) low below in
     let inside : task < length seats = omega (arith, low, as-many m c seats looked, eight-seats m is) in
-    let ends = known-at (map sender seats) c.rings task (sender s) looked.known (omega (arith, inside, length-map seats sender)) in
+    let ends = known-at (map sender seats) c.rings task (sender s) looked.known looked.whole (omega (arith, inside, length-map seats sender)) in
     let at : get_or (map sender seats) task (sender s) ≡ sender s = get_or-map sender seats task s (sender s) inside ∙ ap sender (sym there) in
     let know : KnowAll (sender s) ends.ring = subst (λ (x : PostSender). KnowAll x ends.ring) at ends.know in
     let holds : ring.held (sender s) ≡ None = ap held there ∙ each-at held seats 8 None task s (none-held m c seats is looked) low in
@@ -89,9 +92,10 @@ has-room m c before seats counts task s is looked low there same told below =
     let waits : length (ring.left ends.ring) ≡ length (get_or (waiting m) task []) =
     ap length (know.left_are ∙ (ap (λ (x : PostSender). waiting_between x ends.ring) (sym at) ∙ (sym ends.waits ∙ ap (λ (pss : List (List Post)). get_or pss task []) looked.waits))) in
     let spares = know.spares in
+    let back = ends.whole.back in
     let places = know.places in
     record {
-      spare = omega (arith, spares, none, waits, few);
+      spare = omega (arith, spares, back, none, waits, few);
       place = omega (arith, places, waits, few);
       epoch = ap epoch_of there ∙ (sym (get_or-map epoch_of seats task s 0 inside) ∙ ap (λ (es : List ℕ). get_or es task 0) (alike (λ (v : Viewer). v.epoch) m c seats looked));
       size = ap size_of there ∙ (sym (get_or-map size_of seats task s 0 inside) ∙ ap (λ (ns : List ℕ). get_or ns task 0) (alike (λ (v : Viewer). v.size) m c seats looked));

@@ -9,25 +9,20 @@ use Rattle.hc_rings.proofs.lemmas.Same.{ends-still, receiver-same}
 use Rattle.hc_conductor.specs.Together.{EachRing, IsWhole, KnowAll, posts_waiting, waiting_between}
 use Rattle.hc_master.specs.Posting.{with_post}
 
-pub known-whole : (ss : List PostSender) (rs : List PostReceiver) → EachRing KnowAll ss rs → EachRing IsWhole ss rs
-known-whole [] [] each = tt
-known-whole (s ∷ ss) (r ∷ rs) each = (each.0.whole, known-whole ss rs each.1)
-known-whole [] (r ∷ rs) each = absurd each
-known-whole (s ∷ ss) [] each = absurd each
-
--- the ring of a task, of which all is known
+-- the ring of a task, of which all is known and no buffer was lost
 pub record KnownAt (ss : List PostSender) (rs : List PostReceiver) (i : ℕ) (d : PostSender) : Type 0 where
   pub ring : PostReceiver
   pub know : KnowAll (get_or ss i d) ring
+  pub whole : IsWhole (get_or ss i d) ring
   pub waits : get_or (posts_waiting ss rs) i [] ≡ waiting_between (get_or ss i d) ring
 
-pub known-at : (ss : List PostSender) (rs : List PostReceiver) (i : ℕ) (d : PostSender) → EachRing KnowAll ss rs → i < length ss → KnownAt ss rs i d
-known-at [] rs i d each low = absurd (omega arith)
-known-at (s ∷ ss) [] i d each low = absurd each
-known-at (s ∷ ss) (r ∷ rs) zero d each low = record { ring = r; know = each.0; waits = refl }
-known-at (s ∷ ss) (r ∷ rs) (suc i) d each low =
-    let rest = known-at ss rs i d each.1 (omega arith) in
-    record { ring = rest.ring; know = rest.know; waits = rest.waits }
+pub known-at : (ss : List PostSender) (rs : List PostReceiver) (i : ℕ) (d : PostSender) → EachRing KnowAll ss rs → EachRing IsWhole ss rs → i < length ss → KnownAt ss rs i d
+known-at [] rs i d each all low = absurd (omega arith)
+known-at (s ∷ ss) [] i d each all low = absurd each
+known-at (s ∷ ss) (r ∷ rs) zero d each all low = record { ring = r; know = each.0; whole = all.0; waits = refl }
+known-at (s ∷ ss) (r ∷ rs) (suc i) d each all low =
+    let rest = known-at ss rs i d each.1 all.1 (omega arith) in
+    record { ring = rest.ring; know = rest.know; whole = rest.whole; waits = rest.waits }
 
 -- one post more
 pub record PostsOne (s t : PostSender) (post : Post) : Type 0 where

@@ -15,6 +15,8 @@ pub mod Proposed
 pub mod Written
 pub mod Together
 pub mod Programming
+pub mod Ending
+pub mod Machines
 pub mod MemoryArguments
 pub mod Cycling
 pub mod Posting

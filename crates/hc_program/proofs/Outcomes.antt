@@ -1,7 +1,7 @@
 -- The outcome of an input, from where its project opens, and of what a reader had left.
-use Rattle.std.proofs.Common.{◌≡◌, ℕ, ◌≤◌, List, [], length, cond, false, ap, subst, ◌∙◌, Ok, Err, Some, None}
+use Rattle.std.proofs.Common.{◌≡◌, ℕ, ◌≤◌, ◌<◌, List, length, cond, false, ap, subst, ◌∙◌, Ok, Err, Some, None}
 use Rattle.std.specs.Prelude.{nat_lt, IfSome, Option}
-use Rattle.std.proofs.lemmas.Bool.{le-ltb}
+use Rattle.std.proofs.lemmas.Bool.{le-ltb, lt-ltb}
 use Rattle.hc_events.specs.Entries.{Record}
 use Rattle.hc_text.specs.declared.input.TheConstants.{MOST_INPUT}
 use Rattle.hc_program.specs.declared.opening.Unopened.{Unopened}
@@ -10,7 +10,7 @@ use Rattle.hc_program.specs.Declaring.{turns_of}
 use Rattle.hc_program.specs.Opening.{opening_of}
 use Rattle.hc_program.specs.Runs.{run}
 use Rattle.hc_program.specs.Standings.{opened_standing}
-use Rattle.hc_program.specs.Text.{outcome_of, outcome_of_lines, run_opened, unopened}
+use Rattle.hc_program.specs.Text.{outcome_of, outcome_of_lines, run_opened, unopened, unread}
 
 not_long : (n m : ℕ) → n ≤ m → nat_lt m n ≡ false
 not_long n m within = le-ltb m n within
@@ -18,7 +18,12 @@ not_long n m within = le-ltb m n within
 lines_outcome : (input : List ℕ) → length input ≤ MOST_INPUT → outcome_of input ≡ outcome_of_lines (lines_of input)
 unfolding outcome_of
 lines_outcome input within =
-    ap (λ b. cond b (record { text = []; status = 4 }) (outcome_of_lines (lines_of input))) (not_long (length input) MOST_INPUT within)
+    ap (λ b. cond b unread (outcome_of_lines (lines_of input))) (not_long (length input) MOST_INPUT within)
+
+-- an input that is too long
+pub long_outcome : (input : List ℕ) → MOST_INPUT < length input → outcome_of input ≡ unread
+unfolding outcome_of
+long_outcome input long = ap (λ b. cond b unread (outcome_of_lines (lines_of input))) (lt-ltb MOST_INPUT (length input) long)
 
 pub opened_outcome : (input : List ℕ) (past : Record) → length input ≤ MOST_INPUT → opening_of (project_text (lines_of input)) ≡ Ok past
     → outcome_of input ≡ run (opened_standing past) (turns_of (command_lines (lines_of input)))

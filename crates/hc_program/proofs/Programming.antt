@@ -1,5 +1,5 @@
 -- Register writes along the line, one after another.
-use Rattle.std.proofs.Common.{◌≡◌, ◌<◌, ◌≤◌, ◌+◌, ◌-◌, ◌++◌, ℕ, zero, suc, Bool, true, false, not, List, [], ◌∷◌, drop, length, take, refl, sym, ap, ◌∙◌, inl, inr, arith, Some, None, Ok, Err, IfOk, OnErr, OnOk, add-one, is_none, eqb}
+use Rattle.std.proofs.Common.{◌≡◌, ◌<◌, ◌≤◌, ◌+◌, ◌-◌, ◌++◌, ℕ, zero, suc, Bool, true, false, not, List, [], ◌∷◌, drop, length, take, refl, sym, ap, ◌∙◌, inl, inr, arith, Some, None, Ok, Err, IfErr, IfOk, OnOk, add-one, is_none, eqb}
 use Rattle.std.specs.Prelude.{Option, Result, if◌then◌else◌, nat_lt}
 use Rattle.std.proofs.lemmas.Bool.{ltb-false}
 use Rattle.std.proofs.lemmas.List.{length-append, length-drop, take_at}
@@ -20,6 +20,8 @@ use Rattle.hc_segment.specs.Line.{frame_through}
 use Rattle.hc_program.specs.Programs.{Programmed, WritesOnce, behind_write, can_write, is_done, programmed, programmed_within, says_done, serials_left, write_back, write_frame, write_in, write_passed, write_sent, written}
 use Rattle.hc_program.specs.Standings.{Standing, passed, stepped}
 use Rattle.hc_program.specs.Stops.{AreWritten, StopsInWrite}
+use Rattle.hc_program.specs.declared.stops.Want.{Want}
+use Rattle.hc_program.specs.declared.stops.Want.TheVariants.{Memory}
 
 none_is : {A : Type 0} (o : Option A) → is_none o ≡ true → o ≡ None
 none_is None e = refl
@@ -61,7 +63,7 @@ is-left past can =
 one-fewer : (most serial : ℕ) → serial + 1 ≤ most → most - serial ≡ suc (most - (serial + 1))
 one-fewer most serial within = omega arith
 
-serials-fall : (s : Standing) → can_write s.past ≡ true → serials_left s.past ≡ suc (serials_left (written s).past)
+pub serials-fall : (s : Standing) → can_write s.past ≡ true → serials_left s.past ≡ suc (serials_left (written s).past)
 unfolding written
 serials-fall s can =
     one-fewer SETUP_SERIAL (next_serial s.past) (is-left s.past can)
@@ -74,7 +76,7 @@ within-step : (most : ℕ) (s : Standing) → can_write s.past ≡ true
 unfolding programmed_within
 within-step most s can = ap (λ (b : Bool). if b then behind_write (is_done s) (written s) (programmed_within most (written s)) else record { standing = s; written = 0 }) can
 
-step : (s : Standing) (done : Bool) → can_write s.past ≡ true → is_done s ≡ done → programmed s ≡ behind_write done (written s) (programmed (written s))
+pub step : (s : Standing) (done : Bool) → can_write s.past ≡ true → is_done s ≡ done → programmed s ≡ behind_write done (written s) (programmed (written s))
 unfolding programmed
 step s done can is =
     ap (λ (n : ℕ). programmed_within n s) (serials-fall s can)
@@ -86,7 +88,7 @@ unfolding programmed_within
 within-end zero s cannot = refl
 within-end (suc most) s cannot = ap (λ (b : Bool). if b then behind_write (is_done s) (written s) (programmed_within most (written s)) else record { standing = s; written = 0 }) cannot
 
-ended : (s : Standing) → can_write s.past ≡ false → programmed s ≡ record { standing = s; written = 0 }
+pub ended : (s : Standing) → can_write s.past ≡ false → programmed s ≡ record { standing = s; written = 0 }
 unfolding programmed
 ended s cannot = within-end (serials_left s.past) s cannot
 
@@ -187,9 +189,10 @@ pub once-ok : {E : Type 0} (result : Result Bool E) (s sent gone next : Standing
 once-ok (Ok done) s sent gone next frame back can p d came = once s sent gone next frame back done can p d came
 once-ok (Err want) s sent gone next frame back can p d came = tt
 
-pub stops-err : {E : Type 0} (result : Result Bool E) (s sent gone next : Standing) (frame back : List ℕ) → IsPassed s sent gone frame back → OnErr result (next ≡ gone) → OnErr result (StopsInWrite s next)
+pub stops-err : (result : Result Bool Want) (s sent gone next : Standing) (frame back : List ℕ) → IsPassed s sent gone frame back → IfErr result (λ want. (want ≡ Memory) × (next ≡ gone))
+    → IfErr result (λ want. StopsInWrite s want next)
 stops-err (Ok done) s sent gone next frame back p stays = tt
-stops-err (Err want) s sent gone next frame back p stays = inr (inr (stays ∙ passed-is s sent gone frame p.framed p.is_sent p.is_gone))
+stops-err (Err want) s sent gone next frame back p stays = let (is, same) = stays in inr (is, same ∙ passed-is s sent gone frame p.framed p.is_sent p.is_gone)
 
 -- a write that wasn't sent
 pub cannot : (past : Record) (fault : CoreFault) → lowest (write_faults past (owed_blocks past)) ≡ Some fault → can_write past ≡ false

@@ -1,5 +1,5 @@
 -- Runs in which memory was refused: one turn of them, and how they end.
-use Rattle.std.proofs.Common.{◌≡◌, ◌≤◌, inl, inr, ℕ, Bool, true, false, ◌||◌, List, [], ◌∷◌, length, refl, sym, ap, subst, ◌∙◌, Ok, Err, Some, None}
+use Rattle.std.proofs.Common.{◌≡◌, ◌≤◌, ◌<◌, inl, inr, ℕ, Bool, true, false, ◌||◌, List, [], ◌∷◌, length, refl, sym, ap, subst, ◌∙◌, Ok, Err, Some, None}
 use Rattle.std.specs.Prelude.{◌⊎◌, is_err, Option, Result, IfSome, IsOk, OnErr, OnOk}
 use Rattle.std.proofs.KnownBytes.{Appends-nil}
 use Rattle.hc_events.specs.Entries.{Record}
@@ -13,9 +13,14 @@ use Rattle.hc_program.specs.Opening.{in_want, is_of_opening, opening_of}
 use Rattle.hc_program.specs.Runs.{Outcome, Reply, behind, reply_to, run, then_published}
 use Rattle.hc_program.specs.Standings.{Standing, opened_standing, published}
 use Rattle.hc_program.specs.Starved.{EndsAsOne, RunsInWant, StarvedOutcome, StarvedRun, StarvedSections, Stops}
-use Rattle.hc_program.specs.Text.{EndsAs, unopened}
-use Rattle.hc_program.specs.Turns.{Continues, Ends, GoesOn}
-use Rattle.hc_program.proofs.Turns.{begins, continues, done, ends, ends_whole}
+use Rattle.hc_text.specs.declared.input.Unread.{Unread}
+use Rattle.hc_text.specs.declared.input.Unread.TheVariants as unread_fault
+use Rattle.hc_program.specs.declared.engine.Broken.TheVariants as broken
+use Rattle.hc_program.specs.declared.engine.RunEnd.{RunEnd}
+use Rattle.hc_program.specs.Text.{Breaks, EndsAs, outcome_of, unopened, unread}
+use Rattle.hc_program.specs.Turns.{Continues, Ends, GoesOn, ended}
+use Rattle.hc_program.proofs.Outcomes.{long_outcome}
+use Rattle.hc_program.proofs.Turns.{begins, continues, done, ends}
 
 -- what the turns that are left may give: memory was refused before, or is for one of them
 abbrev pub Left : Bool → Standing → List Turn → Outcome → Type 0
@@ -89,26 +94,30 @@ leads_turn false false old mid new All s next turns turn behind_it first leads a
     leads_replied false old mid new All s next turns turn behind_it first leads (answered refl)
 
 -- one turn behind which the run ends
-leads_end : (old mid new : Option (List ℕ)) (Rest All : Outcome → Type 0) (reply : Reply) (rest : Outcome) (status : ℕ)
-    → Leads old mid Rest All → Rest (behind reply rest) → Ends mid new status reply → EndsAsOne old new status All
-leads_end old mid new Rest All reply rest status leads is turn =
+leads_end : (old mid new : Option (List ℕ)) (Rest All : Outcome → Type 0) (reply : Reply) (rest : Outcome) (status : ℕ) (starved : Bool)
+    → Leads old mid Rest All → Rest (behind reply rest) → Ends mid new status reply → EndsAsOne old new (ended status starved) All
+leads_end old mid new Rest All reply rest status starved leads is turn =
     let (all, holds, c) = leads (behind reply rest) is in
-    (all, holds, ends old mid new (behind reply rest) all rest reply status c refl turn)
+    (all, holds, ends old mid new (behind reply rest) all rest reply status starved c refl turn)
 
-pub leads_ended : (before now : Bool) (old mid new : Option (List ℕ)) (All : Outcome → Type 0) (status : ℕ) (s : Standing) (turns : List Turn) (turn : Turn) (behind_it : List Turn) → turns ≡ turn ∷ behind_it
+pub leads_ended : (before now : Bool) (old mid new : Option (List ℕ)) (All : Outcome → Type 0) (status : ℕ) (end_starved : Bool) (s : Standing) (turns : List Turn) (turn : Turn) (behind_it : List Turn) → turns ≡ turn ∷ behind_it
     → (before || now) ≡ true → Leads old mid (Left before s turns) All
     → (now ≡ false → Ends mid new status (reply_to s turn))
     → (now ≡ true → (reply : Reply) × Stops s turn reply × Ends mid new status reply)
-    → EndsAsOne old new status All
-leads_ended before true old mid new All status s turns turn behind_it first starved leads answered stops =
+    → EndsAsOne old new (ended status end_starved) All
+leads_ended before true old mid new All status end_starved s turns turn behind_it first starved leads answered stops =
     let (reply, is, taken) = stops refl in
     let rest = run reply.standing behind_it in
-    leads_end old mid new _ All reply rest status leads (stopped before s turns turn behind_it reply rest first is (unrefused reply.standing behind_it)) taken
-leads_ended true false old mid new All status s turns turn behind_it first starved leads answered stops =
+    leads_end old mid new _ All reply rest status end_starved leads (stopped before s turns turn behind_it reply rest first is (unrefused reply.standing behind_it)) taken
+leads_ended true false old mid new All status end_starved s turns turn behind_it first starved leads answered stops =
     let next = (reply_to s turn).standing in
     let rest = run next behind_it in
-    leads_end old mid new _ All (reply_to s turn) rest status leads (replied true s turns turn behind_it rest first (λ e. cc) (unrefused next behind_it)) (answered refl)
-leads_ended false false old mid new All status s turns turn behind_it first starved leads answered stops = cc
+    leads_end old mid new _ All (reply_to s turn) rest status end_starved leads (replied true s turns turn behind_it rest first (λ e. cc) (unrefused next behind_it)) (answered refl)
+leads_ended false false old mid new All status end_starved s turns turn behind_it first starved leads answered stops = cc
+
+-- the same of an end that is told
+pub ended_one : (old new : Option (List ℕ)) (end other : RunEnd) (All : Outcome → Type 0) → end ≡ other → EndsAsOne old new other All → EndsAsOne old new end All
+ended_one old new end other All is holds = subst (λ (e : RunEnd). EndsAsOne old new e All) (sym is) holds
 
 -- a publishing that is refused or not
 pub publishes : {A E : Type 0} (result : Result A E) (refused : Bool) (P : Type 0) → refused ≡ is_err result → refused ≡ false → OnOk result P → P
@@ -131,18 +140,18 @@ finished : (s : Standing) (turns : List Turn) → turns ≡ [] → RunsInWant s 
 unfolding RunsInWant
 finished s turns none = subst (λ t. RunsInWant s t (record { text = []; status = 0 })) (sym none) refl
 
-pub leads_done : (before : Bool) (old new : Option (List ℕ)) (All : Outcome → Type 0) (s : Standing) (turns : List Turn) → before ≡ true → turns ≡ []
-    → Leads old new (Left before s turns) All → EndsAsOne old new 0 All
-leads_done true old new All s turns starved none leads =
+pub leads_done : (before end_starved : Bool) (old new : Option (List ℕ)) (All : Outcome → Type 0) (s : Standing) (turns : List Turn) → before ≡ true → turns ≡ []
+    → Leads old new (Left before s turns) All → EndsAsOne old new (ended 0 end_starved) All
+leads_done true end_starved old new All s turns starved none leads =
     let (all, holds, c) = leads (record { text = []; status = 0 }) (finished s turns none) in
-    (all, holds, done old new (record { text = []; status = 0 }) all c refl)
-leads_done false old new All s turns starved none leads = cc
+    (all, holds, done old new end_starved (record { text = []; status = 0 }) all c refl)
+leads_done false end_starved old new All s turns starved none leads = cc
 
 -- a project that opens
-pub starved_lines : (old new : Option (List ℕ)) (status : ℕ) (input : List ℕ) (past : Record) (s : Standing) (lines : List Line) → length input ≤ MOST_INPUT → opening_of (project_text (lines_of input)) ≡ Ok past
-    → lines ≡ command_lines (lines_of input) → s ≡ opened_standing past → EndsAsOne old new status (StarvedRun s (turns_of lines)) → EndsAsOne old new status (StarvedOutcome input)
-starved_lines old new status input past s lines within opens same is (all, starved, end) =
-    (all, inr (within, inr (inr (past, opens, subst (λ l. StarvedRun (opened_standing past) (turns_of l) all) same (subst (λ (t : Standing). StarvedRun t (turns_of lines) all) is starved)))), end)
+pub starved_lines : (old new : Option (List ℕ)) (end : RunEnd) (input : List ℕ) (past : Record) (s : Standing) (lines : List Line) → length input ≤ MOST_INPUT → opening_of (project_text (lines_of input)) ≡ Ok past
+    → lines ≡ command_lines (lines_of input) → s ≡ opened_standing past → EndsAsOne old new end (StarvedRun s (turns_of lines)) → EndsAsOne old new end (StarvedOutcome input)
+starved_lines old new end input past s lines within opens same is (all, starved, ends_so) =
+    (all, inr (within, inr (inr (past, opens, subst (λ l. StarvedRun (opened_standing past) (turns_of l) all) same (subst (λ (t : Standing). StarvedRun t (turns_of lines) all) is starved)))), ends_so)
 
 starved_sections : (text : List ℕ) (lines : List Line) (fault : Unopened) → (is_of_opening fault ≡ true → IsOk (project_in text)) → StarvedSections text lines (unopened (in_want fault))
 starved_sections text lines (Project refused) project = inl refl
@@ -151,13 +160,32 @@ starved_sections text lines Memory project = inr (inl (project refl, inl refl))
 starved_sections text lines NoSeat project = inr (inl (project refl, inr refl))
 
 -- a project that isn't opened
-pub starved_unopened : (old new : Option (List ℕ)) (status : ℕ) (input : List ℕ) (fault : Unopened) → length input ≤ MOST_INPUT
-    → (is_of_opening fault ≡ true → IsOk (project_in (project_text (lines_of input)))) → EndsAs old new status (unopened (in_want fault)) → EndsAsOne old new status (StarvedOutcome input)
-starved_unopened old new status input fault within project end =
-    (unopened (in_want fault), inr (within, starved_sections (project_text (lines_of input)) (command_lines (lines_of input)) fault project), end)
+pub starved_unopened : (old new : Option (List ℕ)) (end : RunEnd) (input : List ℕ) (fault : Unopened) → length input ≤ MOST_INPUT
+    → (is_of_opening fault ≡ true → IsOk (project_in (project_text (lines_of input)))) → EndsAs old new end (unopened (in_want fault)) → EndsAsOne old new end (StarvedOutcome input)
+starved_unopened old new end input fault within project ends_so =
+    (unopened (in_want fault), inr (within, starved_sections (project_text (lines_of input)) (command_lines (lines_of input)) fault project), ends_so)
 
--- an input that isn't read
-pub starved_unread : (remaining old : Option (List ℕ)) → IfSome remaining (λ bytes. EndsAsOne old old 4 (StarvedOutcome bytes))
-starved_unread None old = tt
-starved_unread (Some bytes) old =
-    (record { text = []; status = 4 }, inl refl, ends_whole old old 4 (record { text = []; status = 4 }) (Appends-nil old) refl)
+-- how a run ends whose input isn't read
+abbrev pub unread_end : Unread → Bool → RunEnd
+unread_end fault starved = record { status = 4; starved = starved; broken = Some (broken.Unread fault) }
+
+unread_breaks : (old : Option (List ℕ)) (fault : Unread) (outcome : Outcome) → (fault ≡ unread_fault.TooLong → outcome ≡ unread) → Breaks (Some (broken.Unread fault)) old old 4 outcome
+unread_breaks old unread_fault.TooLong outcome long = (refl, long refl)
+unread_breaks old unread_fault.Failed outcome long = (refl, Appends-nil old)
+unread_breaks old unread_fault.Memory outcome long = (refl, Appends-nil old)
+
+pub unread_ends : (old : Option (List ℕ)) (fault : Unread) (starved : Bool) (outcome : Outcome) → (fault ≡ unread_fault.TooLong → outcome ≡ unread) → EndsAs old old (unread_end fault starved) outcome
+unread_ends old fault starved outcome long = record {
+  whole = λ not_four. absurd (not_four refl);
+  front = (0, Appends-nil old);
+  broken = unread_breaks old fault outcome long;
+}
+
+pub starved_unread : (remaining old : Option (List ℕ)) (fault : Unread) (starved : Bool) → IfSome remaining (λ bytes. EndsAsOne old old (unread_end fault starved) (StarvedOutcome bytes))
+starved_unread None old fault starved = tt
+starved_unread (Some bytes) old fault starved = (unread, inl refl, unread_ends old fault starved unread (λ _. refl))
+
+pub unstarved_unread : (remaining old : Option (List ℕ)) (fault : Unread) (starved : Bool) → (fault ≡ unread_fault.TooLong → IfSome remaining (λ all. MOST_INPUT < length all))
+    → IfSome remaining (λ bytes. EndsAs old old (unread_end fault starved) (outcome_of bytes))
+unstarved_unread None old fault starved long = tt
+unstarved_unread (Some bytes) old fault starved long = unread_ends old fault starved (outcome_of bytes) (λ is. long_outcome bytes (long is))

@@ -1,14 +1,17 @@
 -- One turn of a run: what is written, and what is left.
-use Rattle.std.proofs.Common.{◌≡◌, ℕ, List, [], ◌∷◌, ◌++◌, length, take, drop, refl, sym, ◌∙◌, ap, subst, append_assoc, append-nil, take-append-drop, Bool, true, false, cond}
+use Rattle.std.proofs.Common.{◌≡◌, ◌≢◌, ◌≤◌, ℕ, List, [], ◌∷◌, ◌++◌, length, take, drop, refl, sym, ◌∙◌, ap, subst, append_assoc, append-nil, length-append, length-drop, take-append-drop, arith, Bool, true, false, cond, eqb, Some, None}
 use Rattle.std.specs.Prelude.{Option}
+use Rattle.std.proofs.lemmas.Bool.{eq-eqb, eqb-true}
 use Rattle.std.specs.Io.KnownBytes.{Appends}
 use Rattle.std.proofs.KnownBytes.{Appends-trans, Appends-nil}
 use Rattle.std.proofs.Math.Seq.{take-append_seam}
 use Rattle.hc_program.specs.Declaring.{Turn}
 use Rattle.hc_program.specs.Runs.{Outcome, Reply, bare_reply, behind, reply_to, run, then_published}
 use Rattle.hc_program.specs.Standings.{Standing}
-use Rattle.hc_program.specs.Text.{EndsAs}
-use Rattle.hc_program.specs.Turns.{Continues, Ends, GoesOn, Takes, end_behind}
+use Rattle.hc_program.specs.declared.engine.Broken.TheVariants.{Unwritten}
+use Rattle.hc_program.specs.declared.engine.RunEnd.{RunEnd}
+use Rattle.hc_program.specs.Text.{Breaks, EndsAs, IsCut}
+use Rattle.hc_program.specs.Turns.{Continues, Ends, GoesOn, Takes, end_behind, ended}
 
 -- the first turn's reply, and the rest of the run
 pub run_turn : (s : Standing) (turns : List Turn) (turn : Turn) (behind_it : List Turn) → turns ≡ turn ∷ behind_it
@@ -64,12 +67,33 @@ front_of : (old new : Option (List ℕ)) (front rest all : List ℕ) → front +
 front_of old new front rest all whole appended =
     (length front, subst (Appends old new) (sym (take-append_seam front rest) ∙ ap (take (length front)) whole) appended)
 
+-- and less than all, where something is left
+cut_of : (old new : Option (List ℕ)) (front rest all : List ℕ) → front ++ rest ≡ all → 1 ≤ length rest → Appends old new front → IsCut old new all
+cut_of old new front rest all whole some appended =
+    let lengths : length (front ++ rest) ≡ length all = ap (λ (l : List ℕ). length l) whole in (
+      length front,
+      omega (arith, lengths, length-append front rest, some),
+      subst (Appends old new) (sym (take-append_seam front rest) ∙ ap (take (length front)) whole) appended,
+    )
+
+-- why a run whose input was read ends with its status
+breaks_if : (b : Bool) (old new : Option (List ℕ)) (status : ℕ) (all : Outcome) → eqb status 4 ≡ b → (status ≡ 4 → IsCut old new all.text) → Breaks (cond b (Some Unwritten) None) old new status all
+breaks_if true old new status all is cut = let four = eqb-true status 4 is in (four, cut four)
+breaks_if false old new status all is cut = λ four. let e : true ≡ false = sym (eq-eqb status 4 four) ∙ is in cc
+
+breaks_so : (old new : Option (List ℕ)) (status : ℕ) (all : Outcome) → (status ≡ 4 → IsCut old new all.text) → Breaks (cond (eqb status 4) (Some Unwritten) None) old new status all
+breaks_so old new status all cut = breaks_if (eqb status 4) old new status all refl cut
+
 -- a run that ends in the middle of a reply, or behind one
-pub ends : (old mid new : Option (List ℕ)) (left all rest : Outcome) (reply : Reply) (status : ℕ)
-    → Continues old mid left all → left ≡ behind reply rest → Ends mid new status reply → EndsAs old new status all
-ends old mid new left all rest reply status c is turn =
+pub ends : (old mid new : Option (List ℕ)) (left all rest : Outcome) (reply : Reply) (status : ℕ) (starved : Bool)
+    → Continues old mid left all → left ≡ behind reply rest → Ends mid new status reply → EndsAs old new (ended status starved) all
+ends old mid new left all rest reply status starved c is turn =
     let (more, first) = reply_first reply.text rest.text rest.status reply.goes_on in
     let begun : left.text ≡ reply.text ++ more = ap (λ (o : Outcome). o.text) is ∙ first in
+    let joined = λ (n : ℕ).
+    append_assoc c.text.done (take n reply.text) (drop n reply.text ++ more)
+    ∙ ap (λ l. c.text.done ++ l) (sym (append_assoc (take n reply.text) (drop n reply.text) more) ∙ ap (λ l. l ++ more) (take-append-drop n reply.text) ∙ sym begun)
+    ∙ c.text.whole in
     let (n, part) = turn.front in
     record {
       whole = λ not_four.
@@ -78,30 +102,37 @@ ends old mid new left all rest reply status c is turn =
             subst (Appends old new) (ap (λ (o : Outcome). c.text.done ++ o.text) (sym last) ∙ c.text.whole) (Appends-trans old mid new c.text.done reply.text c.text.appended written),
             two ∙ ap (λ (o : Outcome). o.status) (sym last) ∙ c.status,
           );
-      front = front_of old new (c.text.done ++ take n reply.text) (drop n reply.text ++ more) all.text
-          (append_assoc c.text.done (take n reply.text) (drop n reply.text ++ more)
-          ∙ ap (λ l. c.text.done ++ l) (sym (append_assoc (take n reply.text) (drop n reply.text) more) ∙ ap (λ l. l ++ more) (take-append-drop n reply.text) ∙ sym begun)
-          ∙ c.text.whole)
+      front = front_of old new (c.text.done ++ take n reply.text) (drop n reply.text ++ more) all.text (joined n)
           (Appends-trans old mid new c.text.done (take n reply.text) c.text.appended part);
+      broken = breaks_so old new status all (λ four.
+          let (m, less, cut) = turn.cut four in
+          cut_of old new (c.text.done ++ take m reply.text) (drop m reply.text ++ more) all.text (joined m)
+          (omega (arith, less, length-append (drop m reply.text) more, length-drop m reply.text))
+          (Appends-trans old mid new c.text.done (take m reply.text) c.text.appended cut));
     }
 
 -- a text that was written is a front of itself
-pub ends_whole : (old new : Option (List ℕ)) (status : ℕ) (all : Outcome) → Appends old new all.text → status ≡ all.status → EndsAs old new status all
-ends_whole old new status all written same = record {
+pub ends_whole : (old new : Option (List ℕ)) (status : ℕ) (starved : Bool) (all : Outcome) → status ≢ 4 → Appends old new all.text → status ≡ all.status → EndsAs old new (ended status starved) all
+ends_whole old new status starved all other written same = record {
   whole = λ _. (written, same);
   front = front_of old new all.text [] all.text (append-nil all.text) written;
+  broken = breaks_so old new status all (λ four. absurd (other four));
 }
 
 -- a run whose last turn was answered
-pub done : (old new : Option (List ℕ)) (left all : Outcome) → Continues old new left all → left ≡ record { text = []; status = 0 } → EndsAs old new 0 all
-done old new left all c none =
-    ends_whole old new 0 all
+pub done : (old new : Option (List ℕ)) (starved : Bool) (left all : Outcome) → Continues old new left all → left ≡ record { text = []; status = 0 } → EndsAs old new (ended 0 starved) all
+done old new starved left all c none =
+    ends_whole old new 0 starved all (λ four. cc)
     (subst (Appends old new) (sym (append-nil c.text.done) ∙ ap (λ (o : Outcome). c.text.done ++ o.text) (sym none) ∙ c.text.whole) c.text.appended)
     (ap (λ (o : Outcome). o.status) (sym none) ∙ c.status)
 
--- a text of which a front was written
-pub ends_broken : (old new : Option (List ℕ)) (all : Outcome) → (n : ℕ) × Appends old new (take n all.text) → EndsAs old new 4 all
-ends_broken old new all front = record { whole = λ not_four. absurd (not_four refl); front = front }
+-- a text of which less than the whole was written
+pub ends_broken : (old new : Option (List ℕ)) (starved : Bool) (all : Outcome) → IsCut old new all.text → EndsAs old new (ended 4 starved) all
+ends_broken old new starved all (n, less, part) = record { whole = λ not_four. absurd (not_four refl); front = (n, part); broken = (refl, (n, less, part)) }
+
+-- the same of an end that is told
+pub ended_so : (old new : Option (List ℕ)) (end other : RunEnd) (all : Outcome) → end ≡ other → EndsAs old new other all → EndsAs old new end all
+ended_so old new end other all is holds = subst (λ (e : RunEnd). EndsAs old new e all) (sym is) holds
 
 -- a reply was written, or a front of it
 
@@ -111,11 +142,11 @@ behind_whole old new text true end next is all =
     subst (λ (e : Option ℕ). Takes old new next e (record { text = text; standing = next; goes_on = true })) (sym is) (record { written = all; kept = refl; on = refl })
 behind_whole old new text false end next is all =
     subst (λ (e : Option ℕ). Takes old new next e (record { text = text; standing = next; goes_on = false })) (sym is)
-    (record { whole = λ not_four. (all, refl, refl); front = front_of old new text [] text (append-nil text) all })
+    (record { whole = λ not_four. (all, refl, refl); front = front_of old new text [] text (append-nil text) all; cut = λ four. cc })
 
-pub behind_broken : (old new : Option (List ℕ)) (text : List ℕ) (goes_on : Bool) (next : Standing) → (n : ℕ) × Appends old new (take n text)
+pub behind_broken : (old new : Option (List ℕ)) (text : List ℕ) (goes_on : Bool) (next : Standing) → IsCut old new text
     → Ends old new 4 (record { text = text; standing = next; goes_on = goes_on })
-behind_broken old new text goes_on next front = record { whole = λ not_four. absurd (not_four refl); front = front }
+behind_broken old new text goes_on next (n, less, part) = record { whole = λ not_four. absurd (not_four refl); front = (n, part); cut = λ four. (n, less, part) }
 
 -- so it is of the reply that was meant
 pub meant : (old new : Option (List ℕ)) (text : List ℕ) (goes_on : Bool) (end : Option ℕ) (next : Standing) (reply : Reply)

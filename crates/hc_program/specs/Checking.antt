@@ -1,5 +1,5 @@
 -- What `projectcheck` prints for a project text, and its exit status.
-use Rattle.std.specs.Prelude.{◌≡◌, ◌≤◌, ◌⊎◌, ℕ, List, [], ◌++◌, length, Option, Some, None, codes}
+use Rattle.std.specs.Prelude.{◌≡◌, ◌≤◌, ◌⊎◌, ℕ, List, ◌++◌, length, Option, Some, None, codes}
 use Rattle.std.specs.Fmt.{decimal}
 use Rattle.hc_project.specs.declared.located.Found.{Found}
 use Rattle.hc_project.specs.declared.located.Found.TheVariants.{InText, InProject}
@@ -10,7 +10,7 @@ use Rattle.hc_program.specs.declared.opening.Unopened.TheVariants.{Project}
 use Rattle.hc_program.specs.Places.{spot_text}
 use Rattle.hc_program.specs.Refusals.{project_fault_text}
 use Rattle.hc_program.specs.Runs.{Outcome}
-use Rattle.hc_program.specs.Text.{unopened}
+use Rattle.hc_program.specs.Text.{unopened, unread}
 
 -- the line of a line and a column
 abbrev pub position_text : ℕ → ℕ → List ℕ
@@ -30,10 +30,6 @@ told_status (Some found) = 3
 -- the text and the status are those of something that is told of the project text
 abbrev pub IsTold : List ℕ → List ℕ → ℕ → Type 0
 IsTold input text status = (found : Option Found) × Tells input found × (text ≡ told_text found) × (status ≡ told_status found)
-
--- an input that isn't read prints nothing
-abbrev pub unread : Outcome
-unread = record { text = []; status = 4 }
 
 -- a run prints nothing, or what is told of an input that isn't too long
 abbrev pub CheckOutcome : List ℕ → Outcome → Type 0

@@ -28,3 +28,4 @@ pub mod Starved
 pub mod Turns
 pub mod Places
 pub mod Checking
+pub mod Laws

@@ -14,7 +14,8 @@ use Rattle.hc_program.specs.Declaring.{Turn, Says, Declares, turns_of}
 use Rattle.hc_program.specs.Standings.{Standing, opened_standing}
 use Rattle.hc_program.specs.Stops.{StopsIn, Unchanged, stop_text}
 use Rattle.hc_program.specs.Runs.{Outcome, Reply, bare_reply, behind, reply_to, then_published}
-use Rattle.hc_program.specs.Text.{EndsAs, unopened}
+use Rattle.hc_program.specs.declared.engine.RunEnd.{RunEnd}
+use Rattle.hc_program.specs.Text.{EndsAs, unopened, unread}
 
 -- the command that the words of a line spell
 abbrev pub spelt : List (List ℕ) → Option Command
@@ -71,9 +72,9 @@ StarvedSections text lines outcome =
 -- memory was refused while the input was read, which prints nothing, or behind that
 abbrev pub StarvedOutcome : List ℕ → Outcome → Type 0
 StarvedOutcome input outcome =
-    (outcome ≡ record { text = []; status = 4 })
+    (outcome ≡ unread)
     ⊎ (length input ≤ MOST_INPUT) × StarvedSections (project_text (lines_of input)) (command_lines (lines_of input)) outcome
 
 -- the run ends as one of the outcomes that `Allowed` allows
-abbrev pub EndsAsOne : Option (List ℕ) → Option (List ℕ) → ℕ → (Outcome → Type 0) → Type 0
-EndsAsOne old new status Allowed = (outcome : Outcome) × Allowed outcome × EndsAs old new status outcome
+abbrev pub EndsAsOne : Option (List ℕ) → Option (List ℕ) → RunEnd → (Outcome → Type 0) → Type 0
+EndsAsOne old new end Allowed = (outcome : Outcome) × Allowed outcome × EndsAs old new end outcome

@@ -33,10 +33,6 @@ abbrev pub stop_text : Stop → List ℕ
 stop_text (stop.Want w) = want_text w
 stop_text stop.NoEntry = no_entry_text
 
--- a growth was refused
-abbrev pub IsWanting : Stop → Type 0
-IsWanting why = (w : Want) × (why ≡ stop.Want w)
-
 -- a command of one call was not carried out
 abbrev pub Unchanged : Standing → Stop → Standing → Type 0
 Unchanged s why next = (why ≡ stop.Want want.Memory) × (next ≡ s)
@@ -50,29 +46,35 @@ abbrev pub AreWritten : ℕ → Standing → Standing → Type 0
 AreWritten zero s t = t ≡ s
 AreWritten (suc n) s t = (m : Standing) × AreWritten n s m × (can_write m.past ≡ true) × (is_done m ≡ true) × (t ≡ written m)
 
--- the next write wasn't sent, or was sent and its frame didn't go along the line, or what came back wasn't taken in
-abbrev pub StopsInWrite : Standing → Standing → Type 0
-StopsInWrite s next = (next ≡ s) ⊎ (next ≡ write_sent s) ⊎ (next ≡ write_passed s)
+-- a growth was refused, and so the command was stopped
+abbrev pub IsWanting : Stop → (Want → Type 0) → Type 0
+IsWanting why Stopped = (w : Want) × (why ≡ stop.Want w) × Stopped w
 
--- some writes were done, and then one was stopped
-abbrev pub StopsProgram : Standing → Standing → Type 0
-StopsProgram s next = (n : ℕ) × (m : Standing) × AreWritten n s m × StopsInWrite m next
+-- the next write was sent, and its frame wasn't made or didn't go along the line; or what came back wasn't taken in
+abbrev pub StopsInWrite : Standing → Want → Standing → Type 0
+StopsInWrite s w next = (next ≡ write_sent s) ⊎ ((w ≡ want.Memory) × (next ≡ write_passed s))
 
--- tasks weren't sent, or were sent and their frames didn't go along the line, or some of what came back was taken in
-abbrev pub StopsInCycle : Standing → List ℕ → Standing → Type 0
-StopsInCycle s tasks next =
-    (next ≡ s) ⊎ (next ≡ cycle_sent s tasks) ⊎ ((n : ℕ) × (next ≡ cycle_arrived (cycle_passed s tasks) (take n (cycle_back s tasks))))
+-- there was no room for the line; or some writes were done, and then one was stopped
+abbrev pub StopsProgram : Standing → Want → Standing → Type 0
+StopsProgram s w next = ((w ≡ want.Memory) × (next ≡ s)) ⊎ ((n : ℕ) × (m : Standing) × AreWritten n s m × StopsInWrite m w next)
 
--- no alias was read, or all were
-abbrev pub StopsScan : Standing → Standing → Type 0
-StopsScan s next = (next ≡ s) ⊎ (next ≡ scanned s)
+-- tasks weren't sent; or they were, and their frames didn't go along the line; or these did, and some of what came back was taken in
+abbrev pub StopsInCycle : Standing → List ℕ → Want → Standing → Type 0
+StopsInCycle s tasks w next =
+    ((w ≡ want.Memory) × (next ≡ s))
+    ⊎ ((w ≡ want.Chain chain.Memory) × (next ≡ cycle_sent s tasks))
+    ⊎ ((w ≡ want.Memory) × ((n : ℕ) × (next ≡ cycle_arrived (cycle_passed s tasks) (take n (cycle_back s tasks)))))
+
+-- no alias was read; or all were, and they weren't gathered or weren't printed
+abbrev pub StopsScan : Standing → Want → Standing → Type 0
+StopsScan s w next = ((w ≡ want.Chain chain.Memory) × (next ≡ s)) ⊎ (next ≡ scanned s)
 
 -- where a command leaves the run that was stopped so
 abbrev pub StopsIn : Standing → Command → Stop → Standing → Type 0
-StopsIn s command.Program why next = IsWanting why × StopsProgram s next
-StopsIn s (command.Cycle tasks) why next = IsWanting why × StopsInCycle s tasks next
-StopsIn s command.Scan why next = IsWanting why × StopsScan s next
-StopsIn s command.Name why next = IsWanting why × (next ≡ s)
+StopsIn s command.Program why next = IsWanting why (λ w. StopsProgram s w next)
+StopsIn s (command.Cycle tasks) why next = IsWanting why (λ w. StopsInCycle s tasks w next)
+StopsIn s command.Scan why next = IsWanting why (λ w. StopsScan s w next)
+StopsIn s command.Name why next = IsWanting why (λ w. next ≡ s)
 StopsIn s (command.Post posting) why next = Unviewed s why next
 StopsIn s (command.View task variable) why next = Unviewed s why next
 StopsIn s other why next = Unchanged s why next

@@ -1,8 +1,12 @@
 -- What the program prints for an input, and its exit status.
-use Rattle.std.specs.Prelude.{◌≡◌, ◌≢◌, ℕ, nat_lt, if◌then◌else◌, List, [], length, take, Option, Result, Ok, Err}
+use Rattle.std.specs.Prelude.{◌≡◌, ◌≢◌, ◌<◌, ℕ, nat_lt, if◌then◌else◌, List, [], length, take, Option, Some, None, Result, Ok, Err}
 use Rattle.std.specs.Io.KnownBytes.{Appends}
 use Rattle.hc_events.specs.Entries.{Record}
 use Rattle.hc_text.specs.declared.input.TheConstants.{MOST_INPUT}
+use Rattle.hc_text.specs.declared.input.Unread.TheVariants.{TooLong}
+use Rattle.hc_program.specs.declared.engine.Broken.{Broken}
+use Rattle.hc_program.specs.declared.engine.Broken.TheVariants.{Unread, Unwritten}
+use Rattle.hc_program.specs.declared.engine.RunEnd.{RunEnd}
 use Rattle.hc_program.specs.declared.opening.Unopened.{Unopened}
 use Rattle.hc_text.specs.Lines.{Line, command_lines, lines_of, project_text}
 use Rattle.hc_program.specs.Declaring.{turns_of}
@@ -23,12 +27,28 @@ run_opened (Err fault) lines = unopened fault
 unfoldable pub outcome_of_lines : List Line → Outcome
 outcome_of_lines lines = run_opened (opening_of (project_text lines)) (command_lines lines)
 
--- what the program prints for an input, and its exit status; an input that is too long prints nothing
+-- an input that isn't read prints nothing
+abbrev pub unread : Outcome
+unread = record { text = []; status = 4 }
+
+-- what the program prints for an input, and its exit status; an input that is too long isn't read
 unfoldable pub outcome_of : List ℕ → Outcome
 outcome_of input =
-    if nat_lt MOST_INPUT (length input) then record { text = []; status = 4 } else outcome_of_lines (lines_of input)
+    if nat_lt MOST_INPUT (length input) then unread else outcome_of_lines (lines_of input)
 
--- what was written is the outcome's text and the status is its status, or the status is 4 and what was written is the front of that text
-pub record EndsAs (old new : Option (List ℕ)) (status : ℕ) (outcome : Outcome) : Type 0 where
-  pub whole : status ≢ 4 → Appends old new outcome.text × (status ≡ outcome.status)
+-- a front of a text was written, and less than the whole
+abbrev pub IsCut : Option (List ℕ) → Option (List ℕ) → List ℕ → Type 0
+IsCut old new text = (n : ℕ) × (n < length text) × Appends old new (take n text)
+
+-- why a run ends with its status: nothing broke, and it isn't 4; or the input is too long, and the outcome says so; or the input wasn't read for another reason, and nothing was written; or a write failed, and less than the whole text was written
+abbrev pub Breaks : Option Broken → Option (List ℕ) → Option (List ℕ) → ℕ → Outcome → Type 0
+Breaks None old new status outcome = status ≢ 4
+Breaks (Some (Unread TooLong)) old new status outcome = (status ≡ 4) × (outcome ≡ unread)
+Breaks (Some (Unread fault)) old new status outcome = (status ≡ 4) × Appends old new []
+Breaks (Some Unwritten) old new status outcome = (status ≡ 4) × IsCut old new outcome.text
+
+-- what was written is the outcome's text and the status is its status, or the status is 4 and what was written is the front of that text; and the end says why it is 4
+pub record EndsAs (old new : Option (List ℕ)) (end : RunEnd) (outcome : Outcome) : Type 0 where
+  pub whole : end.status ≢ 4 → Appends old new outcome.text × (end.status ≡ outcome.status)
   pub front : (n : ℕ) × Appends old new (take n outcome.text)
+  pub broken : Breaks end.broken old new end.status outcome

@@ -1,8 +1,11 @@
 -- One turn of a run: a line is answered, and its reply is written.
-use Rattle.std.specs.Prelude.{◌≡◌, ◌≢◌, ℕ, Bool, true, false, List, ◌++◌, take, Option, Some, None}
+use Rattle.std.specs.Prelude.{◌≡◌, ◌≢◌, ◌==◌, ℕ, Bool, true, false, if◌then◌else◌, List, ◌++◌, take, Option, Some, None}
 use Rattle.std.specs.Io.KnownBytes.{Appends}
+use Rattle.hc_program.specs.declared.engine.Broken.TheVariants.{Unwritten}
+use Rattle.hc_program.specs.declared.engine.RunEnd.{RunEnd}
 use Rattle.hc_program.specs.Runs.{Outcome, Reply}
 use Rattle.hc_program.specs.Standings.{Standing}
+use Rattle.hc_program.specs.Text.{IsCut}
 
 -- the run goes on behind the reply, from where that leaves it
 pub record GoesOn (old new : Option (List ℕ)) (next : Standing) (reply : Reply) : Type 0 where
@@ -10,10 +13,15 @@ pub record GoesOn (old new : Option (List ℕ)) (next : Standing) (reply : Reply
   pub kept : next ≡ reply.standing
   pub on : reply.goes_on ≡ true
 
--- the run ends here: behind the whole reply, which ends it, or with status 4 behind a front of the reply
+-- the run ends here: behind the whole reply, which ends it, or with status 4 where less than the whole reply was written
 pub record Ends (old new : Option (List ℕ)) (status : ℕ) (reply : Reply) : Type 0 where
   pub whole : status ≢ 4 → Appends old new reply.text × (status ≡ 2) × (reply.goes_on ≡ false)
   pub front : (n : ℕ) × Appends old new (take n reply.text)
+  pub cut : status ≡ 4 → IsCut old new reply.text
+
+-- how a run ends whose input was read: a write failed where its status is 4
+abbrev pub ended : ℕ → Bool → RunEnd
+ended status starved = record { status = status; starved = starved; broken = if status == 4 then Some Unwritten else None }
 
 -- a line was answered: where no exit status is given the run goes on (`GoesOn`), else it ends there with that status (`Ends`)
 abbrev pub Takes : Option (List ℕ) → Option (List ℕ) → Standing → Option ℕ → Reply → Type 0

@@ -4,7 +4,7 @@ ghost use Rattle.hc_text.specs.declared.input.TheConstants.{MOST_INPUT};
 ghost use Rattle.hc_program.specs.Checking.{CheckOutcome, IsTold, StarvedCheck, position_text, told_status, told_text};
 ghost use Rattle.hc_program.specs.Starved.{EndsAsOne};
 
-use crate::engine::{BROKEN, DONE, RunEnd, UNOPENED, end_with};
+use crate::engine::{BROKEN, Broken, DONE, RunEnd, UNOPENED, end_with};
 use crate::opening::{Unopened, memory_text};
 use crate::places::push_spot;
 use crate::refusals::push_project_fault;
@@ -73,9 +73,9 @@ fn tell(alloc: Global, input: &[u8]) -> Result<Told, AllocError>
 fn check_input<W: Write>(alloc: Global, input: &[u8], output: &mut W) -> RunEnd
     requires { length input.now ≤ MOST_INPUT }
     ensures unstarved { result.starved ≡ false
-        → EndsAsOne (W.contents output.old) (W.contents output.new) result.status (CheckOutcome input.now) }
+        → EndsAsOne (W.contents output.old) (W.contents output.new) result (CheckOutcome input.now) }
     ensures starved { result.starved ≡ true
-        → EndsAsOne (W.contents output.old) (W.contents output.new) result.status StarvedCheck }
+        → EndsAsOne (W.contents output.old) (W.contents output.new) result StarvedCheck }
 {
     match tell(alloc, input) {
         Ok(told) => end_with(told.text.as_bytes(), told.status, false, output),
@@ -94,15 +94,16 @@ fn check_input<W: Write>(alloc: Global, input: &[u8], output: &mut W) -> RunEnd
 /// Status 4 comes where it comes for `run_hotline`: the input is too long, or reading or writing failed.
 pub fn run_projectcheck<R: Read, W: Write>(alloc: Global, input: &mut R, output: &mut W) -> RunEnd
     ensures unstarved { result.starved ≡ false → IfSome (R.remaining input.old)
-        (λ bytes. EndsAsOne (W.contents output.old) (W.contents output.new) result.status (CheckOutcome bytes)) }
+        (λ bytes. EndsAsOne (W.contents output.old) (W.contents output.new) result (CheckOutcome bytes)) }
     ensures starved { result.starved ≡ true
-        → EndsAsOne (W.contents output.old) (W.contents output.new) result.status StarvedCheck }
+        → EndsAsOne (W.contents output.old) (W.contents output.new) result StarvedCheck }
 {
     match read_all(alloc, input) {
         Ok(bytes) => check_input(alloc, &bytes, output),
         Err(fault) => RunEnd {
             status: BROKEN,
             starved: fault == Unread::Memory,
+            broken: Some(Broken::Unread(fault)),
         },
     }
 }

@@ -1,6 +1,6 @@
 //! The run: reads all input, opens the project, answers each turn, which is a command line or a declaration with the
 //! lines of its document, and writes each reply before the next turn is answered.
-ghost use Rattle.std.specs.Prelude.{◌≡◌, ◌≤◌, ◌+◌, false, true, length, IfSome};
+ghost use Rattle.std.specs.Prelude.{◌≡◌, ◌≢◌, ◌≤◌, ◌+◌, false, true, length, IfSome};
 ghost use Rattle.std.specs.Option.{option_copied};
 ghost use Rattle.hc_text.specs.Cutting.{left_in, lines_after};
 ghost use Rattle.hc_program.specs.Declaring.{turn_of, turns_of};
@@ -9,7 +9,7 @@ ghost use Rattle.hc_program.specs.Runs.{Reply, reply_to, run};
 ghost use Rattle.hc_program.specs.Standings.{Standing};
 ghost use Rattle.hc_program.specs.Starved.{EndsAsOne, StarvedOutcome, StarvedRun, Stops};
 ghost use Rattle.hc_program.specs.Text.{EndsAs, outcome_of, unopened};
-ghost use Rattle.hc_program.specs.Turns.{Takes, end_behind};
+ghost use Rattle.hc_program.specs.Turns.{Takes, end_behind, ended};
 ghost use Rattle.hc_text.specs.declared.input.TheConstants.{MOST_INPUT};
 
 use crate::opening::{Unopened, memory_text, open_session, push_unopened};
@@ -37,6 +37,15 @@ pub(crate) const UNOPENED: u8 = 3;
 /// The exit status where the input isn't read or a write failed.
 pub(crate) const BROKEN: u8 = 4;
 
+/// Why a run ended with status 4.
+#[derive(Clone, Copy, Debug, PartialEq, Eq)]
+pub enum Broken {
+    /// The input wasn't read; nothing was written.
+    Unread(Unread),
+    /// A write failed, took nothing, or was interrupted too often; less than the whole text was written.
+    Unwritten,
+}
+
 /// How a run ended.
 #[derive(Clone, Copy, Debug, PartialEq, Eq)]
 pub struct RunEnd {
@@ -45,6 +54,8 @@ pub struct RunEnd {
     pub status: u8,
     /// Whether a growth was refused on the way, or a seat or a view, which no run meets.
     pub starved: bool,
+    /// Why the status is 4; none where it is another.
+    pub broken: Option<Broken>,
 }
 
 /// How a turn ended.
@@ -78,6 +89,22 @@ fn end_behind(goes_on: bool) -> Option<u8>
     ensures { result ≡ end_behind goes_on }
 {
     if goes_on { None } else { Some(BAD_COMMAND) }
+}
+
+/// The end, with this status, of a run whose input was read: where that is 4, a write failed.
+fn ended(status: u8, starved: bool) -> RunEnd
+    ensures { result ≡ ended status starved }
+{
+    let broken = if status == BROKEN {
+        Some(Broken::Unwritten)
+    } else {
+        None
+    };
+    RunEnd {
+        status,
+        starved,
+        broken,
+    }
 }
 
 /// Answers a turn, publishes what it changed, and writes its reply, or why it was stopped. A refused publishing prints
@@ -118,9 +145,9 @@ fn run_commands<Rt: Threads + Wait + Sync, W: Write>(
 ) -> RunEnd
     requires { first + left_in (option_copied lines) ≤ MOST_INPUT + 2 }
     ensures unstarved { result.starved ≡ false
-        → EndsAs (W.contents output.old) (W.contents output.new) result.status (run session.old (turns_of (lines_after first (option_copied lines.entry)))) }
+        → EndsAs (W.contents output.old) (W.contents output.new) result (run session.old (turns_of (lines_after first (option_copied lines.entry)))) }
     ensures starved { result.starved ≡ true
-        → EndsAsOne (W.contents output.old) (W.contents output.new) result.status (StarvedRun session.old (turns_of (lines_after first (option_copied lines.entry)))) }
+        → EndsAsOne (W.contents output.old) (W.contents output.new) result (StarvedRun session.old (turns_of (lines_after first (option_copied lines.entry)))) }
 {
     let mut starved = false;
     let mut number = first;
@@ -130,37 +157,34 @@ fn run_commands<Rt: Threads + Wait + Sync, W: Write>(
         let taken = take_turn(rt, alloc, cut.turn, session, output);
         starved |= taken.starved;
         if let Some(status) = taken.end {
-            return RunEnd { status, starved };
+            return ended(status, starved);
         }
         number = cut.first;
         rest = cut.behind;
     }
-    RunEnd {
-        status: DONE,
-        starved,
-    }
+    ended(DONE, starved)
 }
 
-/// Writes the lines with which a run ends, and ends it with this status.
+/// Writes the lines with which a run ends, and ends it with this status, which isn't that of a failed write.
 pub(crate) fn end_with<W: Write>(lines: &[u8], end: u8, starved: bool, output: &mut W) -> RunEnd
-    ensures told { EndsAs (W.contents output.old) (W.contents output.new) result.status (record { text = lines.now; status = end }) }
+    requires { end ≢ 4 }
+    ensures told { EndsAs (W.contents output.old) (W.contents output.new) result (record { text = lines.now; status = end }) }
     ensures starved { result.starved ≡ starved }
 {
-    let status = match write_text(output, lines) {
-        Ok(()) => end,
-        Err(_) => BROKEN,
-    };
-    RunEnd { status, starved }
+    match write_text(output, lines) {
+        Ok(()) => ended(end, starved),
+        Err(_) => ended(BROKEN, starved),
+    }
 }
 
 /// Tells why the project isn't opened.
 #[tactic(auto, using(crate::proofs::Openings::in_want_same))]
 fn end_unopened<W: Write>(alloc: Global, fault: Unopened, output: &mut W) -> RunEnd
     ensures told { result.starved ≡ false
-        → EndsAs (W.contents output.old) (W.contents output.new) result.status (unopened fault) }
+        → EndsAs (W.contents output.old) (W.contents output.new) result (unopened fault) }
     ensures unstarved { result.starved ≡ false → is_want fault ≡ false }
     ensures starved { result.starved ≡ true
-        → EndsAs (W.contents output.old) (W.contents output.new) result.status (unopened (in_want fault)) }
+        → EndsAs (W.contents output.old) (W.contents output.new) result (unopened (in_want fault)) }
 {
     let mut line = String::new(alloc);
     match push_unopened(fault, &mut line) {
@@ -178,9 +202,9 @@ fn run_input<Rt: Threads + Wait + Sync, W: Write>(
 ) -> RunEnd
     requires { length input.now ≤ MOST_INPUT }
     ensures unstarved { result.starved ≡ false
-        → EndsAs (W.contents output.old) (W.contents output.new) result.status (outcome_of input.now) }
+        → EndsAs (W.contents output.old) (W.contents output.new) result (outcome_of input.now) }
     ensures starved { result.starved ≡ true
-        → EndsAsOne (W.contents output.old) (W.contents output.new) result.status (StarvedOutcome input.now) }
+        → EndsAsOne (W.contents output.old) (W.contents output.new) result (StarvedOutcome input.now) }
 {
     let sections = split_sections(input);
     match open_session(rt, alloc, sections.project) {
@@ -225,15 +249,16 @@ pub fn run_hotline<Rt: Threads + Wait + Sync, R: Read, W: Write>(
     output: &mut W,
 ) -> RunEnd
     ensures unstarved { result.starved ≡ false → IfSome (R.remaining input.old)
-        (λ bytes. EndsAs (W.contents output.old) (W.contents output.new) result.status (outcome_of bytes)) }
+        (λ bytes. EndsAs (W.contents output.old) (W.contents output.new) result (outcome_of bytes)) }
     ensures starved { result.starved ≡ true → IfSome (R.remaining input.old)
-        (λ bytes. EndsAsOne (W.contents output.old) (W.contents output.new) result.status (StarvedOutcome bytes)) }
+        (λ bytes. EndsAsOne (W.contents output.old) (W.contents output.new) result (StarvedOutcome bytes)) }
 {
     match read_all(alloc, input) {
         Ok(bytes) => run_input(rt, alloc, &bytes, output),
         Err(fault) => RunEnd {
             status: BROKEN,
             starved: fault == Unread::Memory,
+            broken: Some(Broken::Unread(fault)),
         },
     }
 }

@@ -6,6 +6,7 @@ pub mod checking;
 mod commands;
 pub mod engine;
 mod frames;
+pub mod laws;
 mod opening;
 mod places;
 mod refusals;

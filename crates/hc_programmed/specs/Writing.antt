@@ -20,12 +20,21 @@ block_datagram block = block_write block.station block.block.register block.bloc
 abbrev pub write_frames : ℕ → List LineBlock → List (List ℕ)
 write_frames serial blocks = map (λ e. frame_text e.0 (block_datagram e.1 ∷ [])) (enumerate_from serial blocks)
 
--- the machine of a slave: the slave's station address, a number of 16 bits, stands in its register, and in the FMMU blocks past the slave's areas stand zeros
+-- a machine is ready for a slave: the slave's station address is in its register, and zeros are in the FMMU blocks past the slave's areas
+pub record IsReadyFor (member : Member) (memory : List ℕ) : Type 0 where
+  pub station : word_at memory STATION_REGISTER ≡ member.slave.station
+  pub unused : (i : ℕ) → length member.slave.areas ≤ i → i < FMMUS → block_at memory i ≡ replicate FMMU_BLOCK_BYTES 0
+
+-- so are machines for the slaves of the line, in its order
+pub record AreReadyFor (line : List Member) (machines : List (List ℕ)) : Type 0 where
+  pub count : length machines ≡ length line
+  pub each : (k : ℕ) (member : Member) (memory : List ℕ) → slice_get line k ≡ Some member → slice_get machines k ≡ Some memory → IsReadyFor member memory
+
+-- the machine of a slave: it has all its memory, the slave's station address is a number of 16 bits, and it is ready for the slave
 pub record IsMachineOf (member : Member) (memory : List ℕ) : Type 0 where
   pub size : length memory ≡ MEMORY_BYTES
   pub address : member.slave.station < 2 ^ 16
-  pub station : word_at memory STATION_REGISTER ≡ member.slave.station
-  pub unused : (i : ℕ) → length member.slave.areas ≤ i → i < FMMUS → block_at memory i ≡ replicate FMMU_BLOCK_BYTES 0
+  pub ready : IsReadyFor member memory
 
 -- machines are those of the line, in its order
 pub record AreMachinesOf (line : List Member) (machines : List (List ℕ)) : Type 0 where

@@ -6,6 +6,7 @@ use crate::rule::{Image, Known};
 use hc_events::change::Change;
 use left_right::writer::Writer;
 use std::marker::Model;
+use thiserror::Error;
 
 mod steps;
 
@@ -39,5 +40,6 @@ pub struct Note {
 }
 
 /// The change that was refused for want of memory comes back.
-#[derive(Drop)]
+#[derive(Debug, Drop, Error)]
+#[error("out of memory")]
 pub struct Kept(pub Change);

@@ -7,3 +7,4 @@ pub mod Lending
 pub mod Finished
 pub mod Laws
 pub mod Frames
+pub mod Faults

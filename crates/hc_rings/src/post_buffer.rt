@@ -12,7 +12,7 @@ pub const LARGEST_IMAGE: usize = 16 * 1486;
 
 /// An epoch and the output bytes that are posted for it, with room for the largest image from the start. Contracts see it
 /// as a `Post`. None of its calls takes memory.
-#[derive(Drop)]
+#[derive(Debug, Drop)]
 pub struct PostBuffer {
     epoch: u32,
     bytes: Vec<u8>,

@@ -1,5 +1,6 @@
 //! A chain of segments, each in a thread of its own.
-ghost use Rattle.std.specs.Prelude.{◌≡◌, ◌≤◌, [], length, map, vec_capacity, IfOk, MatchResult};
+ghost use Rattle.std.specs.Prelude.{◌≡◌, ◌≤◌, [], length, map, vec_capacity, IfOk, MatchResult, OnOk};
+ghost use Rattle.hc_lend.specs.Work.{HavePassed};
 ghost use Rattle.hc_rings.specs.Frames.{SameFrameReceiver, SameFrameSender, frames_sent, frames_taken};
 ghost use Rattle.hc_segment.specs.Line.{all_machines, frames_through, machines_after};
 
@@ -56,6 +57,7 @@ pub fn chain<R: Threads + Wait + Sync, G: Gate + Sync>(
     ensures frames { IfOk result (λ out. out.items ≡ frames_through (all_machines segments.old) frames.items) }
     ensures machines { MatchResult result (λ _. all_machines segments.new ≡ machines_after (all_machines segments.old) frames.items) (λ _. segments.new ≡ segments.old) }
     ensures segments { map length segments.new ≡ map length segments.old }
+    ensures gate { OnOk result (HavePassed (G.passed gate.now) 0 (length segments.old)) }
 {
     if segments.is_empty() {
         return Ok(frames);

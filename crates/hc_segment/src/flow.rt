@@ -1,6 +1,7 @@
 //! Threads that pass frames on.
 ghost use Rattle.std.specs.Prelude.{◌≡◌, ◌+◌, ◌<◌, ◌^◌, length, vec_len};
 ghost use Rattle.std.specs.Thread.{IsSync};
+ghost use Rattle.hc_lend.specs.Work.{HavePassed};
 ghost use Rattle.hc_rings.specs.Frames.{SameFrameReceiver, SameFrameSender, frames_sent, frames_taken};
 ghost use Rattle.hc_segment.specs.Flow.{Flows, Unused};
 ghost use Rattle.hc_segment.specs.Line.{frame_through, frames_through, machines_after, machines_behind};
@@ -20,7 +21,31 @@ fn process_box(segment: &mut Segment, frame: &mut FrameBox)
     segment.process(frame.bytes_mut());
 }
 
-/// What one thread does: it passes the gate, then so many frames, one after another.
+/// Passes so many frames through a segment, one after another, once the thread with this number has passed the gate.
+fn serve<R: Wait, G: Gate>(
+    rt: &R,
+    _number: usize,
+    segment: &mut Segment,
+    from: &mut FrameReceiver,
+    to: &mut FrameSender,
+    count: usize,
+    _gate: &G,
+)
+    requires unused { Unused from.old to.old }
+    requires passed { G.passed _gate.now _number }
+    ensures count { length (frames_taken from.new) ≡ count }
+    ensures frames { frames_sent to.new ≡ frames_through segment.old (frames_taken from.new) }
+    ensures machines { segment.new ≡ machines_after segment.old (frames_taken from.new) }
+    ensures rings { SameFrameReceiver from.old from.new × SameFrameSender to.old to.new }
+{
+    for _ in 0..count {
+        let mut frame = take_waiting(rt, from);
+        process_box(segment, &mut frame);
+        send_waiting(rt, to, frame);
+    }
+}
+
+/// What one thread does: it passes the gate, and then the frames through its segment.
 fn work<R: Wait, G: Gate>(
     rt: &R,
     number: usize,
@@ -35,13 +60,10 @@ fn work<R: Wait, G: Gate>(
     ensures frames { frames_sent to.new ≡ frames_through segment.old (frames_taken from.new) }
     ensures machines { segment.new ≡ machines_after segment.old (frames_taken from.new) }
     ensures rings { SameFrameReceiver from.old from.new × SameFrameSender to.old to.new }
+    ensures passed { G.passed gate.now number }
 {
     gate.begun(number);
-    for _ in 0..count {
-        let mut frame = take_waiting(rt, from);
-        process_box(segment, &mut frame);
-        send_waiting(rt, to, frame);
-    }
+    serve(rt, number, segment, from, to, count, gate);
 }
 
 /// One thread for each segment, of which the first has this number. What the last one sends is what the segments make of
@@ -59,7 +81,8 @@ pub(crate) fn flow<R: Threads + Wait + Sync, G: Gate + Sync>(
     requires fresh { Unused from.old to.old }
     requires seams { vec_len seams.old + 1 ≡ length segments.old }
     requires numbers { number + length segments.old < 2 ^ 64 }
-    ensures { Flows count segments.old segments.new from.old from.new to.old to.new }
+    ensures flows { Flows count segments.old segments.new from.old from.new to.old to.new }
+    ensures passed { HavePassed (G.passed gate.now) number (length segments.old) }
 {
     let (first, rest) = segments.split_at_mut(1);
     let first = &mut first[0];
@@ -78,7 +101,8 @@ pub(crate) fn flow<R: Threads + Wait + Sync, G: Gate + Sync>(
         &mut ||
             requires { IsSync R.row × IsSync G.row × Unused into.now to.now × (vec_len seams.now + 1 ≡ length rest.now)
                 × (number + 1 + length rest.now < 2 ^ 64) }
-            ensures { Flows count rest.entry.now rest.exit.now into.entry.now into.exit.now to.entry.now to.exit.now }
+            ensures { Flows count rest.entry.now rest.exit.now into.entry.now into.exit.now to.entry.now to.exit.now
+                × HavePassed (G.passed gate.entry.now) (number + 1) (length rest.entry.now) }
         { flow(rt, number + 1, rest, seams, into, to, count, gate) },
         &mut || work(rt, number, first, from, out, count, gate),
     );

@@ -1,5 +1,5 @@
 //! Writing a text to the end, by the writer's own steps.
-ghost use Rattle.std.specs.Prelude.{ℕ, take, OnErr, OnOk};
+ghost use Rattle.std.specs.Prelude.{◌<◌, ℕ, length, take, OnErr, OnOk};
 ghost use Rattle.std.specs.Io.KnownBytes.{Appends};
 
 use std::io::{ErrorKind, Write};
@@ -14,11 +14,11 @@ const MOST_INTERRUPTIONS: u32 = 4_194_305;
 pub struct WriteFailed;
 
 /// Writes all of a text. An interrupted write is taken again, at most 4,194,305 times in one text. Where a
-/// write fails for another cause, takes nothing, or is interrupted once more, a front of the text was
-/// written.
+/// write fails for another cause, takes nothing, or is interrupted once more, nothing more is written: less than
+/// the whole text was, and what was written is a front of it.
 pub fn write_text<W: Write>(output: &mut W, text: &[u8]) -> Result<(), WriteFailed>
     ensures ok { OnOk result (Appends (W.contents output.old) (W.contents output.new) text.now) }
-    ensures err { OnErr result ((n : ℕ) × Appends (W.contents output.old) (W.contents output.new) (take n text.now)) }
+    ensures err { OnErr result ((n : ℕ) × (n < length text.now) × Appends (W.contents output.old) (W.contents output.new) (take n text.now)) }
 {
     let mut written = 0;
     let mut left = MOST_INTERRUPTIONS;

@@ -1,4 +1,4 @@
-//! Seats that are dropped before, between and after posts.
+//! Seats that are dropped before, between and after posts, and one that holds outputs as it is dropped.
 use crate::lines::opened;
 use crate::posting::is_posted;
 use hc_conductor::conductor::Conductor;
@@ -10,7 +10,8 @@ use std::sync::Wait;
 /// What is taken and published while seats go.
 type Left = (Taken, bool, Taken, bool, Taken, bool);
 
-/// The seats of tasks 7 to 5 go: the first before it posts, the next between two takings, the last behind them.
+/// The seats of tasks 7 to 5 go: the first before it posts, the next between two takings, the last after them, with
+/// outputs held that it never posts.
 fn left_by<R: Wait>(
     rt: &R,
     alloc: Global,
@@ -29,6 +30,7 @@ fn left_by<R: Wait>(
     }
     drop(between);
     let second = (conductor.take_posts(), conductor.publish(rt, alloc).is_ok());
+    last.hold().ok()?;
     drop(last);
     let third = (conductor.take_posts(), conductor.publish(rt, alloc).is_ok());
     Some((first.0, first.1, second.0, second.1, third.0, third.1))
@@ -50,7 +52,7 @@ fn accepted(posts: u32) -> Taken {
     }
 }
 
-/// What a seat posted is taken, also behind its end, and publishing goes on.
+/// What a seat posted is taken, also after its end, and what it only held isn't; publishing goes on.
 #[test]
 fn posts_outlive_their_seat(rt: HostRuntime) {
     assert_eq!(rt;

@@ -1,12 +1,15 @@
-//! Each call of the conductor that takes memory: where a growth is refused nothing has changed, and asked again it goes on.
+//! Each call of the conductor that takes memory: where a growth is refused nothing has changed, a view shows what was published
+//! before, and asked again it goes on.
 use crate::gates::WaitsForNext;
 use crate::growths::Call::{Arrive, Move, Publish, Send, SendAtOnce, Write};
-use crate::lines::opened;
+use crate::lines::{first_two, opening};
+use crate::rows::{Moment, OPENED, sees};
 use crate::steps::MOVE;
 use hc_conductor::conductor::Conductor;
 use hc_conductor::seat::TaskSeat;
 use hc_events::answer::{Answer, Outcome};
 use hc_events::faults::CoreFault;
+use hc_publish::faults::OpenFault;
 use std::alloc::{AllocError, Global};
 use std::sync::Wait;
 use std::test::Fail;
@@ -31,10 +34,21 @@ enum Call {
     Publish,
 }
 
-const CALLS: [Call; 19] = [
-    Write, Arrive, Write, Arrive, Write, Arrive, Write, Arrive, Publish, Move, Write, Arrive,
-    Write, Arrive, Send, Arrive, Publish, SendAtOnce, Arrive,
+/// Up to the publishing of an answer, and after it.
+const CALLS: [&[Call]; 2] = [
+    &[
+        Write, Arrive, Write, Arrive, Write, Arrive, Write, Arrive, Publish, Move, Write, Arrive,
+        Write, Arrive, Send, Arrive, Publish,
+    ],
+    &[SendAtOnce, Arrive],
 ];
+
+/// What task 0 sees after the publishing of the answer: its outputs are in the other task.
+const MOVED: Moment = Moment {
+    epoch: 1,
+    data: Some(b"\x34\x0a"),
+    told: &[(9, Err(1)), (1, Err(2)), (2, Ok(2612))],
+};
 
 /// The first owed block is written, and its slave counts it.
 fn is_written(conductor: &mut Conductor, arena: &mut [u8; ROOM]) -> bool {
@@ -106,51 +120,91 @@ fn seen(conductor: &Conductor) -> (u64, u32, u32) {
     (core.next_serial(), core.owed(), core.plan().epoch())
 }
 
-/// Asks, and asks again where memory was wanted and nothing has changed.
+/// Asks, and asks again where memory was wanted, nothing has changed, and the seat sees what was published before.
 fn asked<R: Threads + Wait + Sync>(
     rt: &R,
     alloc: Global,
     conductor: &mut Conductor,
     arena: &mut [u8; ROOM],
+    seat: TaskSeat,
+    published: &Moment,
     call: &Call,
-) -> Result<bool, AllocError> {
+) -> (TaskSeat, Result<bool, AllocError>) {
     let before = (seen(conductor), *arena);
     if let Some(right) = ask(rt, alloc, conductor, arena, call) {
-        return Ok(right);
+        return (seat, Ok(right));
     }
-    if (seen(conductor), *arena) != before {
-        return Ok(false);
+    let (seat, is_seen) = sees(seat, published);
+    if !is_seen || (seen(conductor), *arena) != before {
+        return (seat, Ok(false));
     }
-    ask(rt, alloc, conductor, arena, call).ok_or(AllocError)
+    let again = ask(rt, alloc, conductor, arena, call).ok_or(AllocError);
+    (seat, again)
 }
 
-/// Whether all of it goes as it is to.
+/// Whether all of these go as they are to, where this is published until the last of them.
 fn all_asked<R: Threads + Wait + Sync>(
     rt: &R,
     alloc: Global,
     conductor: &mut Conductor,
-) -> Result<bool, AllocError> {
-    let mut arena = [0; ROOM];
-    for call in &CALLS {
-        if !asked(rt, alloc, conductor, &mut arena, call)? {
-            return Ok(false);
+    arena: &mut [u8; ROOM],
+    seat: TaskSeat,
+    published: &Moment,
+    calls: &[Call],
+) -> (TaskSeat, Result<bool, AllocError>) {
+    let mut seat = seat;
+    for call in calls {
+        let (back, right) = asked(rt, alloc, conductor, arena, seat, published, call);
+        seat = back;
+        if !matches!(right, Ok(true)) {
+            return (seat, right);
         }
     }
-    Ok(true)
+    (seat, Ok(true))
 }
 
-/// The axis at its opening, opened again where memory was wanted.
-fn opened_again<R: Wait>(rt: &R, alloc: Global) -> Result<(Conductor, Vec<TaskSeat>), AllocError> {
-    if let Some(opened) = opened(rt, alloc) {
-        return Ok(opened);
+/// Whether all goes as it is to, and the answer is seen once it is published.
+fn are_asked<R: Threads + Wait + Sync>(
+    rt: &R,
+    alloc: Global,
+    conductor: &mut Conductor,
+    seat: TaskSeat,
+) -> Result<bool, AllocError> {
+    let mut arena = [0; ROOM];
+    let (seat, first) = all_asked(rt, alloc, conductor, &mut arena, seat, &OPENED, CALLS[0]);
+    if !first? {
+        return Ok(false);
     }
-    opened(rt, alloc).ok_or(AllocError)
+    let (seat, is_moved) = sees(seat, &MOVED);
+    let (seat, second) = all_asked(rt, alloc, conductor, &mut arena, seat, &MOVED, CALLS[1]);
+    let is_still = sees(seat, &MOVED).1;
+    Ok(second? && is_moved && is_still)
+}
+
+/// The axis at its opening, opened again where memory was wanted; none where it is refused for any other cause.
+fn opened_again<R: Wait>(
+    rt: &R,
+    alloc: Global,
+) -> Result<Option<(Conductor, Vec<TaskSeat>)>, AllocError> {
+    match opening(rt, alloc) {
+        Ok(opened) => Ok(Some(opened)),
+        Err(OpenFault::Memory) => match opening(rt, alloc) {
+            Ok(opened) => Ok(Some(opened)),
+            Err(_) => Err(AllocError),
+        },
+        Err(_) => Ok(None),
+    }
 }
 
 /// Whether all goes so from the opening on.
 fn is_gone<R: Threads + Wait + Sync>(rt: &R, alloc: Global) -> Result<bool, AllocError> {
-    let (mut conductor, _) = opened_again(rt, alloc)?;
-    let gone = all_asked(rt, alloc, &mut conductor);
+    let Some((mut conductor, seats)) = opened_again(rt, alloc)? else {
+        return Ok(false);
+    };
+    let gone = match first_two(seats) {
+        Some((seat, _other)) => are_asked(rt, alloc, &mut conductor, seat),
+        None => Ok(false),
+    };
     conductor.finish(rt);
     gone
 }

@@ -8,6 +8,8 @@ mod at_once;
 #[cfg(test)]
 mod changer;
 #[cfg(test)]
+mod crowded;
+#[cfg(test)]
 mod dropped;
 #[cfg(test)]
 mod fates;
@@ -15,6 +17,8 @@ mod fates;
 mod gates;
 #[cfg(test)]
 mod growths;
+#[cfg(test)]
+mod joined;
 #[cfg(test)]
 mod lines;
 #[cfg(test)]

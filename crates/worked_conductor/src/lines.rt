@@ -1,8 +1,9 @@
 //! One axis, its conductor and its seats.
-ghost use Rattle.std.specs.Prelude.{◌≡◌, ◌∷◌, All, IfSome, List, map};
+ghost use Rattle.std.specs.Prelude.{◌≡◌, ◌∷◌, All, IfOk, IfSome, List, map};
 ghost use Rattle.hc_publish.specs.Seats.{IsFresh};
 ghost use Rattle.hc_conductor.specs.Conducting.{origin_of};
-ghost use Rattle.hc_conductor.specs.Seats.{seat_of};
+ghost use Rattle.hc_conductor.specs.Seats.{seat_of, sender};
+ghost use Rattle.hc_conductor.specs.Together.{EachRing, IsWhole};
 ghost use Rattle.hc_conductor.specs.declared.seat.TaskSeat.{TaskSeat};
 
 use hc_conductor::conductor::Conductor;
@@ -10,6 +11,7 @@ use hc_conductor::open;
 use hc_conductor::seat::TaskSeat;
 use hc_events::answer::{Answer, Outcome};
 use hc_project::read_project;
+use hc_publish::faults::OpenFault;
 use std::alloc::Global;
 use std::sync::Wait;
 
@@ -37,6 +39,16 @@ pdo = [{ index = 0x1a00, entries = [[2, 12]] }]
 
 /// The bytes of each frame of this line: no datagram fills more than the shortest frame.
 pub const FRAME: usize = 60;
+
+/// The line at its opening, or why it isn't opened.
+pub fn opening<R: Wait>(rt: &R, alloc: Global) -> Result<(Conductor, Vec<TaskSeat>), OpenFault>
+    ensures { IfOk result (λ opened. EachRing IsWhole (map sender opened.1.items) opened.0.rings) }
+{
+    let Ok(project) = read_project(alloc, LINE.as_bytes()) else {
+        return Err(OpenFault::Memory);
+    };
+    open(rt, alloc, project)
+}
 
 /// The line at its opening.
 pub fn opened<R: Wait>(rt: &R, alloc: Global) -> Option<(Conductor, Vec<TaskSeat>)>

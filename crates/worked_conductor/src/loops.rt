@@ -1,4 +1,8 @@
 //! The loops of docs/CONDUCTOR.md, as they stand there.
+ghost use Rattle.std.specs.Prelude.{◌≡◌};
+ghost use Rattle.hc_conductor.specs.Conducting.{origin_of};
+ghost use Rattle.hc_conductor.specs.Seats.{seat_origin};
+
 use hc_conductor::conductor::Conductor;
 use hc_conductor::seat::TaskSeat;
 use hc_events::faults::CoreFault;
@@ -70,8 +74,10 @@ pub fn master_cycle<R: Wait, N: Network>(
     Ok(())
 }
 
-/// One cycle of a task's thread: what it read, and the seat for the next one.
-pub fn task_cycle(seat: TaskSeat, input: VarId, byte: u8) -> (TaskSeat, Option<u64>) {
+/// One cycle of a task's thread: what it read, and the seat for the next one, which is of the same conductor.
+pub fn task_cycle(seat: TaskSeat, input: VarId, byte: u8) -> (TaskSeat, Option<u64>)
+    ensures { seat_origin result.0 ≡ seat_origin seat }
+{
     let (mut seat, read) = match seat.view() {
         Ok(view) => {
             let read = view.value(input).ok();
@@ -79,8 +85,8 @@ pub fn task_cycle(seat: TaskSeat, input: VarId, byte: u8) -> (TaskSeat, Option<u
         }
         Err(seat) => (seat, None), // no entry: the seat as it was
     };
-    if let Ok(outputs) = seat.outputs() {
-        outputs.fill(byte); // for the epoch that was viewed last
+    if seat.hold().is_ok() {
+        seat.held_mut().fill(byte); // for the epoch that was viewed last
         let _ = seat.post(); // refused, they stay held
     }
     (seat, read)

@@ -1,6 +1,7 @@
 //! What a seat of the axis' task posts: one byte of outputs.
 ghost use Rattle.std.specs.Prelude.{◌≡◌};
-ghost use Rattle.hc_conductor.specs.Seats.{seat_origin};
+ghost use Rattle.hc_rings.specs.Ring.{SameSender};
+ghost use Rattle.hc_conductor.specs.Seats.{PostsEach, seat_origin, sender};
 
 use hc_conductor::seat::TaskSeat;
 use hc_rings::{NoSpare, PostFault};
@@ -17,7 +18,7 @@ pub enum Unposted {
 }
 
 /// The outputs that are lent are one byte that is 0, and then this one.
-fn lends(seat: &mut TaskSeat, byte: u8) -> Result<(), Unposted> {
+pub fn lends(seat: &mut TaskSeat, byte: u8) -> Result<(), Unposted> {
     match seat.outputs() {
         Ok(outputs) => {
             let is_blank = &*outputs == [0].as_slice();
@@ -38,22 +39,11 @@ pub fn post(seat: &mut TaskSeat, byte: u8) -> Result<(), Unposted> {
     seat.post().map_err(Unposted::Fault)
 }
 
-/// Whether the byte is held for the next post, in the task's only byte of outputs.
-pub fn is_held(seat: &mut TaskSeat, byte: u8) -> bool
-    ensures { seat_origin seat.new ≡ seat_origin seat.old }
-{
-    if seat.hold().is_err() {
-        return false;
-    }
-    let outputs = seat.held_mut();
-    let is_blank = &*outputs == [0].as_slice();
-    outputs.fill(byte);
-    is_blank
-}
-
 /// Whether outputs are posted, each byte as this one.
 pub fn is_posted(seat: &mut TaskSeat, byte: u8) -> bool
-    ensures { seat_origin seat.new ≡ seat_origin seat.old }
+    ensures origin { seat_origin seat.new ≡ seat_origin seat.old }
+    ensures ring { SameSender (sender seat.old) (sender seat.new) }
+    ensures each { PostsEach seat.old → PostsEach seat.new }
 {
     if seat.hold().is_err() {
         return false;

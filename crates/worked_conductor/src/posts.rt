@@ -1,12 +1,8 @@
 //! What comes of a task's posts, sendings and answers with its seat beside them: rows worked out by hand.
-ghost use Rattle.std.specs.Prelude.{◌≡◌};
-ghost use Rattle.hc_conductor.specs.Conducting.{origin_of};
-ghost use Rattle.hc_conductor.specs.Seats.{seat_origin};
-
 use crate::lines::{first_two, opened};
 use crate::posting::{Unposted, post};
 use crate::rows::Moment;
-use crate::steps::Step::{Come, Hold, Move, Post, Publish, Read, Remap, See, Send, Take, Write};
+use crate::steps::Step::{Come, Lend, Move, Post, Publish, Read, Remap, See, Send, Take, Write};
 use crate::steps::{Came, Step, first_wrong};
 use hc_conductor::conductor::Conductor;
 use hc_conductor::seat::TaskSeat;
@@ -40,7 +36,7 @@ const ROWS: [&[Step]; 5] = [
     // a post is sent, its answer is read, and neither a second one nor a wrong one is
     &[
         Write(4),
-        Hold(2),
+        Lend(2),
         Post(Ok(())),
         Take(1, 0),
         Send(0, SENT),
@@ -79,10 +75,10 @@ const ROWS: [&[Step]; 5] = [
     // a value moves with its variable, and a post for the epoch before is refused
     &[
         Write(4),
-        Hold(2),
+        Lend(2),
         Post(Ok(())),
         Take(1, 0),
-        Hold(1),
+        Lend(1),
         Move(1, 2, 2),
         Post(Ok(())),
         Take(0, 1),
@@ -91,7 +87,7 @@ const ROWS: [&[Step]; 5] = [
     ],
     // outputs keep the epoch for which they were lent, whatever is viewed since
     &[
-        Hold(2),
+        Lend(2),
         Remap(1),
         Publish,
         See(Moment {
@@ -101,14 +97,14 @@ const ROWS: [&[Step]; 5] = [
         }),
         Post(Ok(())),
         Take(0, 1),
-        Hold(1),
+        Lend(1),
         Post(Ok(())),
         Take(1, 0),
     ],
     // lent again they are for the epoch then viewed last
     &[
         Post(Err(PostFault::NoBuffer)),
-        Hold(2),
+        Lend(2),
         Remap(1),
         Publish,
         See(Moment {
@@ -116,7 +112,7 @@ const ROWS: [&[Step]; 5] = [
             data: None,
             told: &[],
         }),
-        Hold(3),
+        Lend(3),
         Post(Ok(())),
         Post(Err(PostFault::NoBuffer)),
         Take(1, 0),

@@ -1,10 +1,6 @@
 //! What is done with a conductor and the seat of task 0, and what is to come of it.
-ghost use Rattle.std.specs.Prelude.{◌≡◌};
-ghost use Rattle.hc_conductor.specs.Conducting.{origin_of};
-ghost use Rattle.hc_conductor.specs.Seats.{seat_origin};
-
 use crate::lines::{FRAME, are_written};
-use crate::posting::is_held;
+use crate::posting::lends;
 use crate::rows::{Moment, has, sees};
 use hc_conductor::conductor::Conductor;
 use hc_conductor::seat::TaskSeat;
@@ -31,9 +27,9 @@ pub enum Came {
 pub enum Step {
     /// So many blocks are written and answered well.
     Write(u32),
-    /// A byte is held for the next post.
-    Hold(u8),
-    /// What is held is posted, or not.
+    /// Outputs are lent, one byte that is 0, and then this one.
+    Lend(u8),
+    /// The outputs that were lent are posted, or not.
     Post(Result<(), PostFault>),
     /// So many posts are taken and accepted, and so many refused.
     Take(u32, u32),
@@ -47,7 +43,7 @@ pub enum Step {
     Come(&'static [u8], Came),
     /// Task 0 reads this epoch and these data of its datagram, or none.
     Read(u32, Option<&'static [u8]>),
-    /// All is published, and the seat learns it.
+    /// All is published.
     Publish,
     /// The seat's view shows this.
     See(Moment),
@@ -59,9 +55,7 @@ pub fn is_edited(
     conductor: &mut Conductor,
     edit: &Edit,
     told: (u32, u32, u32),
-) -> bool
-    ensures { origin_of conductor.new ≡ origin_of conductor.old }
-{
+) -> bool {
     match conductor.edit(alloc, edit) {
         Answer::Edited {
             epoch,
@@ -73,9 +67,7 @@ pub fn is_edited(
 }
 
 /// Whether the inputs can be mapped anew as they are, which moves nothing.
-pub fn is_mapped(alloc: Global, conductor: &mut Conductor, epoch: u32) -> bool
-    ensures { origin_of conductor.new ≡ origin_of conductor.old }
-{
+pub fn is_mapped(alloc: Global, conductor: &mut Conductor, epoch: u32) -> bool {
     let Ok(indexes) = Vec::from_slice(alloc, &[0x1a00]) else {
         return false;
     };
@@ -95,9 +87,7 @@ pub const MOVE: Edit = Edit::Move {
 };
 
 /// Whether one frame of a task is sent, and this stands in it in front of zeros.
-fn is_sent(alloc: Global, conductor: &mut Conductor, task: u8, text: &[u8]) -> bool
-    ensures { origin_of conductor.new ≡ origin_of conductor.old }
-{
+fn is_sent(alloc: Global, conductor: &mut Conductor, task: u8, text: &[u8]) -> bool {
     let mut frame = [0; FRAME];
     let Ok(frames) = conductor.send(alloc, &[task], &mut frame) else {
         return false;
@@ -106,9 +96,7 @@ fn is_sent(alloc: Global, conductor: &mut Conductor, task: u8, text: &[u8]) -> b
 }
 
 /// What a frame is that arrives; none where it is anything else.
-fn judged(alloc: Global, conductor: &mut Conductor, bytes: &[u8]) -> Option<Came>
-    ensures { origin_of conductor.new ≡ origin_of conductor.old }
-{
+fn judged(alloc: Global, conductor: &mut Conductor, bytes: &[u8]) -> Option<Came> {
     match conductor.arrive(alloc, bytes) {
         Answer::Stale => Some(Came::Stale),
         Answer::Answered(outcomes) => match outcomes.as_slice() {
@@ -137,9 +125,7 @@ fn is_read(alloc: Global, conductor: &Conductor, epoch: u32, data: Option<&[u8]>
 }
 
 /// Whether what a step does with the conductor alone comes so.
-fn is_driven(alloc: Global, conductor: &mut Conductor, step: &Step) -> bool
-    ensures { origin_of conductor.new ≡ origin_of conductor.old }
-{
+fn is_driven(alloc: Global, conductor: &mut Conductor, step: &Step) -> bool {
     match step {
         Step::Write(blocks) => are_written(alloc, conductor, *blocks),
         Step::Take(accepted, refused) => {
@@ -160,22 +146,6 @@ fn is_driven(alloc: Global, conductor: &mut Conductor, step: &Step) -> bool
     }
 }
 
-/// Whether all is published, and the seat learns it.
-fn is_published<R: Wait>(
-    rt: &R,
-    alloc: Global,
-    conductor: &mut Conductor,
-    seat: &mut TaskSeat,
-) -> bool
-    requires { seat_origin seat.old ≡ origin_of conductor.old }
-    ensures seat { seat_origin seat.new ≡ seat_origin seat.old }
-    ensures conductor { origin_of conductor.new ≡ origin_of conductor.old }
-{
-    let published = conductor.publish(rt, alloc).is_ok();
-    seat.learn(conductor.note());
-    published
-}
-
 /// A step is done, and whether that comes of it.
 fn done<R: Wait>(
     rt: &R,
@@ -183,15 +153,11 @@ fn done<R: Wait>(
     conductor: &mut Conductor,
     mut seat: TaskSeat,
     step: &Step,
-) -> (TaskSeat, bool)
-    requires { seat_origin seat ≡ origin_of conductor.old }
-    ensures seat { seat_origin result.0 ≡ seat_origin seat }
-    ensures conductor { origin_of conductor.new ≡ origin_of conductor.old }
-{
+) -> (TaskSeat, bool) {
     let comes = match step {
-        Step::Hold(byte) => is_held(&mut seat, *byte),
+        Step::Lend(byte) => lends(&mut seat, *byte).is_ok(),
         Step::Post(wanted) => seat.post() == *wanted,
-        Step::Publish => is_published(rt, alloc, conductor, &mut seat),
+        Step::Publish => conductor.publish(rt, alloc).is_ok(),
         Step::See(moment) => return sees(seat, moment),
         _ => is_driven(alloc, conductor, step),
     };
@@ -205,9 +171,7 @@ pub fn first_wrong<R: Wait>(
     conductor: &mut Conductor,
     seat: TaskSeat,
     steps: &[Step],
-) -> usize
-    requires { seat_origin seat ≡ origin_of conductor.old }
-{
+) -> usize {
     let mut seat = seat;
     let mut number: usize = 0;
     for step in steps {

@@ -1,6 +1,7 @@
 //! Edits that are prepared and let go, and then carried out.
+use crate::drawn::remap;
 use crate::opened::plan_of;
-use crate::steps::{has_block, remap};
+use crate::steps::has_block;
 use hc_plan::plan::Plan;
 use hc_plan::prepared::PreparedEdit;
 use hc_ranks::blocks::{Gone, RankedBlock};

@@ -1,11 +1,11 @@
 //! What a line's plan is asked, step by step, with what it is to answer.
+use crate::drawn::remap;
 use crate::opened::{group_of, plan_of};
 use hc_places::table::{Datagram, Places};
 use hc_plan::plan::Plan;
 use hc_plan::report::Report;
 use hc_records::edit::Edit;
 use hc_records::faults::EditFault;
-use hc_records::items::Items;
 use hc_records::records::{Dir, VarId};
 use std::alloc::{AllocError, Global};
 use std::test::Fail;
@@ -114,15 +114,6 @@ fn is_answered(plan: &mut Plan, alloc: Global, edit: &Edit, answer: &Answer) -> 
         (Err(fault), Err(other)) => Ok(fault == *other && is_same_table(&table, plan.places())),
         _ => Ok(false),
     }
-}
-
-/// The edit that assigns PDOs to an area.
-pub fn remap(alloc: Global, station: u16, area: u8, pdos: &[u16]) -> Result<Edit, AllocError> {
-    Ok(Edit::Remap {
-        station,
-        area,
-        pdos: Items::of(Vec::from_slice(alloc, pdos)?),
-    })
 }
 
 /// Whether a plan has these datagrams of a task, and no more.

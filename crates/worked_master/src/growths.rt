@@ -1,9 +1,10 @@
 //! Each call of the master that takes memory: where a growth is refused nothing has changed, and asked again it goes on.
 use crate::growths::Call::{Arrive, Publish, Send, Write};
-use crate::lines::{FRAME, are_inputs, is_sent, is_written, opened};
+use crate::lines::{FRAME, are_inputs, is_sent, is_written, opened, opening};
 use hc_events::answer::Answer;
 use hc_events::faults::CoreFault;
 use hc_master::master::Master;
+use hc_publish::faults::OpenFault;
 use std::alloc::{AllocError, Global};
 use std::sync::Wait;
 use std::test::Fail;
@@ -84,11 +85,12 @@ fn all_asked<R: Wait>(rt: &R, alloc: Global, master: &mut Master) -> Result<bool
     Ok(matches!(master.view(0, 2), Ok(viewed) if viewed.value == Ok(2612)))
 }
 
-/// Whether all goes so from the opening on, opened again where memory was wanted.
+/// Whether all goes so from the opening on, opened again where memory was wanted and for no other cause.
 fn is_gone<R: Wait>(rt: &R, alloc: Global) -> Result<bool, AllocError> {
-    let mut master = match opened(rt, alloc) {
-        Some(master) => master,
-        None => opened(rt, alloc).ok_or(AllocError)?,
+    let mut master = match opening(rt, alloc) {
+        Ok(master) => master,
+        Err(OpenFault::Memory) => opened(rt, alloc).ok_or(AllocError)?,
+        Err(_) => return Ok(false),
     };
     let gone = all_asked(rt, alloc, &mut master);
     master.finish(rt);

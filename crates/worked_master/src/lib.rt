@@ -4,6 +4,8 @@
 #![tactic(auto)]
 
 #[cfg(test)]
+mod crowded;
+#[cfg(test)]
 mod growths;
 #[cfg(test)]
 mod lines;

@@ -3,6 +3,7 @@ use hc_events::answer::{Answer, Outcome};
 use hc_master::master::Master;
 use hc_master::open;
 use hc_project::read_project;
+use hc_publish::faults::OpenFault;
 use std::alloc::Global;
 use std::sync::Wait;
 
@@ -31,10 +32,17 @@ pdo = [{ index = 0x1a00, entries = [[2, 12]] }]
 /// The bytes of each frame of this line: no datagram fills more than the shortest frame.
 pub const FRAME: usize = 60;
 
+/// The line at its opening, or why it isn't opened.
+pub fn opening<R: Wait>(rt: &R, alloc: Global) -> Result<Master, OpenFault> {
+    let Ok(project) = read_project(alloc, LINE.as_bytes()) else {
+        return Err(OpenFault::Memory);
+    };
+    open(rt, alloc, project)
+}
+
 /// The line at its opening.
 pub fn opened<R: Wait>(rt: &R, alloc: Global) -> Option<Master> {
-    let project = read_project(alloc, LINE.as_bytes()).ok()?;
-    open(rt, alloc, project).ok()
+    opening(rt, alloc).ok()
 }
 
 /// Whether the first owed block is sent, and what stands in the frame once its slave has it: its counter stands behind 26

@@ -1,19 +1,29 @@
 //! Inputs that are too long, readers that fail, and writers that fail.
-use crate::devices::{Halting, Interrupted, LineFeeds, Narrow, Stuttering};
+use crate::devices::{Faltering, Halting, Interrupted, LineFeeds, Narrow, Stuttering};
 use crate::printed::{FIRST_COMMANDS, FIRST_TEXT, ONE_SLAVE, Printed, ROOM, joined};
-use hc_program::engine::{RunEnd, run_hotline};
-use hc_text::input::MOST_INPUT;
+use hc_program::engine::{Broken, RunEnd, run_hotline};
+use hc_text::input::{MOST_INPUT, Unread};
 use std::alloc::{AllocError, Global};
 use std::io::ErrorKind;
 use std::sync::Wait;
 use std::test::Fail;
 use std::thread::Threads;
 
-/// An unstarved end.
+/// An unstarved end with another status than 4.
 fn ended(status: u8) -> RunEnd {
     RunEnd {
         status,
         starved: false,
+        broken: None,
+    }
+}
+
+/// An unstarved end with status 4.
+fn broken(broken: Broken) -> RunEnd {
+    RunEnd {
+        status: 4,
+        starved: false,
+        broken: Some(broken),
     }
 }
 
@@ -36,7 +46,9 @@ fn fed<R: Threads + Wait + Sync>(
 fn one_byte_too_long(rt: HostRuntime) -> Result<(), Fail> {
     let most = fed(&rt, rt.alloc(), MOST_INPUT)?;
     let longer = fed(&rt, rt.alloc(), MOST_INPUT + 1)?;
-    assert!(rt; most == (ended(0), true) && longer == (ended(4), true));
+    assert!(rt;
+        most == (ended(0), true) && longer == (broken(Broken::Unread(Unread::TooLong)), true)
+    );
     Ok(())
 }
 
@@ -45,7 +57,11 @@ fn reading_ends_after_its_turns(rt: HostRuntime) -> Result<(), Fail> {
     let mut input = Interrupted { calls: 0 };
     let mut output = Vec::new(rt.alloc());
     let end = run_hotline(&rt, rt.alloc(), &mut input, &mut output);
-    assert!(rt; end == ended(4) && input.calls == 4_194_305 && output.is_empty());
+    assert!(rt;
+        end == broken(Broken::Unread(Unread::Failed))
+            && input.calls == 4_194_305
+            && output.is_empty()
+    );
     Ok(())
 }
 
@@ -81,7 +97,11 @@ pub fn reads_failed<R: Threads + Wait + Sync>(
     for calls_left in 0..20u32 {
         let printed = halted(rt, alloc, text, calls_left, ErrorKind::BrokenPipe)?;
         let is_read = calls_left as usize >= reads;
-        let end = ended(if is_read { 0 } else { 4 });
+        let end = if is_read {
+            ended(0)
+        } else {
+            broken(Broken::Unread(Unread::Failed))
+        };
         if printed.end != end || printed.text.is_empty() == is_read {
             return Ok(calls_left);
         }
@@ -163,7 +183,7 @@ fn interrupted<R: Threads + Wait + Sync>(
 
 #[test]
 fn writing_ends_after_its_interruptions(rt: HostRuntime) -> Result<(), Fail> {
-    assert!(rt; interrupted(&rt, rt.alloc())? == (ended(4), 4_194_306));
+    assert!(rt; interrupted(&rt, rt.alloc())? == (broken(Broken::Unwritten), 4_194_306));
     Ok(())
 }
 
@@ -189,7 +209,12 @@ fn is_cut_at<R: Threads + Wait + Sync>(
     }
     let is_front = printed.as_bytes().starts_with(output.taken.as_slice());
     let is_whole = output.taken.len() == printed.len();
-    Ok(is_front && end == ended(if is_whole { status } else { 4 }))
+    let wanted = if is_whole {
+        ended(status)
+    } else {
+        broken(Broken::Unwritten)
+    };
+    Ok(is_front && end == wanted)
 }
 
 /// At how many of the writes, from the first on, a run over a text that prints another one is cut in both ways.
@@ -211,6 +236,57 @@ pub fn writes_cut<R: Threads + Wait + Sync>(
 fn each_write_fails_in_turn(rt: HostRuntime) -> Result<(), Fail> {
     let text = joined(rt.alloc(), ONE_SLAVE, FIRST_COMMANDS)?;
     assert!(rt; writes_cut(&rt, rt.alloc(), text.as_str(), FIRST_TEXT)? == 160);
+    Ok(())
+}
+
+/// Whether a run over a text whose writer fails once, at a call, and takes bytes afterwards ends with status 4 and less than
+/// the whole of what it is to print; and with all of it where the call isn't reached.
+fn falters_at<R: Threads + Wait + Sync>(
+    rt: &R,
+    alloc: Global,
+    text: &str,
+    printed: &str,
+    calls_left: u32,
+) -> Result<bool, AllocError> {
+    let mut input = text.as_bytes();
+    let mut output = Faltering {
+        taken: Vec::with_capacity(alloc, ROOM)?,
+        calls_left,
+        has_failed: false,
+    };
+    let end = run_hotline(rt, alloc, &mut input, &mut output);
+    if end.starved {
+        return Err(AllocError);
+    }
+    let is_front = printed.as_bytes().starts_with(output.taken.as_slice());
+    let is_whole = output.taken.len() == printed.len();
+    let wanted = if output.has_failed {
+        broken(Broken::Unwritten)
+    } else {
+        ended(0)
+    };
+    Ok(is_front && is_whole != output.has_failed && end == wanted)
+}
+
+/// At how many of the writes, from the first on, one failure ends a run over a text that prints another one.
+pub fn writes_falter<R: Threads + Wait + Sync>(
+    rt: &R,
+    alloc: Global,
+    text: &str,
+    printed: &str,
+) -> Result<u32, AllocError> {
+    for calls in 0..80u32 {
+        if !falters_at(rt, alloc, text, printed, calls)? {
+            return Ok(calls);
+        }
+    }
+    Ok(80)
+}
+
+#[test]
+fn a_failed_write_is_not_tried_again(rt: HostRuntime) -> Result<(), Fail> {
+    let text = joined(rt.alloc(), ONE_SLAVE, FIRST_COMMANDS)?;
+    assert!(rt; writes_falter(&rt, rt.alloc(), text.as_str(), FIRST_TEXT)? == 80);
     Ok(())
 }
 

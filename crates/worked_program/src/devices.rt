@@ -79,6 +79,31 @@ impl Write for Narrow {
     }
 }
 
+/// A writer that takes a few bytes at a time, and fails once, at a call that is counted down to; it takes bytes afterwards.
+#[derive(Drop)]
+pub struct Faltering {
+    pub taken: Vec<u8>,
+    pub calls_left: u32,
+    pub has_failed: bool,
+}
+
+impl Write for Faltering {
+    fn write(&mut self, buf: &[u8]) -> io::Result<usize> {
+        if self.calls_left == 0 && !self.has_failed {
+            self.has_failed = true;
+            return Err(io::Error::from(ErrorKind::BrokenPipe));
+        }
+        self.calls_left = self.calls_left.saturating_sub(1);
+        let count = buf.len().min(7);
+        self.taken.extend_from_slice(&buf[..count])?;
+        Ok(count)
+    }
+
+    fn flush(&mut self) -> io::Result<()> {
+        Ok(())
+    }
+}
+
 impl Write for Interrupted {
     fn write(&mut self, _buf: &[u8]) -> io::Result<usize> {
         self.calls = self.calls.saturating_add(1);

@@ -1,5 +1,5 @@
 //! A run in which a task posts and views, over readers and writers that fail.
-use crate::breaks::{reads_failed, writes_cut};
+use crate::breaks::{reads_failed, writes_cut, writes_falter};
 use crate::printed::{ONE_SLAVE, joined};
 use std::test::Fail;
 
@@ -37,5 +37,12 @@ fn each_read_of_a_posting_run_fails_once(rt: HostRuntime) -> Result<(), Fail> {
 fn each_write_of_a_posting_run_fails_in_turn(rt: HostRuntime) -> Result<(), Fail> {
     let text = joined(rt.alloc(), ONE_SLAVE, BOTH_WAYS)?;
     assert!(rt; writes_cut(&rt, rt.alloc(), text.as_str(), BOTH_WAYS_TEXT)? == 160);
+    Ok(())
+}
+
+#[test]
+fn a_failed_write_of_a_posting_run_is_not_tried_again(rt: HostRuntime) -> Result<(), Fail> {
+    let text = joined(rt.alloc(), ONE_SLAVE, BOTH_WAYS)?;
+    assert!(rt; writes_falter(&rt, rt.alloc(), text.as_str(), BOTH_WAYS_TEXT)? == 80);
     Ok(())
 }

@@ -1,5 +1,5 @@
 //! Chains of one, two and four segments, and that their threads run at once.
-use crate::gates::{Holds, Open};
+use crate::gates::{Counts, Holds, Meets, Open};
 use crate::pieces::{frame_of, put, stands};
 use hc_lend::Gate;
 use hc_rings::FrameBox;
@@ -137,6 +137,62 @@ fn segments_run_at_once(rt: HostRuntime) -> Result<(), Fail> {
     let left_in_turn = left_in_turn(alloc, 4, &gate_in_turn)?;
     let are_seen = (gate.has_seen(), gate_in_turn.has_seen());
     assert_eq!(rt; (are_seen, left == left_in_turn), ((true, false), true));
+    Ok(())
+}
+
+/// Which of the four segments of a chain is held, and for which other one.
+const PAIRS: [(usize, usize); 12] = [
+    (0, 1),
+    (0, 2),
+    (0, 3),
+    (1, 0),
+    (1, 2),
+    (1, 3),
+    (2, 0),
+    (2, 1),
+    (2, 3),
+    (3, 0),
+    (3, 1),
+    (3, 2),
+];
+
+/// The first pair of segments of which the one that is held doesn't see the other one begin.
+fn first_unseen<R: Threads + Wait + Sync>(
+    rt: &R,
+    alloc: Global,
+    wanted: &[u8],
+) -> Result<Option<(usize, usize)>, ChainFault> {
+    for pair in &PAIRS {
+        let gate = Holds::of(pair.0, pair.1);
+        if left_in_chain(rt, alloc, 2, &gate)?.as_slice() != wanted || !gate.has_seen() {
+            return Ok(Some(*pair));
+        }
+    }
+    Ok(None)
+}
+
+/// Whichever segment is held before its first frame, each other one has begun: all threads are there, and none of them waits
+/// for a frame before it calls the gate.
+#[test]
+fn each_segment_begins_before_frames_come(rt: HostRuntime) -> Result<(), Fail> {
+    let alloc = rt.alloc();
+    let wanted = left_in_turn(alloc, 8, &Open)?;
+    assert_eq!(rt; first_unseen(&rt, alloc, &wanted)?, None);
+    let gate = Meets::of(4);
+    let left = left_in_chain(&rt, alloc, 2, &gate)?;
+    assert_eq!(rt; (gate.met(), left == wanted), (4, true));
+    Ok(())
+}
+
+/// Each of the four segments calls the gate once, and nobody else does; so does each of eight.
+#[test]
+fn each_segment_calls_the_gate_once(rt: HostRuntime) -> Result<(), Fail> {
+    let alloc = rt.alloc();
+    let (four, eight) = (Counts::of_none(), Counts::of_none());
+    let left = left_in_chain(&rt, alloc, 2, &four)?;
+    let same = left_in_chain(&rt, alloc, 1, &eight)? == left;
+    assert_eq!(rt; (four.counts(), same), ([1, 1, 1, 1, 0, 0, 0, 0], true));
+    assert!(rt; eight.are_once());
     Ok(())
 }
 

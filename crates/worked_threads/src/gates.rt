@@ -123,6 +123,15 @@ impl Counts {
         }
     }
 
+    /// How often each of the eight has begun.
+    pub fn counts(&self) -> [u64; 8] {
+        let mut counts = [0; 8];
+        for (to, from) in counts.iter_mut().zip(&self.begun) {
+            *to = from.load(Ordering::SeqCst);
+        }
+        counts
+    }
+
     /// Whether each of the eight has begun once.
     pub fn are_once(&self) -> bool {
         (0..8).all(|worker| self.is_once(worker))

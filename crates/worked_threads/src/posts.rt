@@ -10,7 +10,7 @@ use std::test::Fail;
 /// What is done with both ends of a ring; what is taken once the sender is dropped; and how many posts are then left.
 type Run = (&'static [Step], &'static [Taking], u32);
 
-const RUNS: [Run; 6] = [
+const RUNS: [Run; 8] = [
     // a dropped sender leaves its posts
     (
         &[
@@ -29,6 +29,19 @@ const RUNS: [Run; 6] = [
         ],
         0,
     ),
+    // a buffer that is held as the sender is dropped is no post
+    (
+        &[Post(7, [1, 2, 3]), Begin(8, 3, 6)],
+        &[
+            Left(Some(1)),
+            Taking::Post(7, [1, 2, 3]),
+            Nothing,
+            Left(Some(0)),
+        ],
+        0,
+    ),
+    // nor is one behind no post
+    (&[Begin(7, 3, 6)], &[Nothing, Left(Some(0))], 0),
     // a take may meet the end first
     (
         &[Post(1, [1, 1, 1])],

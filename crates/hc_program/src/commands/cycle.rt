@@ -1,5 +1,5 @@
 //! The command `cycle`.
-ghost use Rattle.std.specs.Prelude.{◌≡◌, ◌++◌, ℕ, All, IfOk, OnErr, OnOk, map, string_bytes, take};
+ghost use Rattle.std.specs.Prelude.{◌≡◌, ◌++◌, ℕ, All, IfErr, IfOk, OnErr, OnOk, map, string_bytes, take};
 ghost use Rattle.hc_core.specs.Filled.{CanBeFilled};
 ghost use Rattle.hc_events.specs.Steps.{sent_text};
 ghost use Rattle.hc_program.specs.Cycles.{arrivals_text, back_text, cycle_arrived, cycle_in, cycle_text, cycled};
@@ -101,7 +101,7 @@ pub fn reply<R: Threads + Wait + Sync>(
 ) -> Result<(), Want>
     ensures text { OnOk result (string_bytes out.new ≡ string_bytes out.old ++ cycle_text session.old tasks.now) }
     ensures next { OnOk result (session.new ≡ cycled session.old tasks.now) }
-    ensures stops { OnErr result (StopsInCycle session.old tasks.now session.new) }
+    ensures stops { IfErr result (λ want. StopsInCycle session.old tasks.now want session.new) }
 {
     let sendings = match session.core().propose(alloc, tasks.as_slice()) {
         Ok(sendings) => sendings,

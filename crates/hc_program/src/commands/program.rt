@@ -1,8 +1,9 @@
 //! The command `program`.
-ghost use Rattle.std.specs.Prelude.{◌≡◌, ◌≤◌, ◌+◌, ◌++◌, ◌∷◌, [], IfOk, OnErr, OnOk, length, map, string_bytes};
+ghost use Rattle.std.specs.Prelude.{◌≡◌, ◌≤◌, ◌+◌, ◌++◌, ◌∷◌, [], IfErr, IfOk, OnErr, OnOk, length, map, string_bytes};
 ghost use Rattle.std.specs.String.{string_capacity, string_len};
 ghost use Rattle.hc_events.specs.Steps.{Arrives, answer_to};
 ghost use Rattle.hc_segment.specs.Line.{frame_through};
+ghost use Rattle.hc_program.specs.declared.stops.Want.TheVariants.{Memory};
 ghost use Rattle.hc_program.specs.Programs.{WritesOnce, program_in, program_text, programmed, programmed_text, says_done};
 ghost use Rattle.hc_program.specs.Standings.{passed, stepped};
 ghost use Rattle.hc_program.specs.Stops.{StopsInWrite, StopsProgram};
@@ -60,7 +61,7 @@ fn pass<R: Threads + Wait + Sync>(
 fn take_in(alloc: Global, frame: &[u8], session: &mut Session) -> Result<bool, Want>
     ensures done { IfOk result (λ done. done ≡ says_done (answer_to session.old.past (Arrives frame.now))) }
     ensures next { OnOk result (session.new ≡ stepped session.old (Arrives frame.now)) }
-    ensures unchanged { OnErr result (session.new ≡ session.old) }
+    ensures unchanged { IfErr result (λ want. (want ≡ Memory) × (session.new ≡ session.old)) }
 {
     match session.arrive(alloc, frame) {
         Answer::WriteDone => Ok(true),
@@ -77,7 +78,7 @@ fn write_once<R: Threads + Wait + Sync>(
     session: &mut Session,
 ) -> Result<bool, Want>
     ensures once { IfOk result (λ done. WritesOnce session.old done session.new) }
-    ensures stops { OnErr result (StopsInWrite session.old session.new) }
+    ensures stops { IfErr result (λ want. StopsInWrite session.old want session.new) }
 {
     let mut frame = [0u8; WRITE_FRAME];
     match session.next_write(&mut frame) {
@@ -96,7 +97,7 @@ fn write_all<R: Threads + Wait + Sync>(
     session: &mut Session,
 ) -> Result<u64, Want>
     ensures programmed { IfOk result (λ count. programmed session.old ≡ record { standing = session.new; written = count }) }
-    ensures stops { OnErr result (StopsProgram session.old session.new) }
+    ensures stops { IfErr result (λ want. StopsProgram session.old want session.new) }
 {
     let mut count = 0u64;
     while write_once(rt, alloc, session)? {
@@ -117,7 +118,7 @@ pub fn reply<R: Threads + Wait + Sync>(
 ) -> Result<(), Want>
     ensures text { OnOk result (string_bytes out.new ≡ string_bytes out.old ++ program_text session.old) }
     ensures next { OnOk result (session.new ≡ (programmed session.old).standing) }
-    ensures stops { OnErr result (StopsProgram session.old session.new) }
+    ensures stops { IfErr result (λ want. StopsProgram session.old want session.new) }
 {
     out.reserve(LONGEST_PROGRAMMED)?;
     let count = write_all(rt, alloc, session)?;

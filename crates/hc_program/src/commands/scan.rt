@@ -1,5 +1,5 @@
 //! The command `scan`.
-ghost use Rattle.std.specs.Prelude.{◌≡◌, ◌++◌, OnErr, OnOk, map, string_bytes};
+ghost use Rattle.std.specs.Prelude.{◌≡◌, ◌++◌, IfErr, OnOk, map, string_bytes};
 ghost use Rattle.hc_program.specs.Setups.{alias_text, aliases_text, scan_in, scan_text, scanned};
 ghost use Rattle.hc_program.specs.Stops.{StopsScan};
 
@@ -32,7 +32,7 @@ pub fn reply<R: Threads + Wait + Sync>(
 ) -> Result<(), Want>
     ensures text { OnOk result (string_bytes out.new ≡ string_bytes out.old ++ scan_text session.old) }
     ensures next { OnOk result (session.new ≡ scanned session.old) }
-    ensures stops { OnErr result (StopsScan session.old session.new) }
+    ensures stops { IfErr result (λ want. StopsScan session.old want session.new) }
 {
     let aliases = session.scan(rt, alloc)?;
     push_aliases(&aliases, out)?;

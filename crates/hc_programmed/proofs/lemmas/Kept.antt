@@ -34,8 +34,10 @@ programmed-kept line member memory memory' keeps has programmed long same =
       machine = record {
         size = long;
         address = machine.address;
-        station = ap₂ (λ (m n : ℕ). m + 256 * n) (same 16 (omega arith)) (same 17 (omega arith)) ∙ machine.station;
-        unused = λ i past low. same-range memory' memory (1536 + 16 * i) 16 (omega arith) (omega arith) (λ j below. same (1536 + 16 * i + j) (omega arith)) ∙ machine.unused i past low;
+        ready = record {
+          station = ap₂ (λ (m n : ℕ). m + 256 * n) (same 16 (omega arith)) (same 17 (omega arith)) ∙ machine.ready.station;
+          unused = λ i past low. same-range memory' memory (1536 + 16 * i) 16 (omega arith) (omega arith) (λ j below. same (1536 + 16 * i + j) (omega arith)) ∙ machine.ready.unused i past low;
+        };
       };
       blocks = λ block within.
           let sized = source-sized line member block keeps has (All-contains (Source line member) (slave_blocks line member) block (slave-sources line member) within) in

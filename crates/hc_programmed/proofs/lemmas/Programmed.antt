@@ -131,7 +131,7 @@ slave-block : (line : List Member) (member : Member) (memory : List ℕ) (block 
 slave-block line member memory block keeps has plain machine within =
     let station = member.slave.station in
     let blocks = line_blocks line in
-    let stays = blocks-stay memory station blocks machine.size machine.station plain in
+    let stays = blocks-stay memory station blocks machine.size machine.ready.station plain in
     let sized = source-sized line member block keeps has (All-contains (Source line member) (slave_blocks line member) block (slave-sources line member) within) in
     let to = sized.to in
     let long = stays.size in
@@ -140,7 +140,7 @@ slave-block line member memory block keeps has plain machine within =
     range-is (blocks_behind memory blocks) block.bytes block.register (omega arith)
     (λ i low.
     let back : block.register + i - block.register ≡ i = omega arith in
-    block-byte memory station blocks entry (block.register + i) machine.size machine.station plain (all-own line keeps) own.1 refl (omega arith) (omega arith)
+    block-byte memory station blocks entry (block.register + i) machine.size machine.ready.station plain (all-own line keeps) own.1 refl (omega arith) (omega arith)
     ∙ ap (λ (n : ℕ). get_or block.bytes n 0) back)
 
 -- a byte that none of the slave's blocks takes
@@ -156,7 +156,7 @@ untaken line member r keeps has misses =
 changed-alone : (line : List Member) (member : Member) (memory : List ℕ) → KeepsLine line → Contains line member → All IsPlain (line_blocks line) → IsMachineOf member memory
     → ChangesBlocksAlone memory (blocks_behind memory (line_blocks line))
 changed-alone line member memory keeps has plain machine r outside =
-    (blocks-stay memory member.slave.station (line_blocks line) machine.size machine.station plain).outside r
+    (blocks-stay memory member.slave.station (line_blocks line) machine.size machine.ready.station plain).outside r
     (untaken line member r keeps has (λ block source. misses (source-sized line member block keeps has source) outside))
   where
     misses : {block : RegisterBlock} → IsSized block → (r < 1536) ⊎ (4096 ≤ r) → Misses block.register (length block.bytes) r
@@ -179,13 +179,13 @@ unused-stays : (line : List Member) (member : Member) (memory : List ℕ) (i : �
     → length member.slave.areas ≤ i → i < 16 → block_at (blocks_behind memory (line_blocks line)) i ≡ replicate 16 0
 unused-stays line member memory i keeps has plain machine past low =
     let blocks = line_blocks line in
-    let stays = blocks-stay memory member.slave.station blocks machine.size machine.station plain in
+    let stays = blocks-stay memory member.slave.station blocks machine.size machine.ready.station plain in
     let at = 1536 + 16 * i in
     let long = stays.size in
     range-is (blocks_behind memory blocks) (replicate 16 0) at (omega arith)
     (λ j below. stays.outside (at + j) (untaken line member (at + j) keeps has (λ block source. past-areas line member i (at + j) block past (omega arith) (omega arith) source))
     ∙ sym (get_or-drop at memory j 0) ∙ sym (get_or-take (at + 16 - at) (drop at memory) j 0 (omega arith))
-    ∙ ap (λ (block : List ℕ). get_or block j 0) (machine.unused i past low))
+    ∙ ap (λ (block : List ℕ). get_or block j 0) (machine.ready.unused i past low))
 
 -- each machine of a line is its slave's
 
@@ -222,13 +222,13 @@ writing-programs state machines k member memory can are in_line in_machines =
     let plain = all-plain members keeps (addresses-low members machines are) in
     let machine = are.each k member memory in_line in_machines in
     let has : Contains members member = (k, slice_get_within members k member in_line, get_or_from_slice_get members k member member in_line) in
-    let stays = blocks-stay memory member.slave.station blocks machine.size machine.station plain in
+    let stays = blocks-stay memory member.slave.station blocks machine.size machine.ready.station plain in
     record {
       written = blocks_behind memory blocks;
       stands = ap (λ (xs : List (List ℕ)). slice_get xs k) (machines-behind state machines can are) ∙ slice_get-map (λ m. blocks_behind m blocks) machines k
           ∙ ap (option_map (λ m. blocks_behind m blocks)) in_machines;
       programmed = record {
-        machine = record { size = stays.size; address = machine.address; station = stays.station_is; unused = λ i past low. unused-stays members member memory i keeps has plain machine past low };
+        machine = record { size = stays.size; address = machine.address; ready = record { station = stays.station_is; unused = λ i past low. unused-stays members member memory i keeps has plain machine past low } };
         blocks = λ block within. slave-block members member memory block keeps has plain machine within;
       };
       kept = changed-alone members member memory keeps has plain machine;
@@ -287,7 +287,7 @@ slave-fmmu line member memory i x m keeps has programmed low pair = by (slice_ge
           stands = stands ∙ ap (fmmu_bytes area) told.1;
           pair = told.2;
         }
-    by (inr past) = absurd (none-zero x m (subst (λ (block : List ℕ). IsPair block x m) (programmed.machine.unused i past.0 low) pair))
+    by (inr past) = absurd (none-zero x m (subst (λ (block : List ℕ). IsPair block x m) (programmed.machine.ready.unused i past.0 low) pair))
 
 slave-to-areas : (line : List Member) (member : Member) (memory : List ℕ) (x m : ℕ) → KeepsLine line → Contains line member → IsProgrammed line member memory → SlavePairs memory x m
     → AreasPair line member.slave.station x m

@@ -1,20 +1,36 @@
 //! The buffer that a task seat holds for its next post: its bytes are lent for writing, and then it is posted.
 ghost use Rattle.std.specs.Prelude.{◌≡◌, ◌<◌, ◌≤◌, ◌↔◌, [], ◌∷◌, ◌++◌, length, None, Some, IsOk, IsSome, IfSome, OnOk, OnErr, IsErrOf, IfOk, replicate, true, false};
 ghost use Rattle.std.specs.Borrow.{sem};
+ghost use Rattle.hc_rings.specs.Faults.{post_fault_number};
 ghost use Rattle.hc_rings.specs.Post.{blank_post};
 ghost use Rattle.hc_rings.specs.Ring.{posted, handed_out, held, known_places, known_spares, PostsEach, Holds, HoldsPost, HoldsNothing, SameSender};
 ghost use Rattle.hc_rings.specs.Lending.{LendsBuffer, LendsBytes, LendsHeld, LendsOutputs};
 
 use super::{NoSpare, POSTS_WAITING, PostSender, SPARE_BUFFERS};
 use crate::post_buffer::{LARGEST_IMAGE, PostBuffer};
+use thiserror::Error;
 
-/// Why `post_held` posted nothing.
-#[derive(Clone, Copy, Debug, PartialEq, Eq)]
+/// Why a post isn't made. A fault's number never changes.
+#[derive(Clone, Copy, Debug, PartialEq, Eq, Error)]
 pub enum PostFault {
     /// No buffer is held.
+    #[error("no buffer is held")]
     NoBuffer,
     /// The ring had no place for the post. The buffer stays held, as it was left.
+    #[error("no place is free for the post")]
     Full,
+}
+
+impl PostFault {
+    /// The fault's number: 1 or 2.
+    pub fn number(self) -> u8
+        ensures { result ≡ post_fault_number self }
+    {
+        match self {
+            PostFault::NoBuffer => 1,
+            PostFault::Full => 2,
+        }
+    }
 }
 
 impl PostSender {

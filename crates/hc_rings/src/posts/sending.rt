@@ -4,13 +4,16 @@ ghost use Rattle.hc_rings.specs.Ring.{posted, handed_out, held, known_places, kn
 
 use super::{POSTS_WAITING, PostSender, SPARE_BUFFERS};
 use crate::post_buffer::PostBuffer;
+use thiserror::Error;
 
 /// Each buffer is handed out, and none was found that had come back.
-#[derive(Clone, Copy, Debug, PartialEq, Eq)]
+#[derive(Clone, Copy, Debug, PartialEq, Eq, Error)]
+#[error("no buffer is free")]
 pub struct NoSpare;
 
 /// The ring had no place for the post, which comes back.
-#[derive(Drop)]
+#[derive(Debug, Drop, Error)]
+#[error("no place is free for the post")]
 pub struct Full(pub PostBuffer);
 
 impl PostSender {

@@ -16,6 +16,7 @@ use Rattle.hc_rings.specs.declared.post_buffer.TheConstants.{LARGEST_IMAGE}
 use Rattle.hc_conductor.specs.Openings.{AreEnds, IsOpenable, IsUnused, output_bytes}
 use Rattle.hc_conductor.proofs.lemmas.Images.{opened-short}
 use Rattle.hc_conductor.proofs.Lists.{stands-opened}
+use Rattle.hc_conductor.proofs.Refusals.{refusal-told}
 use Rattle.hc_conductor.specs.Together.{EachRing, IsWhole}
 use Rattle.hc_conductor.proofs.opening.open.Goals as goal
 
@@ -86,3 +87,7 @@ returns-clause-sizes g c =
 
 pub returns-clause-whole : goal.returns-clause-whole
 returns-clause-whole g c = subst (λ ss. EachRing IsWhole ss c.in_ok-senders.rings.items) (sym c.task_seats-seats.ensures.senders) c.in_ok-senders.ensures.whole
+
+pub returns-in_err-publisher-clause-refused : goal.returns-in_err-publisher-clause-refused
+returns-in_err-publisher-clause-refused g c =
+    refusal-told c.args.project c.from_residual-in_err-publisher.result c.in_err-publisher.field-0.0 c.in_ok-core.ensures.openable c.in_err-publisher.ensures.refused c.from_residual-in_err-publisher.ensures.1

@@ -1,5 +1,6 @@
-use Rattle.std.proofs.Common.{◌≡◌, ℕ, suc, ◌-◌, subst, arith}
-use Rattle.hc_conductor.specs.Taking.{TakesKnown}
+use Rattle.std.proofs.Common.{◌≡◌, ℕ, suc, ◌-◌, ◌+◌, subst, arith}
+use Rattle.hc_conductor.specs.Taking.{TakesFrom, TakesKnown}
+use Rattle.hc_conductor.proofs.Takings.{goes-back, none-taken, one-taken}
 use Rattle.hc_conductor.proofs.Waiting.{one-known}
 use Rattle.hc_conductor.proofs.taking.+take_some.Goals as goal
 
@@ -7,5 +8,5 @@ pub returns-clause-known : goal.returns-clause-known
 returns-clause-known t c =
     let all : suc (c.args.most - 1) ≡ c.args.most = omega (arith, c.if-most-eq0.false) in
     subst (λ (k : ℕ). TakesKnown k c.args.ring.now c.take_some.new.ring) all
-    (one-known (c.args.most - 1) c.args.ring.now c.take.new.self c.give_back.new.self c.take_some.new.ring c.in-Some.post c.in-Some.ensures.first c.in-Some.ensures.some c.take.ensures.given_back
-    c.take.ensures.places c.give_back.ensures.taken.0 c.give_back.ensures.taken.1 c.give_back.ensures.kept c.give_back.ensures.places c.take_some.ensures.known)
+    (one-known (c.args.most - 1) c.args.ring.now c.take.new.self c.give_back.new.self c.take_some.new.ring c.in-Some.post c.in-Some.ensures.first c.in-Some.ensures.some
+    c.give_back.ensures.taken.0 c.give_back.ensures.taken.1 c.take_some.ensures.known)

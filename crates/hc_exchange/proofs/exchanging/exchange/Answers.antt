@@ -12,6 +12,7 @@ use Rattle.hc_programmed.specs.Laws.{IsConfigurable}
 use Rattle.hc_exchange.specs.Sent.{task_frames}
 use Rattle.hc_exchange.proofs.Meaning.{exchanged}
 use Rattle.hc_exchange.proofs.Packing.{HoldsPost, lengths-sent, packed-data}
+use Rattle.hc_exchange.proofs.Ready.{machines-of}
 use Rattle.hc_exchange.proofs.exchanging.exchange.Goals as goal
 
 pub packed-requires : goal.packed-requires
@@ -50,14 +51,14 @@ returns-clause-sent c =
     }
 
 pub returns-clause-meant : goal.returns-clause-meant
-returns-clause-meant c of_line =
+returns-clause-meant c ready =
     let state = c.args.plan.now in
     let places = c.places-places.ensures in
     exchanged state c.args.task c.args.outputs.now c.args.segment.now _ c.send_all.new.segment
     (record {
       can = can-configure state places.kept places.uncrowded;
-      small = c.hold_bytes.ensures;
+      small = c.hold_bytes.ensures.bytes;
       few = omega (arith, c.blocks-2.type_inv, c.blocks-2.ensures);
       sent = returns-clause-sent c;
-      of_line = of_line;
+      of_line = machines-of (line state) c.args.segment.now c.hold_bytes.ensures.bytes c.hold_bytes.ensures.sizes ready;
     })

@@ -1,4 +1,4 @@
-use Rattle.std.proofs.Common.{◌≡◌, ◌∷◌, ℕ, suc, length, ap, subst, ◌∙◌}
+use Rattle.std.proofs.Common.{◌≡◌, ◌∷◌, ℕ, suc, length, ap, subst, sym, ◌∙◌}
 use Rattle.std.specs.Prelude.{Option}
 use Rattle.std.specs.Option.{option_copied}
 use Rattle.std.proofs.lemmas.Bool.{or_parts}
@@ -6,10 +6,11 @@ use Rattle.hc_text.specs.Cutting.{left_in, lines_after}
 use Rattle.hc_program.specs.Declaring.{turn_of, turns_of}
 use Rattle.hc_program.specs.Runs.{Reply, reply_to, run}
 use Rattle.hc_program.specs.Starved.{StarvedRun}
+use Rattle.hc_program.specs.declared.engine.RunEnd.{RunEnd}
 use Rattle.hc_program.specs.Turns.{Takes}
 use Rattle.hc_program.proofs.Declaring.{no_turns}
-use Rattle.hc_program.proofs.Starved.{leads_all, leads_done, leads_ended, leads_turn}
-use Rattle.hc_program.proofs.Turns.{begins, continues, done, ends, run_none, run_turn}
+use Rattle.hc_program.proofs.Starved.{ended_one, leads_all, leads_done, leads_ended, leads_turn}
+use Rattle.hc_program.proofs.Turns.{begins, continues, done, ended_so, ends, run_none, run_turn}
 use Rattle.hc_program.proofs.engine.run_commands.Goals as goal
 
 pub loop-rest-init : goal.loop-rest-init
@@ -47,9 +48,10 @@ returns-in-Some-end-clause-unstarved g c unstarved =
     let first : turns_of (lines_after c.loop-rest.number (option_copied c.loop-rest.rest)) ≡ turn ∷ others =
     ap (λ o. turns_of (lines_after c.loop-rest.number (option_copied o))) c.in-Some.is ∙ c.split_turn-cut.ensures.turn in
     let TakesSo = λ (end : Option ℕ) (reply : Reply). Takes (g.W.Write.contents c.loop-rest.output) (g.W.Write.contents c.take_turn-taken.new.output) next end reply in
-    let (before, now) = or_parts _ _ unstarved in
+    let (before, now) = or_parts _ _ (ap (λ (e : RunEnd). e.starved) (sym c.ended.ensures) ∙ unstarved) in
     let taken = subst (λ end. TakesSo end (reply_to s turn)) c.in-Some-end.is (c.take_turn-taken.ensures.answered now) in
-    ends _ _ _ _ _ (run (reply_to s turn).standing others) (reply_to s turn) _ (c.loop-rest.invariant.runs before) (run_turn s _ turn others first) taken
+    ended_so _ _ _ _ _ c.ended.ensures
+    (ends _ _ _ _ _ (run (reply_to s turn).standing others) (reply_to s turn) _ _ (c.loop-rest.invariant.runs before) (run_turn s _ turn others first) taken)
 
 pub returns-in-Some-end-clause-starved : goal.returns-in-Some-end-clause-starved
 returns-in-Some-end-clause-starved g c starved =
@@ -61,17 +63,21 @@ returns-in-Some-end-clause-starved g c starved =
     ap (λ o. turns_of (lines_after c.loop-rest.number (option_copied o))) c.in-Some.is ∙ c.split_turn-cut.ensures.turn in
     let TakesSo = λ (end : Option ℕ) (reply : Reply). Takes (g.W.Write.contents c.loop-rest.output) (g.W.Write.contents c.take_turn-taken.new.output) next end reply in
     let all = StarvedRun c.args.session.now (turns_of (lines_after c.args.first (option_copied c.args.lines))) in
-    leads_ended c.loop-rest.starved c.take_turn-taken.result.starved _ _ _ all _ s _ turn others first starved c.loop-rest.invariant.starves
+    ended_one _ _ _ _ all c.ended.ensures
+    (leads_ended c.loop-rest.starved c.take_turn-taken.result.starved _ _ _ all _ _ s _ turn others first (ap (λ (e : RunEnd). e.starved) (sym c.ended.ensures) ∙ starved) c.loop-rest.invariant.starves
     (λ now. subst (λ end. TakesSo end (reply_to s turn)) c.in-Some-end.is (c.take_turn-taken.ensures.answered now))
-    (λ now. let (reply, stops, takes) = c.take_turn-taken.ensures.stopped now in (reply, stops, subst (λ end. TakesSo end reply) c.in-Some-end.is takes))
+    (λ now. let (reply, stops, takes) = c.take_turn-taken.ensures.stopped now in (reply, stops, subst (λ end. TakesSo end reply) c.in-Some-end.is takes)))
 
 pub returns-clause-starved : goal.returns-clause-starved
 returns-clause-starved g c starved =
     let none = ap (λ o. turns_of (lines_after c.loop-rest.number (option_copied o))) c.in_default.is ∙ no_turns in
-    leads_done c.loop-rest.starved _ _ _ c.loop-rest.session _ starved none c.loop-rest.invariant.starves
+    let all = StarvedRun c.args.session.now (turns_of (lines_after c.args.first (option_copied c.args.lines))) in
+    ended_one _ _ _ _ all c.ended-2.ensures
+    (leads_done c.loop-rest.starved _ _ _ all c.loop-rest.session _ (ap (λ (e : RunEnd). e.starved) (sym c.ended-2.ensures) ∙ starved) none c.loop-rest.invariant.starves)
 
 pub returns-clause-unstarved : goal.returns-clause-unstarved
 returns-clause-unstarved g c unstarved =
     let s = c.loop-rest.session in
     let left = ap (λ o. run s (turns_of (lines_after c.loop-rest.number (option_copied o)))) c.in_default.is ∙ ap (run s) no_turns ∙ run_none s in
-    done _ _ _ _ (c.loop-rest.invariant.runs unstarved) left
+    ended_so _ _ _ _ _ c.ended-2.ensures
+    (done _ _ _ _ _ (c.loop-rest.invariant.runs (ap (λ (e : RunEnd). e.starved) (sym c.ended-2.ensures) ∙ unstarved)) left)

@@ -13,7 +13,7 @@ returns-clause-frames g c =
     let fed : got ++ frames_left c.beside.new.self ≡ c.args.frames.items = search rules in
     let counted : c.len-count.result ≡ length c.args.frames.items = search rules in
     let came : out ++ frames_left c.beside-2.new.self ≡ frames_sent c.flow.new.to = search rules in
-    (all-out c.args.segments.now c.len-count.result got _ c.args.frames.items (frames_sent c.flow.new.to) out _ fed c.flow.ensures.counted counted c.flow.ensures.frames came c.take_all.ensures.count).0
+    (all-out c.args.segments.now c.len-count.result got _ c.args.frames.items (frames_sent c.flow.new.to) out _ fed c.flow.ensures.flows.counted counted c.flow.ensures.flows.frames came c.take_all.ensures.count).0
 
 pub returns-clause-machines : goal.returns-clause-machines
 returns-clause-machines g c =
@@ -23,11 +23,11 @@ returns-clause-machines g c =
     let fed : got ++ frames_left c.beside.new.self ≡ c.args.frames.items = search rules in
     let counted : c.len-count.result ≡ length c.args.frames.items = search rules in
     let came : out ++ frames_left c.beside-2.new.self ≡ frames_sent c.flow.new.to = search rules in
-    let all = (all-out line c.len-count.result got _ c.args.frames.items (frames_sent c.flow.new.to) out _ fed c.flow.ensures.counted counted c.flow.ensures.frames came c.take_all.ensures.count).1 in
-    ap all_machines c.flow.ensures.segments ∙ line_after-joined line got ∙ ap (machines_after (all_machines line)) all
+    let all = (all-out line c.len-count.result got _ c.args.frames.items (frames_sent c.flow.new.to) out _ fed c.flow.ensures.flows.counted counted c.flow.ensures.flows.frames came c.take_all.ensures.count).1 in
+    ap all_machines c.flow.ensures.flows.segments ∙ line_after-joined line got ∙ ap (machines_after (all_machines line)) all
 
 pub returns-clause-segments : goal.returns-clause-segments
-returns-clause-segments g c = ap (map length) c.flow.ensures.segments ∙ line_after-lengths c.args.segments.now (frames_taken c.flow.new.from)
+returns-clause-segments g c = ap (map length) c.flow.ensures.flows.segments ∙ line_after-lengths c.args.segments.now (frames_taken c.flow.new.from)
 
 pub returns-then-is_empty-clause-frames : goal.returns-then-is_empty-clause-frames
 returns-then-is_empty-clause-frames g c =

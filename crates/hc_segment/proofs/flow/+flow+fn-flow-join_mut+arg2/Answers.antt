@@ -5,8 +5,8 @@ use Rattle.hc_segment.specs.Flow.{Flows}
 use Rattle.hc_segment.proofs.Joined.{handed-on, line-sent, line-left, only-one, set-one}
 use Rattle.hc_segment.proofs.flow.+flow+fn-flow-join_mut+arg2.Goals as goal
 
-pub returns : goal.returns
-returns g t c =
+pub returns-clause-flows : goal.returns-clause-flows
+returns-clause-flows g t c =
     let front = c.split_at_mut-first.result.0.now in
     let back = c.split_at_mut-first.result.1.now in
     let s = c.index-first-0.result in

@@ -11,7 +11,7 @@ use Rattle.hc_core.specs.State.{CoreState}
 use Rattle.hc_conductor.specs.Conducting.{Conducting, past_of}
 use Rattle.hc_conductor.specs.Seats.{sender}
 use Rattle.hc_conductor.specs.Taking.{Counts, events_of_all}
-use Rattle.hc_conductor.specs.Together.{EachRing, IsWhole, posts_waiting}
+use Rattle.hc_conductor.specs.Together.{AreJoined, EachRing, IsWhole, posts_waiting}
 use Rattle.hc_conductor.proofs.Kept.{opened-after_all}
 use Rattle.hc_conductor.proofs.Takings.{as-many-rings, whole-list}
 use Rattle.hc_conductor.proofs.Waiting.{few-waiting, waiting-taken}
@@ -57,13 +57,23 @@ returns-clause-counts c =
     subst (λ (past : Record). Counts past (events_of_all 0 (posts_waiting (map sender c.args.seats.now) c.args.self.now.rings)) c.take_all.result) before
     (subst (λ (posts : List (List Post)). Counts c.self.inside.core.past (events_of_all 0 posts) c.take_all.result) all.0 c.take_all.ensures.taken.counts)
 
+pub returns-clause-joined : goal.returns-clause-joined
+returns-clause-joined c =
+    let many = as-many-rings _ _ c.take_all.ensures.taken.posts c.take_all.ensures.taken.rings ∙ ap length c.deref_mut.ensures.value in
+    let same = sym (ap (λ (x : Conducting). x.rings) c.self.view_is) ∙ sym c.deref_mut.ensures.value in
+    let told = c.posts_waiting-counts.ensures in
+    let all = waiting-taken _ _ _ _ _ _ _ _ told.known same told.waiting told.counts c.take_all.ensures.known c.take_all.ensures.taken.rings in
+    subst (EachRing AreJoined (map sender c.posts_waiting-counts.new.seats)) (sym (whole-list c.take_all.new.rings _ _ (many ∙ sym c.self.inside.rings.ok.0))) all.1.joined
+
 pub returns-clause-whole : goal.returns-clause-whole
 returns-clause-whole c =
     let many = as-many-rings _ _ c.take_all.ensures.taken.posts c.take_all.ensures.taken.rings ∙ ap length c.deref_mut.ensures.value in
     let same = sym (ap (λ (x : Conducting). x.rings) c.self.view_is) ∙ sym c.deref_mut.ensures.value in
     let told = c.posts_waiting-counts.ensures in
     let all = waiting-taken _ _ _ _ _ _ _ _ told.known same told.waiting told.counts c.take_all.ensures.known c.take_all.ensures.taken.rings in
-    subst (EachRing IsWhole (map sender c.posts_waiting-counts.new.seats)) (sym (whole-list c.take_all.new.rings _ _ (many ∙ sym c.self.inside.rings.ok.0))) all.1.whole
+    let senders = map sender c.posts_waiting-counts.new.seats in
+    λ whole. subst (EachRing IsWhole senders) (sym (whole-list c.take_all.new.rings _ _ (many ∙ sym c.self.inside.rings.ok.0)))
+    (all.1.whole (subst (EachRing IsWhole senders) same (told.whole whole)))
 
 pub returns-clause-none : goal.returns-clause-none
 returns-clause-none c =

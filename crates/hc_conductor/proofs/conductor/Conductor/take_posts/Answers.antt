@@ -1,7 +1,11 @@
-use Rattle.std.proofs.Common.{length, sym, ◌∙◌, ap}
+use Rattle.std.proofs.Common.{List, length, sym, ◌∙◌, ap, subst}
 use Rattle.hc_events.specs.Changes.{news_of}
 use Rattle.hc_events.specs.Points.{opened_with, state_of}
+use Rattle.hc_rings.specs.declared.posts.PostReceiver.{PostReceiver}
+use Rattle.hc_conductor.specs.Conducting.{Conducting}
 use Rattle.hc_conductor.specs.Taking.{events_of_all}
+use Rattle.hc_conductor.specs.Together.{AreJoined, EachRing}
+use Rattle.hc_conductor.proofs.lemmas.Joined.{taken-joined}
 use Rattle.hc_conductor.proofs.Kept.{opened-after_all}
 use Rattle.hc_conductor.proofs.Takings.{as-many-rings, whole-list}
 use Rattle.hc_conductor.proofs.conductor.Conductor.take_posts.Goals as goal
@@ -20,3 +24,11 @@ invariant_of-self c =
       behind = i.behind ∙ ap (λ s. state_of s.taken) after;
       rings = ap length all ∙ (many ∙ i.rings);
     }
+
+pub returns-clause-joined : goal.returns-clause-joined
+returns-clause-joined c =
+    let took = c.take_all.ensures.taken in
+    let many = as-many-rings _ _ took.posts took.rings ∙ ap length c.deref_mut.ensures.value in
+    let all = whole-list c.take_all.new.rings _ _ (many ∙ sym c.self.inside.rings.ok.0) in
+    let same = sym (ap (λ (x : Conducting). x.rings) c.self.view_is) ∙ sym c.deref_mut.ensures.value in
+    λ seats joined. subst (EachRing AreJoined seats) (sym all) (taken-joined seats _ c.take_all.new.rings took.posts (subst (EachRing AreJoined seats) same joined) took.rings)

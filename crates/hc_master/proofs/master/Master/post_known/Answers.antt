@@ -1,12 +1,19 @@
 use Rattle.std.proofs.Common.{◌≡◌, ℕ, ◌<◌, List, get_or, map, set, sym, ap, ap₂, subst, ◌∙◌, arith}
 use Rattle.hc_rings.specs.Post.{post_of}
 use Rattle.hc_conductor.specs.declared.seat.TaskSeat.{TaskSeat}
-use Rattle.hc_conductor.specs.Seats.{epoch_of, size_of}
+use Rattle.hc_conductor.specs.Seats.{epoch_of, sender, size_of}
+use Rattle.hc_conductor.specs.Together.{EachRing, IsWhole}
+use Rattle.hc_conductor.proofs.lemmas.Joined.{whole-joined}
 use Rattle.hc_master.specs.Mastering.{IsMastering, Mastering, waiting}
 use Rattle.hc_master.specs.Posting.{with_post}
 use Rattle.hc_master.proofs.Looked.{as-many, has-looked, has-room, looked-stands, makes-post}
 use Rattle.hc_master.proofs.Seated.{written}
 use Rattle.hc_master.proofs.master.Master.post_known.Goals as goal
+
+pub posts_waiting-waiting-requires : goal.posts_waiting-waiting-requires
+posts_waiting-waiting-requires c =
+    let whole = subst (λ (ss : List TaskSeat). EachRing IsWhole (map sender ss) c.self.inside.conductor.rings) (sym c.deref_mut.ensures.value) c.self.invariant.whole in
+    whole-joined (map sender c.deref_mut.result.now) c.self.inside.conductor.rings whole
 
 pub invariant_of-self : goal.invariant_of-self
 invariant_of-self c =
@@ -14,7 +21,7 @@ invariant_of-self c =
     let told = c.posts_waiting-waiting.ensures in
     let new = c.posts_waiting-waiting.new.self in
     let seats = c.posts_waiting-waiting.new.seats in
-    let looked = has-looked m new c.deref_mut.result.now seats c.deref_mut.ensures.value told.known told.viewers told.held told.waiting told.changes.1 in
+    let looked = has-looked m new c.deref_mut.result.now seats c.self.invariant c.deref_mut.ensures.value told.known told.whole told.viewers told.held told.waiting told.changes.1 in
     let whole = written seats _ _ (as-many m new seats looked ∙ sym c.self.inside.seats.ok.0) in
     subst (λ (ss : List TaskSeat). IsMastering (record { conductor = new; seats = ss })) (sym whole) (looked-stands m new seats c.self.invariant looked)
 
@@ -26,7 +33,7 @@ post_bytes-requires c =
     let told = c.posts_waiting-waiting.ensures in
     let new = c.posts_waiting-waiting.new.self in
     let seats = c.posts_waiting-waiting.new.seats in
-    let looked = has-looked m new c.deref_mut.result.now seats c.deref_mut.ensures.value told.known told.viewers told.held told.waiting told.changes.1 in
+    let looked = has-looked m new c.deref_mut.result.now seats c.self.invariant c.deref_mut.ensures.value told.known told.whole told.viewers told.held told.waiting told.changes.1 in
     let whole = written seats _ _ (as-many m new seats looked ∙ sym c.self.inside.seats.ok.0) in
     let s = c.index_mut.result.now in
     let there : s ≡ get_or seats n s = c.index_mut.ensures.value ∙ ap (λ (ss : List TaskSeat). get_or ss n s) whole in
@@ -45,7 +52,7 @@ invariant_of-self-2 c =
     let told = c.posts_waiting-waiting.ensures in
     let new = c.posts_waiting-waiting.new.self in
     let seats = c.posts_waiting-waiting.new.seats in
-    let looked = has-looked m new c.deref_mut.result.now seats c.deref_mut.ensures.value told.known told.viewers told.held told.waiting told.changes.1 in
+    let looked = has-looked m new c.deref_mut.result.now seats c.self.invariant c.deref_mut.ensures.value told.known told.whole told.viewers told.held told.waiting told.changes.1 in
     let whole = written seats _ _ (as-many m new seats looked ∙ sym c.self.inside.seats.ok.0) in
     let s = c.index_mut.result.now in
     let there : s ≡ get_or seats n s = c.index_mut.ensures.value ∙ ap (λ (ss : List TaskSeat). get_or ss n s) whole in
@@ -64,7 +71,7 @@ returns-clause-posted c =
     let told = c.posts_waiting-waiting.ensures in
     let new = c.posts_waiting-waiting.new.self in
     let seats = c.posts_waiting-waiting.new.seats in
-    let looked = has-looked m new c.deref_mut.result.now seats c.deref_mut.ensures.value told.known told.viewers told.held told.waiting told.changes.1 in
+    let looked = has-looked m new c.deref_mut.result.now seats c.self.invariant c.deref_mut.ensures.value told.known told.whole told.viewers told.held told.waiting told.changes.1 in
     let whole = written seats _ _ (as-many m new seats looked ∙ sym c.self.inside.seats.ok.0) in
     let s = c.index_mut.result.now in
     let there : s ≡ get_or seats n s = c.index_mut.ensures.value ∙ ap (λ (ss : List TaskSeat). get_or ss n s) whole in

@@ -8,10 +8,16 @@ use Rattle.hc_rings.specs.Ring as ring
 use Rattle.hc_conductor.specs.declared.seat.TaskSeat.{TaskSeat}
 use Rattle.hc_conductor.specs.declared.viewer.Viewer.{Viewer}
 use Rattle.hc_conductor.specs.Seats.{sender, task_of, viewer_of}
-use Rattle.hc_conductor.specs.Together.{IsWhole, posts_waiting}
+use Rattle.hc_conductor.specs.Together.{AreJoined, EachRing, IsWhole, posts_waiting}
+use Rattle.hc_conductor.proofs.lemmas.Joined.{whole-joined}
 use Rattle.hc_master.specs.Mastering.{IsMastering}
 use Rattle.hc_master.proofs.Seated.{all-empty, as-many-waiting, map-twice, seen-alike, written}
 use Rattle.hc_master.proofs.master.Master.take.Goals as goal
+
+pub take_all_posts-requires : goal.take_all_posts-requires
+take_all_posts-requires c =
+    let whole = subst (λ (ss : List TaskSeat). EachRing IsWhole (map sender ss) c.self.inside.conductor.rings) (sym c.deref_mut.ensures.value) c.self.invariant.whole in
+    whole-joined (map sender c.deref_mut.result.now) c.self.inside.conductor.rings whole
 
 pub invariant_of-self : goal.invariant_of-self
 invariant_of-self c =
@@ -31,7 +37,7 @@ invariant_of-self c =
       known = seen-alike (λ (v : Viewer). inner.known v.seat) viewer_of items news viewers ∙ (i.known ∙ ap (λ (b : Board). replicate 8 (board.published b)) (sym boards));
       origins = seen-alike (λ (v : Viewer). inner.seat_origin v.seat) viewer_of items news viewers ∙ (i.origins ∙ ap (λ (b : Board). replicate 8 (board.origin_of b)) (sym boards));
       none_held = sym (map-twice ring.held sender news) ∙ (held ∙ (map-twice ring.held sender items ∙ i.none_held));
-      whole = told.whole;
+      whole = told.whole (subst (λ (ss : List TaskSeat). EachRing IsWhole (map sender ss) c.self.inside.conductor.rings) (sym value) i.whole);
     })
 
 pub returns-clause-none : goal.returns-clause-none
@@ -44,6 +50,6 @@ returns-clause-none c =
     let viewers = told.viewers ∙ ap (λ (ss : List TaskSeat). map viewer_of ss) c.deref_mut.ensures.value in
     let many : length news ≡ length items = sym (length-map news viewer_of) ∙ (ap length viewers ∙ length-map items viewer_of) in
     let eight : length news ≡ 8 = many ∙ (sym (length-map items task_of) ∙ (ap length i.tasks ∙ length-range_with_len 0 8)) in
-    let long = as-many-waiting IsWhole (map sender news) new.rings told.whole ∙ (length-map news sender ∙ eight) in
+    let long = as-many-waiting AreJoined (map sender news) new.rings told.joined ∙ (length-map news sender ∙ eight) in
     ap (λ (ss : List TaskSeat). posts_waiting (map sender ss) new.rings) (written news _ _ (many ∙ sym c.self.inside.seats.ok.0))
     ∙ (all-empty (posts_waiting (map sender news) new.rings) told.none ∙ ap (λ (n : ℕ). replicate n []) long)

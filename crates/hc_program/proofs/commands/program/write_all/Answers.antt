@@ -1,5 +1,5 @@
-use Rattle.std.proofs.Common.{arith, refl}
-use Rattle.hc_program.proofs.Grown.{any_err}
+use Rattle.std.proofs.Common.{arith, inr, refl, rules}
+use Rattle.hc_program.specs.Stops.{StopsProgram}
 use Rattle.hc_program.proofs.Programming.{begun, counted, done-so, ended-so, falls, few-first, fewer, one-done, one-written}
 use Rattle.hc_program.proofs.commands.program.write_all.Goals as goal
 
@@ -8,7 +8,9 @@ loop-count-init g c = record { reached = refl; whole = begun c.args.session.now;
 
 pub returns-in_err-write_once-clause-stops : goal.returns-in_err-write_once-clause-stops
 returns-in_err-write_once-clause-stops g c =
-    any_err c.from_residual.result _ (c.loop-count.count, c.loop-count.session, c.loop-count.invariant.reached, c.in_err-write_once.ensures.stops)
+    let stopped : StopsProgram c.args.session.now c.in_err-write_once.field-0.0 c.write_once.new.session =
+    inr (c.loop-count.count, c.loop-count.session, c.loop-count.invariant.reached, c.in_err-write_once.ensures.stops) in
+    search (rules, stopped)
 
 pub overflow_add-count : goal.overflow_add-count
 overflow_add-count g c =

@@ -1,7 +1,7 @@
 use Rattle.std.proofs.Common.{rules, ℕ, ◌+◌, length, length-append, ◌∙◌, ap, [], ◌∷◌}
 use Rattle.hc_rings.specs.Frames.{frames_taken}
 use Rattle.hc_segment.proofs.Passing.{more-frames, more-machines}
-use Rattle.hc_segment.proofs.flow.work.Goals as goal
+use Rattle.hc_segment.proofs.flow.serve.Goals as goal
 
 pub loop-preserved : goal.loop-preserved
 loop-preserved g c =

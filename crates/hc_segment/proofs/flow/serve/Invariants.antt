@@ -1,7 +1,7 @@
 use Rattle.std.proofs.Common.{◌≡◌, length}
 use Rattle.hc_rings.specs.Frames.{SameFrameReceiver, SameFrameSender, frames_sent, frames_taken}
 use Rattle.hc_segment.specs.Line.{frames_through, machines_after}
-use Rattle.hc_segment.proofs.flow.work.Given as goal
+use Rattle.hc_segment.proofs.flow.serve.Given as goal
 
 abbrev pub invariant-loop : goal.invariant-loop
 invariant-loop g l = record {

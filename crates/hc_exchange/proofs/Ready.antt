@@ -1,0 +1,22 @@
+-- Machines that are ready for a line's slaves are those of the line: that they have all their memory, and bytes in it, is known of each machine.
+use Rattle.std.proofs.Common.{◌≡◌, ◌<◌, ◌+◌, ◌*◌, ℕ, List, length, get_or, subst, arith}
+use Rattle.std.specs.Prelude.{All, Some, slice_get}
+use Rattle.std.proofs.lemmas.Option.{get_or_from_slice_get, slice_get_within}
+use Rattle.hc_bits.specs.Bits.{AreBytes}
+use Rattle.hc_records.specs.Line.{Member}
+use Rattle.hc_programmed.specs.Writing.{AreMachinesOf, AreReadyFor, IsMachineOf, IsReadyFor}
+
+machine-of : (member : Member) (memory : List ℕ) → AreBytes memory → length memory ≡ 12288 → IsReadyFor member memory → IsMachineOf member memory
+machine-of member memory bytes size ready =
+    let low = bytes 16 (omega (arith, size)) in
+    let high = bytes 17 (omega (arith, size)) in
+    record { size = size; address = omega (arith, low, high, ready.station); ready = ready }
+
+pub machines-of : (line : List Member) (machines : List (List ℕ)) → All AreBytes machines → All (λ (memory : List ℕ). length memory ≡ 12288) machines → AreReadyFor line machines → AreMachinesOf line machines
+machines-of line machines bytes sizes ready = record {
+  count = ready.count;
+  each = λ k member memory in_line in_machines.
+      let low = slice_get_within machines k memory in_machines in
+      let is = get_or_from_slice_get machines k memory memory in_machines in
+      machine-of member memory (subst AreBytes is (bytes k memory low)) (subst (λ (m : List ℕ). length m ≡ 12288) is (sizes k memory low)) (ready.each k member memory in_line in_machines);
+}
