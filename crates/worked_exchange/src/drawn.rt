@@ -1,6 +1,6 @@
 //! A hundred exchanges among the two thousand edits that `worked_lines` draws: one behind each declaration and behind every
-//! 22nd edit, accepted or refused, until there are a hundred. Each is an exchange of each task: frames and memories are
-//! those of the plain body.
+//! 22nd edit, accepted or refused, until there are a hundred. Each is an exchange of task 0 and one of another task: frames
+//! and memories are those of the plain body.
 use crate::machines::machine_of;
 use crate::model::{PROCESS, Wanted, exchanged, position};
 use hc_exchange::exchange;
@@ -11,6 +11,9 @@ use hc_segment::Segment;
 use std::alloc::{AllocError, Global};
 use std::test::Fail;
 use worked_lines::drawn::{Answered, Drawing, Line, groups};
+
+/// The tasks whose exchange follows that of task 0, in turn: the edits move no area to the last one.
+const OTHERS: [u8; 4] = [1, 5, 7, 2];
 
 /// The next byte of a linear congruence.
 fn drawn(state: &mut u64) -> u8 {
@@ -98,32 +101,37 @@ fn bring(frames: &[Vec<u8>], task: u8, serial: u64, wanted: &Wanted) -> bool {
     rest.is_empty()
 }
 
-/// Whether an exchange of a task is as the plain body says.
+/// Whether an exchange of a task is as the plain body says, with these process memories, which are then as it leaves them.
 fn is_right(
     alloc: Global,
     plan: &Plan,
     line: &Line,
     task: u8,
     state: &mut u64,
+    memories: &mut [u8],
+) -> Result<bool, AllocError> {
+    let image = drawn_bytes(alloc, state, 4_000)?;
+    let mut segment = segment(alloc, line, memories)?;
+    let frames = exchange(alloc, plan, &mut segment, task, &image)?;
+    let wanted = exchanged(line, alloc, task, &image, memories)?;
+    let serial = (position(line, 64) as u64).saturating_mul(4);
+    Ok(bring(&frames, task, serial, &wanted) && hold(&segment, memories))
+}
+
+/// Whether an exchange of task 0 is, from drawn process memories on, and behind it that of another task.
+fn are_right(
+    alloc: Global,
+    plan: &Plan,
+    line: &Line,
+    other: u8,
+    state: &mut u64,
 ) -> Result<bool, AllocError> {
     let slaves = position(line, 64);
     let mut memories = drawn_bytes(alloc, state, PROCESS.saturating_mul(slaves))?;
-    let image = drawn_bytes(alloc, state, 4_000)?;
-    let mut segment = segment(alloc, line, &memories)?;
-    let frames = exchange(alloc, plan, &mut segment, task, &image)?;
-    let wanted = exchanged(line, alloc, task, &image, &mut memories)?;
-    let serial = (slaves as u64).saturating_mul(4);
-    Ok(bring(&frames, task, serial, &wanted) && hold(&segment, &memories))
-}
-
-/// Whether an exchange of each task is.
-fn are_right(alloc: Global, plan: &Plan, line: &Line, state: &mut u64) -> Result<bool, AllocError> {
-    for task in 0..8 {
-        if !is_right(alloc, plan, line, task, state)? {
-            return Ok(false);
-        }
-    }
-    Ok(true)
+    Ok(
+        is_right(alloc, plan, line, 0, state, &mut memories)?
+            && is_right(alloc, plan, line, other, state, &mut memories)?,
+    )
 }
 
 /// The edits behind which exchanges were right: how many they are, how many of them declared a group, and how many were
@@ -157,7 +165,8 @@ fn count_right(alloc: Global) -> Result<Count, Fail> {
     for number in 0..2000 {
         let answered = drawing.apply_next(alloc, &mut plan)?;
         if count.all < 100 && (answered.is_declaration || number % 22 == 0) {
-            if !are_right(alloc, &plan, &drawing.line, &mut state)? {
+            let other = OTHERS[count.all as usize % 4];
+            if !are_right(alloc, &plan, &drawing.line, other, &mut state)? {
                 return Ok(count);
             }
             count = count.with(&answered);
