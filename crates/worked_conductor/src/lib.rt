@@ -18,8 +18,6 @@ mod gates;
 #[cfg(test)]
 mod growths;
 #[cfg(test)]
-mod joined;
-#[cfg(test)]
 mod lines;
 #[cfg(test)]
 mod loops;

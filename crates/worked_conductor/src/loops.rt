@@ -74,20 +74,35 @@ pub fn master_cycle<R: Wait, N: Network>(
     Ok(())
 }
 
+/// What a task reads, and its seat.
+fn read(seat: TaskSeat, input: VarId) -> (TaskSeat, Option<u64>)
+    ensures { seat_origin result.0 ≡ seat_origin seat }
+{
+    match seat.view() {
+        Ok(view) => {
+            let value = view.value(input).ok();
+            (view.leave(), value)
+        }
+        Err(seat) => (seat, None), // no entry: the seat as it was
+    }
+}
+
+/// Each byte of the outputs is this one, for the epoch that was viewed last.
+fn post(seat: &mut TaskSeat, byte: u8)
+    ensures { seat_origin seat.new ≡ seat_origin seat.old }
+{
+    if seat.hold().is_err() {
+        return; // four posts wait
+    }
+    seat.held_mut().fill(byte);
+    let _ = seat.post(); // refused, they stay held
+}
+
 /// One cycle of a task's thread: what it read, and the seat for the next one, which is of the same conductor.
 pub fn task_cycle(seat: TaskSeat, input: VarId, byte: u8) -> (TaskSeat, Option<u64>)
     ensures { seat_origin result.0 ≡ seat_origin seat }
 {
-    let (mut seat, read) = match seat.view() {
-        Ok(view) => {
-            let read = view.value(input).ok();
-            (view.leave(), read)
-        }
-        Err(seat) => (seat, None), // no entry: the seat as it was
-    };
-    if seat.hold().is_ok() {
-        seat.held_mut().fill(byte); // for the epoch that was viewed last
-        let _ = seat.post(); // refused, they stay held
-    }
-    (seat, read)
+    let (mut seat, value) = read(seat, input);
+    post(&mut seat, byte);
+    (seat, value)
 }

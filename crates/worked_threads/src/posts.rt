@@ -40,7 +40,7 @@ const RUNS: [Run; 8] = [
         ],
         0,
     ),
-    // nor is one behind no post
+    // nor is it where nothing was posted
     (&[Begin(7, 3, 6)], &[Nothing, Left(Some(0))], 0),
     // a take may meet the end first
     (
