@@ -1,6 +1,6 @@
-//! A hundred exchanges among the two thousand edits that `worked_lines` draws: one behind each declaration and behind every
-//! 22nd edit, accepted or refused, until there are a hundred. Each is an exchange of task 0 and one of another task: frames
-//! and memories are those of the plain body.
+//! A hundred exchanges among the two thousand edits that `worked_lines` draws: one after each declaration and after every
+//! 22nd edit, accepted or refused, until there are a hundred. Each is an exchange of all eight tasks in turn: frames and
+//! memories are those of the plain body.
 use crate::machines::machine_of;
 use crate::model::{PROCESS, Wanted, exchanged, position};
 use hc_exchange::exchange;
@@ -11,9 +11,6 @@ use hc_segment::Segment;
 use std::alloc::{AllocError, Global};
 use std::test::Fail;
 use worked_lines::drawn::{Answered, Drawing, Line, groups};
-
-/// The tasks whose exchange follows that of task 0, in turn: the edits move no area to the last one.
-const OTHERS: [u8; 4] = [1, 5, 7, 2];
 
 /// The next byte of a linear congruence.
 fn drawn(state: &mut u64) -> u8 {
@@ -118,23 +115,19 @@ fn is_right(
     Ok(bring(&frames, task, serial, &wanted) && hold(&segment, memories))
 }
 
-/// Whether an exchange of task 0 is, from drawn process memories on, and behind it that of another task.
-fn are_right(
-    alloc: Global,
-    plan: &Plan,
-    line: &Line,
-    other: u8,
-    state: &mut u64,
-) -> Result<bool, AllocError> {
+/// Whether an exchange of each task is, one after another, from drawn process memories on.
+fn are_right(alloc: Global, plan: &Plan, line: &Line, state: &mut u64) -> Result<bool, AllocError> {
     let slaves = position(line, 64);
     let mut memories = drawn_bytes(alloc, state, PROCESS.saturating_mul(slaves))?;
-    Ok(
-        is_right(alloc, plan, line, 0, state, &mut memories)?
-            && is_right(alloc, plan, line, other, state, &mut memories)?,
-    )
+    for task in 0..8 {
+        if !is_right(alloc, plan, line, task, state, &mut memories)? {
+            return Ok(false);
+        }
+    }
+    Ok(true)
 }
 
-/// The edits behind which exchanges were right: how many they are, how many of them declared a group, and how many were
+/// The edits after which exchanges were right: how many they are, how many of them declared a group, and how many were
 /// refused.
 #[derive(Clone, Copy, Debug, Default, PartialEq, Eq)]
 struct Count {
@@ -165,8 +158,7 @@ fn count_right(alloc: Global) -> Result<Count, Fail> {
     for number in 0..2000 {
         let answered = drawing.apply_next(alloc, &mut plan)?;
         if count.all < 100 && (answered.is_declaration || number % 22 == 0) {
-            let other = OTHERS[count.all as usize % 4];
-            if !are_right(alloc, &plan, &drawing.line, other, &mut state)? {
+            if !are_right(alloc, &plan, &drawing.line, &mut state)? {
                 return Ok(count);
             }
             count = count.with(&answered);
