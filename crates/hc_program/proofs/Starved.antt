@@ -1,15 +1,14 @@
 -- Runs in which memory was refused: one turn of them, and how they end.
 use Rattle.std.proofs.Common.{◌≡◌, ◌≤◌, ◌<◌, inl, inr, ℕ, Bool, true, false, ◌||◌, List, [], ◌∷◌, length, refl, sym, ap, subst, ◌∙◌, Ok, Err, Some, None}
-use Rattle.std.specs.Prelude.{◌⊎◌, is_err, Option, Result, IfSome, IsOk, OnErr, OnOk}
+use Rattle.std.specs.Prelude.{◌⊎◌, is_err, Option, Result, IfSome, OnErr, OnOk}
 use Rattle.std.proofs.KnownBytes.{Appends-nil}
 use Rattle.hc_events.specs.Entries.{Record}
 use Rattle.hc_text.specs.declared.input.TheConstants.{MOST_INPUT}
 use Rattle.hc_text.specs.Lines.{Line, command_lines, lines_of, project_text}
-use Rattle.hc_project.specs.Text.{project_in}
 use Rattle.hc_program.specs.declared.opening.Unopened.{Unopened}
 use Rattle.hc_program.specs.declared.opening.Unopened.TheVariants.{Project, TooManyDatagrams, Memory, NoSeat}
 use Rattle.hc_program.specs.Declaring.{Turn, turns_of}
-use Rattle.hc_program.specs.Opening.{in_want, is_of_opening, opening_of}
+use Rattle.hc_program.specs.Opening.{IsRefusalOf, in_want, opening_of}
 use Rattle.hc_program.specs.Runs.{Outcome, Reply, behind, reply_to, run, then_published}
 use Rattle.hc_program.specs.Standings.{Standing, opened_standing, published}
 use Rattle.hc_program.specs.Starved.{EndsAsOne, RunsInWant, StarvedOutcome, StarvedRun, StarvedSections, Stops}
@@ -151,19 +150,19 @@ leads_done false end_starved old new All s turns starved none leads = cc
 pub starved_lines : (old new : Option (List ℕ)) (end : RunEnd) (input : List ℕ) (past : Record) (s : Standing) (lines : List Line) → length input ≤ MOST_INPUT → opening_of (project_text (lines_of input)) ≡ Ok past
     → lines ≡ command_lines (lines_of input) → s ≡ opened_standing past → EndsAsOne old new end (StarvedRun s (turns_of lines)) → EndsAsOne old new end (StarvedOutcome input)
 starved_lines old new end input past s lines within opens same is (all, starved, ends_so) =
-    (all, inr (within, inr (inr (past, opens, subst (λ l. StarvedRun (opened_standing past) (turns_of l) all) same (subst (λ (t : Standing). StarvedRun t (turns_of lines) all) is starved)))), ends_so)
+    (all, inr (within, inr (inr (inr (past, opens, subst (λ l. StarvedRun (opened_standing past) (turns_of l) all) same (subst (λ (t : Standing). StarvedRun t (turns_of lines) all) is starved))))), ends_so)
 
-starved_sections : (text : List ℕ) (lines : List Line) (fault : Unopened) → (is_of_opening fault ≡ true → IsOk (project_in text)) → StarvedSections text lines (unopened (in_want fault))
-starved_sections text lines (Project refused) project = inl refl
-starved_sections text lines (TooManyDatagrams task) project = inr (inl (project refl, inl refl))
-starved_sections text lines Memory project = inr (inl (project refl, inl refl))
-starved_sections text lines NoSeat project = inr (inl (project refl, inr refl))
+starved_sections : (text : List ℕ) (lines : List Line) (fault : Unopened) → IsRefusalOf text fault → StarvedSections text lines (unopened (in_want fault))
+starved_sections text lines (Project refused) reason = inl refl
+starved_sections text lines (TooManyDatagrams task) reason = inr (inl (reason, refl))
+starved_sections text lines Memory reason = inr (inl (reason, refl))
+starved_sections text lines NoSeat reason = inr (inr (inl (reason, refl)))
 
 -- a project that isn't opened
 pub starved_unopened : (old new : Option (List ℕ)) (end : RunEnd) (input : List ℕ) (fault : Unopened) → length input ≤ MOST_INPUT
-    → (is_of_opening fault ≡ true → IsOk (project_in (project_text (lines_of input)))) → EndsAs old new end (unopened (in_want fault)) → EndsAsOne old new end (StarvedOutcome input)
-starved_unopened old new end input fault within project ends_so =
-    (unopened (in_want fault), inr (within, starved_sections (project_text (lines_of input)) (command_lines (lines_of input)) fault project), ends_so)
+    → IsRefusalOf (project_text (lines_of input)) fault → EndsAs old new end (unopened (in_want fault)) → EndsAsOne old new end (StarvedOutcome input)
+starved_unopened old new end input fault within reason ends_so =
+    (unopened (in_want fault), inr (within, starved_sections (project_text (lines_of input)) (command_lines (lines_of input)) fault reason), ends_so)
 
 -- how a run ends whose input isn't read
 abbrev pub unread_end : Unread → Bool → RunEnd

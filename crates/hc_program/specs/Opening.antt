@@ -1,5 +1,5 @@
 -- Opening the project of an input.
-use Rattle.std.specs.Prelude.{ℕ, Bool, true, false, List, ◌++◌, Option, Some, None, Result, Ok, Err, codes}
+use Rattle.std.specs.Prelude.{◌≡◌, ℕ, Bool, true, false, List, ◌++◌, Option, Some, None, Result, Ok, Err, IsOk, codes}
 use Rattle.std.specs.Fmt.{decimal}
 use Rattle.hc_records.specs.declared.records.Group.{Group}
 use Rattle.hc_records.specs.declared.faults.ProjectFault.{ProjectFault}
@@ -50,10 +50,19 @@ is_want (TooManyDatagrams task) = false
 is_want Memory = true
 is_want NoSeat = true
 
--- the reason is not that the text is no project
-abbrev pub is_of_opening : Unopened → Bool
-is_of_opening (Project refused) = false
-is_of_opening other = true
+-- an opening of the groups may be refused for this reason, which is not the text's; a seat is refused only where no task is crowded
+abbrev pub IsRefusalOfOpening : List Group → Unopened → Type 0
+IsRefusalOfOpening groups (Project refused) = ⊥
+IsRefusalOfOpening groups (TooManyDatagrams task) = Unit {0}
+IsRefusalOfOpening groups Memory = Unit {0}
+IsRefusalOfOpening groups NoSeat = crowded_at_opening groups ≡ None
+
+-- the opening of a text may be refused for this reason: a seat is refused only of a project that can be opened, and each other reason that is not the text's comes only of a project
+abbrev pub IsRefusalOf : List ℕ → Unopened → Type 0
+IsRefusalOf text (Project refused) = Unit {0}
+IsRefusalOf text (TooManyDatagrams task) = IsOk (project_in text)
+IsRefusalOf text Memory = IsOk (project_in text)
+IsRefusalOf text NoSeat = IsOk (opening_of text)
 
 -- what is told in place of a fault where a growth is refused while it is told
 abbrev pub in_want : Unopened → Unopened

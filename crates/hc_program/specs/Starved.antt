@@ -62,11 +62,12 @@ StarvedRun s (turn ∷ turns) outcome =
     ((reply_to s turn).goes_on ≡ true) × GivesFirst (reply_to s turn) (StarvedRun (reply_to s turn).standing turns) outcome
     ⊎ ((reply : Reply) × Stops s turn reply × GivesFirst reply (RunsInWant reply.standing turns) outcome)
 
--- memory was refused while the project was read or its fault told, memory or a seat while the project was opened or its fault told, or one of them for a turn
+-- memory was refused while the project was read or its fault told, or while it was opened or its fault told; or a seat was refused of a project that can be opened; or memory or a view was refused for a turn
 abbrev pub StarvedSections : List ℕ → List Line → Outcome → Type 0
 StarvedSections text lines outcome =
     (outcome ≡ unopened (Project project.Memory))
-    ⊎ IsOk (project_in text) × ((outcome ≡ unopened Memory) ⊎ (outcome ≡ unopened NoSeat))
+    ⊎ IsOk (project_in text) × (outcome ≡ unopened Memory)
+    ⊎ IsOk (opening_of text) × (outcome ≡ unopened NoSeat)
     ⊎ ((past : Record) × (opening_of text ≡ Ok past) × StarvedRun (opened_standing past) (turns_of lines) outcome)
 
 -- memory was refused while the input was read, which prints nothing, or behind that

@@ -232,8 +232,8 @@ fn run_input<Rt: Threads + Wait + Sync, W: Write>(
 /// where the input isn't read, `project fault 11 Memory` or `open fault 2 Memory` and status 3 where the
 /// project isn't opened, else the text of the commands, one or more of which gave `refused 28 Memory` or, where
 /// frames didn't go along the line, `chain fault 1 Memory`, or weren't published. A command with such a line changed
-/// nothing, but in `scan`, `program` and `cycle` what was done before stands. `open fault 3 NoSeat` and
-/// `refused 7 NoEntry`, which no run meets, count as such texts.
+/// nothing, but in `scan`, `program` and `cycle` what was done before stands. `open fault 3 NoSeat`, of a project that
+/// can be opened, and `refused 7 NoEntry` count as such texts; no run meets them.
 ///
 /// Behind each turn what it changed is published, and each task's seat learns it. A refused publishing prints nothing;
 /// tasks view what they did, and the next one goes on where it stopped.

@@ -4,7 +4,7 @@ ghost use Rattle.hc_project.specs.Text.{project_in};
 ghost use Rattle.hc_master.specs.Mastering.{past_of};
 ghost use Rattle.hc_program.specs.Sessions.{IsFresh};
 ghost use Rattle.hc_program.specs.Standings.{opened_standing};
-ghost use Rattle.hc_program.specs.Opening.{crowded_at_opening, in_want, is_of_opening, is_project_memory, is_want, opened_unless, opening_of, unopened_text};
+ghost use Rattle.hc_program.specs.Opening.{IsRefusalOf, IsRefusalOfOpening, crowded_at_opening, in_want, is_project_memory, is_want, opened_unless, opening_of, unopened_text};
 
 use crate::refusals::push_project_fault;
 use crate::session::Session;
@@ -29,7 +29,7 @@ pub enum Unopened {
     /// A growth was refused while the project was opened.
     #[error("out of memory")]
     Memory,
-    /// A task's seat was refused, which no run meets.
+    /// A task's seat was refused, of a project that can be opened. No run meets this.
     #[error("a seat was refused")]
     NoSeat,
 }
@@ -62,7 +62,7 @@ fn open_project<R: Wait>(rt: &R, alloc: Global, project: Project) -> Result<Mast
     ensures opened { IfOk result (λ master. opened_unless (crowded_at_opening project) project ≡ Ok (past_of master)) }
     ensures fresh { IfOk result IsFresh }
     ensures refused { IfErr result (λ fault. is_want fault ≡ false → opened_unless (crowded_at_opening project) project ≡ Err fault) }
-    ensures of_opening { IfErr result (λ fault. is_of_opening fault ≡ true) }
+    ensures reason { IfErr result (IsRefusalOfOpening project) }
 {
     match hc_master::open(rt, alloc, project) {
         Ok(master) => Ok(master),
@@ -72,14 +72,14 @@ fn open_project<R: Wait>(rt: &R, alloc: Global, project: Project) -> Result<Mast
     }
 }
 
-/// Those of the project of a text, or why it isn't opened. Another fault than the text's comes only where the text is a
-/// project.
-#[tactic(auto, unfolding(crate::specs::Opening::opening_of))]
+/// Those of the project of a text, or why it isn't opened. `NoSeat` comes only where the project can be opened, and each
+/// other fault than the text's only where the text is a project.
+#[tactic(auto, using(crate::proofs::Openings::refusal_of_text), unfolding(crate::specs::Opening::opening_of))]
 fn open_text<R: Wait>(rt: &R, alloc: Global, text: &[u8]) -> Result<Master, Unopened>
     ensures opened { IfOk result (λ master. opening_of text.now ≡ Ok (past_of master)) }
     ensures fresh { IfOk result IsFresh }
     ensures refused { IfErr result (λ fault. is_want fault ≡ false → opening_of text.now ≡ Err fault) }
-    ensures project { IfErr result (λ fault. is_of_opening fault ≡ true → IsOk (project_in text.now)) }
+    ensures reason { IfErr result (IsRefusalOf text.now) }
 {
     match read_project(alloc, text) {
         Ok(project) => open_project(rt, alloc, project),
@@ -87,13 +87,13 @@ fn open_text<R: Wait>(rt: &R, alloc: Global, text: &[u8]) -> Result<Master, Unop
     }
 }
 
-/// The session of the project of a text at its opening, or why it isn't opened. Another fault than the text's comes only
-/// where the text is a project.
+/// The session of the project of a text at its opening, or why it isn't opened. `NoSeat` comes only where the project can
+/// be opened, and each other fault than the text's only where the text is a project.
 pub fn open_session<R: Wait>(rt: &R, alloc: Global, text: &[u8]) -> Result<Session, Unopened>
     ensures opened { IfOk result (λ session. opening_of text.now ≡ Ok session.past) }
     ensures begun { IfOk result (λ session. session ≡ opened_standing session.past) }
     ensures refused { IfErr result (λ fault. is_want fault ≡ false → opening_of text.now ≡ Err fault) }
-    ensures project { IfErr result (λ fault. is_of_opening fault ≡ true → IsOk (project_in text.now)) }
+    ensures reason { IfErr result (IsRefusalOf text.now) }
 {
     let master = open_text(rt, alloc, text)?;
     match Session::begin(rt, alloc, master) {

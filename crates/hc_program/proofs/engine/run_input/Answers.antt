@@ -1,10 +1,8 @@
 use Rattle.std.proofs.Common.{subst, sym, ap, ◌∙◌}
-use Rattle.std.specs.Prelude.{IsOk}
 use Rattle.std.specs.Option.{option_copied}
 use Rattle.hc_text.specs.Cutting.{lines_after}
-use Rattle.hc_project.specs.Text.{project_in}
 use Rattle.hc_program.specs.Declaring.{turns_of}
-use Rattle.hc_program.specs.Opening.{opening_of}
+use Rattle.hc_program.specs.Opening.{IsRefusalOf, opening_of}
 use Rattle.hc_program.specs.Runs.{run}
 use Rattle.hc_program.specs.Standings.{Standing, opened_standing}
 use Rattle.hc_program.specs.Text.{EndsAs}
@@ -36,5 +34,5 @@ returns-in-Err-clause-unstarved g c unstarved =
 pub returns-in-Err-clause-starved : goal.returns-in-Err-clause-starved
 returns-in-Err-clause-starved g c starved =
     starved_unopened _ _ _ c.args.input.now c.in-Err.fault c.requires
-    (λ is. subst (λ text. IsOk (project_in text)) c.split_sections-sections.ensures.project (c.in-Err.ensures.project is))
+    (subst (λ text. IsRefusalOf text c.in-Err.fault) c.split_sections-sections.ensures.project c.in-Err.ensures.reason)
     (c.end_unopened.ensures.starved starved)

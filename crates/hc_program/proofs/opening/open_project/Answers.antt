@@ -2,9 +2,10 @@ use Rattle.std.proofs.Common.{◌∙◌, Ok, ap, subst, sym}
 use Rattle.hc_core.specs.State.{CoreState}
 use Rattle.hc_events.specs.Entries.{Record}
 use Rattle.hc_copies.specs.Told.{Told, just_told}
+use Rattle.hc_conductor.specs.Openings.{IsOpenable}
 use Rattle.hc_master.specs.Mastering.{past_of}
 use Rattle.hc_program.specs.Sessions.{IsShown}
-use Rattle.hc_program.proofs.Openings.{crowded_named, crowded_none, opening_shown}
+use Rattle.hc_program.proofs.Openings.{crowded_named, crowded_none, opening_shown, uncrowded_at_opening}
 use Rattle.hc_program.proofs.opening.open_project.Goals as goal
 
 pub returns-in-Ok-clause-opened : goal.returns-in-Ok-clause-opened
@@ -23,3 +24,8 @@ pub returns-in-Err-TooManyDatagrams-clause-refused : goal.returns-in-Err-TooMany
 returns-in-Err-TooManyDatagrams-clause-refused g c _ =
     let told = rw c.in-Err-TooManyDatagrams.field-0-is at c.in-Err-TooManyDatagrams.ensures.refused in
     crowded_named c.args.project c.in-Err-TooManyDatagrams.task told
+
+pub returns-in-Err-NoSeat-clause-reason : goal.returns-in-Err-NoSeat-clause-reason
+returns-in-Err-NoSeat-clause-reason g c =
+    let openable : IsOpenable c.args.project = rw c.in-Err-NoSeat.field-0-is at c.in-Err-NoSeat.ensures.refused in
+    uncrowded_at_opening c.args.project openable.uncrowded
