@@ -18,6 +18,8 @@ mod gates;
 #[cfg(test)]
 mod growths;
 #[cfg(test)]
+mod joined;
+#[cfg(test)]
 mod lines;
 #[cfg(test)]
 mod loops;

@@ -1,8 +1,9 @@
 //! One axis, its conductor and its seats.
-ghost use Rattle.std.specs.Prelude.{◌≡◌, ◌∷◌, All, IfSome, List, map};
+ghost use Rattle.std.specs.Prelude.{◌≡◌, ◌∷◌, All, IfOk, IfSome, List, map};
 ghost use Rattle.hc_publish.specs.Seats.{IsFresh};
 ghost use Rattle.hc_conductor.specs.Conducting.{origin_of};
-ghost use Rattle.hc_conductor.specs.Seats.{seat_of};
+ghost use Rattle.hc_conductor.specs.Seats.{seat_of, sender};
+ghost use Rattle.hc_conductor.specs.Together.{EachRing, IsWhole};
 ghost use Rattle.hc_conductor.specs.declared.seat.TaskSeat.{TaskSeat};
 
 use hc_conductor::conductor::Conductor;
@@ -40,7 +41,9 @@ pdo = [{ index = 0x1a00, entries = [[2, 12]] }]
 pub const FRAME: usize = 60;
 
 /// The line at its opening, or why it isn't opened.
-pub fn opening<R: Wait>(rt: &R, alloc: Global) -> Result<(Conductor, Vec<TaskSeat>), OpenFault> {
+pub fn opening<R: Wait>(rt: &R, alloc: Global) -> Result<(Conductor, Vec<TaskSeat>), OpenFault>
+    ensures { IfOk result (λ opened. EachRing IsWhole (map sender opened.1.items) opened.0.rings) }
+{
     let Ok(project) = read_project(alloc, LINE.as_bytes()) else {
         return Err(OpenFault::Memory);
     };

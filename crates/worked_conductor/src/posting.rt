@@ -1,6 +1,7 @@
 //! What a seat of the axis' task posts: one byte of outputs.
 ghost use Rattle.std.specs.Prelude.{◌≡◌};
-ghost use Rattle.hc_conductor.specs.Seats.{seat_origin};
+ghost use Rattle.hc_rings.specs.Ring.{SameSender};
+ghost use Rattle.hc_conductor.specs.Seats.{PostsEach, seat_origin, sender};
 
 use hc_conductor::seat::TaskSeat;
 use hc_rings::{NoSpare, PostFault};
@@ -40,7 +41,9 @@ pub fn post(seat: &mut TaskSeat, byte: u8) -> Result<(), Unposted> {
 
 /// Whether outputs are posted, each byte as this one.
 pub fn is_posted(seat: &mut TaskSeat, byte: u8) -> bool
-    ensures { seat_origin seat.new ≡ seat_origin seat.old }
+    ensures origin { seat_origin seat.new ≡ seat_origin seat.old }
+    ensures ring { SameSender (sender seat.old) (sender seat.new) }
+    ensures each { PostsEach seat.old → PostsEach seat.new }
 {
     if seat.hold().is_err() {
         return false;
