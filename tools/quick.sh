@@ -32,7 +32,7 @@ failed=0
 while read -r name; do
     log=$scratch/$name.log
     if [ "$name" = program ]; then
-        good=$(grep -c '^case=.* status=0 .*output=expected' "$log")
+        good=$(grep -ac '^case=.* status=0 .*output=expected' "$log")
         bad=$(($(ls "$scratch"/cases/*.stdout | wc -l) - good))
     else
         result=$(sed -n 's/^test result: [a-zA-Z]*\. \([0-9]*\) passed; \([0-9]*\) failed;.*/\1 \2/p' "$log")
