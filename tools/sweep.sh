@@ -95,8 +95,12 @@ turns_of() {
         { print NR, NR }' "$1"
 }
 
-# goes_along_line COMMAND: whether the command's frames go along the line.
+# goes_along_line COMMAND ANSWER: whether the command's frames go along the line, by the first line of its answer: a command
+# that is refused sends none, and a task may have none.
 goes_along_line() {
+    case $2 in
+    refused* | 'no frame') return 1 ;;
+    esac
     case $1 in
     scan | name | program | cycle*) true ;;
     *) false ;;
@@ -124,8 +128,8 @@ expect_refusals() {
         cp "$scratch/without.status" "$scratch/alone.$count.status"
         { cat "$scratch/front"; yes refused 28 Memory | head -n $((commands - count + 1)); } >"$scratch/lasting.$count"
         echo 0 >"$scratch/lasting.$count.status"
-        goes_along_line "$(sed -n "${first}p" "$1")" || continue
         place=$(($(wc -l <"$scratch/front") + 1))
+        goes_along_line "$(sed -n "${first}p" "$1")" "$(sed -n "${place}p" "$text")" || continue
         for kind in alone lasting; do
             sed "${place}s/.*/chain fault 1 Memory/" "$scratch/$kind.$count" >"$scratch/$kind.$count.chain"
         done
