@@ -7,7 +7,7 @@ use Rattle.hc_records.specs.Boundaries.{recut}
 use Rattle.hc_records.specs.Edits.{edited, state_after}
 use Rattle.hc_records.specs.Line.{State, line}
 use Rattle.hc_registers.specs.Blocks.{moved}
-use Rattle.hc_edits.specs.Edits.{own_fault}
+use Rattle.hc_groups.specs.Edits.{own_fault}
 use Rattle.hc_events.specs.Entries.{Edited}
 use Rattle.hc_events.specs.Faults.{core_fault_number, edit_refusal}
 use Rattle.hc_events.specs.Points.{state_of}

@@ -3,7 +3,7 @@ ghost use Rattle.std.specs.Prelude.{◌≡◌, ◌≢◌, ◌∷◌, ℕ, Err, I
 ghost use Rattle.hc_records.specs.declared.edit.Edit.TheVariants.{Connect, Disconnect, Move, Remap};
 ghost use Rattle.hc_records.specs.declared.faults.EditFault.TheVariants.{Memory, TooManyDatagrams};
 ghost use Rattle.hc_records.specs.Edits.{edited, state_after};
-ghost use Rattle.hc_edits.specs.Edits.{own_fault};
+ghost use Rattle.hc_groups.specs.Edits.{own_fault};
 ghost use Rattle.hc_events.specs.Entries.{Edited};
 ghost use Rattle.hc_events.specs.Faults.{core_fault_number, edit_refusal};
 ghost use Rattle.hc_events.specs.Points.{state_of};
@@ -16,8 +16,8 @@ use crate::embedded::Embedded;
 use crate::handle::Handle;
 use crate::numbers::{CLOSED, DONE, MEMORY};
 use hc_core::prepared::CoreEdit;
-use hc_edits::faults::remap_fault;
 use hc_events::faults::CoreFault;
+use hc_groups::faults::remap_fault;
 use hc_plan::prepared::PreparedEdit;
 use hc_records::edit::Edit;
 use hc_records::faults::EditFault;

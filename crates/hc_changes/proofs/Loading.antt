@@ -18,10 +18,10 @@ use Rattle.hc_records.proofs.lemmas.Cuts.{count-later_keys}
 use Rattle.hc_records.proofs.lemmas.Lengths.{length-sendable}
 use Rattle.hc_cuts.proofs.lemmas.Datagrams.{inside-none}
 use Rattle.hc_cuts.specs.Starts.{Kept}
-use Rattle.hc_tasks.specs.Areas.{areas_by_rank}
-use Rattle.hc_tasks.specs.Keeping.{Before}
-use Rattle.hc_tasks.specs.Kept.{starts_by}
-use Rattle.hc_tasks.proofs.lemmas.Told.{task-listed}
+use Rattle.hc_cuts.specs.Areas.{areas_by_rank}
+use Rattle.hc_cuts.specs.LineKeeping.{Before}
+use Rattle.hc_cuts.specs.Kept.{starts_by}
+use Rattle.hc_cuts.proofs.lemmas.Told.{task-listed}
 use Rattle.hc_places.specs.declared.loads.Load.{Load}
 use Rattle.hc_places.specs.declared.table.Datagram.{Datagram}
 use Rattle.hc_places.specs.Loads.{IsLoad, load_in, loaded, with_load}

@@ -4,11 +4,11 @@ use Rattle.hc_records.specs.declared.records.Area.{Area}
 use Rattle.hc_records.specs.declared.records.Declared.{Declared}
 use Rattle.hc_records.specs.Line.{groups_of, line_from}
 use Rattle.hc_records.specs.Project.{lowest_fault}
-use Rattle.hc_edits.specs.declared.prepared.Prepared.{Prepared}
-use Rattle.hc_edits.specs.Changes.{changed_groups}
-use Rattle.hc_edits.specs.Rows.{areas_in_line, count_of, first_of, row}
-use Rattle.hc_tasks.specs.Areas.{areas_by_rank}
-use Rattle.hc_tasks.specs.Turn.{AreLines}
+use Rattle.hc_groups.specs.declared.prepared.Prepared.{Prepared}
+use Rattle.hc_groups.specs.Changes.{changed_groups}
+use Rattle.hc_groups.specs.Rows.{areas_in_line, count_of, first_of, row}
+use Rattle.hc_cuts.specs.Areas.{areas_by_rank}
+use Rattle.hc_cuts.specs.Turn.{AreLines}
 use Rattle.hc_changes.specs.Candidates.{Candidate, DifferAt, candidate_of, candidates}
 use Rattle.hc_changes.specs.Edited.{HasEdit}
 

@@ -4,7 +4,7 @@ use Rattle.std.specs.Option.{option_map_or}
 use Rattle.hc_records.specs.declared.records.Area.{Area}
 use Rattle.hc_records.specs.Packing.{Placed}
 use Rattle.hc_cuts.specs.Place.{place_of}
-use Rattle.hc_tasks.specs.Areas.{areas_at, areas_by_rank, list_by}
+use Rattle.hc_cuts.specs.Areas.{areas_at, areas_by_rank, list_by}
 use Rattle.hc_changes.specs.Candidates.{Candidate}
 use Rattle.hc_changes.specs.EditedLine.{EditedLine, candidates_of, changes}
 

@@ -4,9 +4,9 @@ use Rattle.hc_records.specs.declared.records.Declared.{Declared}
 use Rattle.hc_records.specs.Line.{groups_of, line_from}
 use Rattle.hc_records.specs.Project.{lowest_fault}
 use Rattle.hc_cuts.specs.Starts.{Kept}
-use Rattle.hc_tasks.specs.Areas.{areas_by_rank}
-use Rattle.hc_tasks.specs.Keeping.{Before, StandsBefore}
-use Rattle.hc_tasks.specs.Kept.{line_kept}
+use Rattle.hc_cuts.specs.Areas.{areas_by_rank}
+use Rattle.hc_cuts.specs.LineKeeping.{Before, StandsBefore}
+use Rattle.hc_cuts.specs.Kept.{line_kept}
 use Rattle.hc_places.specs.Table.{Table, table_of}
 
 -- the trees of a project's line

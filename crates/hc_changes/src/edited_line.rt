@@ -1,12 +1,12 @@
 //! What an edit makes of a line, before it is carried out: the slaves that it concerns, with their areas
 //! before and after.
 ghost use Rattle.std.specs.Prelude.{◌≡◌, ◌≤◌, [], length, map, slice_index_or, vec_capacity};
-ghost use Rattle.hc_edits.specs.Changes.{changed_groups};
-ghost use Rattle.hc_edits.specs.Rows.{areas_in_line, count_of, row};
+ghost use Rattle.hc_groups.specs.Changes.{changed_groups};
+ghost use Rattle.hc_groups.specs.Rows.{areas_in_line, count_of, row};
 
-use hc_edits::prepared::Prepared;
+use hc_cuts::areas::SlaveAreas;
+use hc_groups::prepared::Prepared;
 use hc_records::records::{Area, Declared, Slave};
-use hc_tasks::areas::SlaveAreas;
 use std::alloc::{AllocError, Global};
 use std::marker::Model;
 
@@ -105,8 +105,8 @@ pub struct EditedLine<'a> {
 }
 
 impl<'a> Model for EditedLine<'a> {
-    ghost use Rattle.hc_edits.specs.Changes.{changed_groups};
-    ghost use Rattle.hc_edits.specs.Rows.{first_of};
+    ghost use Rattle.hc_groups.specs.Changes.{changed_groups};
+    ghost use Rattle.hc_groups.specs.Rows.{first_of};
     ghost use Rattle.hc_changes.specs.EditedLine.{EditedLine, IsEditedLine};
 
     ghost Value = { EditedLine };
@@ -120,9 +120,9 @@ impl<'a> EditedLine<'a> {
     ghost use Rattle.std.specs.Prelude.{◌≡◌, ◌+◌, ◌<◌, [], IfNone, IfSome, MatchOption, None, Some, false, if◌then◌else◌, length, slice_get};
     ghost use Rattle.hc_records.specs.Line.{groups_of};
     ghost use Rattle.hc_records.specs.Project.{lowest_fault};
-    ghost use Rattle.hc_edits.specs.Changes.{changed_groups};
-    ghost use Rattle.hc_edits.specs.Rows.{ChangesRow};
-    ghost use Rattle.hc_tasks.specs.Areas.{areas_at, areas_by_rank};
+    ghost use Rattle.hc_groups.specs.Changes.{changed_groups};
+    ghost use Rattle.hc_groups.specs.Rows.{ChangesRow};
+    ghost use Rattle.hc_cuts.specs.Areas.{areas_at, areas_by_rank};
     ghost use Rattle.hc_changes.specs.Edited.{HasEdit};
     ghost use Rattle.hc_changes.specs.EditedLine.{IsEditedLine, IsRoomFor, changes, edited_line_of};
 

@@ -5,22 +5,22 @@ ghost use Rattle.hc_records.specs.declared.keys.Key.{Key};
 ghost use Rattle.hc_records.specs.declared.keys.TheConstants.Key.{END};
 ghost use Rattle.hc_records.specs.Keys.{is_within};
 ghost use Rattle.hc_records.specs.Line.{line_from};
-ghost use Rattle.hc_tasks.specs.Areas.{areas_by_rank};
-ghost use Rattle.hc_tasks.specs.Keeping.{StandsBefore};
-ghost use Rattle.hc_tasks.specs.Kept.{line_kept};
+ghost use Rattle.hc_cuts.specs.Areas.{areas_by_rank};
+ghost use Rattle.hc_cuts.specs.LineKeeping.{StandsBefore};
+ghost use Rattle.hc_cuts.specs.Kept.{line_kept};
 ghost use Rattle.hc_changes.specs.Candidates.{candidate_of, candidates};
 ghost use Rattle.hc_changes.specs.EditedLine.{changes};
 
 use crate::candidates::Candidate;
 use crate::edited_line::EditedLine;
 use crate::ranks::Ranks;
+use hc_cuts::finder::Finder;
+use hc_cuts::line_keeping::Before;
 use hc_cuts::packing::Placed;
+use hc_cuts::tasks::LineCuts;
 use hc_records::keys::Key;
 use hc_records::limits::TASKS;
 use hc_records::records::{Area, Declared, Slave};
-use hc_tasks::finder::Finder;
-use hc_tasks::keeping::Before;
-use hc_tasks::tasks::LineCuts;
 use std::alloc::{AllocError, Global};
 use std::marker::Model;
 
@@ -81,8 +81,8 @@ impl<'b, 'a> CandidateTest<'b, 'a> {
     ghost use Rattle.hc_cuts.specs.Keeping.{is_kept_up_to};
     ghost use Rattle.hc_records.specs.Keys.{is_before};
     ghost use Rattle.hc_records.specs.declared.keys.TheConstants.Key.{END};
-    ghost use Rattle.hc_tasks.specs.Areas.{areas_at, areas_by_rank};
-    ghost use Rattle.hc_tasks.specs.Kept.{line_kept};
+    ghost use Rattle.hc_cuts.specs.Areas.{areas_at, areas_by_rank};
+    ghost use Rattle.hc_cuts.specs.Kept.{line_kept};
     ghost use Rattle.hc_changes.specs.inner.Found.{HoldChanged, HoldRanks, HoldRecut, IsGroupAt, LieWithin, area_found, found_below, rank_found, station_at};
     ghost use Rattle.hc_changes.specs.EditedLine.{IsEditedLine};
 

@@ -3,7 +3,7 @@
 ghost use Rattle.std.specs.Prelude.{◌≡◌, ◌++◌, ◌<◌, IfOk, OnOk};
 ghost use Rattle.hc_records.specs.declared.limits.TheConstants.{MOST_AREAS, TASKS};
 ghost use Rattle.hc_records.specs.Line.{line_from};
-ghost use Rattle.hc_ranks.specs.Blocks.{moved_ranked};
+ghost use Rattle.hc_registers.specs.Ranked.{moved_ranked};
 ghost use Rattle.hc_registers.specs.Blocks.{mapping_at, same_bytes};
 ghost use Rattle.hc_changes.specs.inner.Moved.{IsComparable, IsWritable, block_with, blocks_if, blocks_moved, differ_from, moved_by, two_blocks};
 ghost use Rattle.hc_changes.specs.MovedAreas.{moved_areas_of};
@@ -12,10 +12,10 @@ use crate::candidates::Candidate;
 use crate::edited_line::EditedLine;
 use crate::moved_areas::{FormerArea, MovedArea};
 use hc_cuts::packing::Placed;
-use hc_ranks::blocks::RankedBlock;
 use hc_records::records::Area;
 use hc_registers::blocks::Block;
 use hc_registers::fmmu::{Mapping, logical_address};
+use hc_registers::ranked::RankedBlock;
 use std::alloc::{AllocError, Global};
 
 /// Where an area that has a place in a task, 0 to 7, is mapped: the logical address of its datagram, and its first

@@ -2,19 +2,19 @@
 //! before it.
 ghost use Rattle.std.specs.Prelude.{◌≡◌, IfOk};
 ghost use Rattle.hc_records.specs.Line.{line_from};
-ghost use Rattle.hc_tasks.specs.Areas.{areas_by_rank};
-ghost use Rattle.hc_tasks.specs.Kept.{line_kept};
+ghost use Rattle.hc_cuts.specs.Areas.{areas_by_rank};
+ghost use Rattle.hc_cuts.specs.Kept.{line_kept};
 ghost use Rattle.hc_changes.specs.inner.Moved.{IsOfLine};
 ghost use Rattle.hc_changes.specs.MovedAreas.{former_area_of, moved_areas_of, moves, same_spot};
 ghost use Rattle.hc_changes.specs.EditedLine.{IsEditedLine, candidates_of};
 
 use crate::candidates::Candidate;
 use crate::edited_line::EditedLine;
+use hc_cuts::finder::Finder;
 use hc_cuts::packing::Placed;
+use hc_cuts::tasks::LineCuts;
 use hc_records::keys::Key;
 use hc_records::records::Area;
-use hc_tasks::finder::Finder;
-use hc_tasks::tasks::LineCuts;
 use std::alloc::{AllocError, Global};
 use std::marker::Model;
 

@@ -5,12 +5,12 @@ ghost use Rattle.hc_records.specs.Project.{entry_names};
 ghost use Rattle.hc_changes.specs.Rows.{StandsInside, area_variables_of, assigned_variables, changed_rows, gone_rows, gone_variables, is_new_row, moved_rows, rows_of_moved_areas};
 
 use crate::moved_areas::MovedArea;
+use hc_cuts::areas::SlaveAreas;
 use hc_places::swap::ChangedRow;
 use hc_places::table::{Place, Places};
 use hc_places::variables::add_area;
 use hc_records::assignment::offered_entries;
 use hc_records::records::{Area, Entry, VarId};
-use hc_tasks::areas::SlaveAreas;
 use std::alloc::{AllocError, Global};
 
 /// The variables of moved areas with their places.

@@ -10,12 +10,12 @@ ghost use Rattle.hc_places.specs.Swap.{ChangesAscend, IsNewTask};
 ghost use Rattle.hc_places.specs.Table.{table_of, task_table};
 ghost use Rattle.hc_changes.specs.Tables.{AreOfLine, IsEdited};
 
+use hc_cuts::line_keeping::Before;
+use hc_cuts::tasks::LineCuts;
 use hc_places::loads::Load;
 use hc_places::swap::ChangedTask;
 use hc_places::table::{Places, TaskTable};
 use hc_records::limits::TASKS;
-use hc_tasks::keeping::Before;
-use hc_tasks::tasks::LineCuts;
 use std::alloc::{AllocError, Global};
 
 /// What a datagram of a task of the new line holds: a kept one what it held.

@@ -7,3 +7,10 @@ pub mod Seatings
 pub mod Takings
 pub mod Waiting
 pub mod lemmas
+mod Held
+mod Learnt
+mod Looked
+mod Made
+mod Posted
+mod Seated
+mod OneThreadSeatings

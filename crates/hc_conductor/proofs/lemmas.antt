@@ -2,3 +2,5 @@
 pub mod Crossing
 pub mod Images
 pub mod Joined
+-- What other crates cite.
+pub mod Told

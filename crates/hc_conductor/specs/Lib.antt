@@ -7,3 +7,8 @@ pub mod Taking
 pub mod Together
 pub mod Openings
 pub mod AtOnce
+pub mod Mastering
+pub mod Mastered
+pub mod Viewing
+pub mod Learning
+pub mod Posting

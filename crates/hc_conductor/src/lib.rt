@@ -15,3 +15,5 @@ pub mod view;
 mod viewer;
 
 pub use opening::open;
+
+pub mod one_thread;

@@ -1,6 +1,6 @@
 //! What a task looks at.
 ghost use Rattle.std.specs.Prelude.{◌≤◌, ℕ};
-ghost use Rattle.hc_copies.specs.Told.{table_shown};
+ghost use Rattle.hc_publish.specs.Told.{table_shown};
 ghost use Rattle.hc_rings.specs.declared.post_buffer.TheConstants.{LARGEST_IMAGE};
 ghost use Rattle.hc_conductor.specs.Openings.{IsOpenable, output_bytes};
 

@@ -25,10 +25,10 @@ use Rattle.hc_events.proofs.lemmas.SameBehind.{same-says, same-stale}
 use Rattle.hc_events.proofs.lemmas.Slots.{AllSent, FitsFresh, fresh-fits}
 use Rattle.hc_sendings.proofs.lemmas.Listed.{standing-task}
 use Rattle.hc_events.proofs.lemmas.WithoutStale.{goods-of_news}
-use Rattle.hc_awaited.specs.Judging.{found_write}
-use Rattle.hc_awaited.specs.Waiting.{AwaitedWrite, Waiting, ended}
-use Rattle.hc_awaited.proofs.lemmas.Sorts.{write-kept}
-use Rattle.hc_inputs.specs.Image.{Image, data_of}
+use Rattle.hc_sendings.specs.Judging.{found_write}
+use Rattle.hc_sendings.specs.Waiting.{AwaitedWrite, Waiting, ended}
+use Rattle.hc_sendings.proofs.lemmas.Sorts.{write-kept}
+use Rattle.hc_images.specs.Image.{Image, data_of}
 use Rattle.hc_owed.specs.Board.{Board, kept_of}
 use Rattle.hc_owed.specs.Laws.{known_with}
 use Rattle.hc_core.proofs.Awaits.{waits-ended, waits-stale}

@@ -16,9 +16,9 @@ use Rattle.hc_events.specs.Owed.{owed_blocks}
 use Rattle.hc_events.proofs.lemmas.Answers.{awaited-answered}
 use Rattle.hc_events.proofs.lemmas.Awaited.{same_is}
 use Rattle.hc_events.proofs.lemmas.SameBehind.{same-owed, same-says, same-stale}
-use Rattle.hc_awaited.specs.Waiting.{AwaitedWrite, Waiting, awaited_write, ended, nothing, wrote}
-use Rattle.hc_awaited.proofs.lemmas.Awaits as awaited
-use Rattle.hc_awaited.proofs.lemmas.Ended as over
+use Rattle.hc_sendings.specs.Waiting.{AwaitedWrite, Waiting, awaited_write, ended, nothing, wrote}
+use Rattle.hc_sendings.proofs.lemmas.Awaits as awaited
+use Rattle.hc_sendings.proofs.lemmas.Ended as over
 use Rattle.hc_core.proofs.Names.{owed-wrote}
 use Rattle.hc_core.specs.Waits.{IsUnderWay, Waits}
 

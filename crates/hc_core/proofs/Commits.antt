@@ -23,7 +23,7 @@ use Rattle.hc_events.specs.Steps.{proposal, task_faults, with_sent}
 use Rattle.hc_events.proofs.lemmas.Accepted.{passed, proposal-stands}
 use Rattle.hc_events.proofs.lemmas.Frames.{proposals-numbered}
 use Rattle.hc_sendings.proofs.lemmas.Listed.{standing-task}
-use Rattle.hc_awaited.specs.Waiting.{AwaitedFrame, ComeBehind, IsNamed, all_sent}
+use Rattle.hc_sendings.specs.Waiting.{AwaitedFrame, ComeBehind, IsNamed, all_sent}
 use Rattle.hc_core.proofs.Sendings.{agree-sent}
 use Rattle.hc_core.proofs.SentAll.{first-number}
 use Rattle.hc_core.specs.Agreement.{Agree, CoreParts}

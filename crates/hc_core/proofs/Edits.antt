@@ -10,8 +10,8 @@ use Rattle.hc_records.specs.Edits.{changed as changed_state, crowded_task, edit_
 use Rattle.hc_records.specs.Line.{State, groups_of, line}
 use Rattle.hc_records.specs.Lists.{lowest}
 use Rattle.hc_records.specs.Project.{lowest_fault}
-use Rattle.hc_edits.specs.Edits.{own_fault}
-use Rattle.hc_edits.proofs.lemmas.Accepted.{accepted-project}
+use Rattle.hc_groups.specs.Edits.{own_fault}
+use Rattle.hc_groups.proofs.lemmas.Accepted.{accepted-project}
 use Rattle.hc_places.specs.declared.swap.Swap.{Swap}
 use Rattle.hc_places.specs.Swap.{Leads, swapped}
 use Rattle.hc_places.specs.Table.{Table, table_of}
@@ -29,11 +29,11 @@ use Rattle.hc_events.specs.Owed.{known_bytes}
 use Rattle.hc_events.specs.Points.{line_of, state_of}
 use Rattle.hc_events.specs.Steps.{told_of_edit}
 use Rattle.hc_events.proofs.lemmas.Views.{legal-joined}
-use Rattle.hc_awaited.specs.Waiting.{nothing}
-use Rattle.hc_inputs.specs.Image.{HasNone, Image}
-use Rattle.hc_outputs.specs.Moves.{Moves, table_after}
-use Rattle.hc_outputs.specs.Packed.{Holds, Packed}
-use Rattle.hc_outputs.specs.Values.{kept as kept_over}
+use Rattle.hc_sendings.specs.Waiting.{nothing}
+use Rattle.hc_images.specs.Image.{HasNone, Image}
+use Rattle.hc_images.specs.Moves.{Moves, table_after}
+use Rattle.hc_images.specs.Packed.{Holds, Packed}
+use Rattle.hc_images.specs.Values.{kept as kept_over}
 use Rattle.hc_owed.specs.Board.{Board, kept_of}
 use Rattle.hc_owed.specs.Laws.{known_over}
 use Rattle.hc_owed.specs.Room.{OwedRoom}

@@ -22,7 +22,7 @@ use Rattle.hc_events.specs.Steps.{has_serials, proposal, task_faults}
 use Rattle.hc_events.proofs.lemmas.Accepted.{proposal-stands}
 use Rattle.hc_events.proofs.lemmas.Frames.{frames-counted, proposals-numbered}
 use Rattle.hc_events.proofs.lemmas.SentBits.{sent-data}
-use Rattle.hc_outputs.specs.Packed.{Packed, sent_bytes}
+use Rattle.hc_images.specs.Packed.{Packed, sent_bytes}
 use Rattle.hc_sendings.specs.Refusals.{sending_faults}
 use Rattle.hc_sendings.specs.Texts.{carried_bytes}
 use Rattle.hc_sendings.proofs.lemmas.Listed.{standing-task}

@@ -10,12 +10,12 @@ use Rattle.hc_records.specs.Edits.{changed, declares, edited}
 use Rattle.hc_records.specs.Line.{State, groups_of}
 use Rattle.hc_records.specs.Project.{lowest_fault, slaves_of}
 use Rattle.hc_records.proofs.lemmas.Projects.{project-few}
-use Rattle.hc_edits.proofs.lemmas.Accepted.{accepted-project, accepted-state}
-use Rattle.hc_ranks.specs.declared.blocks.Gone.{Gone}
-use Rattle.hc_ranks.specs.Blocks.{RankedBlock}
-use Rattle.hc_ranks.specs.Differences.{Differ}
-use Rattle.hc_ranks.specs.Places.{places, stations}
-use Rattle.hc_ranks.proofs.lemmas.Declared.{declared-stations}
+use Rattle.hc_groups.proofs.lemmas.Accepted.{accepted-project, accepted-state}
+use Rattle.hc_registers.specs.declared.ranked.Gone.{Gone}
+use Rattle.hc_registers.specs.Ranked.{RankedBlock}
+use Rattle.hc_registers.specs.RankDifferences.{Differ}
+use Rattle.hc_registers.specs.RankPlaces.{places, stations}
+use Rattle.hc_registers.proofs.lemmas.RanksDeclared.{declared-stations}
 use Rattle.hc_plan.specs.Prepared.{IsPrepared, PreparedEdit}
 use Rattle.hc_owed.specs.Board.{Board, kept_of}
 use Rattle.hc_owed.specs.Laws.{IsEdited}

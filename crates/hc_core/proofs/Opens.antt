@@ -7,9 +7,9 @@ use Rattle.hc_records.specs.Line.{State, groups_of, line, opened}
 use Rattle.hc_records.specs.Project.{lowest_fault}
 use Rattle.hc_frames.specs.declared.limits.TheConstants.{SETUP_SERIAL}
 use Rattle.hc_events.specs.Accepted.{just_opened}
-use Rattle.hc_awaited.specs.Waiting.{nothing}
-use Rattle.hc_inputs.specs.Image.{HasNone, Image}
-use Rattle.hc_outputs.specs.Packed.{Holds, Packed}
+use Rattle.hc_sendings.specs.Waiting.{nothing}
+use Rattle.hc_images.specs.Image.{HasNone, Image}
+use Rattle.hc_images.specs.Packed.{Holds, Packed}
 use Rattle.hc_places.specs.Table.{table_of}
 use Rattle.hc_owed.specs.Board.{Board, kept_of, nothing_known}
 use Rattle.hc_core.proofs.Awaits.{waits-opened}

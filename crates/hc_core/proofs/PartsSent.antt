@@ -12,7 +12,7 @@ use Rattle.hc_events.specs.Outputs.{sent_data}
 use Rattle.hc_events.specs.Points.{line_of, next_serial, state_of}
 use Rattle.hc_events.specs.Sendings.{Frame, Named}
 use Rattle.hc_events.proofs.lemmas.SentBits.{sent-data}
-use Rattle.hc_outputs.specs.Packed.{Packed, sent_bytes}
+use Rattle.hc_images.specs.Packed.{Packed, sent_bytes}
 use Rattle.hc_sendings.specs.PartTexts.{CanBeWritten, frame_part_text, own_texts, part_text}
 use Rattle.hc_sendings.specs.Parts.{part_size}
 use Rattle.hc_sendings.specs.Texts.{carried_bytes}

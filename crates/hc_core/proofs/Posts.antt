@@ -14,10 +14,10 @@ use Rattle.hc_events.specs.Outputs.{value_bit}
 use Rattle.hc_events.specs.Points.{line_of, state_of}
 use Rattle.hc_events.specs.Sendings.{Frame, Named}
 use Rattle.hc_events.specs.Steps.{post_faults, with_sent}
-use Rattle.hc_outputs.specs.Packed.{Holds, Packed}
-use Rattle.hc_outputs.specs.Values.{kept, posted}
-use Rattle.hc_outputs.proofs.lemmas.Bits.{AreAlike, holds-alike}
-use Rattle.hc_outputs.proofs.lemmas.LaidOut.{offset-of_line, place-of_line}
+use Rattle.hc_images.specs.Packed.{Holds, Packed}
+use Rattle.hc_images.specs.Values.{kept, posted}
+use Rattle.hc_images.proofs.lemmas.Bits.{AreAlike, holds-alike}
+use Rattle.hc_images.proofs.lemmas.LaidOut.{offset-of_line, place-of_line}
 use Rattle.hc_core.proofs.Awaits.{waits-posted}
 use Rattle.hc_core.specs.Agreement.{Agree, CoreParts}
 use Rattle.hc_core.specs.Values.{HoldsValues}

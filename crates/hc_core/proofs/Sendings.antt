@@ -18,7 +18,7 @@ use Rattle.hc_events.specs.Points.{line_of, next_serial, state_of}
 use Rattle.hc_events.specs.Sendings.{Frame, Named}
 use Rattle.hc_events.specs.Steps.{SendsTasks, kept_if, proposal, task_faults, with_sent}
 use Rattle.hc_events.proofs.lemmas.Accepted.{accepted-more, kept-after}
-use Rattle.hc_awaited.specs.Waiting.{all_sent, wrote}
+use Rattle.hc_sendings.specs.Waiting.{all_sent, wrote}
 use Rattle.hc_owed.specs.Board.{Board, kept_of}
 use Rattle.hc_owed.specs.Laws.{known_with}
 use Rattle.hc_core.proofs.Awaits.{waits-wrote}

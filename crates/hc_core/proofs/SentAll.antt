@@ -12,10 +12,10 @@ use Rattle.hc_events.specs.Owed.{owed_blocks}
 use Rattle.hc_events.specs.Steps.{proposal, with_sent}
 use Rattle.hc_events.proofs.lemmas.Accepted.{proposal-stands}
 use Rattle.hc_events.proofs.lemmas.Frames.{proposals-numbered}
-use Rattle.hc_awaited.specs.Record.{KeepsAwaited}
-use Rattle.hc_awaited.specs.Waiting.{Waiting, all_sent, sent}
-use Rattle.hc_awaited.proofs.lemmas.Sent.{HasFirst, frames-first, waits-sent}
-use Rattle.hc_awaited.proofs.lemmas.Sorts.{none-written}
+use Rattle.hc_sendings.specs.Record.{KeepsAwaited}
+use Rattle.hc_sendings.specs.Waiting.{Waiting, all_sent, sent}
+use Rattle.hc_sendings.proofs.lemmas.Sent.{HasFirst, frames-first, waits-sent}
+use Rattle.hc_sendings.proofs.lemmas.Sorts.{none-written}
 use Rattle.hc_core.proofs.Awaits.{none-some}
 use Rattle.hc_core.specs.Waits.{Waits}
 

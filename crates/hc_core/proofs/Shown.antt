@@ -6,7 +6,7 @@ use Rattle.hc_records.specs.declared.limits.TheConstants.{MOST_DATAGRAMS, TASKS}
 use Rattle.hc_events.specs.Entries.{Record}
 use Rattle.hc_events.specs.Images.{slot_of}
 use Rattle.hc_events.specs.Steps.{is_no_task}
-use Rattle.hc_inputs.specs.Image.{Image, data_of}
+use Rattle.hc_images.specs.Image.{Image, data_of}
 use Rattle.hc_core.specs.Agreement.{ShowsSlots}
 
 shown_from : (past : Record) (image : Image) (task first count : ℕ) → ShowsSlots past image → first + count ≤ MOST_DATAGRAMS

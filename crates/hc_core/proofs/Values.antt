@@ -24,9 +24,9 @@ use Rattle.hc_events.specs.Sendings.{Frame, Named}
 use Rattle.hc_events.specs.Steps.{sent_datagram, sent_text}
 use Rattle.hc_events.proofs.lemmas.SentBits.{sent-data}
 use Rattle.hc_events.proofs.lemmas.SentValues.{sent-values}
-use Rattle.hc_outputs.specs.Packed.{Bytes, Carries, Packed, sent_bytes, slot_bytes}
-use Rattle.hc_outputs.proofs.lemmas.Bits.{HasBit, HasNoBit, bit-lies, carried-bit, sent-there}
-use Rattle.hc_outputs.proofs.lemmas.LaidOut.{length-of_line, place-of_line}
+use Rattle.hc_images.specs.Packed.{Bytes, Carries, Packed, sent_bytes, slot_bytes}
+use Rattle.hc_images.proofs.lemmas.Bits.{HasBit, HasNoBit, bit-lies, carried-bit, sent-there}
+use Rattle.hc_images.proofs.lemmas.LaidOut.{length-of_line, place-of_line}
 use Rattle.hc_sendings.specs.Texts.{carried_by, text_of}
 use Rattle.hc_core.specs.Values.{HoldsValues}
 

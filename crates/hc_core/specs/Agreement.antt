@@ -11,9 +11,9 @@ use Rattle.hc_events.specs.Entries.{Record}
 use Rattle.hc_events.specs.Points.{line_of, next_serial, state_of}
 use Rattle.hc_events.specs.Images.{slot_of}
 use Rattle.hc_events.specs.Owed.{known_bytes}
-use Rattle.hc_awaited.specs.Waiting.{Waiting}
-use Rattle.hc_inputs.specs.Image.{Image, data_of}
-use Rattle.hc_outputs.specs.Packed.{Packed}
+use Rattle.hc_sendings.specs.Waiting.{Waiting}
+use Rattle.hc_images.specs.Image.{Image, data_of}
+use Rattle.hc_images.specs.Packed.{Packed}
 use Rattle.hc_owed.specs.Board.{Board, kept_of}
 use Rattle.hc_core.specs.Records.{record_of}
 use Rattle.hc_core.specs.declared.keeping.Core.TheInside.{Inside}

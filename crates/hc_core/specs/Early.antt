@@ -2,7 +2,7 @@
 use Rattle.std.specs.Prelude.{◌≡◌, IfSome, Option, length, option_map}
 use Rattle.hc_records.specs.Lists.{lowest}
 use Rattle.hc_frames.specs.Arrived.{fault_in}
-use Rattle.hc_edits.specs.Edits.{own_fault}
+use Rattle.hc_groups.specs.Edits.{own_fault}
 use Rattle.hc_events.specs.declared.answer.Answer.{Answer}
 use Rattle.hc_events.specs.declared.answer.Answer.TheVariants as answer
 use Rattle.hc_events.specs.declared.faults.CoreFault.{CoreFault}

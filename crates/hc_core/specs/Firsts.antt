@@ -1,7 +1,7 @@
 -- The first owed block.
 use Rattle.std.specs.Prelude.{◌≡◌, ℕ, ◌≤◌, List, ◌∷◌, length, slice_get, Some}
 use Rattle.hc_registers.specs.Blocks.{LineBlock, RegisterBlock}
-use Rattle.hc_ranks.specs.Places.{places}
+use Rattle.hc_registers.specs.RankPlaces.{places}
 use Rattle.hc_events.specs.Entries.{Record}
 use Rattle.hc_events.specs.Points.{state_of}
 use Rattle.hc_events.specs.Owed.{owed_blocks}

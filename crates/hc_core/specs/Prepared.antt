@@ -4,9 +4,9 @@ use Rattle.hc_records.specs.declared.edit.Edit.{Edit}
 use Rattle.hc_records.specs.declared.edit.Edit.TheVariants.{Declare}
 use Rattle.hc_records.specs.declared.records.Group.{Group}
 use Rattle.hc_records.specs.Edits.{declares}
-use Rattle.hc_ranks.specs.Places.{stations}
+use Rattle.hc_registers.specs.RankPlaces.{stations}
 use Rattle.hc_places.specs.Table.{table_of}
-use Rattle.hc_outputs.specs.Moves.{Moves}
+use Rattle.hc_images.specs.Moves.{Moves}
 use Rattle.hc_owed.specs.Board.{Board, Knowledge, kept_of}
 use Rattle.hc_owed.specs.Room.{IsRoomFor, OwedRoom}
 use Rattle.hc_plan.specs.Prepared.{IsPrepared, PreparedEdit}

@@ -1,6 +1,6 @@
 -- The bytes that are kept of outputs, by the record.
 use Rattle.hc_places.specs.Table.{table_of}
-use Rattle.hc_outputs.specs.Packed.{Holds, Packed}
+use Rattle.hc_images.specs.Packed.{Holds, Packed}
 use Rattle.hc_events.specs.Entries.{Record}
 use Rattle.hc_events.specs.Outputs.{value_bit}
 use Rattle.hc_events.specs.Points.{line_of}

@@ -4,9 +4,9 @@ use Rattle.hc_registers.specs.Blocks.{LineBlock}
 use Rattle.hc_events.specs.Entries.{Record}
 use Rattle.hc_events.specs.Heads.{write_head}
 use Rattle.hc_events.specs.Owed.{last_write, owed_blocks}
-use Rattle.hc_awaited.specs.Waiting.{AwaitedWrite, Waiting}
-use Rattle.hc_awaited.specs.Judging.{written_head}
-use Rattle.hc_awaited.specs.Record.{KeepsAwaited}
+use Rattle.hc_sendings.specs.Waiting.{AwaitedWrite, Waiting}
+use Rattle.hc_sendings.specs.Judging.{written_head}
+use Rattle.hc_sendings.specs.Record.{KeepsAwaited}
 
 -- the write under way is the last one of its block, which is the first owed one
 pub record IsUnderWay (past : Record) (write : AwaitedWrite) : Type 0 where

@@ -2,7 +2,7 @@
 ghost use Rattle.std.specs.Prelude.{◌≡◌, ◌≢◌, ◌∷◌, IfErr, IfOk, IfSome, Err, Ok, OnErr, OnOk};
 ghost use Rattle.hc_records.specs.declared.faults.EditFault.TheVariants.{Memory};
 ghost use Rattle.hc_records.specs.Edits.{edited, state_after};
-ghost use Rattle.hc_edits.specs.Edits.{own_fault};
+ghost use Rattle.hc_groups.specs.Edits.{own_fault};
 ghost use Rattle.hc_events.specs.declared.answer.Answer.TheVariants as answer;
 ghost use Rattle.hc_events.specs.Entries.{Edited};
 ghost use Rattle.hc_events.specs.Points.{state_of};

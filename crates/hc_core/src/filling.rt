@@ -6,12 +6,12 @@ ghost use Rattle.hc_frames.specs.declared.limits.TheConstants.{MAX_ETHERCAT};
 ghost use Rattle.hc_events.specs.Sendings.{size_of};
 ghost use Rattle.hc_events.specs.Steps.{sent_text};
 ghost use Rattle.hc_sendings.specs.Texts.{carried_bytes, text_of};
-ghost use Rattle.hc_outputs.specs.Packed.{sent_bytes};
+ghost use Rattle.hc_images.specs.Packed.{sent_bytes};
 ghost use Rattle.hc_core.specs.Filled.{CanBeFilled};
 
 use crate::keeping::Core;
 use hc_events::sending::Sending;
-use hc_outputs::outputs::Outputs;
+use hc_images::outputs::Outputs;
 use hc_records::items::Items;
 use hc_sendings::writing::{SentData, frame_text, write_frame};
 use std::alloc::{AllocError, Global};
@@ -23,7 +23,7 @@ pub(crate) struct Values<'a> {
 }
 
 impl<'a> SentData for Values<'a> {
-    ghost use Rattle.hc_outputs.specs.Packed.{sent_bytes};
+    ghost use Rattle.hc_images.specs.Packed.{sent_bytes};
 
     ghost bytes = { λ values. sent_bytes values.outputs.now };
 

@@ -2,14 +2,14 @@
 ghost use Rattle.std.specs.Prelude.{◌≡◌, ◌<◌, ℕ, [], All, IfOk, OnOk, fold, map, option_to_list};
 ghost use Rattle.hc_records.specs.declared.limits.TheConstants.{MOST_DATAGRAMS};
 ghost use Rattle.hc_events.specs.Images.{FitsImage, renewed};
-ghost use Rattle.hc_inputs.specs.Image.{data_of};
+ghost use Rattle.hc_images.specs.Image.{data_of};
 ghost use Rattle.hc_core.specs.Goods.{change_of, good_of, goods_in};
 
 use crate::buffers::Buffers;
 use hc_events::answer::Outcome;
 use hc_events::change::{Change, GoodAnswer};
 use hc_frames::reading::{Part, Returned};
-use hc_inputs::inputs::Inputs;
+use hc_images::inputs::Inputs;
 use std::alloc::{AllocError, Global};
 
 /// The change that an outcome tells; none where it is no good answer.

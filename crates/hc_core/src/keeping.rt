@@ -1,13 +1,13 @@
 //! What a core keeps.
 use crate::buffers::Buffers;
 use crate::past::Past;
-use hc_awaited::awaited::Awaited;
 use hc_events::change::Change;
 use hc_events::sending::Sending;
-use hc_inputs::inputs::Inputs;
-use hc_outputs::outputs::Outputs;
+use hc_images::inputs::Inputs;
+use hc_images::outputs::Outputs;
 use hc_owed::owed::Owed;
 use hc_plan::plan::Plan;
+use hc_sendings::awaited::Awaited;
 use std::marker::Model;
 use std::snapshot::Snapshot;
 

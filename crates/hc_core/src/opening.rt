@@ -8,13 +8,13 @@ ghost use Rattle.hc_events.specs.Accepted.{just_opened};
 use crate::buffers::Buffers;
 use crate::keeping::Core;
 use crate::past::Past;
-use hc_awaited::awaited::Awaited;
-use hc_inputs::inputs::Inputs;
-use hc_outputs::outputs::Outputs;
+use hc_images::inputs::Inputs;
+use hc_images::outputs::Outputs;
 use hc_owed::owed::Owed;
 use hc_plan::plan::Plan;
 use hc_records::faults::EditFault;
 use hc_records::project::Project;
+use hc_sendings::awaited::Awaited;
 use std::alloc::Global;
 use std::snapshot::Snapshot;
 

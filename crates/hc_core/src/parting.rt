@@ -5,13 +5,13 @@ ghost use Rattle.hc_events.specs.Outputs.{sent_data};
 ghost use Rattle.hc_events.specs.Points.{line_of};
 ghost use Rattle.hc_sendings.specs.PartTexts.{CanBeWritten, part_text};
 ghost use Rattle.hc_sendings.specs.Parts.{part_size};
-ghost use Rattle.hc_outputs.specs.Packed.{sent_bytes};
+ghost use Rattle.hc_images.specs.Packed.{sent_bytes};
 ghost use Rattle.hc_core.specs.Filled.{CanBeFilled};
 
 use crate::filling::Values;
 use crate::keeping::Core;
 use hc_events::sending::Sending;
-use hc_outputs::outputs::Outputs;
+use hc_images::outputs::Outputs;
 use hc_sendings::filling::fill_part;
 use hc_sendings::parts::part_size;
 

@@ -8,7 +8,7 @@ ghost use Rattle.hc_events.specs.declared.change.Change.TheVariants as change;
 use crate::declaring::slave_room;
 use crate::keeping::Core;
 use hc_events::change::Change;
-use hc_outputs::moves::Moves;
+use hc_images::moves::Moves;
 use hc_owed::owed::Owed;
 use hc_owed::room::OwedRoom;
 use hc_places::swap::Swap;

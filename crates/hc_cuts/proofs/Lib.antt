@@ -9,3 +9,11 @@ pub mod Searched
 pub mod Walked
 pub mod Whole
 pub mod lemmas
+pub mod Finding
+pub mod Lines
+pub mod Rows
+pub mod Setting
+pub mod Taking
+pub mod Turned
+pub mod Turns
+pub mod Wider

@@ -5,3 +5,8 @@ pub mod HullKeys
 pub mod Inside
 pub mod KeptPlaces
 pub mod Repairs
+pub mod Absent
+pub mod Named
+pub mod Projects
+pub mod Told
+pub mod Turning

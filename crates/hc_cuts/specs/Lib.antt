@@ -9,3 +9,11 @@ pub mod Repair
 pub mod Spans
 pub mod Starts
 pub mod Walk
+pub mod Areas
+pub mod LineCursors
+pub mod LineKeeping
+pub mod Kept
+pub mod Recut
+pub mod Room
+pub mod Turn
+pub mod Widths

@@ -9,7 +9,7 @@ use Rattle.hc_records.specs.Image.{variables_from}
 use Rattle.hc_records.specs.Line.{Member, State, line}
 use Rattle.hc_places.proofs.lemmas.Once.{declared-once, held, line-declared, of_areas, own, weight}
 use Rattle.hc_places.proofs.lemmas.Totals.{total}
-use Rattle.hc_programmed.specs.Laws.{IsConfigurable}
+use Rattle.hc_exchange.specs.PairLaws.{IsConfigurable}
 use Rattle.hc_exchange.specs.Exchanged.{StandsInMemory}
 
 -- what counts once in a list has one place there

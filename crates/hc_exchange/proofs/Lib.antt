@@ -6,3 +6,8 @@ mod Standing
 mod Meaning
 mod Alone
 mod Ready
+pub mod Blocks
+pub mod Small
+pub mod Through
+pub mod Wrote
+pub mod lemmas

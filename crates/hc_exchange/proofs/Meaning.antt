@@ -21,19 +21,19 @@ use Rattle.hc_frames.specs.FrameText.{lrw, sent}
 use Rattle.hc_frames.specs.Laws.{CanBeCarried}
 use Rattle.hc_frames.specs.Returned.{FitsLine}
 use Rattle.hc_segment.specs.Line.{frames_through, machines_behind}
-use Rattle.hc_programmed.specs.Laws.{IsConfigurable}
-use Rattle.hc_programmed.specs.Writing.{AreMachinesOf}
-use Rattle.hc_programmed.specs.WritingLaws.{IsWritten, machines_written}
-use Rattle.hc_programmed.proofs.lemmas.Members.{keeps-line, one-station}
-use Rattle.hc_programmed.proofs.lemmas.Programmed.{writing-programs}
-use Rattle.hc_carrying.specs.Carrying.{AreProgrammed, CarriesPair, logical_part, memories_behind}
-use Rattle.hc_carrying.specs.Laws.{Meets}
-use Rattle.hc_carrying.specs.Sequences.{AreApart, HasBit, Logical, all_behind, all_through}
-use Rattle.hc_carrying.specs.Variables.{IsCarried}
-use Rattle.hc_carrying.proofs.lemmas.Ready.{written-programmed}
-use Rattle.hc_carrying.proofs.lemmas.Sequences.{all-inputs, all-keep, all-others, all-outputs}
-use Rattle.hc_carrying.proofs.lemmas.Slaves.{output-high}
-use Rattle.hc_carrying.proofs.lemmas.Variables.{variables-carried}
+use Rattle.hc_exchange.specs.PairLaws.{IsConfigurable}
+use Rattle.hc_exchange.specs.Writing.{AreMachinesOf}
+use Rattle.hc_exchange.specs.WritingLaws.{IsWritten, machines_written}
+use Rattle.hc_exchange.proofs.lemmas.Members.{keeps-line, one-station}
+use Rattle.hc_exchange.proofs.lemmas.Programmed.{writing-programs}
+use Rattle.hc_exchange.specs.Carrying.{AreProgrammed, CarriesPair, logical_part, memories_behind}
+use Rattle.hc_exchange.specs.CarryingLaws.{Meets}
+use Rattle.hc_exchange.specs.Sequences.{AreApart, HasBit, Logical, all_behind, all_through}
+use Rattle.hc_exchange.specs.Variables.{IsCarried}
+use Rattle.hc_exchange.proofs.lemmas.Ready.{written-programmed}
+use Rattle.hc_exchange.proofs.lemmas.Sequences.{all-inputs, all-keep, all-others, all-outputs}
+use Rattle.hc_exchange.proofs.lemmas.Slaves.{output-high}
+use Rattle.hc_exchange.proofs.lemmas.Variables.{variables-carried}
 use Rattle.hc_exchange.specs.Exchanged.{CameBack, HasInMemory, IsExchanged, IsGapBit, IsOutputBit, StandsInMemory}
 use Rattle.hc_exchange.specs.Sent.{IsSent, IsVariable, count_of}
 use Rattle.hc_exchange.proofs.Alone.{stands-once}

@@ -21,11 +21,11 @@ use Rattle.hc_records.proofs.lemmas.Walks.{length-line}
 use Rattle.hc_places.specs.Table.{Table, TaskTable, datagram_of, table_of}
 use Rattle.hc_places.proofs.lemmas.Loads.{table-at}
 use Rattle.hc_places.proofs.lemmas.Ranks.{expected-low}
-use Rattle.hc_outputs.specs.Packed.{Holds, Packed, offset_in, sent_bytes, slot_bytes}
-use Rattle.hc_outputs.specs.Values.{image_bit, posted}
-use Rattle.hc_outputs.proofs.lemmas.Bits.{sent-there}
-use Rattle.hc_outputs.proofs.lemmas.LaidOut.{length-of_line, offset-of_line, place-of_line}
-use Rattle.hc_programmed.specs.Laws.{IsConfigurable}
+use Rattle.hc_images.specs.Packed.{Holds, Packed, offset_in, sent_bytes, slot_bytes}
+use Rattle.hc_images.specs.Values.{image_bit, posted}
+use Rattle.hc_images.proofs.lemmas.Bits.{sent-there}
+use Rattle.hc_images.proofs.lemmas.LaidOut.{length-of_line, offset-of_line, place-of_line}
+use Rattle.hc_exchange.specs.PairLaws.{IsConfigurable}
 use Rattle.hc_exchange.proofs.Alone.{same-test}
 use Rattle.hc_exchange.specs.Sent.{IsPacked, count_of}
 

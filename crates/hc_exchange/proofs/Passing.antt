@@ -10,12 +10,12 @@ use Rattle.hc_frames.specs.Arrived.{Reading, fault_in, reading_of}
 use Rattle.hc_frames.specs.FrameText.{frame_text, lrw, sent}
 use Rattle.hc_frames.specs.Laws.{CanBeCarried}
 use Rattle.hc_segment.specs.Line.{frame_through, frames_through, machines_after}
-use Rattle.hc_programmed.specs.Laws.{IsConfigurable}
-use Rattle.hc_carrying.specs.Carrying.{AreProgrammed, count_through, data_through, logical_part, memories_behind}
-use Rattle.hc_carrying.specs.Sequences.{Logical, all_behind, all_through}
-use Rattle.hc_carrying.proofs.lemmas.Counts.{counts-expected}
-use Rattle.hc_carrying.proofs.lemmas.Frames.{frames-pass}
-use Rattle.hc_carrying.proofs.lemmas.Lines.{Stands, all-stand, length-through, line-stays}
+use Rattle.hc_exchange.specs.PairLaws.{IsConfigurable}
+use Rattle.hc_exchange.specs.Carrying.{AreProgrammed, count_through, data_through, logical_part, memories_behind}
+use Rattle.hc_exchange.specs.Sequences.{Logical, all_behind, all_through}
+use Rattle.hc_exchange.proofs.lemmas.Counts.{counts-expected}
+use Rattle.hc_exchange.proofs.lemmas.Frames.{frames-pass}
+use Rattle.hc_exchange.proofs.lemmas.Lines.{Stands, all-stand, length-through, line-stays}
 
 -- a datagram of a task with its data, as it stands in the process image and in its frame
 

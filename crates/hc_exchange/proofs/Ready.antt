@@ -4,7 +4,7 @@ use Rattle.std.specs.Prelude.{All, Some, slice_get}
 use Rattle.std.proofs.lemmas.Option.{get_or_from_slice_get, slice_get_within}
 use Rattle.hc_bits.specs.Bits.{AreBytes}
 use Rattle.hc_records.specs.Line.{Member}
-use Rattle.hc_programmed.specs.Writing.{AreMachinesOf, AreReadyFor, IsMachineOf, IsReadyFor}
+use Rattle.hc_exchange.specs.Writing.{AreMachinesOf, AreReadyFor, IsMachineOf, IsReadyFor}
 
 machine-of : (member : Member) (memory : List ℕ) → AreBytes memory → length memory ≡ 12288 → IsReadyFor member memory → IsMachineOf member memory
 machine-of member memory bytes size ready =

@@ -14,13 +14,13 @@ use Rattle.hc_records.proofs.lemmas.Parts.{EndsInDatagram, ends-in-datagram}
 use Rattle.hc_records.proofs.lemmas.Variables.{IsEntryVariable, entry-variables}
 use Rattle.hc_registers.specs.declared.fmmu.Mapping.{Mapping}
 use Rattle.hc_registers.specs.Blocks.{mapping_at, mapping_of}
-use Rattle.hc_programmed.specs.Laws.{IsConfigurable}
-use Rattle.hc_programmed.specs.Pairs.{AreasPair, key_of}
-use Rattle.hc_programmed.proofs.lemmas.Listed.{areas-mapped}
-use Rattle.hc_programmed.proofs.lemmas.Members.{KeepsLine, area-inside, keeps-line, one-index, one-station}
-use Rattle.hc_programmed.proofs.lemmas.Places.{logical-told, mapped-place}
-use Rattle.hc_carrying.specs.Carrying.{CarriesPair}
-use Rattle.hc_carrying.proofs.lemmas.Slaves.{one-owner}
+use Rattle.hc_exchange.specs.PairLaws.{IsConfigurable}
+use Rattle.hc_exchange.specs.Pairs.{AreasPair, key_of}
+use Rattle.hc_exchange.proofs.lemmas.Listed.{areas-mapped}
+use Rattle.hc_exchange.proofs.lemmas.Members.{KeepsLine, area-inside, keeps-line, one-index, one-station}
+use Rattle.hc_exchange.proofs.lemmas.Places.{logical-told, mapped-place}
+use Rattle.hc_exchange.specs.Carrying.{CarriesPair}
+use Rattle.hc_exchange.proofs.lemmas.Slaves.{one-owner}
 use Rattle.hc_exchange.specs.Exchanged.{IsGapBit, IsOutputBit}
 use Rattle.hc_exchange.proofs.Packing.{datagram-early, length-there}
 

@@ -10,10 +10,10 @@ use Rattle.hc_frames.specs.FrameText.{block_write, frame_text}
 use Rattle.hc_registers.specs.Blocks.{LineBlock, RegisterBlock, line_blocks, mapping_of}
 use Rattle.hc_segment.specs.Line.{machines_after, machines_behind}
 use Rattle.hc_plan.specs.Configuration.{at_station}
-use Rattle.hc_programmed.specs.Pairs.{key_of}
-use Rattle.hc_programmed.specs.Writing.{block_datagram, write_frames}
-use Rattle.hc_programmed.proofs.lemmas.Shared.{length-fmmu}
-use Rattle.hc_programmed.proofs.lemmas.Sources.{IsOfLine, Source, line-sources}
+use Rattle.hc_exchange.specs.Pairs.{key_of}
+use Rattle.hc_exchange.specs.Writing.{block_datagram, write_frames}
+use Rattle.hc_exchange.proofs.lemmas.Shared.{length-fmmu}
+use Rattle.hc_exchange.proofs.lemmas.Sources.{IsOfLine, Source, line-sources}
 
 -- one more frame
 after-one : (machines : List (List ℕ)) (fs : List (List ℕ)) (f : List ℕ) → machines_after machines (fs ++ f ∷ []) ≡ machines_behind (machines_after machines fs) f

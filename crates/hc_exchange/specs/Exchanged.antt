@@ -11,7 +11,7 @@ use Rattle.hc_records.specs.Line.{Member}
 use Rattle.hc_registers.specs.Blocks.{line_blocks}
 use Rattle.hc_frames.specs.Arrived.{fault_in, reading_of}
 use Rattle.hc_machine.specs.declared.limits.TheConstants.{MEMORY_BITS}
-use Rattle.hc_carrying.specs.Carrying.{logical_part}
+use Rattle.hc_exchange.specs.Carrying.{logical_part}
 use Rattle.hc_exchange.specs.Sent.{IsVariable, count_of}
 
 -- the frame of a datagram of a task came back: it is read, with its serial behind those of the writes, at its logical address, with these data, and with the expected counter

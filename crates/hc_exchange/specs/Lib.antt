@@ -1,2 +1,11 @@
 pub mod Sent
 pub mod Exchanged
+pub mod Pairs
+pub mod PairLaws
+pub mod Writing
+pub mod WritingLaws
+pub mod Carrying
+pub mod CarryingLaws
+pub mod FrameLaws
+pub mod Sequences
+pub mod Variables

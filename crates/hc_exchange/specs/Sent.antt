@@ -11,8 +11,8 @@ use Rattle.hc_registers.specs.Blocks.{line_blocks}
 use Rattle.hc_frames.specs.FrameText.{frame_text, lrw}
 use Rattle.hc_segment.specs.Line.{frames_through, machines_after}
 use Rattle.hc_places.specs.Table.{datagrams_in, table_of}
-use Rattle.hc_outputs.specs.Packed.{LiesIn}
-use Rattle.hc_programmed.specs.WritingLaws.{machines_written}
+use Rattle.hc_images.specs.Packed.{LiesIn}
+use Rattle.hc_exchange.specs.WritingLaws.{machines_written}
 
 -- how many datagrams a task of the line has; none where the line has no such task
 abbrev pub count_of : List Member → ℕ → ℕ

@@ -4,7 +4,7 @@ ghost use Rattle.hc_bits.specs.Bits.{AreBytes};
 ghost use Rattle.hc_records.specs.Line.{line};
 ghost use Rattle.hc_segment.specs.Line.{frame_through, frames_through, machines_after, machines_behind};
 ghost use Rattle.hc_machine.specs.declared.limits.TheConstants.{MEMORY_BYTES};
-ghost use Rattle.hc_programmed.specs.Writing.{AreReadyFor};
+ghost use Rattle.hc_exchange.specs.Writing.{AreReadyFor};
 ghost use Rattle.hc_exchange.specs.Exchanged.{IsExchanged};
 ghost use Rattle.hc_exchange.specs.Sent.{IsSent};
 

@@ -1,7 +1,7 @@
 //! Writes the blocks of a plan to the machines of its line.
 ghost use Rattle.std.specs.Prelude.{◌≡◌, ◌^◌, ◌<◌, ◌≤◌, [], ◌∷◌, length};
 ghost use Rattle.hc_frames.specs.FrameText.{block_write, frame_text};
-ghost use Rattle.hc_programmed.specs.WritingLaws.{machines_written};
+ghost use Rattle.hc_exchange.specs.WritingLaws.{machines_written};
 ghost use Rattle.hc_records.specs.Line.{line};
 ghost use Rattle.hc_segment.specs.Line.{machines_behind};
 

@@ -5,13 +5,13 @@ ghost use Rattle.hc_records.specs.Laws.{IsDatagramLength};
 ghost use Rattle.hc_frames.specs.declared.limits.TheConstants.{MAX_DATA};
 ghost use Rattle.hc_frames.specs.FrameText.{frame_text, lrw};
 ghost use Rattle.hc_frames.specs.Sizes.{frame_size};
-ghost use Rattle.hc_outputs.specs.Packed.{Holds, IsLaidOut, sent_bytes};
-ghost use Rattle.hc_outputs.specs.Values.{posted};
+ghost use Rattle.hc_images.specs.Packed.{Holds, IsLaidOut, sent_bytes};
+ghost use Rattle.hc_images.specs.Values.{posted};
 ghost use Rattle.hc_exchange.specs.Sent.{task_frames};
 
 use hc_frames::building::{build_datagram_of, build_head, frame_size};
 use hc_frames::limits::{BESIDE_DATA_BYTES, HEAD_BYTES};
-use hc_outputs::outputs::Outputs;
+use hc_images::outputs::Outputs;
 use hc_places::table::Places;
 use hc_records::limits::TASKS;
 use hc_registers::fmmu::logical_address;

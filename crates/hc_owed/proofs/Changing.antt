@@ -8,11 +8,11 @@ use Rattle.std.proofs.lemmas.Option.{same_Some, slice_get-get_or, slice_get-map,
 use Rattle.hc_records.specs.declared.records.Slave.{Slave}
 use Rattle.hc_records.proofs.lemmas.Lines.{declared_slaves}
 use Rattle.hc_registers.specs.Blocks.{LineBlock}
-use Rattle.hc_ranks.specs.declared.blocks.Gone.{Gone}
-use Rattle.hc_ranks.specs.Blocks.{RankedBlock}
-use Rattle.hc_ranks.specs.Differences.{IsGone, StandsIn, block_place, first_gone}
-use Rattle.hc_ranks.specs.Places.{places}
-use Rattle.hc_ranks.proofs.lemmas.Standing.{length-places}
+use Rattle.hc_registers.specs.declared.ranked.Gone.{Gone}
+use Rattle.hc_registers.specs.Ranked.{RankedBlock}
+use Rattle.hc_registers.specs.RankDifferences.{IsGone, StandsIn, block_place, first_gone}
+use Rattle.hc_registers.specs.RankPlaces.{places}
+use Rattle.hc_registers.proofs.lemmas.RanksStanding.{length-places}
 use Rattle.hc_plan.proofs.lemmas.PlaceNames.{came, same-name, same-stations, stands-on}
 use Rattle.hc_owed.specs.Board.{Board, Knowledge, differs, kept_of, known_in, owed_in}
 use Rattle.hc_owed.specs.Laws.{IsEdited, known_over}

@@ -11,8 +11,8 @@ use Rattle.hc_records.specs.Line.{State, groups_of}
 use Rattle.hc_records.specs.Project.{slaves_of}
 use Rattle.hc_records.proofs.lemmas.Projects.{project-few}
 use Rattle.hc_registers.specs.Blocks.{LineBlock}
-use Rattle.hc_ranks.specs.Places.{places, stations}
-use Rattle.hc_ranks.proofs.lemmas.Declared.{declared-places, declared-stations}
+use Rattle.hc_registers.specs.RankPlaces.{places, stations}
+use Rattle.hc_registers.proofs.lemmas.RanksDeclared.{declared-places, declared-stations}
 use Rattle.hc_plan.proofs.lemmas.PlaceNames.{stands-on}
 use Rattle.hc_owed.specs.Board.{Board, Knowledge, kept_of, known_in, owed_in}
 use Rattle.hc_owed.specs.Laws.{known_over}

@@ -12,8 +12,8 @@ use Rattle.hc_records.specs.declared.records.Slave.{Slave}
 use Rattle.hc_records.specs.Line.{Member, State, groups_of, line, members_from}
 use Rattle.hc_records.specs.Project.{slaves_of}
 use Rattle.hc_registers.specs.Blocks.{LineBlock, RegisterBlock, member_blocks}
-use Rattle.hc_ranks.specs.Places.{numbers, places, places_from, slave_places, stations}
-use Rattle.hc_ranks.proofs.lemmas.Gapless.{length-member}
+use Rattle.hc_registers.specs.RankPlaces.{numbers, places, places_from, slave_places, stations}
+use Rattle.hc_registers.proofs.lemmas.RanksGapless.{length-member}
 use Rattle.hc_plan.proofs.lemmas.Differing.{there}
 use Rattle.hc_owed.specs.Board.{Board, kept_of, known_in, nothing_known, owed_in}
 use Rattle.hc_owed.specs.Opening.{declared_flags, has_block, slave_flags, slaves_flags}

@@ -6,9 +6,9 @@ use Rattle.std.proofs.lemmas.Iterator.Adapters.{position_from-zero}
 use Rattle.hc_registers.specs.Blocks.{LineBlock}
 use Rattle.hc_records.specs.Line.{State, groups_of}
 use Rattle.hc_records.specs.Project.{lowest_fault}
-use Rattle.hc_ranks.specs.Laws.{standing}
-use Rattle.hc_ranks.specs.Places.{places}
-use Rattle.hc_ranks.proofs.lemmas.Gapless.{places-hold}
+use Rattle.hc_registers.specs.RankLaws.{standing}
+use Rattle.hc_registers.specs.RankPlaces.{places}
+use Rattle.hc_registers.proofs.lemmas.RanksGapless.{places-hold}
 use Rattle.hc_owed.specs.Board.{Knowledge, lacks, owed_in}
 use Rattle.hc_owed.specs.Flags.{one, set_count}
 use Rattle.hc_owed.specs.Laws.{owed_blocks}

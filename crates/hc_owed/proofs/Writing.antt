@@ -10,7 +10,7 @@ use Rattle.hc_records.specs.Lists.{changed_at}
 use Rattle.hc_records.specs.Line.{State, groups_of}
 use Rattle.hc_records.specs.Project.{lowest_fault}
 use Rattle.hc_registers.specs.Blocks.{LineBlock}
-use Rattle.hc_ranks.specs.Places.{places, stations}
+use Rattle.hc_registers.specs.RankPlaces.{places, stations}
 use Rattle.hc_plan.specs.Reports.{name_of}
 use Rattle.hc_plan.proofs.lemmas.PlaceNames.{one-place}
 use Rattle.hc_owed.specs.Board.{Knowledge, differs, kept_of, known_in, lacks, owed_in}

@@ -4,7 +4,7 @@ use Rattle.std.specs.Option.{option_map_or}
 use Rattle.std.specs.Str.{bytes_eq}
 use Rattle.hc_records.specs.Line.{State}
 use Rattle.hc_registers.specs.Blocks.{LineBlock}
-use Rattle.hc_ranks.specs.Places.{places, stations}
+use Rattle.hc_registers.specs.RankPlaces.{places, stations}
 
 -- of each place the known bytes of its block, and whether the block is owed; and the station addresses of the declared slaves, by rank
 pub record Board : Type 0 where

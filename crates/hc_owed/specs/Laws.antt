@@ -5,10 +5,10 @@ use Rattle.hc_records.specs.Edits.{declares, edited, slave_at}
 use Rattle.hc_records.specs.Line.{State, groups_of, line}
 use Rattle.hc_records.specs.Project.{lowest_fault}
 use Rattle.hc_registers.specs.Blocks.{LineBlock, line_blocks}
-use Rattle.hc_ranks.specs.declared.blocks.Gone.{Gone}
-use Rattle.hc_ranks.specs.Blocks.{RankedBlock}
-use Rattle.hc_ranks.specs.Differences.{Differ}
-use Rattle.hc_ranks.specs.Places.{places}
+use Rattle.hc_registers.specs.declared.ranked.Gone.{Gone}
+use Rattle.hc_registers.specs.Ranked.{RankedBlock}
+use Rattle.hc_registers.specs.RankDifferences.{Differ}
+use Rattle.hc_registers.specs.RankPlaces.{places}
 use Rattle.hc_owed.specs.declared.owed.OwedBlock.{OwedBlock}
 use Rattle.hc_owed.specs.Board.{Board, Knowledge, kept_of, lacks}
 

@@ -3,7 +3,7 @@ use Rattle.std.specs.Prelude.{ℕ, ◌/◌, ◌&&◌, nat_lt, Bool, List, length
 use Rattle.std.specs.List.{flat_map}
 use Rattle.hc_records.specs.declared.records.Declared.{Declared}
 use Rattle.hc_records.specs.declared.records.Slave.{Slave}
-use Rattle.hc_ranks.specs.Places.{numbers}
+use Rattle.hc_registers.specs.RankPlaces.{numbers}
 
 -- a slave, present or not, has a block with a number
 abbrev pub has_block : Bool → Slave → ℕ → Bool

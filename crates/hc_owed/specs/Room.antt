@@ -5,7 +5,7 @@ use Rattle.hc_records.specs.declared.records.Slave.{Slave}
 use Rattle.hc_records.specs.Edits.{absent}
 use Rattle.hc_records.specs.Line.{State, groups_of}
 use Rattle.hc_records.specs.Project.{lowest_fault}
-use Rattle.hc_ranks.specs.Places.{stations}
+use Rattle.hc_registers.specs.RankPlaces.{stations}
 use Rattle.hc_owed.specs.Board.{Board, Knowledge, kept_of}
 
 -- for how many places there is memory, for how many words of 64 flags, and for how many station addresses; and the station addresses of the slaves that

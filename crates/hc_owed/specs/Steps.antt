@@ -1,9 +1,9 @@
 -- The steps of what is kept, place by place.
 use Rattle.std.specs.Prelude.{ℕ, zero, suc, ◌+◌, ◌*◌, Bool, false, List, [], ◌∷◌, slice_get, unwrap_or, Option, None}
 use Rattle.hc_records.specs.Lists.{changed_at}
-use Rattle.hc_ranks.specs.declared.blocks.Gone.{Gone}
-use Rattle.hc_ranks.specs.Blocks.{RankedBlock}
-use Rattle.hc_ranks.specs.Differences.{block_place, first_gone}
+use Rattle.hc_registers.specs.declared.ranked.Gone.{Gone}
+use Rattle.hc_registers.specs.Ranked.{RankedBlock}
+use Rattle.hc_registers.specs.RankDifferences.{block_place, first_gone}
 use Rattle.hc_owed.specs.Board.{Board, differs}
 
 -- what is known at a place, and whether it's owed there

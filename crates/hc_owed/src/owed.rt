@@ -5,8 +5,8 @@ ghost use Rattle.hc_owed.specs.Board.{differs};
 use crate::flags::Flags;
 use crate::opening::{declared_flags, declared_stations, nothing_known};
 use hc_plan::plan::Plan;
-use hc_ranks::blocks::{Gone, RankedBlock};
 use hc_registers::blocks::Block;
+use hc_registers::ranked::{Gone, RankedBlock};
 use std::alloc::{AllocError, Global};
 use std::marker::Model;
 
@@ -57,7 +57,7 @@ impl Owed {
     ghost use Rattle.hc_records.specs.Line.{State, groups_of};
     ghost use Rattle.hc_records.specs.Project.{lowest_fault};
     ghost use Rattle.hc_registers.specs.Blocks.{LineBlock};
-    ghost use Rattle.hc_ranks.specs.Differences.{block_place, first_gone};
+    ghost use Rattle.hc_registers.specs.RankDifferences.{block_place, first_gone};
     ghost use Rattle.hc_plan.specs.Reports.{name_of};
     ghost use Rattle.hc_owed.specs.Board.{Knowledge, kept_of, lacks, nothing_known};
     ghost use Rattle.hc_owed.specs.Laws.{IsEdited, IsFirstOwed, IsKeptAt, known_over, known_with, owed_blocks};

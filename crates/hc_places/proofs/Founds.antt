@@ -25,9 +25,9 @@ use Rattle.hc_places.specs.Table.{Row, task_table}
 use Rattle.hc_places.proofs.Configurable.{project-configurable}
 use Rattle.hc_places.proofs.Tables.{places-sendable, table-same}
 use Rattle.hc_places.proofs.Widths.{areas-offer}
-use Rattle.hc_tasks.specs.Areas.{area_in, areas_by_rank, list_by}
-use Rattle.hc_tasks.proofs.lemmas.Named.{keys-name}
-use Rattle.hc_tasks.proofs.lemmas.Told.{task-listed}
+use Rattle.hc_cuts.specs.Areas.{area_in, areas_by_rank, list_by}
+use Rattle.hc_cuts.proofs.lemmas.Named.{keys-name}
+use Rattle.hc_cuts.proofs.lemmas.Told.{task-listed}
 
 head-same : {X : Type 0} (x y : X) (xs ys : List X) → x ∷ xs ≡ y ∷ ys → x ≡ y
 head-same x y xs ys same = cc

@@ -10,9 +10,9 @@ use Rattle.hc_records.specs.Line.{Member, groups_of, line_from}
 use Rattle.hc_records.specs.Packing.{Placed, opening, packed}
 use Rattle.hc_records.specs.Project.{lowest_fault}
 use Rattle.hc_cuts.specs.Starts.{Kept}
-use Rattle.hc_tasks.specs.Areas.{areas_by_rank, list_by}
-use Rattle.hc_tasks.specs.Kept.{IsLine, crowded_from, line_kept}
-use Rattle.hc_tasks.proofs.lemmas.Projects.{line-crowded, project-line}
+use Rattle.hc_cuts.specs.Areas.{areas_by_rank, list_by}
+use Rattle.hc_cuts.specs.Kept.{IsLine, crowded_from, line_kept}
+use Rattle.hc_cuts.proofs.lemmas.Projects.{line-crowded, project-line}
 use Rattle.hc_places.specs.Opened.{AreOpened}
 use Rattle.hc_places.specs.Table.{Row, TaskTable, by_number, table_of, task_table}
 use Rattle.hc_places.proofs.Founds.{IsTask, kept-task}

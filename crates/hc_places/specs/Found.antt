@@ -7,7 +7,7 @@ use Rattle.hc_records.specs.Packing.{Placed}
 use Rattle.hc_records.specs.Image.{area_variables}
 use Rattle.hc_places.specs.Ranges.{OffersBits}
 use Rattle.hc_places.specs.Table.{Row}
-use Rattle.hc_tasks.specs.Areas.{area_in}
+use Rattle.hc_cuts.specs.Areas.{area_in}
 
 -- the variables of an area that stands at a place in a task, with their places
 abbrev pub area_rows : ℕ → Area → Placed → List Row

@@ -5,8 +5,8 @@ use Rattle.hc_records.specs.declared.records.Declared.{Declared}
 use Rattle.hc_records.specs.Line.{groups_of}
 use Rattle.hc_records.specs.Project.{lowest_fault}
 use Rattle.hc_cuts.specs.Starts.{Kept}
-use Rattle.hc_tasks.specs.Areas.{areas_by_rank}
-use Rattle.hc_tasks.specs.Kept.{crowded_from, line_kept}
+use Rattle.hc_cuts.specs.Areas.{areas_by_rank}
+use Rattle.hc_cuts.specs.Kept.{crowded_from, line_kept}
 
 -- the slaves' areas are those of a project's groups, and the tasks are those of these areas, none of which needs more than 16 datagrams
 pub record AreOpened (slaves : List (List Area)) (cuts : List Kept) : Type 0 where

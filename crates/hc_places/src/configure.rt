@@ -6,18 +6,18 @@ ghost use Rattle.hc_records.specs.Project.{lowest_fault};
 ghost use Rattle.hc_places.specs.Layout.{NamesCrowded};
 ghost use Rattle.hc_places.specs.Opened.{AreOpened};
 ghost use Rattle.hc_places.specs.Table.{table_of};
-ghost use Rattle.hc_tasks.specs.Areas.{areas_by_rank};
-ghost use Rattle.hc_tasks.specs.Kept.{line_kept};
+ghost use Rattle.hc_cuts.specs.Areas.{areas_by_rank};
+ghost use Rattle.hc_cuts.specs.Kept.{line_kept};
 
 use crate::datagrams::task_table;
 use crate::table::Places;
 use crate::variables::add_found;
 use hc_bitsum::steps::Steps;
+use hc_cuts::areas::{SlaveAreas, areas_by_rank};
+use hc_cuts::tasks::LineCuts;
 use hc_records::faults::EditFault;
 use hc_records::limits::TASKS;
 use hc_records::records::Declared;
-use hc_tasks::areas::{SlaveAreas, areas_by_rank};
-use hc_tasks::tasks::LineCuts;
 use std::alloc::{AllocError, Global};
 use std::sync::ledger::{Blank, Ledger};
 

@@ -10,10 +10,10 @@ ghost use Rattle.hc_records.specs.Limits.{IsEntryInside};
 ghost use Rattle.hc_places.specs.Ranges.{OffersBits};
 
 use crate::table::Place;
+use hc_cuts::areas::{SlaveAreas, find_area};
 use hc_cuts::packing::Placed;
 use hc_records::assignment::offered_entries;
 use hc_records::records::{Area, Dir, Entry, VarId};
-use hc_tasks::areas::{SlaveAreas, find_area};
 use std::alloc::AllocError;
 
 /// The task, the datagram and the direction that an area's variables have in common.

@@ -10,7 +10,7 @@ use Rattle.hc_records.specs.declared.faults.EditFault.{EditFault}
 use Rattle.hc_records.specs.declared.faults.EditFault.TheVariants.{Memory}
 use Rattle.hc_records.specs.Edits.{edited, state_after, state_after_all}
 use Rattle.hc_records.specs.Line.{State}
-use Rattle.hc_edits.specs.Edits.{own_fault}
+use Rattle.hc_groups.specs.Edits.{own_fault}
 use Rattle.hc_plan.specs.Reports.{Answer, AreAnswers, IsAnswer, Tells, carried_out, wants_memory}
 
 -- what is left of the edits, answered from the present state on, makes all of them answered

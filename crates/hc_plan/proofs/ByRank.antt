@@ -14,15 +14,15 @@ use Rattle.hc_records.specs.Lists.{changed_at}
 use Rattle.hc_records.proofs.lemmas.Lines.{declared_slaves}
 use Rattle.hc_records.proofs.lemmas.Lists.{get-back, get-front}
 use Rattle.hc_registers.specs.Blocks.{LineBlock, member_blocks}
-use Rattle.hc_ranks.specs.Places.{places_from, slave_places}
-use Rattle.hc_ranks.proofs.lemmas.Standing.{at-number, length-slave}
-use Rattle.hc_edits.specs.declared.changes.AreasChange.{AreasChange}
-use Rattle.hc_edits.specs.declared.changes.PresenceChange.{PresenceChange}
-use Rattle.hc_edits.specs.declared.prepared.Prepared.{Prepared}
-use Rattle.hc_edits.specs.declared.prepared.Prepared.TheVariants.{Presence, Areas}
-use Rattle.hc_edits.specs.Changes.{changed_groups, with_areas, with_slave}
-use Rattle.hc_edits.specs.Rows.{ChangesRow, Ranked, by_rank, count_of, first_of, ranked, row}
-use Rattle.hc_edits.proofs.lemmas.Concerned.{presence-row}
+use Rattle.hc_registers.specs.RankPlaces.{places_from, slave_places}
+use Rattle.hc_registers.proofs.lemmas.RanksStanding.{at-number, length-slave}
+use Rattle.hc_groups.specs.declared.changes.AreasChange.{AreasChange}
+use Rattle.hc_groups.specs.declared.changes.PresenceChange.{PresenceChange}
+use Rattle.hc_groups.specs.declared.prepared.Prepared.{Prepared}
+use Rattle.hc_groups.specs.declared.prepared.Prepared.TheVariants.{Presence, Areas}
+use Rattle.hc_groups.specs.Changes.{changed_groups, with_areas, with_slave}
+use Rattle.hc_groups.specs.Rows.{ChangesRow, Ranked, by_rank, count_of, first_of, ranked, row}
+use Rattle.hc_groups.proofs.lemmas.Concerned.{presence-row}
 
 -- the blocks that a declared slave with a rank has in a line
 

@@ -19,8 +19,8 @@ use Rattle.hc_records.specs.Project.{area_names, entry_names, lowest_fault, pdo_
 use Rattle.hc_records.proofs.lemmas.Lists.{none-holds}
 use Rattle.std.proofs.lemmas.List.{length-map}
 use Rattle.hc_cuts.specs.Starts.{Kept}
-use Rattle.hc_tasks.specs.Areas.{areas_by_rank, present_areas}
-use Rattle.hc_tasks.specs.Kept.{line_kept}
+use Rattle.hc_cuts.specs.Areas.{areas_by_rank, present_areas}
+use Rattle.hc_cuts.specs.Kept.{line_kept}
 use Rattle.hc_records.specs.Area.{Entry}
 use Rattle.hc_records.specs.declared.records.Area.{Area}
 use Rattle.hc_records.specs.declared.records.Pdo.{Pdo}
@@ -28,8 +28,8 @@ use Rattle.hc_records.specs.declared.records.Slave.{Slave}
 use Rattle.hc_records.proofs.lemmas.Declaring.{any-flat, same-recut}
 use Rattle.hc_registers.specs.Blocks.{line_blocks, moved_blocks, same_block}
 use Rattle.hc_records.specs.Image.{VariablePlace}
-use Rattle.hc_ranks.specs.Blocks.{RankedBlock, moved_ranked}
-use Rattle.hc_ranks.proofs.lemmas.Moved.{ranked-are-moved}
+use Rattle.hc_registers.specs.Ranked.{RankedBlock, moved_ranked}
+use Rattle.hc_registers.proofs.lemmas.RanksMoved.{ranked-are-moved}
 use Rattle.hc_places.specs.Swap.{LeadsAsSaid, SaysWhatDiffers, changed_variables, new_place}
 use Rattle.hc_places.specs.Table.{Table, place_in, table_of}
 use Rattle.hc_places.proofs.lemmas.Same.{found-same}

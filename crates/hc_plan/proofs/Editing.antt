@@ -12,9 +12,9 @@ use Rattle.hc_records.specs.Edits.{absent, changed, crowded_task, declares, decl
 use Rattle.hc_records.specs.Line.{State, line, line_from}
 use Rattle.hc_records.specs.Lists.{lowest}
 use Rattle.hc_records.proofs.lemmas.Declaring.{line-absent}
-use Rattle.hc_edits.specs.declared.prepared.Prepared.{Prepared}
-use Rattle.hc_edits.specs.Edits.{own_fault}
-use Rattle.hc_edits.proofs.lemmas.Refusals.{line-decides, line_faults}
+use Rattle.hc_groups.specs.declared.prepared.Prepared.{Prepared}
+use Rattle.hc_groups.specs.Edits.{own_fault}
+use Rattle.hc_groups.proofs.lemmas.Refusals.{line-decides, line_faults}
 use Rattle.hc_changes.specs.EditedLine.{EditedLine, edited_line_of}
 
 -- an edit's own fault, judged over a slice of the groups

@@ -13,8 +13,8 @@ use Rattle.hc_records.specs.Line.{Member, is_at, line_from}
 use Rattle.hc_records.specs.Packing.{Placed}
 use Rattle.hc_records.proofs.lemmas.Slaves.{project-counted}
 use Rattle.hc_records.proofs.lemmas.Walks.{get-back, get-front, length-line}
-use Rattle.hc_index.specs.Index.{own_blocks, owned_by}
-use Rattle.hc_ranks.proofs.lemmas.Gapless.{length-member}
+use Rattle.hc_groups.specs.Index.{own_blocks, owned_by}
+use Rattle.hc_registers.proofs.lemmas.RanksGapless.{length-member}
 use Rattle.hc_registers.specs.declared.fmmu.Mapping.{Mapping}
 use Rattle.hc_registers.specs.Blocks.{LineBlock, RegisterBlock, area_blocks, line_blocks, member_blocks, moved_blocks, slave_blocks, sync_manager_block, fmmu_block, mapping_of}
 use Rattle.hc_places.proofs.lemmas.Found.{find-holds}

@@ -10,16 +10,16 @@ use Rattle.hc_records.specs.Lists.{lowest}
 use Rattle.hc_records.proofs.lemmas.Declaring.{declared-keep, line-absent}
 use Rattle.hc_records.specs.Line.{State, groups_of, line, line_from}
 use Rattle.hc_records.specs.Project.{lowest_fault}
-use Rattle.hc_ranks.specs.Blocks.{RankedBlock, moved_ranked}
-use Rattle.hc_ranks.specs.Differences.{Differ}
-use Rattle.hc_ranks.specs.Places.{places}
-use Rattle.hc_ranks.proofs.lemmas.Declared.{declared-differ}
-use Rattle.hc_tasks.specs.Areas.{areas_by_rank}
-use Rattle.hc_tasks.specs.Turn.{AreStartsOf}
-use Rattle.hc_edits.specs.declared.prepared.Prepared.{Prepared}
-use Rattle.hc_edits.specs.Changes.{change_by, changed_groups}
-use Rattle.hc_edits.specs.Edits.{own_fault}
-use Rattle.hc_edits.specs.Rows.{ChangesRow}
+use Rattle.hc_registers.specs.Ranked.{RankedBlock, moved_ranked}
+use Rattle.hc_registers.specs.RankDifferences.{Differ}
+use Rattle.hc_registers.specs.RankPlaces.{places}
+use Rattle.hc_registers.proofs.lemmas.RanksDeclared.{declared-differ}
+use Rattle.hc_cuts.specs.Areas.{areas_by_rank}
+use Rattle.hc_cuts.specs.Turn.{AreStartsOf}
+use Rattle.hc_groups.specs.declared.prepared.Prepared.{Prepared}
+use Rattle.hc_groups.specs.Changes.{change_by, changed_groups}
+use Rattle.hc_groups.specs.Edits.{own_fault}
+use Rattle.hc_groups.specs.Rows.{ChangesRow}
 use Rattle.hc_places.specs.Room.{IsRoomFor}
 use Rattle.hc_places.specs.Table.{Table, table_of}
 use Rattle.hc_changes.specs.EditedLine.{EditedLine, IsEditedLine, IsRoomFor as HasRoomFor, edited_line_of}

@@ -9,8 +9,8 @@ use Rattle.hc_records.specs.Edits.{crowded_task}
 use Rattle.hc_records.specs.Line.{groups_of, line_from}
 use Rattle.hc_records.specs.Project.{lowest_fault}
 use Rattle.hc_registers.specs.Blocks.{moved_blocks}
-use Rattle.hc_ranks.specs.Blocks.{RankedBlock, moved_ranked}
-use Rattle.hc_ranks.proofs.lemmas.Moved.{ranked-are-moved}
+use Rattle.hc_registers.specs.Ranked.{RankedBlock, moved_ranked}
+use Rattle.hc_registers.proofs.lemmas.RanksMoved.{ranked-are-moved}
 use Rattle.hc_places.specs.Layout.{layout_of}
 use Rattle.hc_places.specs.Swap.{AreOnce, ChangedRow, ChangedTask, Leads, LeadsAsSaid, Swap}
 use Rattle.hc_places.specs.Table.{IsTable, Table, table_of}

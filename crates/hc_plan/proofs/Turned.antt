@@ -7,10 +7,10 @@ use Rattle.hc_records.specs.declared.records.Declared.{Declared}
 use Rattle.hc_records.specs.Edits.{crowded_task}
 use Rattle.hc_records.specs.Line.{line_from}
 use Rattle.hc_cuts.specs.Starts.{Kept}
-use Rattle.hc_tasks.specs.Areas.{areas_by_rank}
-use Rattle.hc_tasks.specs.Kept.{crowded_from, line_kept}
-use Rattle.hc_tasks.specs.Turn.{AreLines, AreStartsOf, IsPut, IsTurn}
-use Rattle.hc_tasks.proofs.lemmas.Projects.{line-crowded}
+use Rattle.hc_cuts.specs.Areas.{areas_by_rank}
+use Rattle.hc_cuts.specs.Kept.{crowded_from, line_kept}
+use Rattle.hc_cuts.specs.Turn.{AreLines, AreStartsOf, IsPut, IsTurn}
+use Rattle.hc_cuts.proofs.lemmas.Projects.{line-crowded}
 use Rattle.hc_changes.specs.EditedLine.{EditedLine, IsEditedLine}
 
 -- what is crowded, by the line and by the areas of its slaves

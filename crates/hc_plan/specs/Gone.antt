@@ -1,8 +1,8 @@
 -- Which slaves leave the line with what an edit changes.
 use Rattle.std.specs.Prelude.{if◌then◌else◌}
-use Rattle.hc_edits.specs.declared.prepared.Prepared.{Prepared}
-use Rattle.hc_edits.specs.declared.prepared.Prepared.TheVariants.{Presence, Areas}
-use Rattle.hc_ranks.specs.declared.blocks.Gone.{Gone}
+use Rattle.hc_groups.specs.declared.prepared.Prepared.{Prepared}
+use Rattle.hc_groups.specs.declared.prepared.Prepared.TheVariants.{Presence, Areas}
+use Rattle.hc_registers.specs.declared.ranked.Gone.{Gone}
 
 -- no slave leaves
 abbrev pub none_gone : Gone

@@ -3,10 +3,10 @@ use Rattle.std.specs.Prelude.{◌≡◌, List, None, Ok}
 use Rattle.hc_records.specs.Edits.{crowded_task, edited}
 use Rattle.hc_records.specs.Line.{State, groups_of, line}
 use Rattle.hc_records.specs.Project.{lowest_fault}
-use Rattle.hc_ranks.specs.declared.blocks.Gone.{Gone}
-use Rattle.hc_ranks.specs.Blocks.{RankedBlock, moved_ranked}
-use Rattle.hc_ranks.specs.Differences.{Differ}
-use Rattle.hc_ranks.specs.Places.{places}
+use Rattle.hc_registers.specs.declared.ranked.Gone.{Gone}
+use Rattle.hc_registers.specs.Ranked.{RankedBlock, moved_ranked}
+use Rattle.hc_registers.specs.RankDifferences.{Differ}
+use Rattle.hc_registers.specs.RankPlaces.{places}
 use Rattle.hc_plan.specs.declared.report.Report.{Report}
 use Rattle.hc_plan.specs.Reports.{Tells}
 

@@ -6,7 +6,7 @@ use Rattle.hc_records.specs.declared.faults.EditFault.TheVariants.{Memory}
 use Rattle.hc_records.specs.Boundaries.{recut}
 use Rattle.hc_records.specs.Edits.{edited}
 use Rattle.hc_records.specs.Line.{State, line}
-use Rattle.hc_edits.specs.Edits.{own_fault}
+use Rattle.hc_groups.specs.Edits.{own_fault}
 use Rattle.hc_registers.specs.Blocks.{LineBlock, moved, moved_blocks}
 use Rattle.hc_places.specs.Swap.{SaysWhatDiffers, changed_places, changed_variables, swapped}
 use Rattle.hc_places.specs.Table.{table_of}

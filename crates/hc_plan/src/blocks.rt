@@ -7,7 +7,7 @@ ghost use Rattle.hc_plan.specs.inner.Blocks.{IsLayoutOf, IsMappedArea, IsMappedS
 
 use crate::placed_line::PlacedLine;
 use hc_changes::moved::mapping;
-use hc_index::index::Indexed;
+use hc_groups::index::Indexed;
 use hc_records::keys::Key;
 use hc_records::records::{Area, Slave};
 use hc_registers::blocks::Block;

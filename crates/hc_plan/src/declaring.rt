@@ -9,13 +9,14 @@ ghost use Rattle.hc_records.specs.declared.records.Area.{Area};
 ghost use Rattle.hc_records.specs.Line.{groups_of};
 ghost use Rattle.hc_records.specs.Lists.{lowest};
 ghost use Rattle.hc_records.specs.Project.{lowest_fault, slave_names};
-ghost use Rattle.hc_tasks.specs.Kept.{line_kept};
-ghost use Rattle.hc_tasks.specs.Room.{AreOfFewer, with_absent};
+ghost use Rattle.hc_cuts.specs.Kept.{line_kept};
+ghost use Rattle.hc_cuts.specs.Room.{AreOfFewer, with_absent};
 ghost use Rattle.hc_plan.specs.inner.Declaring.{AreTrees, TellsNothing, areas_take, limit_faults, names_taken, pdos_take, taken_faults};
 
 use crate::report::Report;
-use hc_index::index::{Index, Indexed};
-use hc_index::room::IndexRoom;
+use hc_cuts::tasks::LineCuts;
+use hc_groups::index::{Index, Indexed};
+use hc_groups::room::IndexRoom;
 use hc_places::swap::Swap;
 use hc_records::edit::Edit;
 use hc_records::faults::{EditFault, ProjectFault};
@@ -23,7 +24,6 @@ use hc_records::items::Items;
 use hc_records::limits::{MOST_GROUPS, MOST_SLAVES};
 use hc_records::records::{Area, Declared, Entry, Group, Pdo, Slave};
 use hc_records::room::Room;
-use hc_tasks::tasks::LineCuts;
 use std::alloc::{AllocError, Global};
 
 /// A group that may be declared behind those of a plan, and memory for it in what the plan keeps. Its drop is
@@ -196,9 +196,9 @@ impl Declaration {
     ghost use Rattle.hc_records.specs.Line.{groups_of};
     ghost use Rattle.hc_records.specs.Lists.{lowest};
     ghost use Rattle.hc_records.specs.Project.{lowest_fault};
-    ghost use Rattle.hc_tasks.specs.Areas.{areas_by_rank};
-    ghost use Rattle.hc_tasks.specs.Kept.{line_kept};
-    ghost use Rattle.hc_index.specs.Index.{IsIndexOf};
+    ghost use Rattle.hc_cuts.specs.Areas.{areas_by_rank};
+    ghost use Rattle.hc_cuts.specs.Kept.{line_kept};
+    ghost use Rattle.hc_groups.specs.Index.{IsIndexOf};
     ghost use Rattle.hc_plan.specs.inner.Declaring.{CanDeclare};
 
     /// What declaring a group behind those of a project takes, all of it beside them. Otherwise the lowest of the

@@ -1,8 +1,8 @@
 //! Where the areas of a line stand and how wide they are: read from the trees of its tasks, for the register blocks.
 use hc_cuts::packing::Placed;
+use hc_cuts::tasks::LineCuts;
 use hc_records::keys::Key;
 use hc_records::records::Declared;
-use hc_tasks::tasks::LineCuts;
 use std::marker::Model;
 
 /// The areas of the line of declared groups with their places, lent. Contracts see it as the layout of that
@@ -18,8 +18,8 @@ impl<'a> Model for PlacedLine<'a> {
     ghost use Rattle.hc_records.specs.Line.{line_from};
     ghost use Rattle.hc_records.specs.Packing.{Placed};
     ghost use Rattle.hc_places.specs.Layout.{layout_of};
-    ghost use Rattle.hc_tasks.specs.Areas.{areas_by_rank};
-    ghost use Rattle.hc_tasks.specs.Kept.{line_kept};
+    ghost use Rattle.hc_cuts.specs.Areas.{areas_by_rank};
+    ghost use Rattle.hc_cuts.specs.Kept.{line_kept};
 
     ghost Value = { List (List Placed) };
 
@@ -33,8 +33,8 @@ impl<'a> PlacedLine<'a> {
     ghost use Rattle.hc_records.specs.Line.{line_from};
     ghost use Rattle.hc_records.specs.declared.limits.TheConstants.{TASKS};
     ghost use Rattle.hc_places.specs.Layout.{layout_of, placed_in};
-    ghost use Rattle.hc_tasks.specs.Areas.{areas_by_rank};
-    ghost use Rattle.hc_tasks.specs.Kept.{line_kept};
+    ghost use Rattle.hc_cuts.specs.Areas.{areas_by_rank};
+    ghost use Rattle.hc_cuts.specs.Kept.{line_kept};
     ghost use Rattle.hc_plan.specs.inner.Blocks.{bits_in};
 
     /// Those of the line of these groups, whose tasks are kept in these trees.

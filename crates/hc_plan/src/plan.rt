@@ -3,7 +3,7 @@ ghost use Rattle.std.specs.Prelude.{◌≡◌, false, IfOk, MatchOption, map};
 ghost use Rattle.hc_records.specs.declared.edit.Edit.TheVariants.{Declare};
 ghost use Rattle.hc_records.specs.Edits.{declares};
 ghost use Rattle.hc_records.specs.Line.{opened_group};
-ghost use Rattle.hc_index.specs.Index.{IsIndexOf};
+ghost use Rattle.hc_groups.specs.Index.{IsIndexOf};
 ghost use Rattle.hc_plan.specs.inner.Applied.{Follows};
 
 use crate::applying::work_out;
@@ -15,8 +15,9 @@ use crate::report::Report;
 use crate::turning::turn_on;
 use crate::work::{LineWork, Work};
 use hc_changes::edited_line::{EditedLine, EditedLineRoom};
-use hc_edits::prepared::Prepared;
-use hc_index::index::{Index, Indexed};
+use hc_cuts::tasks::LineCuts;
+use hc_groups::index::{Index, Indexed};
+use hc_groups::prepared::Prepared;
 use hc_places::configure::{OpenedLine, open_line};
 use hc_places::table::Places;
 use hc_records::edit::Edit;
@@ -27,7 +28,6 @@ use hc_records::limits::LAST_EPOCH;
 use hc_records::project::Project;
 use hc_records::records::{Declared, Group};
 use hc_registers::blocks::Block;
-use hc_tasks::tasks::LineCuts;
 use std::alloc::{AllocError, Global};
 use std::marker::{Brand, Model};
 use std::snapshot::Snapshot;
@@ -100,9 +100,9 @@ impl Model for Plan {
     ghost use Rattle.hc_records.specs.Line.{State, groups_of, line_from};
     ghost use Rattle.hc_records.specs.Project.{lowest_fault};
     ghost use Rattle.hc_places.specs.Table.{table_of};
-    ghost use Rattle.hc_tasks.specs.Areas.{areas_by_rank};
-    ghost use Rattle.hc_tasks.specs.Kept.{line_kept};
-    ghost use Rattle.hc_index.specs.Index.{IsIndexOf};
+    ghost use Rattle.hc_cuts.specs.Areas.{areas_by_rank};
+    ghost use Rattle.hc_cuts.specs.Kept.{line_kept};
+    ghost use Rattle.hc_groups.specs.Index.{IsIndexOf};
 
     ghost Value = { State };
 
@@ -123,9 +123,9 @@ impl Plan {
     ghost use Rattle.hc_records.specs.Edits.{crowded_task, declares, edited, state_after_all};
     ghost use Rattle.hc_records.specs.Line.{groups_of, line, opened};
     ghost use Rattle.hc_records.specs.Project.{lowest_fault};
-    ghost use Rattle.hc_edits.specs.Edits.{own_fault};
+    ghost use Rattle.hc_groups.specs.Edits.{own_fault};
     ghost use Rattle.hc_places.specs.Layout.{NamesCrowded};
-    ghost use Rattle.hc_edits.specs.Changes.{changed_groups};
+    ghost use Rattle.hc_groups.specs.Changes.{changed_groups};
     ghost use Rattle.hc_plan.specs.declared.work.Work.TheVariants.{NewLine};
     ghost use Rattle.hc_plan.specs.inner.Blocks.{IsLayoutOf};
     ghost use Rattle.hc_plan.specs.inner.Prepared.{CanCarry, left_by};

@@ -6,8 +6,8 @@ ghost use Rattle.hc_plan.specs.Gone.{gone_of};
 use crate::plan::Plan;
 use crate::report::Report;
 use crate::work::Work;
-use hc_edits::prepared::Prepared;
-use hc_ranks::blocks::{Gone, RankedBlock};
+use hc_groups::prepared::Prepared;
+use hc_registers::ranked::{Gone, RankedBlock};
 use std::marker::Model;
 use std::snapshot::Snapshot;
 

@@ -3,17 +3,17 @@ ghost use Rattle.std.specs.Prelude.{◌≡◌, IfErr, IfOk, None, OnErr, OnOk, S
 ghost use Rattle.hc_records.specs.Boundaries.{recut};
 ghost use Rattle.hc_records.specs.Edits.{crowded_task};
 ghost use Rattle.hc_records.specs.Line.{line_from};
-ghost use Rattle.hc_tasks.specs.Areas.{areas_by_rank};
-ghost use Rattle.hc_tasks.specs.Keeping.{StandsBefore};
-ghost use Rattle.hc_tasks.specs.Kept.{line_kept};
-ghost use Rattle.hc_tasks.specs.Turn.{AreStartsOf};
+ghost use Rattle.hc_cuts.specs.Areas.{areas_by_rank};
+ghost use Rattle.hc_cuts.specs.LineKeeping.{StandsBefore};
+ghost use Rattle.hc_cuts.specs.Kept.{line_kept};
+ghost use Rattle.hc_cuts.specs.Turn.{AreStartsOf};
 ghost use Rattle.hc_changes.specs.EditedLine.{IsEditedLine};
 
 use hc_bitsum::steps::Steps;
 use hc_changes::edited_line::EditedLine;
-use hc_tasks::keeping::Before;
-use hc_tasks::starts::LineStarts;
-use hc_tasks::tasks::LineCuts;
+use hc_cuts::line_keeping::Before;
+use hc_cuts::starts::LineStarts;
+use hc_cuts::tasks::LineCuts;
 use std::sync::ledger::Ledger;
 
 /// Turns the trees of a line's tasks to what an edit makes of it, and answers how many spans of touched

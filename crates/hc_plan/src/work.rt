@@ -2,9 +2,9 @@
 //! refused.
 use crate::declaring::Declaration;
 use hc_changes::edited_line::EditedLineRoom;
-use hc_edits::prepared::Prepared;
+use hc_cuts::starts::LineStarts;
+use hc_groups::prepared::Prepared;
 use hc_places::room::Room;
-use hc_tasks::starts::LineStarts;
 
 /// What a change of a line takes: a group comes or goes, or a slave gets other areas.
 #[derive(Drop)]

@@ -16,7 +16,7 @@ use Rattle.hc_records.specs.Lists.{lowest}
 use Rattle.hc_records.specs.Project.{lowest_fault}
 use Rattle.hc_registers.specs.Blocks.{LineBlock}
 use Rattle.hc_frames.specs.declared.reading.faults.FrameFault.{FrameFault}
-use Rattle.hc_edits.proofs.lemmas.Accepted.{accepted-groups, accepted-project}
+use Rattle.hc_groups.proofs.lemmas.Accepted.{accepted-groups, accepted-project}
 use Rattle.hc_plan.specs.Configuration.{found_or, position_of}
 use Rattle.hc_events.specs.declared.faults.CoreFault.{CoreFault}
 use Rattle.hc_events.specs.declared.faults.CoreFault.TheVariants.{Absent}
@@ -28,12 +28,12 @@ use Rattle.hc_events.specs.Owed.{owed_blocks}
 use Rattle.hc_events.specs.Points.{state_of}
 use Rattle.hc_events.specs.Sendings.{Frame}
 use Rattle.hc_events.specs.Steps.{Arrives, Posts, SendsTasks, Step, edit_refused, entries_after, entries_after_all, kept_if, post_faults, proposal, task_faults, with_arrival, with_sent, with_write, write_faults}
-use Rattle.hc_copies.proofs.lemmas.Openings.{opened-groups}
+use Rattle.hc_publish.proofs.lemmas.Openings.{opened-groups}
 use Rattle.hc_rings.specs.Post.{Post}
 use Rattle.hc_conductor.specs.Taking.{events_of, events_of_all}
-use Rattle.hc_line.specs.Machines.{machines_behind_edit}
-use Rattle.hc_line.specs.Setup.{alias_frames, machines_named, machines_scanned, station_frames}
-use Rattle.hc_line.proofs.lemmas.Counts.{after-count, edit-count, opened-count, poked-count}
+use Rattle.hc_segment.specs.Machines.{machines_behind_edit}
+use Rattle.hc_segment.specs.Setup.{alias_frames, machines_named, machines_scanned, station_frames}
+use Rattle.hc_segment.proofs.lemmas.Counts.{after-count, edit-count, opened-count, poked-count}
 use Rattle.hc_program.specs.declared.commands.Command.{Command}
 use Rattle.hc_program.specs.declared.commands.Command.TheVariants as command
 use Rattle.hc_program.specs.declared.stops.Stop.{Stop}
@@ -46,7 +46,7 @@ use Rattle.hc_program.specs.MemoryRanges.{Poking}
 use Rattle.hc_program.specs.Posts.{posted_unless}
 use Rattle.hc_program.specs.Postings.{post_judged}
 use Rattle.hc_program.specs.declared.commands.post.Posting.{Posting}
-use Rattle.hc_master.specs.declared.refusals.PostRefusal.{PostRefusal}
+use Rattle.hc_conductor.specs.declared.one_thread.refusals.PostRefusal.{PostRefusal}
 use Rattle.hc_program.specs.Programs.{Programmed, behind_write, can_write, is_done, programmed, programmed_within, write_back, write_frame, write_passed, write_sent, written}
 use Rattle.hc_program.specs.Runs.{bare_reply, reply_to, reply_to_command, reply_to_document, reply_to_words}
 use Rattle.hc_program.specs.Setups.{named, scanned}

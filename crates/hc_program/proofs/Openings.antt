@@ -13,7 +13,7 @@ use Rattle.hc_program.specs.declared.opening.Unopened.{Unopened}
 use Rattle.hc_program.specs.declared.opening.Unopened.TheVariants as unopened
 use Rattle.hc_program.specs.Opening.{IsRefusalOf, IsRefusalOfOpening, crowded_at_opening, in_want, is_project_memory, is_want, opened_project, opened_unless, opening_of}
 use Rattle.hc_program.specs.Sessions.{IsShown}
-use Rattle.hc_copies.specs.Told.{just_told}
+use Rattle.hc_publish.specs.Told.{just_told}
 
 only_memory : (fault : ProjectFault) → is_project_memory fault ≡ true → Memory ≡ fault
 only_memory Memory e = refl

@@ -8,7 +8,7 @@ use Rattle.hc_events.specs.Changes.{table_behind}
 use Rattle.hc_events.specs.Entries.{Record}
 use Rattle.hc_events.specs.NewsLaws.{ChangesTellAll}
 use Rattle.hc_events.specs.Points.{epoch_of, line_of}
-use Rattle.hc_copies.specs.Told.{Told, epoch_shown, table_shown}
+use Rattle.hc_publish.specs.Told.{Told, epoch_shown, table_shown}
 use Rattle.hc_program.specs.Sessions.{IsShown}
 
 -- the table that is shown, and the epoch

@@ -21,7 +21,7 @@ use Rattle.hc_events.specs.Points.{next_serial, state_of}
 use Rattle.hc_events.specs.Steps.{Step, Arrives, Edits, answer_to, edit_refused, entries_after, kept_if, outcome_for, told_of, told_of_arrival, told_of_block, told_of_edit, unless, with_arrival}
 use Rattle.hc_records.specs.Edits.{state_after}
 use Rattle.hc_records.specs.Line.{State}
-use Rattle.hc_line.specs.Machines.{machines_behind_edit}
+use Rattle.hc_segment.specs.Machines.{machines_behind_edit}
 use Rattle.hc_program.specs.Answers.{answer_text, told}
 use Rattle.hc_program.specs.Standings.{Standing, edited, edited_unless, with_machines, with_past}
 

@@ -3,11 +3,11 @@ use Rattle.std.proofs.Common.{◌≡◌, refl, sym, subst}
 use Rattle.hc_events.specs.Accepted.{IsReachable}
 use Rattle.hc_events.specs.Entries.{Record}
 use Rattle.hc_events.specs.Points.{opened_with}
-use Rattle.hc_copies.specs.Laws.{ShowsRecord, ShowsWhatIsRead}
-use Rattle.hc_copies.specs.Told.{Told}
+use Rattle.hc_publish.specs.Laws.{ShowsRecord, ShowsWhatIsRead}
+use Rattle.hc_publish.specs.Told.{Told}
 use Rattle.hc_conductor.specs.Conducting.{TellsAll, origin_of}
-use Rattle.hc_master.specs.Mastering.{Mastering, past_of, shown}
-use Rattle.hc_master.proofs.lemmas.Told.{told-same}
+use Rattle.hc_conductor.specs.Mastering.{Mastering, past_of, shown}
+use Rattle.hc_conductor.proofs.lemmas.Told.{told-same}
 use Rattle.hc_program.specs.Sessions.{IsShown}
 
 -- behind a publishing it is all

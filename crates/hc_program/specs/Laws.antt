@@ -8,7 +8,7 @@ use Rattle.hc_events.specs.Accepted.{just_opened}
 use Rattle.hc_events.specs.Entries.{Record}
 use Rattle.hc_events.specs.Owed.{owed_blocks}
 use Rattle.hc_events.specs.Points.{state_of}
-use Rattle.hc_line.specs.Laws.{HasEach}
+use Rattle.hc_segment.specs.LineLaws.{HasEach}
 use Rattle.hc_program.specs.Declaring.{Turn}
 use Rattle.hc_program.specs.Memories.{machine_at}
 use Rattle.hc_program.specs.Runs.{reply_to}

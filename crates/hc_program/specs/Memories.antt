@@ -10,7 +10,7 @@ use Rattle.hc_events.specs.Faults.{edit_refusal}
 use Rattle.hc_events.specs.Points.{state_of}
 use Rattle.hc_text.specs.Numbers.{bytes_in, number_in}
 use Rattle.hc_text.specs.Printing.{hex_register, spaced_bytes}
-use Rattle.hc_line.specs.Machines.{poked}
+use Rattle.hc_segment.specs.Machines.{poked}
 use Rattle.hc_program.specs.declared.commands.Command.{Command}
 use Rattle.hc_program.specs.declared.commands.Command.TheVariants as command
 use Rattle.hc_program.specs.MemoryRanges.{Peeking, Poking}

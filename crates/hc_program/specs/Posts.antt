@@ -5,9 +5,9 @@ use Rattle.hc_records.specs.declared.limits.TheConstants.{TASKS}
 use Rattle.hc_text.specs.Lines.{parts_at}
 use Rattle.hc_text.specs.Numbers.{number_in}
 use Rattle.hc_events.specs.declared.faults.CoreFault.TheVariants.{NoSuchTask}
-use Rattle.hc_master.specs.declared.refusals.PostRefusal.{PostRefusal}
-use Rattle.hc_master.specs.declared.refusals.PostRefusal.TheVariants.{NoSuchVariable, IsInput, OtherTask, TooWide, NoSpare, NoEntry, Memory}
-use Rattle.hc_master.specs.declared.settings.Setting.{Setting}
+use Rattle.hc_conductor.specs.declared.one_thread.refusals.PostRefusal.{PostRefusal}
+use Rattle.hc_conductor.specs.declared.one_thread.refusals.PostRefusal.TheVariants.{NoSuchVariable, IsInput, OtherTask, TooWide, NoSpare, NoEntry, Memory}
+use Rattle.hc_conductor.specs.declared.one_thread.settings.Setting.{Setting}
 use Rattle.hc_program.specs.declared.commands.Command.{Command}
 use Rattle.hc_program.specs.declared.commands.Command.TheVariants as command
 use Rattle.hc_program.specs.declared.commands.post.Posting.{Posting}

@@ -5,8 +5,8 @@ use Rattle.hc_events.specs.Accepted.{IsReachable}
 use Rattle.hc_events.specs.Changes.{AreLegal, news_of, told_by}
 use Rattle.hc_events.specs.Entries.{Record}
 use Rattle.hc_events.specs.Points.{opened_with}
-use Rattle.hc_copies.specs.Told.{Told}
-use Rattle.hc_master.specs.Mastering.{Mastering, past_of, shown, waiting}
+use Rattle.hc_publish.specs.Told.{Told}
+use Rattle.hc_conductor.specs.Mastering.{Mastering, past_of, shown, waiting}
 use Rattle.hc_program.specs.declared.session.Session.TheInside.{Inside}
 use Rattle.hc_program.specs.Standings.{Standing}
 

@@ -2,7 +2,7 @@
 use Rattle.std.specs.Prelude.{ℕ, ◌+◌, List, [], ◌∷◌, ◌++◌, Option, Some, None, codes}
 use Rattle.std.specs.Fmt.{decimal}
 use Rattle.hc_events.specs.Points.{line_of}
-use Rattle.hc_line.specs.Setup.{aliases_read, machines_named, machines_scanned, named_count}
+use Rattle.hc_segment.specs.Setup.{aliases_read, machines_named, machines_scanned, named_count}
 use Rattle.hc_program.specs.declared.commands.Command.{Command}
 use Rattle.hc_program.specs.declared.commands.Command.TheVariants as command
 use Rattle.hc_program.specs.Standings.{Standing, with_machines}

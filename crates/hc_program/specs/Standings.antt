@@ -8,7 +8,7 @@ use Rattle.hc_events.specs.Points.{state_of}
 use Rattle.hc_events.specs.Steps.{Step, edit_refused, entries_after}
 use Rattle.hc_rings.specs.Post.{Post}
 use Rattle.hc_segment.specs.Line.{machines_after}
-use Rattle.hc_line.specs.Machines.{machines_behind_edit, opened_machines}
+use Rattle.hc_segment.specs.Machines.{machines_behind_edit, opened_machines}
 
 -- the record of what the core accepted; the memory of each machine, in the order of the line; the posts of each task that wait to be taken, the oldest first; and the record as it was when it was last published, which is what tasks view
 pub record Standing : Type 0 where

@@ -6,10 +6,10 @@ use Rattle.hc_text.specs.Numbers.{number_in}
 use Rattle.hc_events.specs.declared.faults.CoreFault.TheVariants.{NoSuchTask}
 use Rattle.hc_events.specs.Entries.{Record}
 use Rattle.hc_events.specs.Points.{epoch_of}
-use Rattle.hc_copies.specs.declared.faults.ViewFault.{ViewFault}
-use Rattle.hc_copies.specs.declared.faults.ViewFault.TheVariants.{NoSuchVariable, IsOutput, OtherTask, NotAnswered}
-use Rattle.hc_copies.specs.Faults.{view_fault_number}
-use Rattle.hc_master.specs.Viewing.{value_at}
+use Rattle.hc_publish.specs.declared.view_faults.ViewFault.{ViewFault}
+use Rattle.hc_publish.specs.declared.view_faults.ViewFault.TheVariants.{NoSuchVariable, IsOutput, OtherTask, NotAnswered}
+use Rattle.hc_publish.specs.ViewFaults.{view_fault_number}
+use Rattle.hc_conductor.specs.Viewing.{value_at}
 use Rattle.hc_program.specs.Refusals.{refusal_text}
 use Rattle.hc_program.specs.declared.commands.Command.{Command}
 use Rattle.hc_program.specs.declared.commands.Command.TheVariants.{View}

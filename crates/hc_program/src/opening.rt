@@ -1,14 +1,14 @@
 //! Opening the project of an input, or telling why it can't be opened.
 ghost use Rattle.std.specs.Prelude.{◌≡◌, ◌++◌, IfErr, IfOk, IsOk, OnOk, false, string_bytes, true};
 ghost use Rattle.hc_project.specs.Text.{project_in};
-ghost use Rattle.hc_master.specs.Mastering.{past_of};
+ghost use Rattle.hc_conductor.specs.Mastering.{past_of};
 ghost use Rattle.hc_program.specs.Sessions.{IsFresh};
 ghost use Rattle.hc_program.specs.Standings.{opened_standing};
 ghost use Rattle.hc_program.specs.Opening.{IsRefusalOf, IsRefusalOfOpening, crowded_at_opening, in_want, is_project_memory, is_want, opened_unless, opening_of, unopened_text};
 
 use crate::refusals::push_project_fault;
 use crate::session::Session;
-use hc_master::master::Master;
+use hc_conductor::one_thread::master::Master;
 use hc_project::read_project;
 use hc_publish::faults::OpenFault;
 use hc_records::faults::ProjectFault;
@@ -64,7 +64,7 @@ fn open_project<R: Wait>(rt: &R, alloc: Global, project: Project) -> Result<Mast
     ensures refused { IfErr result (λ fault. is_want fault ≡ false → opened_unless (crowded_at_opening project) project ≡ Err fault) }
     ensures reason { IfErr result (IsRefusalOfOpening project) }
 {
-    match hc_master::open(rt, alloc, project) {
+    match hc_conductor::one_thread::open(rt, alloc, project) {
         Ok(master) => Ok(master),
         Err(OpenFault::TooManyDatagrams(task)) => Err(Unopened::TooManyDatagrams(task)),
         Err(OpenFault::Memory) => Err(Unopened::Memory),

@@ -3,7 +3,7 @@ ghost use Rattle.std.specs.Prelude.{◌≡◌};
 ghost use Rattle.hc_program.specs.Stops.{chain_fault_text, no_entry_text, stop_text, want_text};
 
 use crate::refusals::memory_refusal;
-use hc_master::refusals::NoEntry;
+use hc_conductor::one_thread::refusals::NoEntry;
 use hc_segment::ChainFault;
 use std::alloc::AllocError;
 

@@ -8,7 +8,7 @@ use mathlib.Core.List.{IsPrefix}
 use lib.Dec.{leb}
 use prog.Atomic.{either}
 use Rattle.logbook.specs.Pages.{Cell, cell, keeps, no_nib, step, Moves, Goes}
-use Rattle.hc_copies.specs.Told.{Told}
+use Rattle.hc_publish.specs.Told.{Told}
 use Rattle.hc_publish.specs.Book.{Extends, last_of, top, Rises, IsKept, Adds}
 
 pub prefix_self : {A : Type 0} (xs : List A) → IsPrefix xs xs

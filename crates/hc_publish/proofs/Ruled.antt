@@ -10,7 +10,7 @@ use Rattle.atomic_table.proofs.Lists.{at_set, at_snoc}
 use Rattle.hc_records.specs.declared.records.Group.{Group}
 use Rattle.hc_events.specs.declared.change.Change.{Change}
 use Rattle.hc_events.specs.Changes.{AreLegal}
-use Rattle.hc_copies.specs.Told.{Told}
+use Rattle.hc_publish.specs.Told.{Told}
 use Rattle.hc_publish.specs.declared.absorb.Step.{Step}
 use Rattle.hc_publish.specs.declared.absorb.Step.TheVariants.{Changed, Sealed}
 use Rattle.hc_publish.specs.Stories.{Story}

@@ -1,7 +1,7 @@
 -- What contracts see of a publisher: the copy that views show, the steps that they do not see yet, and the front of the book.
 use Rattle.std.specs.Prelude.{List}
 use Rattle.hc_events.specs.declared.change.Change.{Change}
-use Rattle.hc_copies.specs.Told.{Told}
+use Rattle.hc_publish.specs.Told.{Told}
 use Rattle.hc_publish.specs.declared.absorb.Step.{Step}
 use Rattle.hc_publish.specs.Book.{TheSeen}
 use Rattle.hc_publish.specs.Rule.{changes_in, behind_steps}

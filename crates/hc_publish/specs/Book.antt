@@ -4,7 +4,7 @@ use mathlib.Core.List.{IsPrefix}
 use Rattle.logbook.specs.Pages.{Cell, Step, View, Book, Named}
 use Rattle.logbook.specs.declared.tokens.Seen.{Seen}
 use Rattle.hc_publish.specs.declared.book.Law.{Law}
-use Rattle.hc_copies.specs.Told.{Told}
+use Rattle.hc_publish.specs.Told.{Told}
 
 -- what a thread has seen of the book
 abbrev pub TheSeen : Type 0

@@ -8,3 +8,9 @@ pub mod Published
 pub mod Seats
 pub mod Views
 pub mod Looks
+pub mod ViewFaults
+pub mod Told
+pub mod Values
+pub mod Laws
+pub mod Histories
+pub mod Shown

@@ -1,7 +1,7 @@
 -- What clauses see of a view.
 use Rattle.std.specs.Prelude.{ℕ, List}
 use Rattle.hc_events.specs.declared.change.Change.{Change}
-use Rattle.hc_copies.specs.Told.{Told}
+use Rattle.hc_publish.specs.Told.{Told}
 use Rattle.hc_publish.specs.Book.{TheSeen}
 use Rattle.hc_publish.specs.Stories.{Origin}
 

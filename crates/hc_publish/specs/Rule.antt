@@ -4,7 +4,7 @@ use mathlib.Core.Option.{some}
 use lib.ListN.{get_elem?}
 use Rattle.logbook.specs.Pages.{Book}
 use Rattle.hc_events.specs.declared.change.Change.{Change}
-use Rattle.hc_copies.specs.Told.{IsLegal, Told, with_change}
+use Rattle.hc_publish.specs.Told.{IsLegal, Told, with_change}
 use Rattle.hc_publish.specs.declared.absorb.Step.{Step}
 use Rattle.hc_publish.specs.declared.absorb.Step.TheVariants.{Changed, Sealed}
 use Rattle.hc_publish.specs.Book.{TheSeen, top}

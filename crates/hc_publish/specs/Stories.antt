@@ -2,7 +2,7 @@
 use Rattle.std.specs.Prelude.{List}
 use Rattle.logbook.specs.Pages.{Book}
 use Rattle.hc_records.specs.declared.records.Group.{Group}
-use Rattle.hc_copies.specs.Told.{Told}
+use Rattle.hc_publish.specs.Told.{Told}
 use Rattle.hc_publish.specs.Book.{TheSeen}
 
 -- what it shows, and what was seen of the book at its last seal

@@ -1,6 +1,6 @@
 //! How a copy takes in a step.
 ghost use Rattle.std.specs.Prelude.{◌≡◌, MatchResult};
-ghost use Rattle.hc_copies.specs.Told.{with_change};
+ghost use Rattle.hc_publish.specs.Told.{with_change};
 ghost use Rattle.hc_publish.specs.Rule.{taken};
 
 use crate::book::Front;

@@ -3,7 +3,7 @@
 ghost use Rattle.std.specs.Prelude.{◌≡◌, ◌<◌, [], ◌∷◌, ◌++◌, length, None, IfSome, MatchBool};
 ghost use Rattle.hc_publish.specs.Book.{Extends, head_of, top};
 
-use hc_copies::shown::Shown;
+use crate::shown::Shown;
 use logbook::{Gain, Offer, Plain, Play, Rule, Seen, Start, Word};
 use std::marker::Model;
 

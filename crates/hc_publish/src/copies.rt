@@ -1,6 +1,6 @@
 //! One published copy.
 use crate::book::Front;
-use hc_copies::shown::Shown;
+use crate::shown::Shown;
 use hc_events::change::GoodAnswer;
 use std::marker::Model;
 use std::sync::Mutex;

@@ -3,7 +3,7 @@ ghost use Rattle.std.specs.Prelude.{◌≡◌, ◌⊎◌, [], All, IfErr, IfOk, 
 ghost use Rattle.std.specs.List.{range_with_len};
 ghost use Rattle.hc_records.specs.declared.limits.TheConstants.{TASKS};
 ghost use Rattle.hc_records.specs.Line.{groups_of};
-ghost use Rattle.hc_copies.specs.Told.{IsOpening};
+ghost use Rattle.hc_publish.specs.Told.{IsOpening};
 ghost use Rattle.hc_publish.specs.declared.faults.OpenFault.TheVariants.{Memory, NoSeat};
 ghost use Rattle.hc_publish.specs.Board.{published, pending, origin_of};
 ghost use Rattle.hc_publish.specs.Seats.{IsFresh, task_of};
@@ -14,7 +14,7 @@ use crate::faults::OpenFault;
 use crate::publisher::{Copies, Publisher};
 use crate::rule::Looks;
 use crate::seat::Seat;
-use hc_copies::shown::Shown;
+use crate::shown::Shown;
 use hc_plan::plan::Plan;
 use hc_records::limits::{MOST_DATAGRAMS, TASKS};
 use left_right::writer::Writer;

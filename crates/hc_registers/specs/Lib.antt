@@ -3,3 +3,7 @@ pub mod Counting
 pub mod Fields
 pub mod Laws
 pub mod WorkedBlocks
+pub mod Ranked
+pub mod RankPlaces
+pub mod RankDifferences
+pub mod RankLaws

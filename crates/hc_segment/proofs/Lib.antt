@@ -2,3 +2,9 @@ pub mod Passing
 pub mod Lines
 pub mod Joined
 pub mod Returned
+pub mod Dealt
+pub mod Fourths
+pub mod Written
+pub mod Turning
+pub mod Counted
+pub mod lemmas

@@ -2,3 +2,10 @@ pub mod Line
 pub mod Flow
 pub mod Lending
 pub mod Laws
+pub mod Machines
+pub mod Cutting
+pub mod Segments
+pub mod Changing
+pub mod Prepared
+pub mod Setup
+pub mod LineLaws

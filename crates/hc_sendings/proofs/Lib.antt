@@ -6,3 +6,12 @@ pub mod Shares
 pub mod Sums
 pub mod Written
 pub mod lemmas
+pub mod Noted
+pub mod Alive
+pub mod Sent
+pub mod Ended
+pub mod Found
+pub mod Room
+pub mod Rows
+pub mod Walked
+pub mod Told

@@ -2,3 +2,9 @@
 pub mod Listed
 pub mod PartTexts
 pub mod Whole
+pub mod Dues
+pub mod Sorts
+pub mod Ended
+pub mod Resent
+pub mod Sent
+pub mod Awaits

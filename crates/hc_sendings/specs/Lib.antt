@@ -4,3 +4,8 @@ pub mod Previews
 pub mod PartTexts
 pub mod Parts
 pub mod Texts
+pub mod Waiting
+pub mod Judging
+pub mod Record
+pub mod Kept
+pub mod Walk

@@ -1,6 +1,6 @@
 //! A copy of what tasks see that follows a core at work: behind each event it shows what the core's reads answer.
 ghost use Rattle.std.specs.Prelude.{IfOk};
-ghost use Rattle.hc_copies.specs.Told.{IsOpening};
+ghost use Rattle.hc_publish.specs.Told.{IsOpening};
 
 use crate::asked::{Row, holds};
 use crate::driven::Driven;
@@ -8,11 +8,11 @@ use crate::lines::opened;
 use crate::shared::SHARED;
 use crate::stages::{At, Case, Stage, first_wrong_row};
 use crate::values;
-use hc_copies::shown::Shown;
 use hc_core::keeping::Core;
 use hc_events::answer::Answer;
 use hc_plan::plan::Plan;
 use hc_project::read_project;
+use hc_publish::shown::Shown;
 use hc_records::items::Items;
 use hc_records::limits::TASKS;
 use std::alloc::{AllocError, Global};

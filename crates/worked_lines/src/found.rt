@@ -1,6 +1,6 @@
 //! What a plan looks up behind edits.
 use crate::opened::plan_of;
-use hc_index::index::Index;
+use hc_groups::index::Index;
 use hc_plan::plan::Plan;
 use hc_records::edit::Edit;
 use hc_records::faults::EditFault;

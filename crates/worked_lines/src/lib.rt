@@ -14,6 +14,8 @@ mod lines;
 #[cfg(test)]
 mod opened;
 #[cfg(test)]
+mod pieces;
+#[cfg(test)]
 mod prepared;
 #[cfg(test)]
 mod steps;

@@ -4,8 +4,8 @@ use crate::opened::plan_of;
 use crate::steps::has_block;
 use hc_plan::plan::Plan;
 use hc_plan::prepared::PreparedEdit;
-use hc_ranks::blocks::{Gone, RankedBlock};
 use hc_records::edit::Edit;
+use hc_registers::ranked::{Gone, RankedBlock};
 use std::alloc::Global;
 use std::test::Fail;
 

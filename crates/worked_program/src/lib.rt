@@ -14,6 +14,8 @@ mod devices;
 #[cfg(test)]
 mod edits;
 #[cfg(test)]
+mod exchange;
+#[cfg(test)]
 mod frames;
 #[cfg(test)]
 mod posted_breaks;

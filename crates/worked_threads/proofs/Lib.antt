@@ -1,1 +1,4 @@
 pub mod Rest
+pub mod Answered
+pub mod Leading
+pub mod Firsts

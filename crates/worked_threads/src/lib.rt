@@ -8,6 +8,8 @@ mod buffers;
 #[cfg(test)]
 mod chains;
 #[cfg(test)]
+mod conductor;
+#[cfg(test)]
 mod crossings;
 #[cfg(test)]
 mod ends;
@@ -20,6 +22,8 @@ mod lines;
 #[cfg(test)]
 mod logical;
 #[cfg(test)]
+mod one_thread;
+#[cfg(test)]
 mod parts;
 #[cfg(test)]
 mod physical;
@@ -29,5 +33,7 @@ mod pieces;
 mod posting;
 #[cfg(test)]
 mod posts;
+#[cfg(test)]
+mod views;
 #[cfg(test)]
 mod workers;

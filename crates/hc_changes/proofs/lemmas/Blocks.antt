@@ -6,7 +6,7 @@ use Rattle.hc_records.specs.declared.records.Area.{Area}
 use Rattle.hc_records.specs.declared.keys.Key.{Key}
 use Rattle.hc_records.specs.Line.{Member}
 use Rattle.hc_registers.specs.Blocks.{LineBlock, RegisterBlock, fmmu_block, line_blocks, mapping_of, member_blocks, numbered, sync_manager_block}
-use Rattle.hc_ranks.specs.Blocks.{RankedBlock, member_ranked, ranked, ranked_blocks}
+use Rattle.hc_registers.specs.Ranked.{RankedBlock, member_ranked, ranked, ranked_blocks}
 use Rattle.hc_changes.specs.Candidates.{LineArea, areas_of, blocks_of, line_areas}
 use Rattle.hc_changes.proofs.lemmas.Lists.{flat_map-flat_map, map-flat_map}
 

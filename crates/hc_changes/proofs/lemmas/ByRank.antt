@@ -12,7 +12,7 @@ use Rattle.hc_records.specs.Project.{area_names, pdo_names}
 use Rattle.hc_records.proofs.lemmas.Finds.{mapped-some}
 use Rattle.hc_records.proofs.lemmas.Lines.{line-ascends}
 use Rattle.hc_records.proofs.lemmas.Lists.{All-enumerate_from}
-use Rattle.hc_tasks.specs.Areas.{area_in, areas_at, areas_by_rank}
+use Rattle.hc_cuts.specs.Areas.{area_in, areas_at, areas_by_rank}
 use Rattle.hc_changes.specs.Candidates.{LineArea, key_of, slave_of}
 use Rattle.hc_changes.specs.Rows.{area_variables_of, variables_by_rank}
 use Rattle.hc_changes.proofs.lemmas.Lists.{contains-behind, contains-flat_map, found-among}

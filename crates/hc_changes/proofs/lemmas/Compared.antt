@@ -19,7 +19,7 @@ use Rattle.hc_records.proofs.lemmas.Finds.{mapped-some}
 use Rattle.hc_records.proofs.lemmas.Lines.{RanksBelow, line-ascends}
 use Rattle.hc_records.proofs.lemmas.Slaves.{line-inside}
 use Rattle.hc_registers.specs.Blocks.{LineBlock, fmmu_block, line_blocks, mapping_of, same_block, sync_manager_block}
-use Rattle.hc_ranks.specs.Blocks.{moved_ranked, ranked}
+use Rattle.hc_registers.specs.Ranked.{moved_ranked, ranked}
 use Rattle.hc_changes.specs.Candidates.{DifferAt, LineArea, blocks_of, candidates, is_candidate, line_areas, moved_of}
 use Rattle.hc_changes.specs.Compared.{counterpart, differing_of, unlike}
 use Rattle.hc_changes.proofs.lemmas.Bare.{bare}

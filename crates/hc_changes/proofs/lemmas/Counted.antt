@@ -14,7 +14,7 @@ use Rattle.hc_records.specs.Packing.{Placed}
 use Rattle.hc_records.specs.Project.{area_names, lowest_fault, slave_names}
 use Rattle.hc_records.proofs.lemmas.Lines.{declared_slaves}
 use Rattle.hc_records.proofs.lemmas.Projects.{project-names}
-use Rattle.hc_tasks.specs.Areas.{areas_by_rank}
+use Rattle.hc_cuts.specs.Areas.{areas_by_rank}
 use Rattle.hc_places.specs.Found.{area_rows}
 use Rattle.hc_places.proofs.lemmas.Once.{declared-once, entry-names, line-declared, of_areas, of_row, once, own, rows-total, weight}
 use Rattle.hc_places.proofs.lemmas.Totals.{total, total-append, total-enumerate, total-filter, total-flat_map, total-less, total-map, total-same}

@@ -8,12 +8,12 @@ use Rattle.hc_records.specs.declared.records.Slave.{Slave}
 use Rattle.hc_records.specs.declared.records.Declared.{Declared}
 use Rattle.hc_records.specs.Line.{groups_of, line_from}
 use Rattle.hc_records.specs.Project.{lowest_fault}
-use Rattle.hc_edits.specs.declared.prepared.Prepared.{Prepared}
-use Rattle.hc_edits.specs.Changes.{changed_groups}
-use Rattle.hc_edits.specs.Rows.{ChangesRow, Ranked, areas_in_line, by_rank, first_of, nth_areas, ranked, row}
-use Rattle.hc_tasks.specs.Areas.{areas_at, areas_by_rank}
-use Rattle.hc_tasks.specs.Turn.{AreLines}
-use Rattle.hc_tasks.proofs.lemmas.Projects.{project-line}
+use Rattle.hc_groups.specs.declared.prepared.Prepared.{Prepared}
+use Rattle.hc_groups.specs.Changes.{changed_groups}
+use Rattle.hc_groups.specs.Rows.{ChangesRow, Ranked, areas_in_line, by_rank, first_of, nth_areas, ranked, row}
+use Rattle.hc_cuts.specs.Areas.{areas_at, areas_by_rank}
+use Rattle.hc_cuts.specs.Turn.{AreLines}
+use Rattle.hc_cuts.proofs.lemmas.Projects.{project-line}
 use Rattle.hc_changes.specs.Candidates.{DifferAt, slave_of}
 use Rattle.hc_changes.specs.Edited.{HasEdit}
 use Rattle.hc_changes.specs.EditedLine.{EditedLine, IsEditedLine, changes, edited_line_of}

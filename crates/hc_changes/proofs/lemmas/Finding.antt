@@ -17,11 +17,11 @@ use Rattle.hc_records.specs.TaskList.{task_list}
 use Rattle.hc_cuts.specs.Keeping.{is_kept_up_to}
 use Rattle.hc_cuts.specs.Starts.{Kept}
 use Rattle.hc_cuts.specs.Place.{place_of as place_in}
-use Rattle.hc_tasks.specs.Areas.{areas_by_rank, list_by}
-use Rattle.hc_tasks.specs.Keeping.{Before, StandsBefore}
-use Rattle.hc_tasks.specs.Kept.{IsLine, line_kept}
-use Rattle.hc_tasks.specs.Recut.{is_touched_by}
-use Rattle.hc_tasks.proofs.lemmas.Told.{place-told, task-listed}
+use Rattle.hc_cuts.specs.Areas.{areas_by_rank, list_by}
+use Rattle.hc_cuts.specs.LineKeeping.{Before, StandsBefore}
+use Rattle.hc_cuts.specs.Kept.{IsLine, line_kept}
+use Rattle.hc_cuts.specs.Recut.{is_touched_by}
+use Rattle.hc_cuts.proofs.lemmas.Told.{place-told, task-listed}
 use Rattle.hc_changes.specs.Candidates.{LineArea, candidate_of, is_candidate, is_recut, key_of, place_of}
 use Rattle.hc_changes.specs.inner.Found.{IsCandidateTest, area_by, area_found, found_among}
 use Rattle.hc_changes.specs.EditedLine.{EditedLine, changes}

@@ -10,8 +10,8 @@ use Rattle.hc_records.specs.declared.records.Declared.{Declared}
 use Rattle.hc_records.specs.declared.records.Slave.{Slave}
 use Rattle.hc_records.specs.Line.{Member, line_from, members_from, present_slaves}
 use Rattle.hc_records.proofs.lemmas.Lines.{declared_slaves}
-use Rattle.hc_tasks.specs.Areas.{areas_by_rank}
-use Rattle.hc_tasks.proofs.lemmas.Told.{length-present}
+use Rattle.hc_cuts.specs.Areas.{areas_by_rank}
+use Rattle.hc_cuts.proofs.lemmas.Told.{length-present}
 use Rattle.hc_changes.specs.Candidates.{Candidate, LineArea, areas_of, candidate_of, candidates, line_areas}
 use Rattle.hc_changes.specs.Edited.{HasEdit}
 use Rattle.hc_changes.specs.inner.Found.{area_found, areas_found, found_among, found_below, rank_found, stations}

@@ -9,8 +9,8 @@ use Rattle.hc_records.specs.declared.records.Declared.{Declared}
 use Rattle.hc_records.specs.declared.records.Slave.{Slave}
 use Rattle.hc_records.specs.Line.{State, groups_of}
 use Rattle.hc_records.specs.Project.{lowest_fault}
-use Rattle.hc_tasks.specs.Areas.{areas_at, areas_by_rank, present_areas}
-use Rattle.hc_tasks.proofs.lemmas.Told.{length-present}
+use Rattle.hc_cuts.specs.Areas.{areas_at, areas_by_rank, present_areas}
+use Rattle.hc_cuts.proofs.lemmas.Told.{length-present}
 use Rattle.hc_changes.specs.Candidates.{Candidate}
 use Rattle.hc_changes.specs.inner.Found.{IsGroupAt, LieWithin, area_found, areas_found, found_below, rank_found, station_at, stations}
 use Rattle.hc_changes.specs.EditedLine.{EditedLine, IsEditedLine}

@@ -24,11 +24,11 @@ use Rattle.hc_records.proofs.lemmas.TaskLists.{project-list}
 use Rattle.hc_cuts.specs.Inputs.{has_inputs}
 use Rattle.hc_cuts.specs.Keeping.{is_kept_up_to}
 use Rattle.hc_cuts.specs.Starts.{Kept}
-use Rattle.hc_tasks.specs.Areas.{areas_at, areas_by_rank, list_by}
-use Rattle.hc_tasks.specs.Keeping.{Before, StandsBefore}
-use Rattle.hc_tasks.specs.Kept.{starts_by}
-use Rattle.hc_tasks.specs.Recut.{is_touched_by}
-use Rattle.hc_tasks.proofs.lemmas.Told.{task-listed}
+use Rattle.hc_cuts.specs.Areas.{areas_at, areas_by_rank, list_by}
+use Rattle.hc_cuts.specs.LineKeeping.{Before, StandsBefore}
+use Rattle.hc_cuts.specs.Kept.{starts_by}
+use Rattle.hc_cuts.specs.Recut.{is_touched_by}
+use Rattle.hc_cuts.proofs.lemmas.Told.{task-listed}
 use Rattle.hc_changes.specs.Candidates.{is_recut}
 use Rattle.hc_changes.specs.inner.Found.{HoldChanged, HoldRanks, HoldRecut, IsCandidateTest, LieWithin, area_by, areas_found, rank_found, station_at}
 use Rattle.hc_changes.specs.EditedLine.{EditedLine, IsEditedLine, changes}

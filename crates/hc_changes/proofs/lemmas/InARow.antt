@@ -3,7 +3,7 @@ use Rattle.std.proofs.Common.{◌≡◌, ℕ, zero, suc, ◌+◌, ◌-◌, ◌<�
 use Rattle.std.specs.Prelude.{slice_index_or}
 use Rattle.std.specs.List.{zip}
 use Rattle.hc_records.specs.declared.records.Area.{Area}
-use Rattle.hc_tasks.specs.Areas.{areas_at}
+use Rattle.hc_cuts.specs.Areas.{areas_at}
 use Rattle.hc_changes.proofs.lemmas.Lists.{contains-behind, contains-first}
 
 -- pairs of two lists as long as one another

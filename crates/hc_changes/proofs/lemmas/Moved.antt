@@ -21,7 +21,7 @@ use Rattle.hc_records.proofs.lemmas.Packed.{area_of, packed-areas}
 use Rattle.hc_records.proofs.lemmas.TaskLists.{project-list}
 use Rattle.hc_registers.specs.Blocks.{LineBlock, RegisterBlock, fmmu_block, line_blocks, mapping_at, numbered, same_block, same_bytes, sync_manager_block}
 use Rattle.hc_cuts.specs.Keeping.{is_kept_up_to}
-use Rattle.hc_ranks.specs.Blocks.{RankedBlock, moved_ranked, ranked}
+use Rattle.hc_registers.specs.Ranked.{RankedBlock, moved_ranked, ranked}
 use Rattle.hc_changes.specs.Candidates.{DifferAt, LineArea, blocks_of, candidates, is_candidate, is_recut, key_of, line_areas, moved_of, place_of}
 use Rattle.hc_changes.proofs.lemmas.Blocks.{blocks-of-areas, flat_map-alike, ranked-of-areas, ranked_by}
 use Rattle.hc_changes.proofs.lemmas.Lists.{contains-flat_map, filter-flat_map, flat_map-kept, found-among}

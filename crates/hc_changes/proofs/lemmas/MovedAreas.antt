@@ -16,7 +16,7 @@ use Rattle.hc_records.proofs.lemmas.Finds.{mapped-some}
 use Rattle.hc_records.proofs.lemmas.KeyOrder.{same_key-same}
 use Rattle.hc_records.proofs.lemmas.Lines.{line-ascends}
 use Rattle.hc_registers.specs.Blocks.{RegisterBlock}
-use Rattle.hc_ranks.specs.Blocks.{moved_ranked}
+use Rattle.hc_registers.specs.Ranked.{moved_ranked}
 use Rattle.hc_places.specs.Swap.{same_found}
 use Rattle.hc_places.specs.Table.{Row, place_in, table_of}
 use Rattle.hc_places.proofs.lemmas.Same.{found-same}

@@ -25,10 +25,10 @@ use Rattle.hc_records.proofs.lemmas.Packable.{project-packable}
 use Rattle.hc_records.proofs.lemmas.Packed.{area_of, packed-areas}
 use Rattle.hc_records.proofs.lemmas.Slaves.{line-inside}
 use Rattle.hc_registers.specs.Blocks.{LineBlock, RegisterBlock, fmmu_block, mapping_of, same_block, same_bytes, sync_manager_block}
-use Rattle.hc_ranks.specs.Blocks.{RankedBlock, moved_ranked, ranked}
+use Rattle.hc_registers.specs.Ranked.{RankedBlock, moved_ranked, ranked}
 use Rattle.hc_cuts.specs.Place.{place_of as place_by}
-use Rattle.hc_tasks.specs.Areas.{areas_at, areas_by_rank, list_by}
-use Rattle.hc_tasks.proofs.lemmas.Told.{place-told}
+use Rattle.hc_cuts.specs.Areas.{areas_at, areas_by_rank, list_by}
+use Rattle.hc_cuts.proofs.lemmas.Told.{place-told}
 use Rattle.hc_changes.specs.Candidates.{Candidate, LineArea, blocks_of, candidate_of, candidates, is_candidate, key_of, line_areas, place_of}
 use Rattle.hc_changes.specs.Compared.{counterpart, differing_of, unlike}
 use Rattle.hc_changes.specs.inner.Moved.{IsOfLine, IsWritable, blocks_if, blocks_moved, differ_from, mapping_by, two_blocks}

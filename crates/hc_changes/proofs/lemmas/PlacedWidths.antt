@@ -15,8 +15,8 @@ use Rattle.hc_records.specs.Packing.{Placed, opening, packed}
 use Rattle.hc_records.proofs.lemmas.KeyOrder.{same_dir-refl}
 use Rattle.hc_records.proofs.lemmas.Packed.{area_of, packed-areas}
 use Rattle.hc_cuts.specs.Place.{place_of as place_by}
-use Rattle.hc_tasks.specs.Areas.{own_width}
-use Rattle.hc_tasks.proofs.lemmas.Told.{width-told}
+use Rattle.hc_cuts.specs.Areas.{own_width}
+use Rattle.hc_cuts.proofs.lemmas.Told.{width-told}
 use Rattle.hc_changes.specs.Candidates.{LineArea, key_of, place_of}
 use Rattle.hc_changes.specs.Moved.{bits_of}
 use Rattle.hc_changes.proofs.lemmas.ByRank.{area-named}

@@ -26,7 +26,7 @@ use Rattle.hc_records.proofs.lemmas.Slaves.{line-inside}
 use Rattle.hc_records.proofs.lemmas.TaskLists.{project-list}
 use Rattle.hc_records.proofs.lemmas.Tasks.{listed}
 use Rattle.hc_records.proofs.lemmas.Variables.{IsPlaced, pairs-placed, task_pairs, zip-left, zip-right}
-use Rattle.hc_tasks.specs.Areas.{area_in, areas_by_rank}
+use Rattle.hc_cuts.specs.Areas.{area_in, areas_by_rank}
 use Rattle.hc_places.specs.Found.{area_rows, found_variables}
 use Rattle.hc_places.specs.Table.{Row, by_number, place_in, table_of}
 use Rattle.hc_places.proofs.lemmas.Ascends.{table-ascends}

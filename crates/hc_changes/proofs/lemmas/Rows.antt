@@ -12,8 +12,8 @@ use Rattle.hc_records.specs.Project.{lowest_fault}
 use Rattle.hc_records.proofs.lemmas.Finds.{found-none}
 use Rattle.hc_records.proofs.lemmas.Lines.{line-ascends}
 use Rattle.hc_records.proofs.lemmas.TaskLists.{project-list}
-use Rattle.hc_tasks.specs.Areas.{areas_at, areas_by_rank}
-use Rattle.hc_tasks.specs.Turn.{AreLines}
+use Rattle.hc_cuts.specs.Areas.{areas_at, areas_by_rank}
+use Rattle.hc_cuts.specs.Turn.{AreLines}
 use Rattle.hc_places.specs.Swap.{ChangedRow, new_place, same_found}
 use Rattle.hc_places.specs.Table.{Row, Table, place_in, table_of}
 use Rattle.hc_places.proofs.lemmas.Once.{of_row, own}

@@ -21,10 +21,10 @@ use Rattle.hc_records.proofs.lemmas.TaskLists.{project-list}
 use Rattle.hc_bitsum.proofs.lemmas.Widths.{told-by_widths}
 use Rattle.hc_cuts.specs.Keeping.{is_kept}
 use Rattle.hc_cuts.specs.Starts.{Kept}
-use Rattle.hc_tasks.specs.Areas.{areas_by_rank, list_by}
-use Rattle.hc_tasks.specs.Keeping.{Before, StandsBefore}
-use Rattle.hc_tasks.specs.Recut.{is_touched_by}
-use Rattle.hc_tasks.proofs.lemmas.Told.{task-listed}
+use Rattle.hc_cuts.specs.Areas.{areas_by_rank, list_by}
+use Rattle.hc_cuts.specs.LineKeeping.{Before, StandsBefore}
+use Rattle.hc_cuts.specs.Recut.{is_touched_by}
+use Rattle.hc_cuts.proofs.lemmas.Told.{task-listed}
 use Rattle.hc_places.specs.Loads.{load_in, load_of, load_told}
 use Rattle.hc_places.specs.Table.{Table, TaskTable, table_of, task_table}
 use Rattle.hc_places.proofs.lemmas.Lines.{same-table}

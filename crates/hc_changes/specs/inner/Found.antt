@@ -5,9 +5,9 @@ use Rattle.hc_records.specs.declared.records.Area.{Area}
 use Rattle.hc_records.specs.declared.records.Declared.{Declared}
 use Rattle.hc_records.specs.Line.{line_from}
 use Rattle.hc_cuts.specs.Starts.{Kept}
-use Rattle.hc_tasks.specs.Areas.{areas_at, areas_by_rank}
-use Rattle.hc_tasks.specs.Keeping.{Before, StandsBefore}
-use Rattle.hc_tasks.specs.Kept.{line_kept}
+use Rattle.hc_cuts.specs.Areas.{areas_at, areas_by_rank}
+use Rattle.hc_cuts.specs.LineKeeping.{Before, StandsBefore}
+use Rattle.hc_cuts.specs.Kept.{line_kept}
 use Rattle.hc_changes.specs.Candidates.{Candidate, LineArea, candidate_of, is_candidate, is_recut}
 use Rattle.hc_changes.specs.EditedLine.{EditedLine, IsEditedLine, changes}
 

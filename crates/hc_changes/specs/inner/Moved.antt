@@ -8,7 +8,7 @@ use Rattle.hc_records.specs.Line.{Member}
 use Rattle.hc_records.specs.Packing.{Placed}
 use Rattle.hc_registers.specs.declared.fmmu.Mapping.{Mapping}
 use Rattle.hc_registers.specs.Blocks.{RegisterBlock, fmmu_block, mapping_at, same_bytes, sync_manager_block}
-use Rattle.hc_ranks.specs.Blocks.{RankedBlock, ranked}
+use Rattle.hc_registers.specs.Ranked.{RankedBlock, ranked}
 use Rattle.hc_changes.specs.Candidates.{Candidate, LineArea, candidate_of, line_areas}
 use Rattle.hc_changes.specs.MovedAreas.{MovedArea}
 use Rattle.hc_changes.specs.Moved.{bits_of}

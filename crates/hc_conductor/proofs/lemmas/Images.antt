@@ -15,7 +15,7 @@ use Rattle.hc_records.specs.TaskList.{task_list}
 use Rattle.hc_records.proofs.lemmas.Addresses.{uncrowded-few}
 use Rattle.hc_records.proofs.lemmas.Packable.{project-packable}
 use Rattle.hc_records.proofs.lemmas.Tiles.{image-short, outputs-inside}
-use Rattle.hc_edits.proofs.lemmas.Accepted.{accepted-project}
+use Rattle.hc_groups.proofs.lemmas.Accepted.{accepted-project}
 use Rattle.hc_places.specs.Table.{Table, table_of}
 use Rattle.hc_events.specs.declared.change.Change.{Change}
 use Rattle.hc_events.specs.declared.change.Change.TheVariants as change
@@ -23,8 +23,8 @@ use Rattle.hc_events.specs.Changes.{AreLegalFrom}
 use Rattle.hc_events.specs.NewsLaws.{state_behind}
 use Rattle.hc_events.proofs.lemmas.Accepted.{passed}
 use Rattle.hc_events.proofs.lemmas.Changes.{changes-decide, one-epoch}
-use Rattle.hc_copies.specs.Told.{IsLegal, Told, table_shown}
-use Rattle.hc_copies.proofs.lemmas.Openings.{opened-groups}
+use Rattle.hc_publish.specs.Told.{IsLegal, Told, table_shown}
+use Rattle.hc_publish.proofs.lemmas.Openings.{opened-groups}
 use Rattle.hc_rings.specs.declared.post_buffer.TheConstants.{LARGEST_IMAGE}
 use Rattle.hc_conductor.specs.Openings.{IsOpenable, output_bytes}
 

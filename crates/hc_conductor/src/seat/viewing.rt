@@ -1,7 +1,7 @@
 //! How a seat views.
 ghost use Rattle.std.specs.Prelude.{◌≡◌, ◌≤◌, ◌⊎◌, Err, IfErr, IfOk, MatchResult, Ok};
 ghost use mathlib.Core.List.{IsPrefix};
-ghost use Rattle.hc_copies.specs.Told.{IsLegal};
+ghost use Rattle.hc_publish.specs.Told.{IsLegal};
 ghost use Rattle.hc_publish.specs.Seats as inner;
 ghost use Rattle.hc_publish.specs.Seats.{carried, note_origin};
 ghost use Rattle.hc_rings.specs.declared.post_buffer.TheConstants.{LARGEST_IMAGE};

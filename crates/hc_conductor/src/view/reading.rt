@@ -3,8 +3,8 @@ ghost use Rattle.std.specs.Prelude.{◌≡◌, IfSome};
 ghost use Rattle.std.specs.Option.{option_copied};
 ghost use Rattle.hc_places.specs.Ranges.{IsDatagram};
 ghost use Rattle.hc_places.specs.Table.{datagram_in, part_in, place_in};
-ghost use Rattle.hc_copies.specs.Told.{data_shown, epoch_shown, table_shown};
-ghost use Rattle.hc_copies.specs.Values.{value_shown};
+ghost use Rattle.hc_publish.specs.Told.{data_shown, epoch_shown, table_shown};
+ghost use Rattle.hc_publish.specs.Values.{value_shown};
 ghost use Rattle.hc_conductor.specs.Seats as seats;
 ghost use Rattle.hc_conductor.specs.Seats.{epoch_of, known, seat_origin, size_of};
 ghost use Rattle.hc_conductor.specs.Views as views;
@@ -13,8 +13,8 @@ ghost use Rattle.hc_conductor.specs.Views.{shown, task_of, told_to, view_origin}
 use super::TaskView;
 use crate::seat::TaskSeat;
 use crate::viewer::Viewer;
-use hc_copies::faults::ViewFault;
 use hc_places::table::{Datagram, Place};
+use hc_publish::view_faults::ViewFault;
 use hc_records::records::VarId;
 
 impl TaskView {

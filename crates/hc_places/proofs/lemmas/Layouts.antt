@@ -10,8 +10,8 @@ use Rattle.hc_records.specs.Keys.{same_key}
 use Rattle.hc_records.specs.Line.{Member, line_from}
 use Rattle.hc_records.specs.Packing.{Placed}
 use Rattle.hc_cuts.specs.Place.{place_of}
-use Rattle.hc_tasks.specs.Areas.{areas_by_rank, list_by}
-use Rattle.hc_tasks.proofs.lemmas.Told.{place-told}
+use Rattle.hc_cuts.specs.Areas.{areas_by_rank, list_by}
+use Rattle.hc_cuts.proofs.lemmas.Told.{place-told}
 use Rattle.hc_places.specs.Layout.{layout_of, placed_in}
 
 -- a layout's place of a key in a task is its place in the task's list

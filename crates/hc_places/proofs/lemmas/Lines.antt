@@ -10,8 +10,8 @@ use Rattle.hc_records.specs.Packing.{Placed, opening, packed}
 use Rattle.hc_records.specs.Project.{lowest_fault}
 use Rattle.hc_records.specs.TaskList.{Keyed, task_list}
 use Rattle.hc_records.proofs.lemmas.Inside.{packed-inside}
-use Rattle.hc_tasks.specs.Areas.{areas_by_rank, list_by}
-use Rattle.hc_tasks.proofs.lemmas.Told.{task-listed}
+use Rattle.hc_cuts.specs.Areas.{areas_by_rank, list_by}
+use Rattle.hc_cuts.proofs.lemmas.Told.{task-listed}
 use Rattle.hc_places.specs.Loads.{load_in, load_of, table_at}
 use Rattle.hc_places.specs.Loads.{counted_inside}
 use Rattle.hc_places.specs.Table.{task_table}

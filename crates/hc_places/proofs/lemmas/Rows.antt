@@ -9,8 +9,8 @@ use Rattle.hc_records.specs.Packing.{opening}
 use Rattle.hc_records.specs.Project.{lowest_fault}
 use Rattle.hc_records.specs.TaskList.{task_areas, task_list}
 use Rattle.hc_records.proofs.lemmas.Packed.{packed-areas}
-use Rattle.hc_tasks.specs.Areas.{areas_by_rank}
-use Rattle.hc_tasks.proofs.lemmas.Named.{keys-name}
+use Rattle.hc_cuts.specs.Areas.{areas_by_rank}
+use Rattle.hc_cuts.proofs.lemmas.Named.{keys-name}
 use Rattle.hc_places.specs.Found.{IsFoundSuiting, found_variables}
 use Rattle.hc_places.proofs.Configurable.{project-configurable}
 use Rattle.hc_places.proofs.Founds.{found-all, suit-all}

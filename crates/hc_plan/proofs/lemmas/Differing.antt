@@ -20,20 +20,20 @@ use Rattle.hc_records.proofs.lemmas.Lines.{RankWithin, declared_slaves, line-sla
 use Rattle.hc_records.proofs.lemmas.Lists.{All-flat_map, All-passing}
 use Rattle.hc_registers.specs.declared.registers.TheConstants.{FMMU_BLOCKS, FMMU_BLOCK_BYTES, SYNC_MANAGER_BLOCKS, SYNC_MANAGER_BLOCK_BYTES}
 use Rattle.hc_registers.specs.Blocks.{LineBlock, RegisterBlock, area_blocks, line_blocks, member_blocks, numbered, same_block, slave_blocks}
-use Rattle.hc_ranks.specs.Blocks.{RankedBlock, member_ranked, moved_ranked, ranked, ranked_blocks}
-use Rattle.hc_ranks.specs.Differences.{Differ, IsGone, StandsIn, StoodAt, block_place, first_gone}
-use Rattle.hc_ranks.specs.Laws.{HasPlaces}
-use Rattle.hc_ranks.specs.Places.{place, places}
-use Rattle.hc_ranks.proofs.lemmas.Gapless.{Few, few-areas, length-member}
-use Rattle.hc_ranks.proofs.lemmas.Standing.{StandsOf, length-places, members-stand, standing-of}
-use Rattle.hc_edits.specs.declared.changes.PresenceChange.{PresenceChange}
-use Rattle.hc_edits.specs.declared.prepared.Prepared.{Prepared}
-use Rattle.hc_edits.specs.declared.prepared.Prepared.TheVariants.{Presence, Areas}
-use Rattle.hc_edits.specs.Changes.{change_by, changed_groups}
-use Rattle.hc_edits.specs.Rows.{ChangesRow, Ranked, by_rank, row}
-use Rattle.hc_edits.proofs.lemmas.Accepted.{accepted-groups, accepted-project}
-use Rattle.hc_edits.proofs.lemmas.CarriedOut.{carried-after}
-use Rattle.hc_edits.proofs.lemmas.Concerned.{change-of-row}
+use Rattle.hc_registers.specs.Ranked.{RankedBlock, member_ranked, moved_ranked, ranked, ranked_blocks}
+use Rattle.hc_registers.specs.RankDifferences.{Differ, IsGone, StandsIn, StoodAt, block_place, first_gone}
+use Rattle.hc_registers.specs.RankLaws.{HasPlaces}
+use Rattle.hc_registers.specs.RankPlaces.{place, places}
+use Rattle.hc_registers.proofs.lemmas.RanksGapless.{Few, few-areas, length-member}
+use Rattle.hc_registers.proofs.lemmas.RanksStanding.{StandsOf, length-places, members-stand, standing-of}
+use Rattle.hc_groups.specs.declared.changes.PresenceChange.{PresenceChange}
+use Rattle.hc_groups.specs.declared.prepared.Prepared.{Prepared}
+use Rattle.hc_groups.specs.declared.prepared.Prepared.TheVariants.{Presence, Areas}
+use Rattle.hc_groups.specs.Changes.{change_by, changed_groups}
+use Rattle.hc_groups.specs.Rows.{ChangesRow, Ranked, by_rank, row}
+use Rattle.hc_groups.proofs.lemmas.Accepted.{accepted-groups, accepted-project}
+use Rattle.hc_groups.proofs.lemmas.CarriedOut.{carried-after}
+use Rattle.hc_groups.proofs.lemmas.Concerned.{change-of-row}
 use Rattle.hc_changes.proofs.lemmas.Bare.{bare, bare_slave, edit-keeps}
 use Rattle.hc_changes.proofs.lemmas.Lists.{contains-filtered, contains-flat_map, flat_map-piece}
 use Rattle.hc_changes.proofs.lemmas.OneProject.{AreOfOneProject, edit-one-project}

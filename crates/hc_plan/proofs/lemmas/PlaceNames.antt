@@ -15,13 +15,13 @@ use Rattle.hc_records.specs.Project.{lowest_fault}
 use Rattle.hc_records.proofs.lemmas.Lines.{declared_slaves}
 use Rattle.hc_records.proofs.lemmas.Limits.{project-inside}
 use Rattle.hc_registers.specs.Blocks.{LineBlock, member_blocks, slave_blocks}
-use Rattle.hc_ranks.specs.Laws.{HasPlaces}
-use Rattle.hc_ranks.specs.Places.{places, stations}
-use Rattle.hc_ranks.proofs.lemmas.Gapless.{length-member}
-use Rattle.hc_ranks.proofs.lemmas.Standing.{members-stand, standing-of}
+use Rattle.hc_registers.specs.RankLaws.{HasPlaces}
+use Rattle.hc_registers.specs.RankPlaces.{places, stations}
+use Rattle.hc_registers.proofs.lemmas.RanksGapless.{length-member}
+use Rattle.hc_registers.proofs.lemmas.RanksStanding.{members-stand, standing-of}
 use Rattle.hc_records.proofs.lemmas.Lists.{get-front}
-use Rattle.hc_ranks.proofs.lemmas.Declared.{declared-stations}
-use Rattle.hc_edits.proofs.lemmas.Accepted.{accepted-groups, accepted-state}
+use Rattle.hc_registers.proofs.lemmas.RanksDeclared.{declared-stations}
+use Rattle.hc_groups.proofs.lemmas.Accepted.{accepted-groups, accepted-state}
 use Rattle.hc_changes.proofs.lemmas.Bare.{bare_slave, edit-keeps}
 use Rattle.hc_changes.proofs.lemmas.Lists.{found-among}
 use Rattle.hc_changes.proofs.lemmas.OneProject.{AreOfOneProject, edit-one-project, line-declared, one-index}

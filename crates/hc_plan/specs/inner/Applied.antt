@@ -6,8 +6,8 @@ use Rattle.hc_records.specs.Edits.{crowded_task, declares, groups_after}
 use Rattle.hc_records.specs.Line.{groups_of, line_from}
 use Rattle.hc_records.specs.Project.{lowest_fault}
 use Rattle.hc_records.specs.declared.records.Declared.{Declared}
-use Rattle.hc_index.specs.Index.{Index, IsIndexOf}
-use Rattle.hc_edits.specs.Edits.{own_fault}
+use Rattle.hc_groups.specs.Index.{Index, IsIndexOf}
+use Rattle.hc_groups.specs.Edits.{own_fault}
 use Rattle.hc_places.specs.Swap.{ChangedTask, ChangesAscend, IsNewTask}
 use Rattle.hc_places.specs.Table.{Table, table_of}
 use Rattle.hc_changes.specs.Candidates.{Candidate}

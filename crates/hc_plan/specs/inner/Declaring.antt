@@ -17,10 +17,10 @@ use Rattle.hc_records.specs.Lists.{lowest}
 use Rattle.hc_records.specs.Project.{lowest_fault, slave_names}
 use Rattle.hc_bitsum.specs.Tree.{HasRoom}
 use Rattle.hc_cuts.specs.Starts.{Kept}
-use Rattle.hc_index.specs.Room.{IsRoomFor}
-use Rattle.hc_tasks.specs.Areas.{areas_by_rank}
-use Rattle.hc_tasks.specs.Kept.{line_kept}
-use Rattle.hc_tasks.specs.Room.{with_absent}
+use Rattle.hc_groups.specs.Room.{IsRoomFor}
+use Rattle.hc_cuts.specs.Areas.{areas_by_rank}
+use Rattle.hc_cuts.specs.Kept.{line_kept}
+use Rattle.hc_cuts.specs.Room.{with_absent}
 use Rattle.hc_plan.specs.declared.declaring.Declaration.{Declaration}
 use Rattle.hc_plan.specs.declared.report.Report.{Report}
 use Rattle.hc_plan.specs.Reports.{Tells}

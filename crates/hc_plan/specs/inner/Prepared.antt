@@ -4,12 +4,12 @@ use Rattle.hc_records.specs.declared.records.Declared.{Declared}
 use Rattle.hc_records.specs.Edits.{absent, declares, groups_after}
 use Rattle.hc_records.specs.Line.{State, groups_of, line}
 use Rattle.hc_records.specs.Project.{lowest_fault}
-use Rattle.hc_ranks.specs.declared.blocks.Gone.{Gone}
-use Rattle.hc_ranks.specs.Blocks.{RankedBlock}
-use Rattle.hc_tasks.specs.Areas.{areas_by_rank}
-use Rattle.hc_tasks.specs.Turn.{AreStartsOf}
-use Rattle.hc_edits.specs.Changes.{changed_groups}
-use Rattle.hc_edits.specs.Rows.{ChangesRow}
+use Rattle.hc_registers.specs.declared.ranked.Gone.{Gone}
+use Rattle.hc_registers.specs.Ranked.{RankedBlock}
+use Rattle.hc_cuts.specs.Areas.{areas_by_rank}
+use Rattle.hc_cuts.specs.Turn.{AreStartsOf}
+use Rattle.hc_groups.specs.Changes.{changed_groups}
+use Rattle.hc_groups.specs.Rows.{ChangesRow}
 use Rattle.hc_places.specs.Room.{IsRoomFor}
 use Rattle.hc_places.specs.Table.{table_of}
 use Rattle.hc_changes.specs.EditedLine.{IsRoomFor as HasRoomFor}

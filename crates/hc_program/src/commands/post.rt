@@ -1,6 +1,6 @@
 //! The command `post`.
 ghost use Rattle.std.specs.Prelude.{◌≡◌, ◌≢◌, ◌⊎◌, [], ◌∷◌, ◌++◌, IfErr, IfOk, OnOk, map, string_bytes};
-ghost use Rattle.hc_master.specs.declared.refusals.PostRefusal.TheVariants as why;
+ghost use Rattle.hc_conductor.specs.declared.one_thread.refusals.PostRefusal.TheVariants as why;
 ghost use Rattle.hc_program.specs.declared.stops.Stop.TheVariants as stop;
 ghost use Rattle.hc_program.specs.declared.stops.Want.TheVariants as want;
 ghost use Rattle.hc_program.specs.Posts.{post_in, post_refusal_name, post_refusal_number, post_refusal_text, post_text, posted, posting_in, setting_in, setting_with, settings_in};
@@ -10,9 +10,9 @@ use super::Command;
 use crate::refusals::push_refusal;
 use crate::session::Session;
 use crate::stops::{Stop, Want};
+use hc_conductor::one_thread::refusals::PostRefusal;
+use hc_conductor::one_thread::settings::Setting;
 use hc_events::faults::CoreFault;
-use hc_master::refusals::PostRefusal;
-use hc_master::settings::Setting;
 use hc_records::items::Items;
 use hc_records::limits::TASKS;
 use hc_text::lines::split_at_byte;

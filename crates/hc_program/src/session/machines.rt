@@ -2,18 +2,17 @@
 ghost use Rattle.std.specs.Prelude.{◌≡◌, ◌⊎◌, ◌+◌, ◌<◌, ◌≤◌, IfOk, IfSome, OnErr, OnOk, length, option_map, slice_get};
 ghost use Rattle.std.specs.Option.{option_copied, option_map_or};
 ghost use Rattle.hc_events.specs.Points.{line_of, state_of};
-ghost use Rattle.hc_line.specs.Machines.{poked, replaced, replacement};
-ghost use Rattle.hc_line.specs.Setup.{aliases_read, named_count};
+ghost use Rattle.hc_segment.specs.Machines.{poked, replaced, replacement};
+ghost use Rattle.hc_segment.specs.Setup.{aliases_read, named_count};
 ghost use Rattle.hc_machine.specs.declared.limits.TheConstants.{MEMORY_BYTES};
 ghost use Rattle.hc_segment.specs.Line.{frames_through};
 ghost use Rattle.hc_program.specs.Setups.{named, scanned};
 ghost use Rattle.hc_program.specs.Standings.{passed, with_machines};
 
 use super::Session;
-use hc_line::LineEdit;
 use hc_records::edit::Edit;
 use hc_rings::FrameBox;
-use hc_segment::ChainFault;
+use hc_segment::{ChainFault, LineEdit};
 use std::alloc::{AllocError, Global};
 use std::sync::Wait;
 use std::thread::Threads;

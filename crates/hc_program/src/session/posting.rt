@@ -1,13 +1,13 @@
 //! What a task posts in a run.
 ghost use Rattle.std.specs.Prelude.{◌≡◌, ◌≢◌, ◌<◌, IfErr, None, OnErr, OnOk, Some};
 ghost use Rattle.hc_records.specs.declared.limits.TheConstants.{TASKS};
-ghost use Rattle.hc_master.specs.declared.refusals.PostRefusal.TheVariants as why;
+ghost use Rattle.hc_conductor.specs.declared.one_thread.refusals.PostRefusal.TheVariants as why;
 ghost use Rattle.hc_program.specs.Postings.{post_judged, with_posted};
 
 use super::Session;
+use hc_conductor::one_thread::refusals::PostRefusal;
+use hc_conductor::one_thread::settings::Setting;
 use hc_events::laws::changes_tell_all;
-use hc_master::refusals::PostRefusal;
-use hc_master::settings::Setting;
 use std::alloc::Global;
 
 impl Session {

@@ -3,7 +3,7 @@ use denote.Param.Send.{IsSend, IsSync, recorded_send, sendable, struct_send}
 use denote.Struct.Declared.{shape}
 use Rattle.std.proofs.Crossing.{crosses}
 use Rattle.left_right.proofs.reader.Reader.TheSendSync as reader
-use Rattle.hc_copies.proofs.lemmas.Crossing.{shown_sync}
+use Rattle.hc_publish.proofs.lemmas.ShownCrossing.{shown_sync}
 use Rattle.hc_events.proofs.lemmas.Crossing.{good_answer_send}
 use Rattle.hc_publish.proofs.book.Front.TheSendSync as front
 use Rattle.hc_publish.proofs.publisher.Note.TheSendSync as note

@@ -1,7 +1,7 @@
 //! What a seat does.
 ghost use Rattle.std.specs.Prelude.{◌≡◌, ◌⊎◌, MatchResult, IfOk};
 ghost use mathlib.Core.List.{IsPrefix};
-ghost use Rattle.hc_copies.specs.Told.{IsLegal};
+ghost use Rattle.hc_publish.specs.Told.{IsLegal};
 ghost use Rattle.hc_publish.specs.Seats.{known, seat_origin, carried, note_origin};
 ghost use Rattle.hc_publish.specs.Looks.{shown, view_origin};
 

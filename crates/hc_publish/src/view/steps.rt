@@ -3,15 +3,15 @@ ghost use Rattle.std.specs.Prelude.{◌≡◌, IfSome, true};
 ghost use Rattle.std.specs.Option.{option_copied};
 ghost use Rattle.hc_places.specs.Ranges.{IsDatagram};
 ghost use Rattle.hc_places.specs.Table.{datagram_in, part_in, place_in};
-ghost use Rattle.hc_copies.specs.Told.{data_shown, epoch_shown, table_shown};
-ghost use Rattle.hc_copies.specs.Values.{value_shown};
+ghost use Rattle.hc_publish.specs.Told.{data_shown, epoch_shown, table_shown};
+ghost use Rattle.hc_publish.specs.Values.{value_shown};
 ghost use Rattle.hc_publish.specs.Seats.{carried, known, note_origin, seat_origin};
 ghost use Rattle.hc_publish.specs.Looks.{shown, view_origin};
 
 use super::View;
 use crate::publisher::Note;
 use crate::seat::Seat;
-use hc_copies::faults::ViewFault;
+use crate::view_faults::ViewFault;
 use hc_places::table::{Datagram, Place};
 use hc_records::records::VarId;
 

@@ -1,7 +1,7 @@
 use Rattle.std.proofs.Common.{◌≡◌, ◌≢◌, Err, Ok}
 use Rattle.hc_records.specs.declared.faults.EditFault.TheVariants.{Memory}
 use Rattle.hc_records.specs.Edits.{edited, state_after}
-use Rattle.hc_edits.specs.Edits.{own_fault}
+use Rattle.hc_groups.specs.Edits.{own_fault}
 use Rattle.hc_events.specs.Points.{state_of}
 use Rattle.hc_c.specs.Embedded.{past_of}
 use Rattle.hc_c.proofs.Asked.{asked-cost, same-error, same-fact, same-own}

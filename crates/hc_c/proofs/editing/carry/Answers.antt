@@ -1,5 +1,5 @@
 use Rattle.std.proofs.Common.{Ok}
-use Rattle.hc_edits.specs.Edits.{own_fault}
+use Rattle.hc_groups.specs.Edits.{own_fault}
 use Rattle.hc_events.specs.Points.{state_of}
 use Rattle.hc_c.specs.Embedded.{past_of}
 use Rattle.hc_c.proofs.Asked.{carried-cost, done-own}

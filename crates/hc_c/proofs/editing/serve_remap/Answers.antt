@@ -6,8 +6,8 @@ use Rattle.hc_records.specs.Edits.{edited}
 use Rattle.hc_records.specs.Line.{State, groups_of}
 use Rattle.hc_records.specs.Project.{lowest_fault}
 use Rattle.hc_records.proofs.lemmas.Slaves.{project-counted}
-use Rattle.hc_edits.specs.Edits.{own_fault}
-use Rattle.hc_edits.proofs.lemmas.Refusals.{own-refuses}
+use Rattle.hc_groups.specs.Edits.{own_fault}
+use Rattle.hc_groups.proofs.lemmas.Refusals.{own-refuses}
 use Rattle.hc_events.specs.Points.{state_of}
 use Rattle.hc_c.specs.Edits.{Serves, edit_number}
 use Rattle.hc_c.specs.Embedded.{past_of}

@@ -1,7 +1,7 @@
 use Rattle.std.proofs.Common.{◌≡◌, length, take, vec_capacity}
 use Rattle.std.specs.Prelude.{map}
-use Rattle.hc_edits.specs.Changes.{changed_groups}
-use Rattle.hc_edits.specs.Rows.{areas_in_line, row}
+use Rattle.hc_groups.specs.Changes.{changed_groups}
+use Rattle.hc_groups.specs.Rows.{areas_in_line, row}
 use Rattle.hc_changes.proofs.edited_line.areas_after.Given as goal
 
 -- the areas so far, in the memory that was taken

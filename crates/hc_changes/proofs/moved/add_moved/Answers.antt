@@ -1,6 +1,6 @@
 use Rattle.std.proofs.Common.{◌≡◌, ◌++◌, Bool, List, ap, subst}
 use Rattle.std.specs.Prelude.{OnOk, Result}
-use Rattle.hc_ranks.specs.Blocks.{RankedBlock}
+use Rattle.hc_registers.specs.Ranked.{RankedBlock}
 use Rattle.hc_registers.specs.Blocks.{RegisterBlock}
 use Rattle.hc_changes.specs.Candidates.{Candidate}
 use Rattle.hc_changes.specs.inner.Moved.{blocks_if, blocks_moved, moved_by, two_blocks}

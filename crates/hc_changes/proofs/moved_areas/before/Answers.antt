@@ -2,7 +2,7 @@ use Rattle.std.proofs.Common.{◌≡◌, Some, sym, subst}
 use Rattle.std.specs.Prelude.{slice_get}
 use Rattle.hc_records.specs.declared.records.Area.{Area}
 use Rattle.hc_records.specs.Line.{line_from}
-use Rattle.hc_tasks.specs.Areas.{areas_at, areas_by_rank}
+use Rattle.hc_cuts.specs.Areas.{areas_at, areas_by_rank}
 use Rattle.hc_changes.specs.Candidates.{Candidate}
 use Rattle.hc_changes.specs.inner.Moved.{IsOfLine, IsWritable}
 use Rattle.hc_changes.specs.MovedAreas.{area_before, place_before}

@@ -6,8 +6,8 @@ use Rattle.hc_places.proofs.lemmas.Lines.{datagram-of}
 use Rattle.hc_places.specs.Loads.{load_told}
 use Rattle.hc_places.specs.Loads.{counted_inside}
 use Rattle.hc_places.specs.Table.{Table}
-use Rattle.hc_tasks.specs.Areas.{areas_by_rank}
-use Rattle.hc_tasks.proofs.lemmas.Projects.{project-line}
+use Rattle.hc_cuts.specs.Areas.{areas_by_rank}
+use Rattle.hc_cuts.proofs.lemmas.Projects.{project-line}
 use Rattle.hc_changes.proofs.lemmas.Tables.{kept-listed, kept-told}
 use Rattle.hc_changes.proofs.tables.load_in.Goals as goal
 

@@ -1,5 +1,5 @@
 use Rattle.std.proofs.Common.{arith, rules}
-use Rattle.hc_tasks.specs.Areas.{areas_by_rank}
+use Rattle.hc_cuts.specs.Areas.{areas_by_rank}
 use Rattle.hc_changes.proofs.Loading.{adds-none, adds-some, all-loaded}
 use Rattle.hc_changes.proofs.lemmas.Tables.{old-table}
 use Rattle.hc_changes.proofs.tables.new_table.Goals as goal

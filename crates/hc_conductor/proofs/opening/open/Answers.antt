@@ -8,8 +8,8 @@ use Rattle.hc_records.specs.declared.limits.TheConstants.{TASKS}
 use Rattle.hc_records.specs.Line.{State, groups_of, line, opened}
 use Rattle.hc_places.specs.Table.{Table, table_of}
 use Rattle.hc_events.specs.Points.{state_of}
-use Rattle.hc_copies.specs.Told.{IsOpening}
-use Rattle.hc_copies.proofs.lemmas.Openings.{is-opening, opened-groups}
+use Rattle.hc_publish.specs.Told.{IsOpening}
+use Rattle.hc_publish.proofs.lemmas.Openings.{is-opening, opened-groups}
 use Rattle.hc_publish.specs.Board as board
 use Rattle.hc_publish.specs.Seats.{IsFresh, seat_origin, task_of}
 use Rattle.hc_rings.specs.declared.post_buffer.TheConstants.{LARGEST_IMAGE}

@@ -1,7 +1,7 @@
 use Rattle.std.proofs.Common.{length, ap, sym, ◌∙◌}
 use Rattle.hc_owed.specs.Board.{kept_of}
 use Rattle.hc_owed.specs.Laws.{known_over}
-use Rattle.hc_ranks.specs.Places.{stations}
+use Rattle.hc_registers.specs.RankPlaces.{stations}
 use Rattle.hc_core.proofs.Followed.{can-admit, can-change, declared-next, declares-with}
 use Rattle.hc_core.proofs.declaring.follow.Goals as goal
 

@@ -4,7 +4,7 @@ use Rattle.std.proofs.lemmas.List.Sums.{fold-append}
 use Rattle.hc_records.proofs.lemmas.Lists.{All-append_left, All-append_right}
 use Rattle.hc_events.specs.declared.answer.Outcome.TheVariants.{Inputs}
 use Rattle.hc_events.specs.Images.{FitsImage, renewed}
-use Rattle.hc_inputs.specs.Image.{data_of}
+use Rattle.hc_images.specs.Image.{data_of}
 use Rattle.hc_core.specs.Goods.{good_of, goods_in, parts_of}
 use Rattle.hc_core.proofs.GoodsSteps.{goods-over, goods-short, goods-step, parts-back}
 use Rattle.hc_core.proofs.goods.put_goods.Goals as goal

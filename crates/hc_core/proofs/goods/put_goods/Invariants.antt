@@ -2,7 +2,7 @@ use Rattle.std.proofs.Common.{◌≡◌, ℕ, ◌<◌, drop}
 use Rattle.std.specs.Prelude.{All, fold}
 use Rattle.hc_records.specs.declared.limits.TheConstants.{MOST_DATAGRAMS}
 use Rattle.hc_events.specs.Images.{FitsImage, renewed}
-use Rattle.hc_inputs.specs.Image.{data_of}
+use Rattle.hc_images.specs.Image.{data_of}
 use Rattle.hc_core.specs.Goods.{goods_in, parts_of}
 use Rattle.hc_core.proofs.goods.put_goods.Given as goal
 

@@ -5,10 +5,10 @@ use Rattle.hc_records.specs.Line.{State, groups_of, line}
 use Rattle.hc_records.specs.Project.{lowest_fault}
 use Rattle.hc_segment.specs.Line.{frames_through, machines_after}
 use Rattle.hc_places.specs.Table.{Table, datagrams_in, table_of}
-use Rattle.hc_outputs.specs.Packed.{Holds, IsLaidOut, Packed, sent_bytes}
-use Rattle.hc_outputs.specs.Values.{posted}
-use Rattle.hc_outputs.proofs.lemmas.LaidOut.{line-laid_out}
-use Rattle.hc_programmed.specs.Laws.{IsConfigurable}
+use Rattle.hc_images.specs.Packed.{Holds, IsLaidOut, Packed, sent_bytes}
+use Rattle.hc_images.specs.Values.{posted}
+use Rattle.hc_images.proofs.lemmas.LaidOut.{line-laid_out}
+use Rattle.hc_exchange.specs.PairLaws.{IsConfigurable}
 use Rattle.hc_exchange.specs.Sent.{task_frames}
 use Rattle.hc_exchange.proofs.Meaning.{exchanged}
 use Rattle.hc_exchange.proofs.Packing.{HoldsPost, lengths-sent, packed-data}

@@ -4,7 +4,7 @@ use Rattle.std.proofs.lemmas.List.{map_push}
 use Rattle.std.proofs.lemmas.List.FromFn.{map-range_with_len_more}
 use Rattle.hc_records.specs.Image.{logical_address}
 use Rattle.hc_frames.specs.FrameText.{frame_text, lrw}
-use Rattle.hc_outputs.specs.Packed.{sent_bytes}
+use Rattle.hc_images.specs.Packed.{sent_bytes}
 use Rattle.hc_exchange.proofs.sending.frames_of.Goals as goal
 
 pub loop-n-preserved : goal.loop-n-preserved

@@ -1,6 +1,6 @@
 use Rattle.std.proofs.Common.{◌≡◌, ◌≤◌, length, vec_capacity}
 use Rattle.std.specs.Prelude.{map}
-use Rattle.hc_outputs.specs.Packed.{sent_bytes}
+use Rattle.hc_images.specs.Packed.{sent_bytes}
 use Rattle.hc_exchange.specs.Sent.{task_frames}
 use Rattle.hc_exchange.proofs.sending.frames_of.Given as goal
 

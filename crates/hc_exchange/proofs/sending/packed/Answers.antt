@@ -1,6 +1,6 @@
 use Rattle.std.proofs.Common.{◌≤◌, sym, subst, arith}
-use Rattle.hc_outputs.specs.Packed.{Holds, Packed}
-use Rattle.hc_outputs.specs.Values.{posted}
+use Rattle.hc_images.specs.Packed.{Holds, Packed}
+use Rattle.hc_images.specs.Values.{posted}
 use Rattle.hc_exchange.proofs.sending.packed.Goals as goal
 use Rattle.hc_exchange.proofs.sending.packed.Goals.{then-task-lt-TASKS, else-task-lt-TASKS}
 

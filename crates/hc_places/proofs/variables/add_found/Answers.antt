@@ -1,7 +1,7 @@
 use Rattle.std.proofs.Common.{◌∙◌, ap, sym, append-nil}
 use Rattle.std.proofs.lemmas.List.{drop_all}
 use Rattle.hc_records.specs.declared.keys.Key.{Key}
-use Rattle.hc_tasks.specs.Areas.{area_in}
+use Rattle.hc_cuts.specs.Areas.{area_in}
 use Rattle.hc_places.proofs.Founds.{found-meets}
 use Rattle.hc_places.proofs.variables.add_found.Goals as goal
 

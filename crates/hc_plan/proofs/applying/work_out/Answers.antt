@@ -2,7 +2,7 @@ use Rattle.std.proofs.Common.{◌≡◌, ◌∙◌, length, refl, sym, arith}
 use Rattle.std.proofs.lemmas.Bool.{eq-eqb, ne_eqb}
 use Rattle.std.proofs.lemmas.Result.{err_from_is_err_and}
 use Rattle.hc_records.specs.declared.limits.TheConstants.{LAST_EPOCH}
-use Rattle.hc_tasks.specs.Areas.{areas_by_rank}
+use Rattle.hc_cuts.specs.Areas.{areas_by_rank}
 use Rattle.hc_plan.proofs.Turned.{edited_line-lines}
 use Rattle.hc_plan.proofs.Editing.{made-accepted, made-crowded, made-spent}
 use Rattle.hc_plan.proofs.Telling.{moved-count, moved-few, moved-named}

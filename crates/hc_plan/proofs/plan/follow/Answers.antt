@@ -6,8 +6,8 @@ use Rattle.hc_records.specs.declared.items.Items.{Items}
 use Rattle.hc_records.specs.Edits.{groups_after}
 use Rattle.hc_records.specs.Line.{groups_of}
 use Rattle.hc_records.specs.Project.{lowest_fault}
-use Rattle.hc_index.specs.Index.{Index, IsIndexOf, IsIndexOfDeclared}
-use Rattle.hc_index.proofs.lemmas.Edited.{kept-declared, move-keeps, remap-keeps}
+use Rattle.hc_groups.specs.Index.{Index, IsIndexOf, IsIndexOfDeclared}
+use Rattle.hc_groups.proofs.lemmas.Edited.{kept-declared, move-keeps, remap-keeps}
 use Rattle.hc_plan.specs.inner.Applied.{Follows}
 use Rattle.hc_plan.proofs.plan.follow.Goals as goal
 

@@ -1,7 +1,7 @@
 use Rattle.std.proofs.Common.{List, sym, subst}
 use Rattle.hc_records.specs.declared.keys.Key.{Key}
-use Rattle.hc_tasks.specs.Areas.{areas_by_rank}
-use Rattle.hc_tasks.specs.Turn.{AreStartsOf}
+use Rattle.hc_cuts.specs.Areas.{areas_by_rank}
+use Rattle.hc_cuts.specs.Turn.{AreStartsOf}
 use Rattle.hc_plan.proofs.Turned.{edited_line-back}
 use Rattle.hc_plan.proofs.turning.turn_back.Goals as goal
 

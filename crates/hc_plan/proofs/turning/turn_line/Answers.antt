@@ -1,7 +1,7 @@
 use Rattle.std.proofs.Common.{◌∙◌, None, Some, sym}
 use Rattle.std.proofs.lemmas.Result.{IfErr-weaker, IfOk-weaker, on_ok_weaker}
-use Rattle.hc_tasks.specs.Areas.{areas_by_rank}
-use Rattle.hc_tasks.proofs.lemmas.Projects.{line-recut}
+use Rattle.hc_cuts.specs.Areas.{areas_by_rank}
+use Rattle.hc_cuts.proofs.lemmas.Projects.{line-recut}
 use Rattle.hc_plan.proofs.Turned.{crowded-line, edited_line-turn}
 use Rattle.hc_plan.proofs.turning.turn_line.Goals as goal
 

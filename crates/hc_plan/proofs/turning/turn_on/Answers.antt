@@ -1,4 +1,4 @@
-use Rattle.hc_tasks.specs.Areas.{areas_by_rank}
+use Rattle.hc_cuts.specs.Areas.{areas_by_rank}
 use Rattle.hc_plan.proofs.Turned.{edited_line-put}
 use Rattle.hc_plan.proofs.turning.turn_on.Goals as goal
 

@@ -1,9 +1,9 @@
 use Rattle.std.proofs.Common.{◌∙◌, Ok, ap, subst, sym}
 use Rattle.hc_core.specs.State.{CoreState}
 use Rattle.hc_events.specs.Entries.{Record}
-use Rattle.hc_copies.specs.Told.{Told, just_told}
+use Rattle.hc_publish.specs.Told.{Told, just_told}
 use Rattle.hc_conductor.specs.Openings.{IsOpenable}
-use Rattle.hc_master.specs.Mastering.{past_of}
+use Rattle.hc_conductor.specs.Mastering.{past_of}
 use Rattle.hc_program.specs.Sessions.{IsShown}
 use Rattle.hc_program.proofs.Openings.{crowded_named, crowded_none, opening_shown, uncrowded_at_opening}
 use Rattle.hc_program.proofs.opening.open_project.Goals as goal

@@ -1,7 +1,7 @@
 use Rattle.std.proofs.Common.{◌≡◌, arith, [], true, false, sym, ◌∙◌, ap, subst, fold}
 use Rattle.std.proofs.lemmas.List.{append-nil}
 use Rattle.hc_events.specs.Changes.{AreLegal}
-use Rattle.hc_copies.specs.Told.{IsLegal}
+use Rattle.hc_publish.specs.Told.{IsLegal}
 use Rattle.hc_publish.specs.Book.{top}
 use Rattle.hc_publish.specs.Rule.{AreFew, IsSealed, behind_steps, changes_in, taken}
 use Rattle.hc_publish.proofs.Rising.{extends_same}

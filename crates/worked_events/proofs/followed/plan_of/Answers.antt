@@ -1,6 +1,6 @@
 use Rattle.std.proofs.Common.{sym, subst}
-use Rattle.hc_copies.specs.Told.{IsOpening}
-use Rattle.hc_copies.proofs.lemmas.Openings.{is-opening}
+use Rattle.hc_publish.specs.Told.{IsOpening}
+use Rattle.hc_publish.proofs.lemmas.Openings.{is-opening}
 use Rattle.worked_events.proofs.followed.plan_of.Goals as goal
 
 pub returns-in-Ok-new : goal.returns-in-Ok-new

@@ -1,5 +1,5 @@
 use Rattle.std.proofs.Common.{◌≡◌, ◌∙◌, ◌+◌, ◌++◌, List, [], Vec, Global, append-nil, ap, drop, refl, sym, rules}
-use Rattle.hc_tasks.specs.Areas.{areas_at, areas_by_rank}
+use Rattle.hc_cuts.specs.Areas.{areas_at, areas_by_rank}
 use Rattle.hc_changes.specs.Candidates.{Candidate}
 use Rattle.hc_changes.specs.EditedLine.{EditedLine}
 use Rattle.hc_changes.specs.inner.Found.{area_found, areas_found}

@@ -1,5 +1,5 @@
 use Rattle.std.proofs.Common.{◌≡◌, ◌++◌, drop}
-use Rattle.hc_tasks.specs.Areas.{areas_at, areas_by_rank}
+use Rattle.hc_cuts.specs.Areas.{areas_at, areas_by_rank}
 use Rattle.hc_changes.specs.inner.Found.{areas_found}
 use Rattle.hc_changes.proofs.finding.CandidateTest.add_slave.Given as goal
 

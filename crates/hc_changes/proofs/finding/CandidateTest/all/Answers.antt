@@ -1,7 +1,7 @@
 use Rattle.std.proofs.Common.{◌∙◌, ◌+◌, ℕ, List, length, ap, sym, arith, rules}
 use Rattle.std.specs.Prelude.{slice_index_or}
 use Rattle.hc_records.specs.declared.records.Declared.{Declared}
-use Rattle.hc_tasks.specs.Areas.{areas_by_rank}
+use Rattle.hc_cuts.specs.Areas.{areas_by_rank}
 use Rattle.hc_changes.specs.inner.Found.{found_below}
 use Rattle.hc_changes.proofs.lemmas.FoundAll.{found-all}
 use Rattle.hc_changes.proofs.lemmas.FoundRanks.{group-at, group-low, group-next, none-yet, taken-all}

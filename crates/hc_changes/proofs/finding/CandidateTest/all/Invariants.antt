@@ -1,6 +1,6 @@
 use Rattle.std.proofs.Common.{◌≡◌, ◌+◌, length, take}
-use Rattle.hc_tasks.specs.Areas.{areas_by_rank}
-use Rattle.hc_tasks.specs.Kept.{line_kept}
+use Rattle.hc_cuts.specs.Areas.{areas_by_rank}
+use Rattle.hc_cuts.specs.Kept.{line_kept}
 use Rattle.hc_changes.specs.inner.Found.{found_below}
 use Rattle.hc_changes.proofs.finding.CandidateTest.all.Given as goal
 

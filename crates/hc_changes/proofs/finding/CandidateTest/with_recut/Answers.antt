@@ -4,7 +4,7 @@ use Rattle.std.proofs.lemmas.Bool.{and_from}
 use Rattle.hc_records.specs.declared.keys.Key.{Key}
 use Rattle.hc_records.specs.declared.keys.TheConstants.Key.{START, END}
 use Rattle.hc_records.specs.Keys.{is_before, is_within}
-use Rattle.hc_tasks.specs.Areas.{areas_by_rank}
+use Rattle.hc_cuts.specs.Areas.{areas_by_rank}
 use Rattle.hc_changes.specs.declared.ranks.Ranks.{Ranks}
 use Rattle.hc_changes.specs.inner.Found.{HoldRanks, IsCandidateTest}
 use Rattle.hc_changes.specs.EditedLine.{EditedLine}

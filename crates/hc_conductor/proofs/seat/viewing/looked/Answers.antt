@@ -1,6 +1,6 @@
 use Rattle.std.proofs.Common.{subst}
 use Rattle.std.specs.Prelude.{IfOk, MatchResult, Result}
-use Rattle.hc_copies.specs.Told.{IsLegal}
+use Rattle.hc_publish.specs.Told.{IsLegal}
 use Rattle.hc_publish.specs.declared.seat.Seat.{Seat}
 use Rattle.hc_publish.specs.Looks.{Look}
 use Rattle.hc_publish.specs.Seats.{seat_origin}

@@ -6,12 +6,12 @@ use Rattle.hc_places.specs.Swap.{Swap}
 use Rattle.hc_places.specs.Table.{Table, table_of}
 use Rattle.hc_plan.specs.declared.report.Report.{Report}
 use Rattle.hc_plan.specs.Reports.{Tells}
-use Rattle.hc_outputs.specs.Moves.{table_after}
-use Rattle.hc_outputs.specs.Packed.{HasSizes, IsLaidOut}
-use Rattle.hc_outputs.specs.Values.{KeepEntries}
-use Rattle.hc_outputs.proofs.lemmas.Entries.{edit-keeps_entries}
-use Rattle.hc_outputs.proofs.lemmas.LaidOut.{line-laid_out}
-use Rattle.hc_awaited.specs.Waiting.{Waiting, nothing}
+use Rattle.hc_images.specs.Moves.{table_after}
+use Rattle.hc_images.specs.Packed.{HasSizes, IsLaidOut}
+use Rattle.hc_images.specs.Values.{KeepEntries}
+use Rattle.hc_images.proofs.lemmas.Entries.{edit-keeps_entries}
+use Rattle.hc_images.proofs.lemmas.LaidOut.{line-laid_out}
+use Rattle.hc_sendings.specs.Waiting.{Waiting, nothing}
 use Rattle.hc_events.specs.declared.answer.Answer.TheVariants as answer
 use Rattle.hc_events.specs.declared.change.Change.{Change}
 use Rattle.hc_events.specs.declared.change.Change.TheVariants as change

@@ -1,7 +1,7 @@
 use Rattle.std.proofs.Common.{◌+◌, length, sym, subst}
 use Rattle.hc_events.specs.Entries.{Record}
 use Rattle.hc_events.specs.Steps.{with_sent}
-use Rattle.hc_awaited.specs.Waiting.{Waiting}
+use Rattle.hc_sendings.specs.Waiting.{Waiting}
 use Rattle.hc_core.specs.Records.{record_of}
 use Rattle.hc_core.proofs.Commits.{agree-committed, proposal-behind, proposal-named}
 use Rattle.hc_core.specs.Agreement.{Agree, kept_in}

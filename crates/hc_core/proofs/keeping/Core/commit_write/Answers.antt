@@ -3,7 +3,7 @@ use Rattle.hc_frames.specs.declared.limits.TheConstants.{SETUP_SERIAL}
 use Rattle.hc_events.specs.Entries.{Record, Wrote}
 use Rattle.hc_events.specs.Owed.{known_bytes}
 use Rattle.hc_events.specs.Points.{next_serial, state_of}
-use Rattle.hc_awaited.specs.Waiting.{Waiting}
+use Rattle.hc_sendings.specs.Waiting.{Waiting}
 use Rattle.hc_core.specs.Records.{record_of}
 use Rattle.hc_core.proofs.Firsts.{first-kept, first-lacks, first-within}
 use Rattle.hc_core.proofs.Sendings.{agree-wrote}

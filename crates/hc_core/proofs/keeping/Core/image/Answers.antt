@@ -11,7 +11,7 @@ use Rattle.hc_events.specs.Images.{slot_of}
 use Rattle.hc_events.specs.Steps.{image_of, is_no_task, unless}
 use Rattle.hc_events.proofs.lemmas.Epochs.{epochs-counted}
 use Rattle.hc_sendings.proofs.lemmas.Listed.{listed-count}
-use Rattle.hc_inputs.specs.Image.{data_of_first}
+use Rattle.hc_images.specs.Image.{data_of_first}
 use Rattle.hc_core.specs.Records.{record_of}
 use Rattle.hc_core.proofs.Shown.{is-task, slots-shown}
 use Rattle.hc_core.specs.State.{CoreState}

@@ -4,9 +4,9 @@ use Rattle.hc_records.specs.Line.{State, line, opened}
 use Rattle.hc_events.specs.declared.change.Change.{Change}
 use Rattle.hc_events.specs.Accepted.{just_opened}
 use Rattle.hc_events.specs.Entries.{Record}
-use Rattle.hc_awaited.specs.Waiting.{Waiting, nothing}
-use Rattle.hc_outputs.specs.Packed.{Holds, IsLaidOut}
-use Rattle.hc_outputs.proofs.lemmas.LaidOut.{line-laid_out}
+use Rattle.hc_sendings.specs.Waiting.{Waiting, nothing}
+use Rattle.hc_images.specs.Packed.{Holds, IsLaidOut}
+use Rattle.hc_images.proofs.lemmas.LaidOut.{line-laid_out}
 use Rattle.hc_places.specs.Table.{Table, table_of}
 use Rattle.hc_owed.specs.Board.{Board, kept_of, nothing_known}
 use Rattle.hc_core.specs.Records.{record_of}

@@ -10,9 +10,9 @@ use Rattle.hc_events.specs.Outputs.{value_bit}
 use Rattle.hc_events.specs.Points.{epoch_of, line_of}
 use Rattle.hc_events.specs.Steps.{post_faults}
 use Rattle.hc_events.proofs.lemmas.Epochs.{epochs-counted}
-use Rattle.hc_outputs.specs.Packed.{Holds, IsLaidOut}
-use Rattle.hc_outputs.specs.Values.{posted}
-use Rattle.hc_outputs.proofs.lemmas.LaidOut.{line-laid_out}
+use Rattle.hc_images.specs.Packed.{Holds, IsLaidOut}
+use Rattle.hc_images.specs.Values.{posted}
+use Rattle.hc_images.proofs.lemmas.LaidOut.{line-laid_out}
 use Rattle.hc_core.specs.Records.{record_of}
 use Rattle.hc_core.proofs.Posts.{agree-posted}
 use Rattle.hc_core.proofs.lemmas.PostFaults.{outputs-listed, post-accepted, post-length, post-stale}

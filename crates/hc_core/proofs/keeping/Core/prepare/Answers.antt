@@ -3,10 +3,10 @@ use Rattle.std.specs.Prelude.{Ok, vec_capacity, Err}
 use Rattle.std.proofs.lemmas.Result.{err_from_is_err_and}
 use Rattle.hc_records.specs.Edits.{edited, state_after}
 use Rattle.hc_records.specs.Line.{State, line}
-use Rattle.hc_ranks.specs.Places.{stations}
+use Rattle.hc_registers.specs.RankPlaces.{stations}
 use Rattle.hc_places.specs.Table.{table_of}
 use Rattle.hc_plan.specs.declared.report.Report.{Report}
-use Rattle.hc_outputs.specs.Moves.{Moves}
+use Rattle.hc_images.specs.Moves.{Moves}
 use Rattle.hc_owed.specs.Board.{Board}
 use Rattle.hc_events.specs.Points.{state_of}
 use Rattle.hc_core.specs.Records.{record_of}

@@ -4,7 +4,7 @@ use Rattle.hc_events.specs.declared.change.Change.{Change}
 use Rattle.hc_events.specs.Answering.{judged_by}
 use Rattle.hc_events.specs.Entries.{Record, Came}
 use Rattle.hc_events.specs.Steps.{told_of, with_arrival}
-use Rattle.hc_awaited.specs.Waiting.{Waiting, ended}
+use Rattle.hc_sendings.specs.Waiting.{Waiting, ended}
 use Rattle.hc_core.specs.Records.{record_of}
 use Rattle.hc_core.proofs.Arrivals.{agree-inputs, goods-fit}
 use Rattle.hc_core.proofs.Told.{told-inputs}

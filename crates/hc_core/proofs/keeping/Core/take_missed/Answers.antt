@@ -3,7 +3,7 @@ use Rattle.hc_events.specs.declared.answer.Answer.TheVariants as answer
 use Rattle.hc_events.specs.Answering.{judged_by}
 use Rattle.hc_events.specs.Entries.{Record, Came}
 use Rattle.hc_events.specs.Steps.{told_of, with_arrival}
-use Rattle.hc_awaited.specs.Waiting.{Waiting, ended}
+use Rattle.hc_sendings.specs.Waiting.{Waiting, ended}
 use Rattle.hc_core.specs.Records.{record_of}
 use Rattle.hc_core.proofs.Arrivals.{agree-missed}
 use Rattle.hc_core.proofs.Told.{told-missed}

@@ -3,8 +3,8 @@ use Rattle.hc_records.specs.Line.{State, line}
 use Rattle.hc_events.specs.Answering.{judged_by}
 use Rattle.hc_events.specs.Outcomes.{told_with}
 use Rattle.hc_events.specs.Steps.{told_of}
-use Rattle.hc_awaited.specs.Judging.{judged_in}
-use Rattle.hc_awaited.proofs.lemmas.Dues.{told-join}
+use Rattle.hc_sendings.specs.Judging.{judged_in}
+use Rattle.hc_sendings.proofs.lemmas.Dues.{told-join}
 use Rattle.hc_core.specs.Records.{record_of}
 use Rattle.hc_core.specs.State.{CoreState}
 use Rattle.hc_core.proofs.keeping.Core.take_read.Goals as goal

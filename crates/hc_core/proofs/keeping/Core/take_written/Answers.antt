@@ -5,8 +5,8 @@ use Rattle.hc_events.specs.Entries.{Record, Came}
 use Rattle.hc_events.specs.Owed.{known_bytes}
 use Rattle.hc_events.specs.Points.{state_of}
 use Rattle.hc_events.specs.Steps.{told_of, with_arrival}
-use Rattle.hc_awaited.specs.Waiting.{Waiting, ended}
-use Rattle.hc_awaited.proofs.lemmas.Sorts.{write-kept}
+use Rattle.hc_sendings.specs.Waiting.{Waiting, ended}
+use Rattle.hc_sendings.proofs.lemmas.Sorts.{write-kept}
 use Rattle.hc_registers.specs.Blocks.{LineBlock, RegisterBlock}
 use Rattle.hc_plan.specs.Reports.{name_of}
 use Rattle.hc_owed.specs.Board.{kept_of}

@@ -1,6 +1,6 @@
 use Rattle.std.proofs.Common.{ℕ, ◌*◌, ◌<◌, length, sym, ap, subst, ◌∙◌, arith}
 use Rattle.std.specs.Prelude.{All, None}
-use Rattle.hc_ranks.specs.Differences.{block_place, first_gone}
+use Rattle.hc_registers.specs.RankDifferences.{block_place, first_gone}
 use Rattle.hc_owed.specs.Board.{Board}
 use Rattle.hc_owed.specs.Steps.{cleared, compared_all}
 use Rattle.hc_owed.proofs.Changing.{change-right, known-size, moved-inside}

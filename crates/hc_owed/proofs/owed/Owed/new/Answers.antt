@@ -6,8 +6,8 @@ use Rattle.hc_records.specs.Line.{groups_of}
 use Rattle.hc_records.specs.Project.{slaves_of}
 use Rattle.hc_records.proofs.lemmas.Projects.{project-few}
 use Rattle.hc_registers.specs.Blocks.{RegisterBlock}
-use Rattle.hc_ranks.specs.Places.{stations}
-use Rattle.hc_ranks.proofs.lemmas.Standing.{length-places}
+use Rattle.hc_registers.specs.RankPlaces.{stations}
+use Rattle.hc_registers.proofs.lemmas.RanksStanding.{length-places}
 use Rattle.hc_owed.specs.Opening.{declared_flags}
 use Rattle.hc_owed.proofs.Opened.{board_of, length-copies, length-declared, none-bytes, opened-right}
 use Rattle.hc_owed.proofs.owed.Owed.new.Goals as goal

@@ -1,11 +1,11 @@
 use Rattle.std.proofs.Common.{◌∙◌, List, ap, length, subst, sym}
 use Rattle.hc_records.specs.declared.records.Declared.{Declared}
 use Rattle.hc_records.proofs.lemmas.Declaring.{declared-keep}
-use Rattle.hc_index.specs.Index.{IsIndexOf}
-use Rattle.hc_index.specs.Room.{CanAdmit}
-use Rattle.hc_tasks.specs.Areas.{areas_by_rank}
-use Rattle.hc_tasks.specs.Kept.{line_kept}
-use Rattle.hc_tasks.proofs.lemmas.Absent.{ranks-absent}
+use Rattle.hc_groups.specs.Index.{IsIndexOf}
+use Rattle.hc_groups.specs.Room.{CanAdmit}
+use Rattle.hc_cuts.specs.Areas.{areas_by_rank}
+use Rattle.hc_cuts.specs.Kept.{line_kept}
+use Rattle.hc_cuts.proofs.lemmas.Absent.{ranks-absent}
 use Rattle.hc_plan.proofs.declaring.Declaration.carry_out.Goals as goal
 
 pub admit-requires : goal.admit-requires

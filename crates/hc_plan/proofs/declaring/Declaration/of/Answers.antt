@@ -5,7 +5,7 @@ use Rattle.hc_records.specs.declared.records.Group.{Group}
 use Rattle.hc_records.specs.Edits.{declaring_faults}
 use Rattle.hc_records.specs.Lists.{lowest}
 use Rattle.hc_records.proofs.lemmas.Declaring.{declared-keep}
-use Rattle.hc_tasks.specs.Areas.{areas_by_rank}
+use Rattle.hc_cuts.specs.Areas.{areas_by_rank}
 use Rattle.hc_plan.proofs.Declared.{free-few, many-ranks, own-trees}
 use Rattle.hc_plan.proofs.declaring.Declaration.of.Goals as goal
 

@@ -1,7 +1,7 @@
 use Rattle.std.proofs.Common.{List, ap, ◌∙◌, sym}
 use Rattle.hc_records.specs.Packing.{Placed}
 use Rattle.hc_places.proofs.lemmas.Layouts.{placed-told}
-use Rattle.hc_tasks.specs.Areas.{areas_by_rank, list_by}
+use Rattle.hc_cuts.specs.Areas.{areas_by_rank, list_by}
 use Rattle.hc_plan.specs.inner.Blocks.{bits_in}
 use Rattle.hc_changes.specs.Moved.{bits_of}
 use Rattle.hc_changes.proofs.lemmas.PlacedWidths.{bits-packed}

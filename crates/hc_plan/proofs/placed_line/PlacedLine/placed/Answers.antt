@@ -2,7 +2,7 @@ use Rattle.std.proofs.Common.{List, ap, ◌∙◌}
 use Rattle.hc_records.specs.Packing.{Placed}
 use Rattle.hc_places.specs.Layout.{placed_in}
 use Rattle.hc_places.proofs.lemmas.Layouts.{placed-told}
-use Rattle.hc_tasks.specs.Areas.{areas_by_rank}
+use Rattle.hc_cuts.specs.Areas.{areas_by_rank}
 use Rattle.hc_plan.proofs.placed_line.PlacedLine.placed.Goals as goal
 
 pub returns : goal.returns

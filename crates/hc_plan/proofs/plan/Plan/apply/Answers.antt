@@ -1,7 +1,7 @@
 use Rattle.std.proofs.Common.{◌≡◌}
 use Rattle.std.specs.Prelude.{Err, IfSome, None, Ok, Option, Result, Some}
 use Rattle.hc_records.specs.declared.faults.EditFault.{EditFault}
-use Rattle.hc_edits.specs.Edits.{own_fault}
+use Rattle.hc_groups.specs.Edits.{own_fault}
 use Rattle.hc_plan.proofs.plan.Plan.apply.Goals as goal
 
 abbrev ok-of : {X : Type 0} → X → Result X EditFault

@@ -2,7 +2,7 @@ use Rattle.std.proofs.Common.{◌∙◌, List, sym, ap}
 use Rattle.std.specs.Prelude.{sum_by}
 use Rattle.hc_records.specs.declared.records.Declared.{Declared}
 use Rattle.hc_records.specs.Line.{line_from}
-use Rattle.hc_index.specs.Index.{own_blocks}
+use Rattle.hc_groups.specs.Index.{own_blocks}
 use Rattle.hc_plan.proofs.LineBlocks.{blocks-owned}
 use Rattle.hc_plan.proofs.plan.Plan.blocks.Goals as goal
 

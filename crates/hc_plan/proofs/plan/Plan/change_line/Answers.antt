@@ -4,17 +4,17 @@ use Rattle.hc_records.specs.declared.records.Declared.{Declared}
 use Rattle.hc_records.specs.Edits.{crowded_task, declares, groups_after}
 use Rattle.hc_records.specs.Line.{State, groups_of, line, line_from}
 use Rattle.hc_records.specs.Project.{lowest_fault}
-use Rattle.hc_tasks.specs.Areas.{areas_by_rank}
-use Rattle.hc_tasks.specs.Kept.{line_kept}
-use Rattle.hc_tasks.specs.Turn.{AreStartsOf}
-use Rattle.hc_edits.specs.Changes.{changed_groups}
-use Rattle.hc_index.specs.Index.{IsIndexOf}
+use Rattle.hc_cuts.specs.Areas.{areas_by_rank}
+use Rattle.hc_cuts.specs.Kept.{line_kept}
+use Rattle.hc_cuts.specs.Turn.{AreStartsOf}
+use Rattle.hc_groups.specs.Changes.{changed_groups}
+use Rattle.hc_groups.specs.Index.{IsIndexOf}
 use Rattle.hc_places.specs.Swap.{swapped}
 use Rattle.hc_places.specs.Table.{table_of}
 use Rattle.hc_changes.specs.EditedLine.{EditedLine, IsEditedLine, edited_line_of}
 use Rattle.hc_plan.specs.inner.Prepared.{IsLineReady}
 use Rattle.hc_plan.proofs.Editing.{old-groups}
-use Rattle.hc_edits.specs.Rows.{ChangesRow}
+use Rattle.hc_groups.specs.Rows.{ChangesRow}
 use Rattle.hc_changes.proofs.lemmas.EditedLines.{change-edited_line}
 use Rattle.hc_plan.proofs.plan.Plan.change_line.Goals as goal
 

@@ -4,10 +4,10 @@ use Rattle.hc_records.specs.Edits.{crowded_task}
 use Rattle.hc_records.specs.declared.records.Declared.{Declared}
 use Rattle.hc_records.specs.Line.{line_from, opened_group}
 use Rattle.hc_records.specs.Project.{lowest_fault}
-use Rattle.hc_index.specs.Index.{IsIndexOf}
+use Rattle.hc_groups.specs.Index.{IsIndexOf}
 use Rattle.hc_places.specs.Table.{table_of}
-use Rattle.hc_tasks.specs.Areas.{areas_by_rank}
-use Rattle.hc_tasks.specs.Kept.{line_kept}
+use Rattle.hc_cuts.specs.Areas.{areas_by_rank}
+use Rattle.hc_cuts.specs.Kept.{line_kept}
 use Rattle.hc_plan.proofs.Opening.{opened-project}
 use Rattle.hc_plan.proofs.plan.Plan.new.Goals as goal
 

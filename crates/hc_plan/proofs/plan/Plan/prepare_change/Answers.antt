@@ -6,12 +6,12 @@ use Rattle.hc_records.specs.declared.records.Declared.{Declared}
 use Rattle.hc_records.specs.Edits.{edited, groups_after}
 use Rattle.hc_records.specs.Line.{State, groups_of}
 use Rattle.hc_records.specs.Project.{lowest_fault}
-use Rattle.hc_tasks.specs.Areas.{areas_by_rank}
-use Rattle.hc_tasks.specs.Kept.{line_kept}
-use Rattle.hc_edits.specs.Changes.{change_by, changed_groups}
-use Rattle.hc_edits.specs.Edits.{own_fault}
-use Rattle.hc_edits.specs.Rows.{ChangesRow}
-use Rattle.hc_edits.proofs.lemmas.Refusals.{own-refuses}
+use Rattle.hc_cuts.specs.Areas.{areas_by_rank}
+use Rattle.hc_cuts.specs.Kept.{line_kept}
+use Rattle.hc_groups.specs.Changes.{change_by, changed_groups}
+use Rattle.hc_groups.specs.Edits.{own_fault}
+use Rattle.hc_groups.specs.Rows.{ChangesRow}
+use Rattle.hc_groups.proofs.lemmas.Refusals.{own-refuses}
 use Rattle.hc_changes.specs.EditedLine.{IsEditedLine, edited_line_of}
 use Rattle.hc_plan.specs.declared.work.LineWork.{LineWork}
 use Rattle.hc_plan.specs.declared.work.Work.TheVariants.{NewLine}

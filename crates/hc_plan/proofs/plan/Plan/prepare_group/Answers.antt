@@ -8,7 +8,7 @@ use Rattle.hc_records.specs.declared.limits.TheConstants.{LAST_EPOCH}
 use Rattle.hc_records.specs.declared.records.Declared.{Declared}
 use Rattle.hc_records.specs.Edits.{edited}
 use Rattle.hc_records.specs.Line.{State}
-use Rattle.hc_ranks.specs.Blocks.{RankedBlock}
+use Rattle.hc_registers.specs.Ranked.{RankedBlock}
 use Rattle.hc_plan.specs.declared.work.Work.TheVariants.{NewGroup}
 use Rattle.hc_plan.specs.inner.Declaring.{CanDeclare, TellsNothing}
 use Rattle.hc_plan.specs.inner.Prepared.{prepared_of}

@@ -1,7 +1,7 @@
 use Rattle.std.proofs.Common.{subst}
 use Rattle.hc_events.specs.Calls.{MayAnswer}
 use Rattle.hc_events.specs.Steps.{Edits}
-use Rattle.hc_master.specs.Mastering.{past_of}
+use Rattle.hc_conductor.specs.Mastering.{past_of}
 use Rattle.hc_program.specs.Standings.{Standing}
 use Rattle.hc_program.proofs.session.Session.edit.Goals as goal
 

@@ -1,12 +1,12 @@
 use Rattle.std.proofs.Common.{◌≡◌, ◌≢◌, ℕ, List, sym, ap, ap₂, ◌∙◌, None, Some}
 use Rattle.hc_places.specs.Table.{Table}
 use Rattle.hc_events.specs.Entries.{Record}
-use Rattle.hc_copies.specs.Told.{epoch_shown, table_shown}
+use Rattle.hc_publish.specs.Told.{epoch_shown, table_shown}
 use Rattle.hc_rings.specs.Post.{Post}
-use Rattle.hc_master.specs.declared.refusals.PostRefusal.TheVariants as why
-use Rattle.hc_master.specs.Mastering.{shown, waiting}
-use Rattle.hc_master.specs.Posting.{post_made, post_refused, with_post}
-use Rattle.hc_master.proofs.lemmas.Told.{err-weaker}
+use Rattle.hc_conductor.specs.declared.one_thread.refusals.PostRefusal.TheVariants as why
+use Rattle.hc_conductor.specs.Mastering.{shown, waiting}
+use Rattle.hc_conductor.specs.Posting.{post_made, post_refused, with_post}
+use Rattle.hc_conductor.proofs.lemmas.Told.{err-weaker}
 use Rattle.hc_program.specs.Postings.{post_judged, with_posted}
 use Rattle.hc_program.specs.Sessions.{standing_in}
 use Rattle.hc_program.specs.Standings.{Standing}

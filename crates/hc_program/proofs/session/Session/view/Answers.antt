@@ -1,9 +1,9 @@
 use Rattle.std.proofs.Common.{ap, subst}
 use Rattle.std.specs.Prelude.{IfOk}
 use Rattle.hc_events.specs.Entries.{Record}
-use Rattle.hc_master.specs.Mastering.{shown}
-use Rattle.hc_master.specs.Viewing.{IsViewBehind, IsViewOf}
-use Rattle.hc_master.proofs.lemmas.Told.{ok-weaker, view-behind}
+use Rattle.hc_conductor.specs.Mastering.{shown}
+use Rattle.hc_conductor.specs.Viewing.{IsViewBehind, IsViewOf}
+use Rattle.hc_conductor.proofs.lemmas.Told.{ok-weaker, view-behind}
 use Rattle.hc_program.specs.Standings.{Standing}
 use Rattle.hc_program.proofs.Shown.{shown_record}
 use Rattle.hc_program.proofs.session.Session.view.Goals as goal

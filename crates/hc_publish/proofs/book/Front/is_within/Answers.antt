@@ -1,6 +1,6 @@
 use Rattle.std.proofs.Common.{List, refl, ap, subst}
 use mathlib.Core.List.{IsPrefix}
-use Rattle.hc_copies.specs.Told.{Told}
+use Rattle.hc_publish.specs.Told.{Told}
 use Rattle.hc_publish.proofs.Rising.{within}
 use Rattle.hc_publish.proofs.book.Front.is_within.Goals as goal
 

@@ -1,6 +1,6 @@
 use Rattle.std.proofs.Common.{◌≡◌, ◌∙◌, ap, sym, subst, true, Bool}
 use Rattle.std.specs.Prelude.{MatchBool}
-use Rattle.hc_copies.specs.Told.{Told}
+use Rattle.hc_publish.specs.Told.{Told}
 use Rattle.hc_publish.specs.Book.{Extends, TheSeen, top}
 use Rattle.hc_publish.proofs.Rising.{extends_both}
 use Rattle.hc_publish.proofs.view.View.is_of.Goals as goal

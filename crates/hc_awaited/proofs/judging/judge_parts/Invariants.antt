@@ -1,9 +1,0 @@
-use Rattle.std.proofs.Common.{◌≡◌, drop}
-use Rattle.hc_records.specs.Line.{line}
-use Rattle.hc_awaited.specs.Walk.{outcomes_in}
-use Rattle.hc_awaited.proofs.Walked.{behind, due_by, parts_of}
-use Rattle.hc_awaited.proofs.judging.judge_parts.Given as goal
-
-abbrev pub invariant-loop-datagram : goal.invariant-loop-datagram
-invariant-loop-datagram l = outcomes_in (due_by (line l.plan) l.newest l.frame.serial l.frame.datagrams) l.arrival.parts
-    ≡ behind l.outcomes.items (outcomes_in (due_by (line l.plan) l.newest l.frame.serial (drop l.datagram-index l.frame.datagrams)) (parts_of l.parts))

@@ -1,7 +1,0 @@
--- What the crates above cite, a file a subject.
-pub mod Dues
-pub mod Sorts
-pub mod Ended
-pub mod Resent
-pub mod Sent
-pub mod Awaits

@@ -1,5 +1,0 @@
-pub mod Carrying
-pub mod Laws
-pub mod FrameLaws
-pub mod Sequences
-pub mod Variables

@@ -1,0 +1,14 @@
+//! A conductor with the seats of its eight tasks, all in one thread: what a single-threaded master and a program hold.
+//! What a task views is just what was published last, and what waits between the tasks and the core is known.
+mod events;
+mod learning;
+pub mod master;
+mod opening;
+mod posts;
+mod publishing;
+pub mod refusals;
+pub mod settings;
+mod taking;
+pub mod viewing;
+
+pub use opening::open;

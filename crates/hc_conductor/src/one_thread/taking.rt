@@ -1,0 +1,24 @@
+//! What is taken of what tasks post.
+ghost use Rattle.std.specs.Prelude.{◌≡◌, [], replicate};
+ghost use Rattle.hc_records.specs.declared.limits.TheConstants.{TASKS};
+ghost use Rattle.hc_events.specs.Steps.{entries_after_all};
+ghost use Rattle.hc_conductor.specs.Conducting.{SameChanges};
+ghost use Rattle.hc_conductor.specs.Taking.{Counts, events_of_all};
+ghost use Rattle.hc_conductor.specs.Mastering.{past_of, waiting};
+
+use crate::one_thread::master::Master;
+use crate::taking::Taken;
+
+impl Master {
+    /// Takes all that waits, and hands each post to the core as a post of its task, for its epoch: the tasks ascending,
+    /// each one's posts in order. A post that the core refuses, since another epoch has begun, leaves nothing. It takes
+    /// no memory.
+    pub fn take(&mut self) -> Taken
+        ensures entries { past_of self.new ≡ entries_after_all (past_of self.old) (events_of_all 0 (waiting self.old)) }
+        ensures counts { Counts (past_of self.old) (events_of_all 0 (waiting self.old)) result }
+        ensures none { waiting self.new ≡ replicate TASKS [] }
+        ensures changes { SameChanges self.old.conductor self.new.conductor }
+    {
+        self.conductor.take_all_posts(&mut self.seats)
+    }
+}

@@ -1,4 +1,0 @@
-pub mod Legal
-pub mod Taken
-pub mod Read
-pub mod lemmas

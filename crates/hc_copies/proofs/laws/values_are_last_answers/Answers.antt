@@ -1,5 +1,0 @@
-use Rattle.hc_copies.proofs.Read.{last-value_told, value-told}
-use Rattle.hc_copies.proofs.laws.values_are_last_answers.Goals as goal
-
-pub returns : goal.returns
-returns c told task variable number legal = (value-told told task variable number legal, last-value_told told task variable number legal)

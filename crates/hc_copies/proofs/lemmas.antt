@@ -1,3 +1,0 @@
--- What the crates above cite, a file a subject.
-pub mod Openings
-pub mod Crossing

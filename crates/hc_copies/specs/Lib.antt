@@ -1,6 +1,0 @@
-pub mod Faults
-pub mod Told
-pub mod Values
-pub mod Laws
-pub mod Histories
-pub mod Copies

@@ -1,0 +1,77 @@
+-- Two lines that differ in the areas of slaves in a row.
+use Rattle.std.specs.Prelude.{slice_index_or, ◌==◌, ◌&&◌}
+use Rattle.std.proofs.Common.{append_assoc, ◌≡◌, ℕ, ◌+◌, ◌<◌, ◌≤◌, List, ◌++◌, length, subst, arith, length-append}
+use Rattle.std.proofs.Math.ListN.{get_or-append}
+use Rattle.std.proofs.lemmas.List.{get_or-append-add, get_or-append_right}
+use Rattle.hc_records.specs.declared.records.Area.{Area}
+use Rattle.hc_cuts.specs.declared.hulls.Hulls.{Hulls}
+use Rattle.hc_cuts.specs.Hulls.{AreHulls, TakeIn}
+use Rattle.hc_cuts.specs.Starts.{Kept}
+use Rattle.hc_cuts.specs.Areas.{areas_at}
+use Rattle.hc_cuts.specs.Kept.{IsLine}
+use Rattle.hc_cuts.specs.Turn.{AreLines}
+use Rattle.hc_cuts.specs.Widths.{AreKept, IsSetTo, differs, with_slave}
+use Rattle.hc_cuts.proofs.Setting.{slaves-go, up_to}
+use Rattle.hc_cuts.proofs.Taking.{areas-of, ranks-go, up_to_rank}
+use Rattle.hc_cuts.proofs.lemmas.Turning.{back-lines}
+
+-- the areas of the slaves in front of the row, in it, and behind it
+
+behind-same : (front xs ys behind : List (List Area)) (rank : ℕ) → length ys ≡ length xs → length front + length xs < rank
+    → areas_at (front ++ (xs ++ behind)) rank ≡ areas_at (front ++ (ys ++ behind)) rank
+behind-same front xs ys behind rank many high = grind (arith, get_or-append_right, append_assoc, length-append)
+
+row-at : (front xs behind : List (List Area)) (at : ℕ) → at < length xs → areas_at xs (at + 1) ≡ areas_at (front ++ (xs ++ behind)) (length front + at + 1)
+row-at front xs behind at low = grind (arith, get_or-append, get_or-append-add)
+
+-- so in two lines
+
+pub lines-front : (first : ℕ) (before after old new : List (List Area)) (lines : AreLines first before after old new) (rank : ℕ) → rank ≤ length lines.front
+    → areas_at old rank ≡ areas_at new rank
+lines-front first before after old new lines rank low = grind (arith, get_or-append)
+
+pub lines-behind : (first : ℕ) (before after old new : List (List Area)) (lines : AreLines first before after old new) (rank : ℕ) → length lines.front + length before < rank
+    → areas_at old rank ≡ areas_at new rank
+lines-behind first before after old new lines rank high = grind (arith, behind-same, lines.was, lines.is, lines.many)
+
+pub old-at : (first : ℕ) (before after old new : List (List Area)) (lines : AreLines first before after old new) (i : ℕ) (areas own : List Area) → areas ≡ own
+    → own ≡ slice_index_or before i own → i < length before → areas ≡ areas_at old (length lines.front + i + 1)
+old-at first before after old new lines i areas own same is within = grind (arith, areas-of, row-at)
+
+pub new-at : (first : ℕ) (before after old new : List (List Area)) (lines : AreLines first before after old new) (i : ℕ) (areas own : List Area) → areas ≡ own
+    → own ≡ slice_index_or after i own → i < length before → areas ≡ areas_at new (length lines.front + i + 1)
+new-at first before after old new lines i areas own same is within =
+    let many = lines.many in
+    old-at first after before new old (back-lines first before after old new lines) i areas own same is (omega arith)
+
+-- the row is within the line
+pub row-within : (first : ℕ) (before after old new : List (List Area)) (lines : AreLines first before after old new) → first + length before ≤ length old + 1
+row-within first before after old new lines = grind (arith, length-append)
+
+-- one slave more is set
+
+pub slaves-next : (task first i : ℕ) (before after old new : List (List Area)) (lines : AreLines first before after old new) (areas : List Area) (kept mid last : Kept)
+    → areas ≡ areas_at new (length lines.front + i + 1) → IsSetTo kept mid (up_to task (length lines.front + i) old new)
+    → IsSetTo mid last (with_slave task (first + i) areas mid) → IsSetTo kept last (up_to task (length lines.front + (i + 1)) old new)
+slaves-next task first i before after old new lines areas kept mid last own so_far set =
+    let rank = lines.rank in
+    let here : first + i ≡ length lines.front + i + 1 = omega (arith, rank) in
+    let next : length lines.front + i + 1 ≡ length lines.front + (i + 1) = omega arith in
+    subst (λ (n : ℕ). IsSetTo kept last (up_to task n old new)) next
+    (slaves-go task (length lines.front + i) old new areas kept mid last own so_far
+    (subst (λ (n : ℕ). IsSetTo mid last (with_slave task n areas mid)) here set))
+
+pub ranks-next : (task first i : ℕ) (before after old new : List (List Area)) (lines : AreLines first before after old new) (was is : List Area) (mid last : Hulls)
+    → was ≡ areas_at old (length lines.front + i + 1) → is ≡ areas_at new (length lines.front + i + 1) → AreHulls (up_to_rank task (length lines.front + i) old new) mid
+    → TakeIn mid last (λ key. (first + i == key.rank) && differs task was is key) → AreHulls (up_to_rank task (length lines.front + (i + 1)) old new) last
+ranks-next task first i before after old new lines was is mid last one other so_far taken =
+    let rank = lines.rank in
+    let here : first + i ≡ length lines.front + i + 1 = omega (arith, rank) in
+    let next : length lines.front + i + 1 ≡ length lines.front + (i + 1) = omega arith in
+    subst (λ (n : ℕ). AreHulls (up_to_rank task n old new) last) next
+    (ranks-go task (length lines.front + i) old new was is mid last one other so_far
+    (subst (λ (n : ℕ). TakeIn mid last (λ key. (n == key.rank) && differs task was is key)) here taken))
+
+-- a slave of the line has few areas, all of them narrow
+pub row-kept : (slaves : List (List Area)) (rank : ℕ) (areas : List Area) → IsLine slaves → areas ≡ areas_at slaves (rank + 1) → rank < length slaves → AreKept areas
+row-kept slaves rank areas line own within = grind arith

@@ -1,0 +1,38 @@
+-- Turns to other lines, and back.
+use Rattle.std.specs.Prelude.{None}
+use Rattle.std.proofs.Common.{◌≡◌, ℕ, List, [], length, refl, sym, append-nil}
+use Rattle.hc_records.specs.declared.records.Area.{Area}
+use Rattle.hc_cuts.specs.Starts.{Kept}
+use Rattle.hc_cuts.specs.Kept.{IsLine, crowded_from, line_kept}
+use Rattle.hc_cuts.specs.Turn.{AreLines, IsTurn}
+
+-- two lines that may differ in the areas of all their slaves
+whole-lines : (old new : List (List Area)) → IsLine old → IsLine new → length new ≡ length old → AreLines 1 old new old new
+whole-lines old new first second many = record {
+  front = [];
+  behind = [];
+  rank = refl;
+  many = many;
+  was = sym (append-nil old);
+  is = sym (append-nil new);
+  old_line = first;
+  new_line = second;
+}
+
+-- the tasks of the one are turned into those of the other by all ranks
+pub whole-turn : (kept : List Kept) (old new : List (List Area)) → IsLine old → IsLine new → length new ≡ length old → kept ≡ line_kept old → crowded_from 8 0 old ≡ None
+    → IsTurn 8 0 kept 1 old new old new
+whole-turn kept old new first second many stand fits = record { lines = whole-lines old new first second many; stand = stand; fits = fits }
+
+-- two lines the other way round
+abbrev pub back-lines : (first : ℕ) (before after old new : List (List Area)) → AreLines first before after old new → AreLines first after before new old
+back-lines first before after old new lines = record {
+  front = lines.front;
+  behind = lines.behind;
+  rank = lines.rank;
+  many = sym lines.many;
+  was = lines.is;
+  is = lines.was;
+  old_line = lines.new_line;
+  new_line = lines.old_line;
+}

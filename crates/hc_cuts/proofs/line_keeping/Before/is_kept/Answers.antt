@@ -1,0 +1,20 @@
+use Rattle.std.proofs.Common.{ℕ, [], ◌∷◌, ◌++◌, List, ap, ◌∙◌, sym, subst}
+use Rattle.std.specs.Prelude.{slice_index_or}
+use Rattle.hc_records.specs.Boundaries.{is_touched}
+use Rattle.hc_records.specs.declared.keys.Key.{Key}
+use Rattle.hc_records.specs.declared.keys.TheConstants.Key.{END}
+use Rattle.hc_cuts.specs.Hulls.{AreHulls, no_hulls}
+use Rattle.hc_cuts.specs.Areas.{list_by}
+use Rattle.hc_cuts.specs.LineKeeping.{Before, StandsBefore}
+use Rattle.hc_cuts.proofs.line_keeping.Before.is_kept.Goals as goal
+
+pub returns : goal.returns
+returns c = λ old new line stands is.
+    let own = subst (λ (before : Before). StandsBefore old new before) (sym c.self.view_is) stands in
+    let was = list_by c.args.task old in
+    let now = list_by c.args.task new in
+    c.is_kept.ensures was now (line.lists c.args.task)
+    (ap (λ (keys : List Key). keys ++ END ∷ []) (c.of_task.ensures ∙ own.starts c.args.task c.requires))
+    (ap (λ (keys : List Key). keys ++ END ∷ []) (c.starts.ensures.starts new is))
+    (subst (λ (task : ℕ). AreHulls (is_touched was now) (slice_index_or c.self.inside.hulls task no_hulls)) (sym c.from.ensures)
+    (own.hulls c.args.task c.requires))

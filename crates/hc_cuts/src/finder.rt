@@ -1,0 +1,62 @@
+//! Places of areas of a line, where many are asked for one after another: those of a task and a direction
+//! in the order of their keys take few reads. The parts of an edit's change ask for them.
+use crate::cursor::Cursor;
+use crate::packing::Placed;
+use crate::tasks::LineCuts;
+use hc_records::keys::Key;
+use hc_records::records::Dir;
+use std::marker::Model;
+
+/// The tasks of a line, lent, and of each task a cursor among its outputs and one among its inputs. Contracts
+/// see the tasks.
+#[derive(Drop)]
+pub struct Finder<'a> {
+    cuts: &'a LineCuts,
+    outputs: [Cursor; 8],
+    inputs: [Cursor; 8],
+}
+
+impl<'a> Model for Finder<'a> {
+    ghost use Rattle.std.specs.Prelude.{List};
+    ghost use Rattle.hc_cuts.specs.Starts.{Kept};
+    ghost use Rattle.hc_cuts.specs.LineCursors.{StandInTasks};
+
+    ghost Value = { List Kept };
+
+    ghost view = { λ finder. finder.cuts.now };
+
+    ghost invariant = { λ finder. StandInTasks finder.cuts.now finder.outputs × StandInTasks finder.cuts.now finder.inputs };
+}
+
+impl<'a> Finder<'a> {
+    ghost use Rattle.std.specs.Prelude.{◌≡◌, ◌<◌, List};
+    ghost use Rattle.hc_records.specs.declared.limits.TheConstants.{TASKS};
+    ghost use Rattle.hc_records.specs.declared.records.Area.{Area};
+    ghost use Rattle.hc_cuts.specs.Place.{place_of};
+    ghost use Rattle.hc_cuts.specs.Areas.{list_by};
+    ghost use Rattle.hc_cuts.specs.Kept.{line_kept};
+
+    /// A finder among the tasks of a line. It takes no memory.
+    pub fn of(cuts: &'a LineCuts) -> Finder<'a>
+        ensures { result ≡ cuts.now }
+    {
+        Finder {
+            cuts,
+            outputs: cuts.cursors(),
+            inputs: cuts.cursors(),
+        }
+    }
+
+    /// The place of an area in a task, 0 to 7, by its key, any key, as `LineCuts::place` gives it; none where
+    /// the task has no such area. It takes no memory.
+    pub fn place(&mut self, task: u8, key: Key) -> Option<Placed>
+        requires { task < TASKS }
+        ensures tasks { self.new ≡ self.old }
+        ensures place { (line : List (List Area)) → self.old ≡ line_kept line → result ≡ place_of key (list_by task line) }
+    {
+        match key.dir {
+            Dir::Out => self.cuts.place_from(&mut self.outputs, task, key),
+            Dir::In => self.cuts.place_from(&mut self.inputs, task, key),
+        }
+    }
+}

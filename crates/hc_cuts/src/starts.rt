@@ -1,0 +1,93 @@
+//! The boundaries of the eight tasks of a line, kept by themselves.
+use crate::cuts::Cuts;
+use arrayvec::ArrayVec;
+use hc_records::keys::Key;
+use std::marker::Model;
+
+/// Those of a task, but `Key::END`.
+#[derive(Default, Drop)]
+pub(crate) struct TaskStarts {
+    keys: ArrayVec<Key, 16>,
+}
+
+impl Model for TaskStarts {
+    ghost use Rattle.std.specs.Prelude.{List};
+    ghost use Rattle.hc_records.specs.declared.keys.Key.{Key};
+
+    ghost Value = { List Key };
+
+    ghost view = { λ starts. starts.keys.items };
+}
+
+impl TaskStarts {
+    ghost use Rattle.std.specs.Prelude.{◌≡◌};
+
+    /// The keys.
+    fn as_slice(&self) -> &[Key]
+        ensures { result.now ≡ self.now }
+    {
+        self.keys.as_slice()
+    }
+
+    /// A copy of them.
+    fn copied(&self) -> ArrayVec<Key, 16>
+        ensures { result.items ≡ self.now }
+    {
+        let Ok(keys) = ArrayVec::try_from(self.keys.as_slice()) else {
+            unreachable!()
+        };
+        keys
+    }
+}
+
+/// The boundaries of the eight tasks of a line, but `Key::END`, as they were when they were copied.
+#[derive(Drop)]
+pub struct LineStarts {
+    tasks: ArrayVec<TaskStarts, 8>,
+}
+
+impl Model for LineStarts {
+    ghost use Rattle.std.specs.Prelude.{◌≡◌, List, length};
+    ghost use Rattle.hc_records.specs.declared.keys.Key.{Key};
+
+    ghost Value = { List (List Key) };
+
+    ghost view = { λ starts. starts.tasks.items };
+
+    ghost invariant = { λ starts. length starts.tasks.items ≡ 8 };
+}
+
+impl LineStarts {
+    ghost use Rattle.std.specs.Prelude.{◌≡◌, ◌<◌, [], length, map, slice_index_or};
+    ghost use Rattle.hc_records.specs.declared.limits.TheConstants.{TASKS};
+
+    /// A copy of those of eight tasks. It takes no memory.
+    pub(crate) fn of(tasks: &[Cuts]) -> LineStarts
+        requires { length tasks.now ≡ 8 }
+        ensures { result ≡ map (λ kept. kept.starts) tasks.now }
+    {
+        let mut starts = ArrayVec::new();
+        for cuts in tasks {
+            starts.push(TaskStarts {
+                keys: cuts.copied_starts(),
+            });
+        }
+        LineStarts { tasks: starts }
+    }
+
+    /// Those of a task, 0 to 7.
+    pub fn of_task(&self, task: u8) -> &[Key]
+        requires { task < TASKS }
+        ensures { result.now ≡ slice_index_or self.now task [] }
+    {
+        self.tasks[usize::from(task)].as_slice()
+    }
+
+    /// A copy of those of a task, 0 to 7.
+    pub(crate) fn copied(&self, task: u8) -> ArrayVec<Key, 16>
+        requires { task < TASKS }
+        ensures { result.items ≡ slice_index_or self.now task [] }
+    {
+        self.tasks[usize::from(task)].copied()
+    }
+}

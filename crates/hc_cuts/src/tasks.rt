@@ -1,0 +1,257 @@
+//! The eight tasks of a line: the areas of each in a tree of sums, with its boundaries.
+ghost use Rattle.std.specs.Prelude.{◌≡◌, [], IfOk, replicate};
+
+use crate::areas::SlaveAreas;
+use crate::cursor::Cursor;
+use crate::cuts::Cuts;
+use crate::packing::Placed;
+use crate::starts::LineStarts;
+use crate::turning::{put_tasks, turn_tasks};
+use crate::widening::{admit_all, all_widened};
+use hc_bitsum::steps::Steps;
+use hc_records::faults::EditFault;
+use hc_records::keys::Key;
+use hc_records::limits::TASKS;
+use std::alloc::{AllocError, Global};
+use std::marker::Model;
+use std::sync::ledger::Ledger;
+
+/// The areas and the boundaries of the eight tasks of a line.
+#[derive(Debug)]
+pub struct LineCuts {
+    tasks: Vec<Cuts>,
+}
+
+impl Drop for LineCuts {
+    fn drop(self) {
+        let LineCuts { tasks: _ } = self;
+    }
+}
+
+impl Model for LineCuts {
+    ghost use Rattle.std.specs.Prelude.{◌≡◌, All, List, length};
+    ghost use Rattle.hc_cuts.specs.Starts.{Kept};
+
+    ghost Value = { List Kept };
+
+    ghost use Rattle.hc_cuts.specs.Kept.{IsCut};
+
+    ghost view = { λ line. line.tasks.items };
+
+    ghost invariant = { λ line. (length line.tasks.items ≡ 8) × All IsCut line.tasks.items };
+}
+
+/// The areas of so many slaves none of which is present.
+fn absent_slaves<'a>(alloc: Global, slaves: usize) -> Result<Vec<SlaveAreas<'a>>, AllocError>
+    ensures { IfOk result (λ absent. absent.items ≡ replicate slaves []) }
+{
+    let mut absent = Vec::with_capacity(alloc, slaves)?;
+    for _ in 0..slaves {
+        absent.push(SlaveAreas::absent())?;
+    }
+    Ok(absent)
+}
+
+impl LineCuts {
+    ghost use Rattle.hc_records.specs.declared.records.Area.{Area};
+    ghost use Rattle.std.specs.Prelude.{◌≡◌, ◌≢◌, ◌↔◌, ℕ, ◌+◌, ◌*◌, ◌<◌, ◌≤◌, List, [], IfErr, IfOk, IsTrue, None, OnErr, OnOk, Some, length, map, option_map, replicate};
+    ghost use Rattle.hc_records.specs.Boundaries.{width_in};
+    ghost use Rattle.hc_records.specs.Image.{inside};
+    ghost use Rattle.hc_records.specs.Packing.{opening, packed};
+    ghost use Rattle.hc_records.specs.declared.faults.EditFault.TheVariants.{Memory, TooManyDatagrams};
+    ghost use Rattle.hc_records.specs.declared.limits.TheConstants.{MOST_DATAGRAMS, MOST_SLAVES, TASKS};
+    ghost use Rattle.hc_bitsum.specs.Tree.{HasRoom};
+    ghost use Rattle.hc_cuts.specs.Inputs.{has_inputs};
+    ghost use Rattle.hc_cuts.specs.Place.{place_of};
+    ghost use Rattle.hc_cuts.specs.Starts.{most_read};
+    ghost use Rattle.hc_cuts.specs.Areas.{list_by};
+    ghost use Rattle.hc_cuts.specs.LineCursors.{StandInTasks};
+    ghost use Rattle.hc_cuts.specs.Kept.{IsLine, crowded_from, line_kept, starts_by};
+    ghost use Rattle.hc_cuts.specs.Recut.{recut_from, touched_from};
+    ghost use Rattle.hc_cuts.specs.Room.{AreOfFewer, CanAdmit, with_absent};
+    ghost use Rattle.hc_cuts.specs.Turn.{AreStartsOf, HasPut, HasTurn, IsPut, IsTurn};
+
+    /// The tasks of a line of so many declared slaves, at most 2,048, none of which is present.
+    fn new(alloc: Global, slaves: u16) -> Result<LineCuts, AllocError>
+        requires { slaves ≤ MOST_SLAVES }
+        ensures { IfOk result (λ line. line ≡ line_kept (replicate slaves [])) }
+    {
+        let mut tasks = Vec::with_capacity(alloc, usize::from(TASKS))?;
+        for _ in 0..TASKS {
+            tasks.push(Cuts::new(alloc, slaves)?)?;
+        }
+        Ok(LineCuts { tasks })
+    }
+
+    /// Turns the tasks of a line into those of another one, which differs in the areas of slaves in a row:
+    /// `first` is the rank of the first of them, at least 1, and each of them has the areas of `before` in
+    /// the old line and those of `after` in the new one. None of the old line's tasks needs more than 16
+    /// datagrams, so a turn back, with `before` and `after` swapped, is never refused. The areas and
+    /// boundaries are then those of the new line, and the answer is how many spans of touched tasks aren't
+    /// settled. Otherwise the lowest task of the new line that needs more than 16 datagrams, and all is as
+    /// it was. Each span that isn't settled takes 1 to 104 steps, and nothing else takes any; a turn that is
+    /// refused takes at most 16 times 104 for each task in which a width differs. It takes no memory.
+    pub fn turn<L: Ledger>(
+        &mut self,
+        first: u16,
+        before: &[SlaveAreas],
+        after: &[SlaveAreas],
+        steps: &mut Steps<L>,
+    ) -> Result<u32, u8>
+        requires { HasTurn 8 0 self.old first before.now after.now }
+        ensures turned { (old new : List (List Area)) → IsTurn 8 0 self.old first before.now after.now old new → OnOk result (self.new ≡ line_kept new) }
+        ensures accepted { (old new : List (List Area)) → IsTurn 8 0 self.old first before.now after.now old new → OnOk result (crowded_from 8 0 new ≡ None) }
+        ensures refused { (old new : List (List Area)) → IsTurn 8 0 self.old first before.now after.now old new → IfErr result (λ task. crowded_from 8 0 new ≡ Some task) }
+        ensures unchanged { OnErr result (self.new ≡ self.old) }
+        ensures recut { (old new : List (List Area)) → IsTurn 8 0 self.old first before.now after.now old new → IfOk result (λ recut. recut ≡ recut_from 8 0 old new) }
+        ensures steps { (old new : List (List Area)) → IsTurn 8 0 self.old first before.now after.now old new → steps.new ≤ steps.old + most_read * MOST_DATAGRAMS * touched_from 8 0 old new }
+        ensures least { IfOk result (λ recut. steps.old + recut ≤ steps.new) }
+        ensures most { IfOk result (λ recut. steps.new ≤ steps.old + most_read * recut) }
+    {
+        turn_tasks(self.tasks.as_mut_slice(), 0, first, before, after, steps)
+    }
+
+    /// Turns the tasks of a line into those of another one, whose boundaries are known, as those of a line
+    /// are to which the tasks are turned back. Ranks and areas are as `turn` takes them. No boundary is
+    /// searched, so it takes no steps and nothing is refused. It takes no memory.
+    pub fn put(&mut self, first: u16, from: &[SlaveAreas], to: &[SlaveAreas], starts: &LineStarts)
+        requires { HasPut 8 0 self.old first from.now to.now starts.now }
+        ensures { (old new : List (List Area)) → IsPut 8 0 self.old first from.now to.now starts.now old new → self.new ≡ line_kept new }
+    {
+        put_tasks(self.tasks.as_mut_slice(), 0, first, from, to, starts);
+    }
+
+    /// The tasks of a line, from nothing. `TooManyDatagrams` with the lowest task that needs more than
+    /// 16, or `Memory` where a growth was refused.
+    pub fn open<L: Ledger>(
+        alloc: Global,
+        line: &[SlaveAreas],
+        steps: &mut Steps<L>,
+    ) -> Result<LineCuts, EditFault>
+        requires { IsLine line.now }
+        ensures kept { IfOk result (λ cuts. cuts ≡ line_kept line.now) }
+        ensures accepted { OnOk result (crowded_from 8 0 line.now ≡ None) }
+        ensures refused { IfErr result (λ fault. fault ≢ Memory → option_map TooManyDatagrams (crowded_from 8 0 line.now) ≡ Some fault) }
+    {
+        let absent = absent_slaves(alloc, line.len())?;
+        let mut cuts = LineCuts::new(alloc, line.len() as u16)?;
+        match cuts.turn(1, absent.as_slice(), line, steps) {
+            Ok(_) => Ok(cuts),
+            Err(task) => Err(EditFault::TooManyDatagrams(task)),
+        }
+    }
+
+    /// Whether the line's trees have room for so many slaves (`SumTree::has_room`): whether `admit` may be called.
+    /// It takes no memory.
+    pub fn has_room(&self, slaves: u16) -> bool
+        ensures { (line : List (List Area)) → self.now ≡ line_kept line → IsTrue result ↔ HasRoom (length line) slaves }
+    {
+        self.tasks[0].has_room(slaves)
+    }
+
+    /// From now on the line has so many slaves, for whom its trees have room: those behind its own have no areas,
+    /// as those of a group that isn't present. All areas and boundaries stay. It takes no memory.
+    pub fn admit(&mut self, slaves: u16)
+        requires { CanAdmit self.old slaves }
+        ensures { (line : List (List Area)) (count : ℕ) → self.old ≡ line_kept line → slaves ≡ length line + count → self.new ≡ line_kept (with_absent count line) }
+    {
+        admit_all(self.tasks.as_mut_slice(), slaves);
+    }
+
+    /// The tasks of the line with so many slaves, at most 2,048, in trees of their own: those behind its own have
+    /// no areas, as those of a group that isn't present. The areas of the line are gone over, and no boundary is
+    /// searched. Where `has_room` is false the trees are at least twice as wide as the line's own, so the tasks of
+    /// a line that grows slave by slave are seldom made anew. `AllocError` where a growth was refused.
+    pub fn widened(&self, alloc: Global, slaves: u16) -> Result<LineCuts, AllocError>
+        requires fewer { AreOfFewer self.now slaves }
+        requires most { slaves ≤ MOST_SLAVES }
+        ensures { IfOk result (λ cuts. (line : List (List Area)) (count : ℕ) → self.now ≡ line_kept line → slaves ≡ length line + count → cuts ≡ line_kept (with_absent count line)) }
+    {
+        let tasks = all_widened(alloc, self.tasks.as_slice(), slaves)?;
+        Ok(LineCuts { tasks })
+    }
+
+    /// The boundaries of a task, 0 to 7, but the last one, `Key::END`: `Key::START`, at which the first
+    /// datagram begins if there is one, and the keys at which the later ones do. It takes no memory.
+    pub fn starts(&self, task: u8) -> &[Key]
+        requires { task < TASKS }
+        ensures starts { (line : List (List Area)) → self.now ≡ line_kept line → result.now ≡ starts_by task line }
+        ensures few { length result.now ≤ MOST_DATAGRAMS }
+    {
+        self.tasks[usize::from(task)].starts()
+    }
+
+    /// Whether a task, 0 to 7, has inputs. No area is read. It takes no memory.
+    pub fn has_inputs(&self, task: u8) -> bool
+        requires { task < TASKS }
+        ensures { (line : List (List Area)) → self.now ≡ line_kept line → result ≡ has_inputs (list_by task line) }
+    {
+        self.tasks[usize::from(task)].has_inputs()
+    }
+
+    /// The areas of a datagram of a task, 0 to 7, with their places, in key order; none where the task has no
+    /// datagram with that number. `AllocError` where a growth was refused.
+    pub fn datagram(&self, alloc: Global, task: u8, number: u16) -> Result<Vec<Placed>, AllocError>
+        requires { task < TASKS }
+        ensures { IfOk result (λ places. (line : List (List Area)) → self.now ≡ line_kept line → places.items ≡ inside number (packed opening (list_by task line))) }
+    {
+        self.tasks[usize::from(task)].datagram(alloc, number)
+    }
+
+    /// The areas of a task with their places, in key order. `AllocError` where a growth was refused.
+    pub fn places(&self, alloc: Global, task: u8) -> Result<Vec<Placed>, AllocError>
+        requires { task < TASKS }
+        ensures { IfOk result (λ places. (line : List (List Area)) → self.now ≡ line_kept line → places.items ≡ packed opening (list_by task line)) }
+    {
+        self.tasks[usize::from(task)].places(alloc)
+    }
+
+    /// The width in bits of an area in a task, 0 to 7, by its key, as `place` takes it; 0 where the task has no
+    /// such area. It takes no memory.
+    pub fn bits(&self, task: u8, key: Key) -> u16
+        requires { task < TASKS }
+        ensures { (line : List (List Area)) → self.now ≡ line_kept line → result ≡ width_in (list_by task line) key }
+    {
+        self.tasks[usize::from(task)].bits(key)
+    }
+
+    /// The place of an area in a task, 0 to 7, by its key, any key: the direction, the rank of the slave in
+    /// the line, and the area's place in the slave's record. The datagram of the task that carries it, and
+    /// its first bit there; none where the task has no such area. It is worked out from the widths and the
+    /// boundaries of the task. It takes no memory.
+    pub fn place(&self, task: u8, key: Key) -> Option<Placed>
+        requires { task < TASKS }
+        ensures { (line : List (List Area)) → self.now ≡ line_kept line → result ≡ place_of key (list_by task line) }
+    {
+        self.tasks[usize::from(task)].place(key)
+    }
+
+    /// A cursor before the first area of each task. It takes no memory.
+    pub(crate) fn cursors(&self) -> [Cursor; 8]
+        ensures { StandInTasks self.now result }
+    {
+        let _tasks = &self.tasks;
+        [Cursor::start(); 8]
+    }
+
+    /// The place of an area in a task, 0 to 7, as `place` gives it, by cursors that stand in the tasks and stand
+    /// in them again. It takes no memory.
+    pub(crate) fn place_from(&self, cursors: &mut [Cursor; 8], task: u8, key: Key) -> Option<Placed>
+        requires task { task < TASKS }
+        requires stood { StandInTasks self.now cursors.old }
+        ensures place { (line : List (List Area)) → self.now ≡ line_kept line → result ≡ place_of key (list_by task line) }
+        ensures stand { StandInTasks self.now cursors.new }
+    {
+        let task = usize::from(task);
+        self.tasks[task].place_from(&mut cursors[task], key)
+    }
+
+    /// A copy of the boundaries of the eight tasks, to be compared with later ones or put again. It takes no
+    /// memory.
+    pub fn copied_starts(&self) -> LineStarts
+        ensures copy { result ≡ map (λ kept. kept.starts) self.now }
+        ensures starts { (line : List (List Area)) → self.now ≡ line_kept line → AreStartsOf line result }
+    {
+        LineStarts::of(self.tasks.as_slice())
+    }
+}

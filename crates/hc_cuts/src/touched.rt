@@ -1,0 +1,80 @@
+//! The keys of a task whose widths differ between two lines.
+ghost use Rattle.std.specs.Prelude.{◌==◌, ◌&&◌, List};
+ghost use Rattle.hc_records.specs.Boundaries.{is_touched};
+ghost use Rattle.hc_records.specs.Keys.{same_key};
+ghost use Rattle.hc_records.specs.declared.records.Area.{Area};
+ghost use Rattle.hc_cuts.specs.Hulls.{AreHulls, TakeIn};
+ghost use Rattle.hc_cuts.specs.Areas.{list_by};
+ghost use Rattle.hc_cuts.specs.Turn.{AreLines, HasLines};
+ghost use Rattle.hc_cuts.specs.Widths.{AreKept, differs};
+
+use crate::areas::SlaveAreas;
+use crate::hulls::Hulls;
+use crate::widths::slave_width;
+use hc_records::keys::Key;
+use hc_records::records::{Area, Dir};
+
+/// Takes a key of a slave that had some areas and has others in, where its width differs.
+fn touch_key(hulls: &mut Hulls, task: u8, key: Key, old: &[Area], new: &[Area])
+    requires old { AreKept old.now }
+    requires new { AreKept new.now }
+    ensures { TakeIn hulls.old hulls.new (λ other. same_key key other && differs task old.now new.now other) }
+{
+    if slave_width(old, task, key) == slave_width(new, task, key) {
+        return;
+    }
+    hulls.add(key);
+}
+
+/// Takes the keys of an output and of an input with a place in the record of a slave in, where their widths
+/// differ.
+fn touch_area(hulls: &mut Hulls, task: u8, rank: u16, area: u8, old: &[Area], new: &[Area])
+    requires old { AreKept old.now }
+    requires new { AreKept new.now }
+    ensures { TakeIn hulls.old hulls.new (λ key. (rank == key.rank) && (area == key.area) && differs task old.now new.now key) }
+{
+    let output = Key {
+        dir: Dir::Out,
+        rank,
+        area,
+    };
+    let input = Key {
+        dir: Dir::In,
+        rank,
+        area,
+    };
+    touch_key(hulls, task, output, old, new);
+    touch_key(hulls, task, input, old, new);
+}
+
+/// Takes the keys of a slave that had some areas and has others in, where their widths differ.
+fn touch_slave(hulls: &mut Hulls, task: u8, rank: u16, old: &[Area], new: &[Area])
+    requires old { AreKept old.now }
+    requires new { AreKept new.now }
+    ensures { TakeIn hulls.old hulls.new (λ key. (rank == key.rank) && differs task old.now new.now key) }
+{
+    for area in 0..old.len().max(new.len()) {
+        touch_area(hulls, task, rank, area as u8, old, new);
+    }
+}
+
+/// The hulls of the touched keys of a task, 0 to 7, where the slaves of a line from a rank on had some areas
+/// and have others: the intervals from the least to the greatest output and input whose width differs. None
+/// where no width does. It takes no memory.
+pub fn touched_hulls(task: u8, first: u16, before: &[SlaveAreas], after: &[SlaveAreas]) -> Hulls
+    requires { HasLines first before.now after.now }
+    ensures { (old new : List (List Area)) → AreLines first before.now after.now old new → AreHulls (is_touched (list_by task old) (list_by task new)) result }
+{
+    let mut hulls = Hulls::none();
+    for i in 0..before.len() {
+        let rank = first + i as u16;
+        touch_slave(
+            &mut hulls,
+            task,
+            rank,
+            before[i].as_slice(),
+            after[i].as_slice(),
+        );
+    }
+    hulls
+}

@@ -1,0 +1,104 @@
+//! The widths of a task's areas, set where they differ between two lines.
+ghost use Rattle.std.specs.Prelude.{◌≡◌, ◌<◌, ◌≤◌, ◌==◌, ◌&&◌, List, if◌then◌else◌};
+ghost use Rattle.hc_bitsum.specs.Tree.{HasPlace, HoldsTaskList};
+ghost use Rattle.hc_records.specs.Boundaries.{width_in};
+ghost use Rattle.hc_records.specs.Keys.{same_key};
+ghost use Rattle.hc_records.specs.declared.keys.Key.{Key};
+ghost use Rattle.hc_records.specs.declared.limits.TheConstants.{MOST_AREAS, MOST_AREA_BITS};
+ghost use Rattle.hc_records.specs.declared.records.Area.{Area};
+ghost use Rattle.hc_cuts.specs.Areas.{slave_width, width_at};
+ghost use Rattle.hc_cuts.specs.Kept.{tree_by};
+ghost use Rattle.hc_cuts.specs.Turn.{AreLines, HasTree};
+ghost use Rattle.hc_cuts.specs.Widths.{AreKept, IsSetTo, with_slave};
+
+use crate::areas::SlaveAreas;
+use crate::cuts::Cuts;
+use hc_records::keys::Key;
+use hc_records::records::{Area, Dir};
+
+/// The width of a key in a task, by the areas of its slave, in bits.
+pub(crate) fn slave_width(areas: &[Area], task: u8, key: Key) -> u16
+    requires { AreKept areas.now }
+    ensures value { result ≡ slave_width task areas.now key }
+    ensures narrow { result ≤ MOST_AREA_BITS }
+{
+    match areas.get(usize::from(key.area)) {
+        Some(area) if area.task == task && area.dir == key.dir => area.width(),
+        _ => 0,
+    }
+}
+
+/// Sets the width of a key of a slave that had some areas and has others, where it differs.
+fn set_key(cuts: &mut Cuts, task: u8, key: Key, old: &[Area], new: &[Area])
+    requires place { HasPlace cuts.old.tree.slaves key }
+    requires holds { HoldsTaskList cuts.old.tree }
+    requires old { AreKept old.now }
+    requires new { AreKept new.now }
+    requires was { width_in cuts.old.tree.list key ≡ slave_width task old.now key }
+    ensures { IsSetTo cuts.old cuts.new (λ other. if same_key key other then slave_width task new.now key else width_in cuts.old.tree.list other) }
+{
+    let bits = slave_width(new, task, key);
+    if slave_width(old, task, key) == bits {
+        return;
+    }
+    cuts.set(key, bits);
+}
+
+/// Sets the widths of an output and of an input with a place in the record of a slave, where they
+/// differ.
+fn set_area(cuts: &mut Cuts, task: u8, rank: u16, area: u8, old: &[Area], new: &[Area])
+    requires first { 1 ≤ rank }
+    requires last { rank ≤ cuts.old.tree.slaves }
+    requires area { area < MOST_AREAS }
+    requires holds { HoldsTaskList cuts.old.tree }
+    requires old { AreKept old.now }
+    requires new { AreKept new.now }
+    requires was { (key : Key) → key.rank ≡ rank → key.area ≡ area → width_in cuts.old.tree.list key ≡ slave_width task old.now key }
+    ensures { IsSetTo cuts.old cuts.new (λ key. if (rank == key.rank) && (area == key.area) then slave_width task new.now key else width_in cuts.old.tree.list key) }
+{
+    let output = Key {
+        dir: Dir::Out,
+        rank,
+        area,
+    };
+    let input = Key {
+        dir: Dir::In,
+        rank,
+        area,
+    };
+    set_key(cuts, task, output, old, new);
+    set_key(cuts, task, input, old, new);
+}
+
+/// Sets the widths of a slave that had some areas and has others, where they differ.
+fn set_slave(cuts: &mut Cuts, task: u8, rank: u16, old: &[Area], new: &[Area])
+    requires first { 1 ≤ rank }
+    requires last { rank ≤ cuts.old.tree.slaves }
+    requires holds { HoldsTaskList cuts.old.tree }
+    requires old { AreKept old.now }
+    requires new { AreKept new.now }
+    requires was { (key : Key) → key.rank ≡ rank → width_in cuts.old.tree.list key ≡ slave_width task old.now key }
+    ensures { IsSetTo cuts.old cuts.new (with_slave task rank new.now cuts.old) }
+{
+    for area in 0..old.len().max(new.len()) {
+        set_area(cuts, task, rank, area as u8, old, new);
+    }
+}
+
+/// Sets the widths of a task of a line whose slaves from a rank on had some areas and have others, where
+/// they differ. It takes no memory.
+pub(crate) fn set_widths(
+    cuts: &mut Cuts,
+    task: u8,
+    first: u16,
+    before: &[SlaveAreas],
+    after: &[SlaveAreas],
+)
+    requires { HasTree task cuts.old.tree first before.now after.now }
+    ensures { (old new : List (List Area)) → AreLines first before.now after.now old new → cuts.old.tree ≡ tree_by task old → IsSetTo cuts.old cuts.new (width_at task new) }
+{
+    for i in 0..before.len() {
+        let rank = first + i as u16;
+        set_slave(cuts, task, rank, before[i].as_slice(), after[i].as_slice());
+    }
+}

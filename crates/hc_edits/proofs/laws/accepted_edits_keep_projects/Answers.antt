@@ -1,5 +1,0 @@
-use Rattle.hc_edits.proofs.lemmas.Accepted.{accepted-project}
-use Rattle.hc_edits.proofs.laws.accepted_edits_keep_projects.Goals as goal
-
-pub returns : goal.returns
-returns c = accepted-project

@@ -1,0 +1,303 @@
+-- What a programmed line adds to the working counter of a datagram of a task.
+use Rattle.std.proofs.Common.{◌≡◌, ℕ, zero, suc, ◌+◌, ◌-◌, ◌*◌, ◌<◌, ◌≤◌, ◌⊎◌, ◌∙◌, inl, inr, Bool, true, false, List, [], ◌∷◌, length, refl, sym, ap, ap₂, subst, arith}
+use Rattle.std.specs.Prelude.{All, AllPairs, Contains, IsTrue, Some, filter, map, nat_lt, slice_get, slice_index_or, sum_by, ◌==◌, ◌&&◌, ◌||◌, if◌then◌else◌}
+use Rattle.std.specs.List.{AllZip, enumerate_from, list_any}
+use Rattle.std.proofs.lemmas.Bool.{eqb-true}
+use Rattle.std.proofs.lemmas.Bool.Decides.{nat_tests}
+use Rattle.std.proofs.lemmas.List.Elements.{All-contains, All-contains_itself, All-filter, Contains-get_or, filter_passes}
+use Rattle.std.proofs.lemmas.List.Sums.{sum_by-cons}
+use Rattle.hc_records.specs.AddressLaws.{IsDatagram}
+use Rattle.hc_records.specs.declared.keys.Key.{Key}
+use Rattle.hc_records.specs.declared.limits.TheConstants.{TASKS}
+use Rattle.hc_records.specs.declared.records.Area.{Area}
+use Rattle.hc_records.specs.declared.records.Dir.{Dir}
+use Rattle.hc_records.specs.declared.records.Dir.TheVariants.{Out, In}
+use Rattle.hc_records.specs.Area.{width}
+use Rattle.hc_records.specs.Image.{counter_share, datagram_length, inside, is_of, logical_address, task_places}
+use Rattle.hc_records.specs.Keys.{is_before, is_within, same_dir}
+use Rattle.hc_records.specs.Line.{Member, State, line}
+use Rattle.hc_records.specs.Packing.{Placed, opening, packed}
+use Rattle.hc_records.specs.TaskList.{Keyed, task_list}
+use Rattle.hc_records.proofs.lemmas.Addresses.{uncrowded-few}
+use Rattle.hc_records.proofs.lemmas.Ascending.{keys-ascend}
+use Rattle.hc_records.proofs.lemmas.KeyOrder.{before-apart, same_dir-refl, within-refl}
+use Rattle.hc_records.proofs.lemmas.Lengths.{length-sendable}
+use Rattle.hc_records.proofs.lemmas.Lists.{AllPairs-unmap, All-unmap}
+use Rattle.hc_records.proofs.lemmas.Packable.{project-packable}
+use Rattle.hc_records.proofs.lemmas.Packed.{area_of, packed-areas}
+use Rattle.hc_records.proofs.lemmas.Parts.{EndsInDatagram, ends-in-datagram}
+use Rattle.hc_records.proofs.lemmas.Tasks.{task-list-all}
+use Rattle.hc_registers.specs.declared.fmmu.Mapping.{Mapping}
+use Rattle.hc_registers.specs.Blocks.{mapping_at}
+use Rattle.hc_machine.specs.Laws.{IsRead, IsWritten}
+use Rattle.hc_machine.specs.Logical.{logical_count}
+use Rattle.hc_machine.proofs.lemmas.Logical.{counts-tell}
+use Rattle.hc_exchange.specs.PairLaws.{IsConfigurable}
+use Rattle.hc_exchange.specs.Pairs.{key_of}
+use Rattle.hc_exchange.specs.Writing.{IsProgrammed}
+use Rattle.hc_exchange.proofs.lemmas.Elements.{contains-first, contains-kept, contains-later, contains-mapped, contains-order, contains-unmapped, numbered-at}
+use Rattle.hc_exchange.proofs.lemmas.Listed.{areas-mapped}
+use Rattle.hc_exchange.proofs.lemmas.Members.{IsGoodPlace, area-inside, keeps-line, one-rank, one-station}
+use Rattle.hc_exchange.proofs.lemmas.Places.{logical-told, mapped-place, place-widths}
+use Rattle.hc_exchange.specs.Carrying.{CarriesPair, count_through}
+use Rattle.hc_exchange.specs.FrameLaws.{CountersAreExpected}
+use Rattle.hc_exchange.proofs.lemmas.Lines.{Stands, all-stand}
+use Rattle.hc_exchange.proofs.lemmas.Slaves.{carried-reads, carried-writes, reads-carried, writes-carried}
+
+-- tests that some element passes
+
+any-true : (a b : Bool) → (a ≡ true) ⊎ (b ≡ true) → (a || b) ≡ true
+any-true true b either = refl
+any-true false b (inl is) = cc
+any-true false b (inr is) = is
+
+true-any : (a b : Bool) → (a || b) ≡ true → (a ≡ true) ⊎ (b ≡ true)
+true-any true b is = inl refl
+true-any false b is = inr is
+
+passes-at : {X : Type 0} (test : X → Bool) (xs : List X) (k : ℕ) (x : X) → k < length xs → slice_index_or xs k x ≡ x → test x ≡ true → list_any test xs ≡ true
+passes-at test [] k x low is passes = absurd (omega arith)
+passes-at test (z ∷ xs) zero x low is passes = any-true (test z) (list_any test xs) (inl (ap test is ∙ passes))
+passes-at test (z ∷ xs) (suc k) x low is passes = any-true (test z) (list_any test xs) (inr (passes-at test xs k x (omega arith) is passes))
+
+some-passes : {X : Type 0} (test : X → Bool) (xs : List X) (x : X) → Contains xs x → test x ≡ true → list_any test xs ≡ true
+some-passes test xs x (k, low, is) passes = passes-at test xs k x low is passes
+
+which-passes : {X : Type 0} (test : X → Bool) (xs : List X) → list_any test xs ≡ true → (x : X) × Contains xs x × (test x ≡ true)
+which-passes test [] is = cc
+which-passes test (z ∷ xs) is = elim (true-any (test z) (list_any test xs) is) [
+  | inl here ↦ (z, contains-first z xs, here)
+  | inr there ↦ let later = which-passes test xs there in (later.0, contains-later z later.0 xs later.1, later.2)
+]
+
+both : (a b : Bool) → a ≡ true → b ≡ true → (a && b) ≡ true
+both true b is is' = is'
+both false b is is' = is
+
+parts : (a b : Bool) → (a && b) ≡ true → (a ≡ true) × (b ≡ true)
+parts true b is = (refl, is)
+parts false b is = cc
+
+same-test : (a b : ℕ) → a ≡ b → (a == b) ≡ true
+same-test a b e = grind (arith, nat_tests)
+
+pub dir-same : (a b : Dir) → same_dir a b ≡ true → a ≡ b
+dir-same Out Out is = refl
+dir-same Out In is = cc
+dir-same In Out is = cc
+dir-same In In is = refl
+
+-- an area of the line that has a bit in the datagram tells that its slave counts there
+
+in-datagram : (state : State) (task datagram : ℕ) (member : Member) (dir : Dir) (bit m : ℕ) → IsConfigurable state → IsDatagram (line state) task datagram → Contains (line state) member
+    → bit < 8 * datagram_length (task_places task (line state)) datagram → CarriesPair (line state) dir member.slave.station (8 * logical_address task datagram + bit) m
+    → list_any (is_of member.rank dir) (map (λ (area : Placed). area.key) (inside datagram (task_places task (line state)))) ≡ true
+in-datagram state task datagram member dir bit m can is has low carries =
+    let members = line state in
+    let keeps = keeps-line state can in
+    let pairs = carries.areas in
+    let own = pairs.is_mapped in
+    let place = mapped-place members pairs.member pairs.index pairs.area pairs.mapping keeps own.in_line own.in_record own.mapped in
+    let p = place.placed in
+    let count = uncrowded-few members task can.uncrowded is.in_task in
+    let counted = is.counted in
+    let early : datagram < 16 = omega (arith, count, counted) in
+    let most = (length-sendable (task_list task members) datagram (project-packable state task can.project) counted).most in
+    let short : 0 + 11888 ≤ 11888 = omega arith in
+    let few : bit < 11888 = omega (arith, low, most) in
+    let few' : pairs.pair.k < p.bits = omega (arith, pairs.pair.below, place.bits) in
+    let logical : 8 * logical_address task datagram + bit ≡ 8 * (16777216 * (pairs.area.task + 1) + 2048 * p.datagram) + p.bit + pairs.pair.k =
+    subst (λ (mapping : Mapping). 8 * logical_address task datagram + bit ≡ 8 * mapping.address + mapping.bit + pairs.pair.k) (sym place.is) pairs.pair.logical in
+    let told =
+    logical-told task datagram 0 11888 bit pairs.area.task p.datagram p.bit p.bits pairs.pair.k early place.good.early short place.good.inside few few' (first-bit (8 * logical_address task datagram) bit _ logical) in
+    let there : Contains (task_places task members) p = subst (λ (t : ℕ). Contains (task_places t members) p) (sym told.0) place.in_task in
+    let kept = contains-kept (λ (area : Placed). area.datagram == datagram) (task_places task members) p there (same-test p.datagram datagram (sym told.1)) in
+    let keyed = contains-mapped (λ (area : Placed). area.key) (inside datagram (task_places task members)) p kept in
+    let one : pairs.member ≡ member = one-station members pairs.member member keeps own.in_line has pairs.station_is in
+    let rank : p.key.rank ≡ member.rank = ap (λ (key : Key). key.rank) place.key ∙ ap (λ (slave : Member). slave.rank) one in
+    let way : same_dir p.key.dir dir ≡ true = ap₂ same_dir (ap (λ (key : Key). key.dir) place.key ∙ carries.direction) refl ∙ same_dir-refl dir in
+    some-passes (is_of member.rank dir) (map (λ (area : Placed). area.key) (inside datagram (task_places task members))) p.key keyed
+    (both (p.key.rank == member.rank) (same_dir p.key.dir dir) (same-test p.key.rank member.rank rank) way)
+  where
+    first-bit : (a bit b : ℕ) → a + bit ≡ b → a + 0 + bit ≡ b
+    first-bit a bit b same = omega arith
+
+-- and a slave that counts there has an area with a bit in the datagram
+
+pub record HasArea (line : List Member) (task : ℕ) (keyed : Keyed) : Type 0 where
+  member : Member
+  index : ℕ
+  area : Area
+  in_line : Contains line member
+  found : slice_get member.slave.areas index ≡ Some area
+  task_is : area.task ≡ task
+  key : keyed.0 ≡ key_of member index area
+
+named-areas : (line : List Member) (task : ℕ) → All (HasArea line task) (task_list task line)
+named-areas line task =
+    task-list-all (HasArea line task) task line
+    (λ dir j d low i e within belonging.
+    let member = slice_index_or line j d in
+    let element = slice_index_or (enumerate_from 0 member.slave.areas) i e in
+    let numbered = numbered-at 0 member.slave.areas i e within in
+    let none : element.0 ≡ element.0 - 0 = omega arith in
+    let area = element.1 in
+    let first = parts ((area.task == task) && same_dir area.dir dir) (nat_lt 0 (width area)) belonging in
+    let tests = parts (area.task == task) (same_dir area.dir dir) first.0 in
+    record {
+      member = member;
+      index = element.0;
+      area = area;
+      in_line = Contains-get_or line j d low;
+      found = ap (slice_get member.slave.areas) none ∙ numbered.1;
+      task_is = eqb-true area.task task tests.0;
+      key = ap (λ (way : Dir). key-with way member.rank element.0) (sym (dir-same area.dir dir tests.1));
+    })
+  where
+    key-with : Dir → ℕ → ℕ → Key
+    key-with way rank number = record { dir = way; rank = rank; area = number }
+
+unkept-at : {X : Type 0} (test : X → Bool) (xs : List X) (x : X) → Contains (filter test xs) x → Contains xs x × (test x ≡ true)
+unkept-at test xs x has =
+    (All-contains (Contains xs) (filter test xs) x (All-filter test (Contains xs) xs (All-contains_itself xs)) has, All-contains (λ y. test y ≡ true) (filter test xs) x (filter_passes test xs) has)
+
+keys-apart : (state : State) (task : ℕ) → AllPairs (λ (a b : Placed). IsTrue (is_before a.key b.key)) (task_places task (line state))
+keys-apart state task =
+    let list = task_list task (line state) in
+    AllPairs-unmap (λ (a b : Keyed). IsTrue (is_before a.0 b.0)) area_of (packed opening list)
+    (subst (AllPairs (λ (a b : Keyed). IsTrue (is_before a.0 b.0))) (sym (packed-areas opening list)) (keys-ascend state task))
+
+not-before : (a b : Key) → a ≡ b → is_before a b ≡ true → ⊥
+not-before a b same before =
+    let within = within-refl a in
+    let apart = before-apart a b before in
+    let other : is_within b a ≡ is_within a a = ap (λ (k : Key). is_within k a) (sym same) in
+    cc
+
+pub one-key : (state : State) (task : ℕ) (a b : Placed) → Contains (task_places task (line state)) a → Contains (task_places task (line state)) b → a.key ≡ b.key → a ≡ b
+one-key state task a b has has' same =
+    elim (contains-order (λ (x y : Placed). IsTrue (is_before x.key y.key)) (task_places task (line state)) a b (keys-apart state task) has has') [
+      | inl one ↦ one
+      | inr (inl before) ↦ absurd (not-before a.key b.key same before)
+      | inr (inr before) ↦ absurd (not-before b.key a.key (sym same) before)
+    ]
+
+-- such a bit, and the memory bit that it is paired with
+record HasBit (line : List Member) (dir : Dir) (station from bits : ℕ) : Type 0 where
+  bit : ℕ
+  m : ℕ
+  below : bit < bits
+  carries : CarriesPair line dir station (from + bit) m
+
+has-bit : (state : State) (task datagram : ℕ) (member : Member) (dir : Dir) → IsConfigurable state → Contains (line state) member
+    → list_any (is_of member.rank dir) (map (λ (area : Placed). area.key) (inside datagram (task_places task (line state)))) ≡ true
+    → HasBit (line state) dir member.slave.station (8 * logical_address task datagram) (8 * datagram_length (task_places task (line state)) datagram)
+has-bit state task datagram member dir can has some =
+    let members = line state in
+    let keeps = keeps-line state can in
+    let places = task_places task members in
+    let key = which-passes (is_of member.rank dir) (map (λ (area : Placed). area.key) (inside datagram places)) some in
+    let placed = contains-unmapped (λ (area : Placed). area.key) (inside datagram places) key.0 key.1 in
+    let p = placed.0 in
+    let kept = unkept-at (λ (area : Placed). area.datagram == datagram) places p placed.1 in
+    let tests = parts (key.0.rank == member.rank) (same_dir key.0.dir dir) key.2 in
+    let named = All-unmap (HasArea members task) area_of places (subst (All (HasArea members task)) (sym (packed-areas opening (task_list task members))) (named-areas members task)) in
+    let source : HasArea members task (area_of p) = All-contains (λ (x : Placed). HasArea members task (area_of x)) places p named kept.0 in
+    let area = source.area in
+    let own_key : key_of source.member source.index area ≡ key.0 = sym source.key ∙ placed.2 in
+    let one : source.member ≡ member = one-rank members source.member member keeps source.in_line has (ap (λ (k : Key). k.rank) own_key ∙ eqb-true key.0.rank member.rank tests.0) in
+    let way : area.dir ≡ dir = ap (λ (k : Key). k.dir) own_key ∙ dir-same key.0.dir dir tests.1 in
+    elim (areas-mapped state source.member source.index area can source.in_line source.found) [
+      | inl mapped ↦
+          let in_place = mapped.1 in
+          let q = in_place.placed in
+          let there : Contains places q = subst (λ (t : ℕ). Contains (task_places t members) q) source.task_is in_place.in_task in
+          let equal : p ≡ q = one-key state task p q kept.0 there (source.key ∙ sym in_place.key) in
+          let datagram_is : q.datagram ≡ datagram = ap (λ (x : Placed). x.datagram) (sym equal) ∙ eqb-true p.datagram datagram kept.1 in
+          let bits : q.bits ≡ width area = in_place.bits in
+          let some_bits = mapped.0 in
+          let ends : q.bit + q.bits ≤ 8 * datagram_length places q.datagram = All-contains (EndsInDatagram places) places q (ends-in-datagram places) there in
+          let ends_here : q.bit + q.bits ≤ 8 * datagram_length places datagram = subst (λ (d : ℕ). q.bit + q.bits ≤ 8 * datagram_length places d) datagram_is ends in
+          record {
+            bit = q.bit;
+            m = 8 * area.phys + 0;
+            below = omega arith;
+            carries = record {
+              areas = record {
+                member = source.member;
+                index = source.index;
+                area = area;
+                mapping = mapping_at area.task q;
+                station_is = ap (λ (slave : Member). slave.slave.station) one;
+                is_mapped = record { in_line = source.in_line; in_record = source.found; mapped = in_place.mapped };
+                pair = record { k = 0; below = some_bits; logical = address-bit area.task task q.datagram datagram q.bit source.task_is datagram_is; memory = refl };
+              };
+              direction = way;
+            };
+          }
+      | inr none ↦
+          let good = All-contains IsGoodPlace places p (keeps.places task (subst (λ (t : ℕ). t < TASKS) source.task_is (area-inside members source.member source.index area keeps source.in_line source.found).task)) kept.0 in
+          absurd (place-no members source.member source.index area p task none.0 (All-contains (λ (x : Placed). x.key ≡ key_of source.member source.index area → x.bits ≡ width area) places p (place-widths members source.member source.index area task keeps source.in_line source.found) kept.0 source.key) good)
+    ]
+  where
+    address-bit : (t task d datagram bit : ℕ) → t ≡ task → d ≡ datagram → 8 * logical_address task datagram + bit ≡ 8 * logical_address t d + bit + 0
+    address-bit t task d datagram bit same same' = omega arith
+
+    place-no : (members : List Member) (member : Member) (index : ℕ) (area : Area) (p : Placed) (task : ℕ) → width area ≡ 0 → p.bits ≡ width area → IsGoodPlace p → ⊥
+    place-no members member index area p task none bits good = let some = good.some in omega arith
+
+-- so each slave counts as its areas in the datagram tell
+
+share-by : (one r : ℕ) (b : Bool) (P : Type 0) → ((r ≡ one) × P) ⊎ ((r ≡ 0) × (¬ P)) → (P → b ≡ true) → (b ≡ true → P) → r ≡ (if b then one else 0)
+share-by one r true P (inl told) to from = told.0
+share-by one r true P (inr told) to from = absurd (told.1 (from refl))
+share-by one r false P (inl told) to from = let no = to told.1 in cc
+share-by one r false P (inr told) to from = told.0
+
+slave-counts : (state : State) (task datagram : ℕ) (member : Member) (memory : List ℕ) → IsConfigurable state → IsDatagram (line state) task datagram → Contains (line state) member
+    → IsProgrammed (line state) member memory
+    → logical_count memory (8 * logical_address task datagram) (datagram_length (task_places task (line state)) datagram)
+    ≡ counter_share (map (λ (area : Placed). area.key) (inside datagram (task_places task (line state)))) member.rank
+slave-counts state task datagram member memory can is has programmed =
+    let members = line state in
+    let keeps = keeps-line state can in
+    let from = 8 * logical_address task datagram in
+    let n = datagram_length (task_places task members) datagram in
+    let keys = map (λ (area : Placed). area.key) (inside datagram (task_places task members)) in
+    let told = counts-tell memory from n in
+    let read : told.0 ≡ (if list_any (is_of member.rank In) keys then 1 else 0) =
+    share-by 1 told.0 (list_any (is_of member.rank In) keys) (IsRead memory from n) told.3
+    (λ reads. in-datagram state task datagram member In reads.1 reads.2 can is has reads.4 (reads-carried members member memory reads.0 (from + reads.1) reads.2 keeps has programmed reads.3 reads.5))
+    (λ some.
+    let bit = has-bit state task datagram member In can has some in
+    let serves = carried-reads members member memory (from + bit.bit) bit.m keeps has programmed bit.carries in
+    (serves.fmmu, bit.bit, bit.m, serves.below, bit.below, (serves.turned, serves.pair))) in
+    let written : told.1 ≡ (if list_any (is_of member.rank Out) keys then 2 else 0) =
+    share-by 2 told.1 (list_any (is_of member.rank Out) keys) (IsWritten memory from n) told.4
+    (λ writes. in-datagram state task datagram member Out writes.1 writes.2 can is has writes.4 (writes-carried members member memory writes.0 (from + writes.1) writes.2 keeps has programmed writes.3 writes.5))
+    (λ some.
+    let bit = has-bit state task datagram member Out can has some in
+    let serves = carried-writes members member memory (from + bit.bit) bit.m keeps has programmed bit.carries in
+    (serves.fmmu, bit.bit, bit.m, serves.below, bit.below, (serves.turned, serves.pair))) in
+    told.2 ∙ ap₂ (λ (a b : ℕ). a + b) read written ∙ turned (if list_any (is_of member.rank In) keys then 1 else 0) (if list_any (is_of member.rank Out) keys then 2 else 0)
+  where
+    turned : (a b : ℕ) → a + b ≡ b + a
+    turned a b = omega arith
+
+all-count : (line members : List Member) (machines : List (List ℕ)) (from n : ℕ) (keys : List Key)
+    → ((member : Member) (memory : List ℕ) → Stands line member memory → logical_count memory from n ≡ counter_share keys member.rank)
+    → AllZip (Stands line) members machines → count_through machines from n ≡ sum_by (counter_share keys) (map (λ (member : Member). member.rank) members)
+all-count line [] [] from n keys each stand = refl
+all-count line [] (memory ∷ machines) from n keys each stand = absurd stand
+all-count line (member ∷ members) [] from n keys each stand = absurd stand
+all-count line (member ∷ members) (memory ∷ machines) from n keys each stand =
+    ap₂ (λ (a b : ℕ). a + b) (each member memory stand.0) (all-count line members machines from n keys each stand.1)
+    ∙ sym (sum_by-cons (counter_share keys) member.rank (map (λ (m : Member). m.rank) members))
+
+pub counts-expected : CountersAreExpected
+counts-expected state machines task datagram can are is =
+    let members = line state in
+    all-count members members machines (8 * logical_address task datagram) (datagram_length (task_places task members) datagram)
+    (map (λ (area : Placed). area.key) (inside datagram (task_places task members)))
+    (λ member memory stands. slave-counts state task datagram member memory can is stands.in_line stands.ready.programmed)
+    (all-stand members machines are)

@@ -1,0 +1,205 @@
+-- Frames of logical datagrams through machines.
+use Rattle.std.proofs.Common.{◌≡◌, ℕ, ◌+◌, ◌*◌, ◌%◌, ◌<◌, ◌∙◌, List, [], ◌∷◌, length, is_none, refl, ap, ap₂, subst, arith}
+use Rattle.std.specs.Prelude.{All, None, Option, map, if◌then◌else◌}
+use Rattle.std.proofs.lemmas.List.{append-nil}
+use Rattle.std.proofs.lemmas.List.Elements.{All-head, All-tail}
+use Rattle.hc_frames.specs.declared.reading.faults.FrameFault.{FrameFault}
+use Rattle.hc_frames.specs.Arrived.{Reading, fault_in, reading_of}
+use Rattle.hc_frames.specs.FrameText.{Carried, Datagram, frame_text, lrw, sent}
+use Rattle.hc_frames.specs.Laws.{CanBeCarried}
+use Rattle.hc_frames.specs.Returned.{IsReturned}
+use Rattle.hc_frames.proofs.lemmas.Returns.{returned-read, sent-returned}
+use Rattle.hc_machine.specs.Commands.{memory_behind_datagram, served}
+use Rattle.hc_machine.specs.Frames.{all_served, frame_after, memory_behind, memory_behind_datagrams}
+use Rattle.hc_machine.specs.Logical.{logical_count, logical_data, logical_memory}
+use Rattle.hc_machine.proofs.lemmas.Memories.{length-data}
+use Rattle.hc_machine.proofs.lemmas.Returned.{returned-passes}
+use Rattle.hc_segment.specs.Line.{frame_through, machines_behind}
+use Rattle.hc_exchange.specs.Carrying.{count_through, data_through, logical_part, memories_behind}
+use Rattle.hc_exchange.specs.FrameLaws.{Addressed, LogicalFramesPass, SharedFramesPass, logical_of, parts_after}
+use Rattle.hc_exchange.specs.Sequences.{all_behind}
+
+served-logical : (memory : List ℕ) (address : ℕ) (bytes : List ℕ) (counter : ℕ)
+    → served memory (logical_part address bytes counter) ≡ logical_part address (logical_data memory (8 * address) bytes) ((counter + logical_count memory (8 * address) (length bytes)) % 65536)
+unfolding served
+served-logical memory address bytes counter = refl
+
+behind-logical : (memory : List ℕ) (address : ℕ) (bytes : List ℕ) (counter : ℕ)
+    → memory_behind_datagram memory (logical_part address bytes counter) ≡ logical_memory memory (8 * address) bytes
+unfolding memory_behind_datagram
+behind-logical memory address bytes counter = refl
+
+behind-read : (memory frame : List ℕ) (serial : ℕ) (parts : List Carried) → fault_in frame ≡ None → reading_of frame ≡ record { serial = serial; parts = parts }
+    → memory_behind memory frame ≡ memory_behind_datagrams memory parts
+unfolding memory_behind
+behind-read memory frame serial parts none told =
+    ap (λ (o : Option FrameFault). if is_none o then memory_behind_datagrams memory (reading_of frame).parts else memory) none
+    ∙ ap (λ (r : Reading). memory_behind_datagrams memory r.parts) told
+
+-- a datagram on its way, with its counter so far
+
+record Item : Type 0 where
+  address : ℕ
+  bytes : List ℕ
+  counter : ℕ
+
+abbrev part_of : Item → Carried
+part_of i = logical_part i.address i.bytes i.counter
+
+-- as a machine passes it on, and as it passes on several
+abbrev after : List ℕ → Item → Item
+after m i = record {
+  address = i.address;
+  bytes = logical_data m (8 * i.address) i.bytes;
+  counter = (i.counter + logical_count m (8 * i.address) (length i.bytes)) % 65536;
+}
+
+all_after : List ℕ → List Item → List Item
+all_after m [] = []
+all_after m (i ∷ is) = after m i ∷ all_after (logical_memory m (8 * i.address) i.bytes) is
+
+left_by : List ℕ → List Item → List ℕ
+left_by m [] = m
+left_by m (i ∷ is) = left_by (logical_memory m (8 * i.address) i.bytes) is
+
+served-items : (m : List ℕ) (is : List Item) → all_served m (map part_of is) ≡ map part_of (all_after m is)
+unfolding all_after
+served-items m [] = refl
+served-items m (i ∷ is) =
+    let from = 8 * i.address in
+    ap₂ (λ (p : Carried) (ps : List Carried). p ∷ ps) (served-logical m i.address i.bytes i.counter)
+    (ap (λ (m' : List ℕ). all_served m' (map part_of is)) (behind-logical m i.address i.bytes i.counter) ∙ served-items (logical_memory m from i.bytes) is)
+
+left-items : (m : List ℕ) (is : List Item) → memory_behind_datagrams m (map part_of is) ≡ left_by m is
+unfolding left_by
+left-items m [] = refl
+left-items m (i ∷ is) =
+    ap (λ (m' : List ℕ). memory_behind_datagrams m' (map part_of is)) (behind-logical m i.address i.bytes i.counter) ∙ left-items (logical_memory m (8 * i.address) i.bytes) is
+
+-- machines one after another
+
+through : List (List ℕ) → List Item → List Item
+through [] is = is
+through (m ∷ ms) is = through ms (all_after m is)
+
+behind : List (List ℕ) → List Item → List (List ℕ)
+behind [] is = []
+behind (m ∷ ms) is = left_by m is ∷ behind ms (all_after m is)
+
+record Passed (ms : List (List ℕ)) (serial : ℕ) (ws : List Datagram) (is : List Item) (frame : List ℕ) : Type 0 where
+  back : IsReturned serial ws (map part_of (through ms is)) (frame_through ms frame)
+  carried : CanBeCarried serial (map part_of (through ms is))
+  machines : machines_behind ms frame ≡ behind ms is
+
+passes : (ms : List (List ℕ)) (serial : ℕ) (ws : List Datagram) (is : List Item) (frame : List ℕ) → All (λ m. length m ≡ 12288) ms
+    → IsReturned serial ws (map part_of is) frame → CanBeCarried serial (map part_of is) → Passed ms serial ws is frame
+unfolding through behind
+passes [] serial ws is frame long back can = record { back = back; carried = can; machines = refl }
+passes (m ∷ ms) serial ws is frame long back can =
+    let read = returned-read serial ws (map part_of is) frame back can in
+    let next = returned-passes m (All-head (λ (x : List ℕ). length x ≡ 12288) m ms long) serial ws (map part_of is) frame back can in
+    let parts = served-items m is in
+    let rest =
+    passes ms serial ws (all_after m is) (frame_after m frame) (All-tail (λ (x : List ℕ). length x ≡ 12288) m ms long)
+    (subst (λ (ps : List Carried). IsReturned serial ws ps (frame_after m frame)) parts next.0) (subst (CanBeCarried serial) parts next.1) in
+    record {
+      back = rest.back;
+      carried = rest.carried;
+      machines = ap₂ (λ (x : List ℕ) (xs : List (List ℕ)). x ∷ xs) (behind-read m frame serial (map part_of is) read.0 read.1 ∙ left-items m is) rest.machines;
+    }
+
+-- one datagram through all machines, then the others
+
+one_through : List (List ℕ) → Item → Item
+one_through [] i = i
+one_through (m ∷ ms) i = one_through ms (after m i)
+
+through-next : (ms : List (List ℕ)) (i : Item) (is : List Item) → through ms (i ∷ is) ≡ one_through ms i ∷ through (memories_behind ms (8 * i.address) i.bytes) is
+unfolding through one_through all_after
+through-next [] i is = refl
+through-next (m ∷ ms) i is = through-next ms (after m i) (all_after (logical_memory m (8 * i.address) i.bytes) is)
+
+behind-next : (ms : List (List ℕ)) (i : Item) (is : List Item) → behind ms (i ∷ is) ≡ behind (memories_behind ms (8 * i.address) i.bytes) is
+unfolding behind left_by all_after
+behind-next [] i is = refl
+behind-next (m ∷ ms) i is =
+    ap (λ (xs : List (List ℕ)). left_by (logical_memory m (8 * i.address) i.bytes) is ∷ xs) (behind-next ms (after m i) (all_after (logical_memory m (8 * i.address) i.bytes) is))
+
+through-none : (ms : List (List ℕ)) → through ms [] ≡ []
+unfolding through all_after
+through-none [] = refl
+through-none (m ∷ ms) = through-none ms
+
+behind-none : (ms : List (List ℕ)) → behind ms [] ≡ ms
+unfolding behind left_by all_after
+behind-none [] = refl
+behind-none (m ∷ ms) = ap (λ (xs : List (List ℕ)). m ∷ xs) (behind-none ms)
+
+wrapped-none : (counter : ℕ) → counter < 65536 → counter ≡ (counter + 0) % 65536
+wrapped-none counter low = omega arith
+
+wrapped-twice : (counter first rest : ℕ) → ((counter + first) % 65536 + rest) % 65536 ≡ (counter + (first + rest)) % 65536
+wrapped-twice counter first rest = omega arith
+
+wrapped-low : (n : ℕ) → n % 65536 < 65536
+wrapped-low n = omega arith
+
+part-through : (ms : List (List ℕ)) (i : Item) → i.counter < 65536
+    → part_of (one_through ms i) ≡ logical_part i.address (data_through ms (8 * i.address) i.bytes) ((i.counter + count_through ms (8 * i.address) (length i.bytes)) % 65536)
+unfolding one_through
+part-through [] i low = ap (λ (n : ℕ). logical_part i.address i.bytes n) (wrapped-none i.counter low)
+part-through (m ∷ ms) i low =
+    let from = 8 * i.address in
+    let count = logical_count m from (length i.bytes) in
+    part-through ms (after m i) (wrapped-low (i.counter + count))
+    ∙ ap (λ (n : ℕ). logical_part i.address (data_through ms from (logical_data m from i.bytes)) n)
+    (ap (λ (k : ℕ). ((i.counter + count) % 65536 + count_through ms from k) % 65536) (length-data m i.bytes from) ∙ wrapped-twice i.counter count (count_through ms from (length i.bytes)))
+
+-- as they are sent
+
+abbrev item_of : Addressed → Item
+item_of d = record { address = d.address; bytes = d.bytes; counter = 0 }
+
+parts-through : (ms : List (List ℕ)) (ds : List Addressed) → map part_of (through ms (map item_of ds)) ≡ parts_after ms ds
+parts-through ms [] = ap (map part_of) (through-none ms)
+parts-through ms (d ∷ ds) =
+    let none : 0 + count_through ms (8 * d.address) (length d.bytes) ≡ count_through ms (8 * d.address) (length d.bytes) = omega arith in
+    ap (map part_of) (through-next ms (item_of d) (map item_of ds))
+    ∙ ap₂ (λ (p : Carried) (ps : List Carried). p ∷ ps)
+    (part-through ms (item_of d) (omega arith) ∙ ap (λ (n : ℕ). logical_part d.address (data_through ms (8 * d.address) d.bytes) (n % 65536)) none)
+    (parts-through (memories_behind ms (8 * d.address) d.bytes) ds)
+
+machines-behind : (ms : List (List ℕ)) (ds : List Addressed) → behind ms (map item_of ds) ≡ all_behind ms (map logical_of ds)
+machines-behind ms [] = behind-none ms
+machines-behind ms (d ∷ ds) = behind-next ms (item_of d) (map item_of ds) ∙ machines-behind (memories_behind ms (8 * d.address) d.bytes) ds
+
+sent-items : (ds : List Addressed) → map sent (map (λ (d : Addressed). lrw d.address d.bytes) ds) ≡ map part_of (map item_of ds)
+sent-items [] = refl
+sent-items (d ∷ ds) = ap (λ (ps : List Carried). part_of (item_of d) ∷ ps) (sent-items ds)
+
+carried-items : (ds : List Addressed) → map (λ (d : Addressed). sent (lrw d.address d.bytes)) ds ≡ map part_of (map item_of ds)
+carried-items [] = refl
+carried-items (d ∷ ds) = ap (λ (ps : List Carried). part_of (item_of d) ∷ ps) (carried-items ds)
+
+pub shared-pass : SharedFramesPass
+shared-pass machines serial ds long can =
+    let ws = map (λ (d : Addressed). lrw d.address d.bytes) ds in
+    let sent_back : IsReturned serial ws (map sent ws) (frame_text serial ws) = subst (IsReturned serial ws (map sent ws)) (append-nil (frame_text serial ws)) (sent-returned serial ws []) in
+    let back = subst (λ (ps : List Carried). IsReturned serial ws ps (frame_text serial ws)) (sent-items ds) sent_back in
+    let carried = subst (CanBeCarried serial) (carried-items ds) can in
+    let passed = passes machines serial ws (map item_of ds) (frame_text serial ws) long back carried in
+    let read = returned-read serial ws (map part_of (through machines (map item_of ds))) (frame_through machines (frame_text serial ws)) passed.back passed.carried in
+    record {
+      readable = read.0;
+      told = read.1 ∙ ap told-with (parts-through machines ds);
+      memories = passed.machines ∙ machines-behind machines ds;
+    }
+  where
+    told-with : List Carried → Reading
+    told-with parts = record { serial = serial; parts = parts }
+
+-- one alone
+pub frames-pass : LogicalFramesPass
+frames-pass machines serial address bytes long can =
+    let all = shared-pass machines serial (record { address = address; bytes = bytes } ∷ []) long can in
+    record { readable = all.readable; told = all.told; memories = all.memories }

@@ -1,0 +1,67 @@
+//! What the register blocks of a line mean to the slaves: each function here does nothing, and its contract is a law. Nobody
+//! calls it.
+ghost use Rattle.hc_exchange.specs.PairLaws.{AreasWithBitsAreMapped, BlocksGoOneWay, BlocksPairTheirAreas, LinesPairTheirAreas, NoLogicalBitTwice, NoMemoryBitTwice, PairsAreOneToOne, UnmappedAreasPairNothing};
+ghost use Rattle.hc_exchange.specs.WritingLaws.{ProgrammedSlavesPairTheirAreas, WritingKeepsBytes, WritingKeepsTheCount, WritingProgramsTheLine};
+
+/// The pairs that the slave machine reads from the FMMU block of a mapped area are exactly these: the k-th bit of the area in
+/// its datagram with the k-th bit of its memory, for each k below the area's width in bits.
+pub fn blocks_pair_their_areas()
+    ensures { BlocksPairTheirAreas }
+{}
+
+/// The FMMU block of an area of 0 bits pairs nothing.
+pub fn unmapped_areas_pair_nothing()
+    ensures { UnmappedAreasPairNothing }
+{}
+
+/// The FMMU block of an input area is read through and never written through, that of an output area the other way round.
+pub fn blocks_go_one_way()
+    ensures { BlocksGoOneWay }
+{}
+
+/// A block pairs a logical bit with one memory bit, and a memory bit with one logical bit.
+pub fn pairs_are_one_to_one()
+    ensures { PairsAreOneToOne }
+{}
+
+/// Each area of a line that has a bit is mapped at its place in its task's datagrams, and no other area is.
+pub fn areas_with_bits_are_mapped()
+    ensures { AreasWithBitsAreMapped }
+{}
+
+/// The pairs of the FMMU blocks of a line, slave by slave, are exactly those of its mapped areas.
+pub fn lines_pair_their_areas()
+    ensures { LinesPairTheirAreas }
+{}
+
+/// No logical bit stands in the pairs of two blocks of a line.
+pub fn no_logical_bit_twice()
+    ensures { NoLogicalBitTwice }
+{}
+
+/// No memory bit of a slave stands in the pairs of two of its blocks.
+pub fn no_memory_bit_twice()
+    ensures { NoMemoryBitTwice }
+{}
+
+/// The machines of a line, behind an FPWR of each of its blocks in line and block order: each has its slave's blocks at their
+/// registers and zeros in the FMMU blocks past them, and no byte below the FMMU blocks (the station address and the alias are
+/// there) and none of process memory is changed.
+pub fn writing_programs_the_line()
+    ensures { WritingProgramsTheLine }
+{}
+
+/// They are as many machines as before.
+pub fn writing_keeps_the_count()
+    ensures { WritingKeepsTheCount }
+{}
+
+/// The sixteen FMMUs of a slave that is programmed so pair the bits of its areas, where packing puts them, and no others.
+pub fn programmed_slaves_pair_their_areas()
+    ensures { ProgrammedSlavesPairTheirAreas }
+{}
+
+/// Where each number of the machines' memories is a byte, so is it behind the writes.
+pub fn writing_keeps_bytes()
+    ensures { WritingKeepsBytes }
+{}

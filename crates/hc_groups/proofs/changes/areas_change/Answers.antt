@@ -1,0 +1,12 @@
+use Rattle.std.proofs.Common.{◌∙◌, sym}
+use Rattle.hc_groups.specs.Edits.{changed}
+use Rattle.hc_groups.proofs.Known.{areas-known, known-slave}
+use Rattle.hc_groups.proofs.changes.areas_change.Goals as goal
+
+pub unreachable-requires : goal.unreachable-requires
+unreachable-requires c = known-slave c.args.groups.now c.args.edit.now.station c.requires.known (sym c.slave_place.ensures ∙ c.in_default.is)
+
+pub returns : goal.returns
+returns c =
+    let edit = c.args.edit.now in
+    areas-known c.areas_changed.result c.args.groups.now edit.station edit.area (changed edit.change) c.in-Some.place (sym c.slave_place.ensures ∙ c.in-Some.is) c.areas_changed.ensures

@@ -1,0 +1,153 @@
+-- What an index of a project's declared groups keeps, so that a group, a slave or a block of the line is found without a walk.
+use Rattle.std.specs.Prelude.{◌≡◌, ◌≢◌, ℕ, zero, suc, ◌+◌, ◌-◌, ◌*◌, ◌<◌, nat_lt, true, if◌then◌else◌, All, Contains, List, [], ◌∷◌, ◌++◌, get_or, length, map, slice_get, sum_by, take, Option, Some, None, option_and_then}
+use Rattle.std.specs.List.{enumerate_from}
+use Rattle.std.specs.List.Sorted.{IsNonDecreasing, IsPermutation}
+use Rattle.hc_records.specs.declared.records.Declared.{Declared}
+use Rattle.hc_records.specs.declared.records.Slave.{Slave}
+use Rattle.hc_records.specs.Line.{Member, groups_of, line_from, present_slaves}
+use Rattle.hc_records.specs.Project.{lowest_fault, slave_names, slaves_of}
+use Rattle.hc_groups.specs.declared.addresses.Address.{Address}
+use Rattle.hc_groups.specs.declared.aliases.Alias.{Alias}
+
+-- the aliases of all declared groups, present or not, each with the group's number from 0, in declared order
+
+-- of a number and a declared group the `Alias`: the group's configured station alias with that number
+abbrev pub alias_of : ℕ × Declared → Alias
+alias_of numbered = record { alias = numbered.1.group.alias; group = numbered.0 }
+
+-- the aliases of declared groups, each with its group's number from 0
+abbrev pub aliases : List Declared → List Alias
+aliases groups = map alias_of (enumerate_from 0 groups)
+
+-- the groups, as if each were present
+abbrev pub all_present : List Declared → List Declared
+all_present groups = map (λ (declared : Declared). record declared { present = true }) groups
+
+-- the station address of a slave with its rank (`Address`)
+abbrev pub address_of : Member → Address
+address_of member = record { station = member.slave.station; rank = member.rank }
+
+-- the station addresses of all declared slaves, present or not, in declared order
+abbrev pub addresses : List Declared → List Address
+addresses groups = map address_of (line_from 1 (all_present groups))
+
+-- the rank of the declared slave with a station address, among these: 0 where none has it
+abbrev pub IsRankOf : List Address → ℕ → ℕ → Type 0
+IsRankOf all station zero = All (λ (address : Address). address.station ≢ station) all
+IsRankOf all station (suc rank) = Contains all (record { station = station; rank = suc rank })
+
+-- the ranks by station addresses: none has an address past the last
+abbrev pub AreRanks : List Address → List ℕ → Type 0
+AreRanks all ranks = (station : ℕ) → IsRankOf all station (get_or ranks station 0)
+
+-- of each declared slave, in declared order, the number of its group, where the first group has this number
+abbrev pub owners_from : ℕ → List Declared → List ℕ
+owners_from group [] = []
+owners_from group (declared ∷ groups) = map (λ (slave : Slave). group) declared.group.slaves ++ owners_from (group + 1) groups
+
+-- the variables that areas of declared slaves offer, present or not, assigned or not, in declared order
+abbrev pub variables : List Declared → List ℕ
+variables groups = slave_names (slaves_of (groups_of groups))
+
+-- how many register blocks slaves have: two for each area
+
+-- the blocks of one slave
+abbrev pub blocks_of : Slave → ℕ
+blocks_of slave = 2 * length slave.areas
+
+-- those of slaves, all together
+abbrev pub block_sum : List Slave → ℕ
+block_sum slaves = sum_by blocks_of slaves
+
+-- those of a slave of the line
+abbrev pub own_blocks : Member → ℕ
+own_blocks member = blocks_of member.slave
+
+-- the slave at a place in the group with a number
+abbrev pub slave_in : List Declared → ℕ → ℕ → Option Slave
+slave_in groups group place = option_and_then (λ (declared : Declared). slice_get declared.group.slaves place) (slice_get groups group)
+
+-- sums along a list: how many are in front of each element, of which each counts for so many, and at the end how many there are in all
+
+-- the sums, where so many are in front of the first element
+abbrev pub sums_from : {X : Type 0} → (X → ℕ) → ℕ → List X → List ℕ
+sums_from count front [] = front ∷ []
+sums_from count front (x ∷ xs) = front ∷ sums_from count (front + count x) xs
+
+-- numbers among which one is sought: they begin with 0 and don't fall
+pub record AreSums (sums : List ℕ) : Type 0 where
+  pub first : slice_get sums 0 ≡ Some 0
+  pub rising : IsNonDecreasing sums
+
+-- a number falls behind the sum at an index, so far behind it, and is below the next one
+pub record IsSpot (sums : List ℕ) (n index offset : ℕ) : Type 0 where
+  pub front : ℕ
+  pub at : slice_get sums index ≡ Some front
+  pub sum : front + offset ≡ n
+  pub next : ℕ
+  pub behind : slice_get sums (index + 1) ≡ Some next
+  pub below : n < next
+
+-- how many slaves a group declares
+abbrev pub declared_count : Declared → ℕ
+declared_count declared = length declared.group.slaves
+
+-- how many slaves it has in the line
+abbrev pub present_count : Declared → ℕ
+present_count declared = length (present_slaves declared)
+
+-- how many blocks those have
+abbrev pub own_sum : Declared → ℕ
+own_sum declared = block_sum (present_slaves declared)
+
+-- the rank of the slave at a place in the group with a number
+abbrev pub rank_in : List Declared → ℕ → ℕ → ℕ
+rank_in groups group place = 1 + sum_by declared_count (take group groups) + place
+
+-- the sums of the blocks of a declared group's slaves
+abbrev pub block_sums : Declared → List ℕ
+block_sums declared = sums_from blocks_of 0 declared.group.slaves
+
+-- the aliases with the numbers of their groups, in the order of the aliases; at each station address the rank of the declared
+-- slave that has it; the variables that declared slaves offer, in the order of their numbers; of each declared slave its group; for each declared group
+-- the sums of its slaves' blocks; and the sums of the groups' declared slaves, of their slaves of the line, and of the blocks of those
+pub record Index : Type 0 where
+  pub aliases : List Alias
+  pub stations : List ℕ
+  pub variables : List ℕ
+  pub owners : List ℕ
+  pub fronts : List (List ℕ)
+  pub ranks : List ℕ
+  pub slaves : List ℕ
+  pub blocks : List ℕ
+
+-- the index has what never changes of a project's groups: their aliases, and of the slaves that they declare the addresses, the
+-- offered variables, the ranks and the blocks
+pub record IsIndexOfDeclared (groups : List Declared) (index : Index) : Type 0 where
+  pub project : lowest_fault (groups_of groups) ≡ None
+  pub aliases : IsPermutation (aliases groups) index.aliases
+  pub stations : AreRanks (addresses groups) index.stations
+  pub variables : IsPermutation (variables groups) index.variables
+  pub owners : index.owners ≡ owners_from 0 groups
+  pub fronts : index.fronts ≡ map block_sums groups
+  pub ranks : index.ranks ≡ sums_from declared_count 0 groups
+
+-- the index is that of a project's groups
+pub record IsIndexOf (groups : List Declared) (index : Index) : Type 0 where
+  pub declared : IsIndexOfDeclared groups index
+  pub slaves : index.slaves ≡ sums_from present_count 0 groups
+  pub blocks : index.blocks ≡ sums_from own_sum 0 groups
+
+-- the slave of a line that has the block with a number, from 0, with the block's number in the slave's own order
+abbrev pub owned_by : List Member → ℕ → Option (Member × ℕ)
+owned_by [] n = None
+owned_by (member ∷ members) n =
+    if nat_lt n (own_blocks member) then Some (member, n) else owned_by members (n - own_blocks member)
+
+-- the slave with a rank stands in the line: its group, with this number, is present, and it has this place in it
+pub record IsMember (groups : List Declared) (rank group place : ℕ) : Type 0 where
+  pub declared : Declared
+  pub at : slice_get groups group ≡ Some declared
+  pub present : declared.present ≡ true
+  pub inside : place < length declared.group.slaves
+  pub ranked : rank ≡ rank_in groups group place

@@ -1,0 +1,6 @@
+pub mod Changes
+pub mod Edits
+pub mod Laws
+pub mod Rows
+pub mod Index
+pub mod Room

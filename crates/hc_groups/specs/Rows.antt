@@ -1,0 +1,79 @@
+-- Which slaves a change concerns, by their ranks, and what it makes of their areas in the line.
+use Rattle.std.specs.Prelude.{◌≡◌, ℕ, ◌+◌, Bool, if◌then◌else◌, List, [], ◌++◌, length, map, option_map, option_to_list, slice_get}
+use Rattle.std.specs.List.{flat_map}
+use Rattle.std.specs.Option.{option_map_or}
+use Rattle.hc_records.specs.declared.records.Area.{Area}
+use Rattle.hc_records.specs.declared.records.Slave.{Slave}
+use Rattle.hc_records.specs.declared.records.Declared.{Declared}
+use Rattle.hc_groups.specs.declared.changes.AreasChange.{AreasChange}
+use Rattle.hc_groups.specs.declared.prepared.Prepared.{Prepared}
+use Rattle.hc_groups.specs.declared.prepared.Prepared.TheVariants.{Presence, Areas}
+use Rattle.hc_groups.specs.Changes.{changed_groups, with_areas}
+
+-- a declared slave, and whether its group is present
+pub record Ranked : Type 0 where
+  pub present : Bool
+  pub slave : Slave
+
+-- the slaves of a group, each with whether the group is present
+abbrev pub ranked : Bool → List Slave → List Ranked
+ranked present slaves = map (λ slave. record { present = present; slave = slave }) slaves
+
+-- the declared slaves by rank: the first one has rank 1
+abbrev pub by_rank : List Declared → List Ranked
+by_rank groups = flat_map (λ declared. ranked declared.present declared.group.slaves) groups
+
+-- the areas that such a slave has in the line: none where its group isn't present
+abbrev pub areas_in_line : Ranked → List Area
+areas_in_line slave = if slave.present then slave.slave.areas else []
+
+-- those of the slave at an index among some; none where there is no such slave
+abbrev pub nth_areas : List Ranked → ℕ → List Area
+nth_areas slaves index = option_map_or areas_in_line (slice_get slaves index) []
+
+-- The slaves that a change concerns: those of the group that comes or goes, or the one that gets other areas.
+
+-- the rank of the first
+abbrev pub first_of : Prepared → ℕ
+first_of (Presence change) = change.first
+first_of (Areas change) = change.place.rank
+
+-- how many they are
+abbrev pub count_of : Prepared → ℕ
+count_of (Presence change) = change.slaves
+count_of (Areas change) = 1
+
+-- the place of their group
+abbrev pub group_of : Prepared → ℕ
+group_of (Presence change) = change.group
+group_of (Areas change) = change.place.group
+
+-- which of the slaves of that group they are
+abbrev pub named_by : Prepared → List Slave → List Slave
+named_by (Presence change) slaves = slaves
+named_by (Areas change) slaves = option_to_list (slice_get slaves change.place.slave)
+
+-- they themselves; none where the groups have no such place
+abbrev pub row : Prepared → List Declared → List Ranked
+row change groups = option_map_or (λ declared. ranked declared.present (named_by change declared.group.slaves)) (slice_get groups (group_of change)) []
+
+-- the slave of a group that gets other areas, with these
+abbrev pub given_row : AreasChange → Declared → List Ranked
+given_row change declared =
+    ranked declared.present (option_to_list (option_map (with_areas change.areas) (slice_get declared.group.slaves change.place.slave)))
+
+-- their ranks follow one another, and each other slave is the same, and as present, before the change and after it
+pub record ChangesRow (change : Prepared) (groups : List Declared) : Type 0 where
+  pub front : List Ranked
+  pub behind : List Ranked
+  pub first : first_of change ≡ length front + 1
+  pub many_before : length (row change groups) ≡ count_of change
+  pub many_after : length (row change (changed_groups change groups)) ≡ count_of change
+  pub before : by_rank groups ≡ front ++ (row change groups ++ behind)
+  pub after : by_rank (changed_groups change groups) ≡ front ++ (row change (changed_groups change groups) ++ behind)
+
+-- two changes concern the same slaves
+pub record SameRow (one other : Prepared) : Type 0 where
+  pub first : first_of one ≡ first_of other
+  pub count : count_of one ≡ count_of other
+  pub row : (groups : List Declared) → row one groups ≡ row other groups

@@ -1,0 +1,94 @@
+//! Slaves with one area changed.
+ghost use Rattle.std.specs.Prelude.{◌≡◌, IfOk, if◌then◌else◌};
+ghost use Rattle.hc_records.specs.Lists.{changed_at};
+ghost use Rattle.hc_groups.specs.Edits.{changed};
+
+use hc_records::items::{Copied, Items};
+use hc_records::records::Area;
+use std::alloc::{AllocError, Global};
+
+/// What an edit changes in its area.
+#[derive(Drop)]
+pub enum AreaChange<'a> {
+    /// These PDOs are assigned, in this order.
+    Pdos(&'a Items<u16>),
+    /// It stands in this task.
+    Task(u8),
+}
+
+/// Which area an edit changes, and how.
+#[derive(Drop)]
+pub struct AreaEdit<'a> {
+    /// The station address of its slave.
+    pub station: u16,
+    /// Its place in the slave's record, from 0.
+    pub area: u8,
+    /// What changes in it.
+    pub change: AreaChange<'a>,
+}
+
+/// A copy of an area with these PDOs assigned.
+fn reassigned(alloc: Global, area: &Area, pdos: &Items<u16>) -> Result<Area, AllocError>
+    ensures { IfOk result (λ after. after ≡ record area.now { assigned = pdos.now }) }
+{
+    Ok(Area {
+        sm: area.sm,
+        dir: area.dir,
+        phys: area.phys,
+        offered: area.offered.copied(alloc)?,
+        assigned: pdos.copied(alloc)?,
+        task: area.task,
+    })
+}
+
+/// A copy of an area in a task.
+fn moved(alloc: Global, area: &Area, task: u8) -> Result<Area, AllocError>
+    ensures { IfOk result (λ after. after ≡ record area.now { task = task }) }
+{
+    let mut after = area.copied(alloc)?;
+    after.task = task;
+    Ok(after)
+}
+
+/// A copy of an area with a change.
+fn changed(alloc: Global, area: &Area, change: &AreaChange) -> Result<Area, AllocError>
+    ensures { IfOk result (λ after. after ≡ changed change.now area.now) }
+{
+    match change {
+        AreaChange::Pdos(pdos) => reassigned(alloc, area, pdos),
+        AreaChange::Task(task) => moved(alloc, area, *task),
+    }
+}
+
+/// A copy of an area, changed where it is the one of the edit.
+fn area_after(
+    alloc: Global,
+    area: &Area,
+    is_changed: bool,
+    change: &AreaChange,
+) -> Result<Area, AllocError>
+    ensures { IfOk result (λ after. after ≡ (if is_changed then changed change.now area.now else area.now)) }
+{
+    if is_changed {
+        changed(alloc, area, change)
+    } else {
+        area.copied(alloc)
+    }
+}
+
+/// The areas of a slave with the one of the edit changed, all as they were where there is none. `AllocError`
+/// where a growth was refused.
+pub fn areas_after(
+    alloc: Global,
+    areas: &[Area],
+    edit: &AreaEdit,
+) -> Result<Items<Area>, AllocError>
+    ensures { IfOk result (λ after. after ≡ changed_at edit.now.area (changed edit.now.change) areas.now) }
+{
+    let mut after = Items::new(alloc);
+    for i in 0..areas.len() {
+        let is_changed = i == usize::from(edit.area);
+        after.push(area_after(alloc, &areas[i], is_changed, &edit.change)?)?;
+    }
+    Ok(after)
+}

@@ -1,0 +1,306 @@
+//! The index of a project's declared groups, and the look-ups in groups by it.
+ghost use Rattle.std.specs.Prelude.{◌≡◌, None, IfOk};
+ghost use Rattle.hc_records.specs.Line.{groups_of};
+ghost use Rattle.hc_records.specs.Project.{lowest_fault};
+ghost use Rattle.hc_groups.specs.Index.{IsIndexOf, IsIndexOfDeclared};
+
+use crate::addresses::{find_rank, ranks_by_station};
+use crate::aliases::{Alias, find_group, sorted_aliases};
+use crate::owning::owners;
+use crate::sums::{Spot, declared_sums, find_spot, group_fronts, number_at, sum_line};
+use crate::variables::{is_one_of, sorted_variables};
+use hc_records::records::{Declared, Slave, VarId};
+use std::alloc::{AllocError, Global};
+use std::marker::Model;
+
+/// A slave of the line, found by an index.
+#[derive(Drop)]
+pub struct LineSlave<'a> {
+    rank: u16,
+    slave: &'a Slave,
+}
+
+impl<'a> Model for LineSlave<'a> {
+    ghost use Rattle.hc_records.specs.Line.{Member};
+
+    ghost Value = { Member };
+
+    ghost view = { λ member. record { rank = member.rank; slave = member.slave.now } };
+}
+
+impl<'a> LineSlave<'a> {
+    ghost use Rattle.std.specs.Prelude.{◌≡◌};
+
+    /// The slave's place among all declared slaves, present or not, counted from 1.
+    pub fn rank(&self) -> u16
+        ensures { result ≡ self.now.rank }
+    {
+        self.rank
+    }
+
+    /// The slave's record.
+    pub fn slave(&self) -> &'a Slave
+        ensures { result.now ≡ self.now.slave }
+    {
+        self.slave
+    }
+}
+
+/// What is kept of a project's declared groups to find each by its alias, and their slaves and blocks.
+#[derive(Debug)]
+pub struct Index {
+    // of all declared groups, the lowest alias first
+    pub(crate) aliases: Vec<Alias>,
+    // at each station address the rank of the declared slave that has it, or 0
+    pub(crate) stations: Vec<u16>,
+    // the variables that declared slaves offer, the lowest first
+    pub(crate) variables: Vec<u32>,
+    // of each declared slave the number of its group
+    pub(crate) owners: Vec<u16>,
+    // of each declared group, how many blocks are in front of each of its slaves in the group, and how many it has
+    pub(crate) fronts: Vec<Vec<u32>>,
+    // how many slaves are declared in front of each group, and how many there are
+    pub(crate) ranks: Vec<u32>,
+    // how many slaves of the line are in front of each group, and how many it has
+    pub(crate) slaves: Vec<u32>,
+    // and how many blocks of the line
+    pub(crate) blocks: Vec<u32>,
+}
+
+impl Drop for Index {
+    fn drop(self) {
+        let Index {
+            aliases: _,
+            stations: _,
+            variables: _,
+            owners: _,
+            fronts: _,
+            ranks: _,
+            slaves: _,
+            blocks: _,
+        } = self;
+    }
+}
+
+impl Model for Index {
+    ghost use Rattle.std.specs.Prelude.{◌<◌, length, map, vec_capacity};
+    ghost use Rattle.std.specs.List.Sorted.{IsNonDecreasing, IsNonDecreasingBy};
+    ghost use Rattle.hc_groups.specs.Index.{Index};
+
+    ghost Value = { Index };
+
+    ghost view = { λ index. record { aliases = index.aliases.items; stations = index.stations.items; variables = index.variables.items; owners = index.owners.items; fronts = map (λ sums. sums.items) index.fronts.items; ranks = index.ranks.items; slaves = index.slaves.items; blocks = index.blocks.items } };
+
+    ghost invariant = { λ index. IsNonDecreasingBy (λ alias. alias.alias) index.aliases.items × IsNonDecreasing index.variables.items × (length index.fronts.items < vec_capacity index.slaves) × (length index.fronts.items < vec_capacity index.blocks) };
+}
+
+impl Index {
+    /// The index of a project's declared groups. `AllocError` where a growth was refused.
+    pub fn new(alloc: Global, groups: &[Declared]) -> Result<Index, AllocError>
+        requires { lowest_fault (groups_of groups.now) ≡ None }
+        ensures { IfOk result (IsIndexOf groups.now) }
+    {
+        let aliases = sorted_aliases(alloc, groups)?;
+        let stations = ranks_by_station(alloc, groups)?;
+        let variables = sorted_variables(alloc, groups)?;
+        let owners = owners(alloc, groups)?;
+        let fronts = group_fronts(alloc, groups)?;
+        let ranks = declared_sums(alloc, groups)?;
+        let mut slaves = Vec::with_capacity(alloc, groups.len() + 1)?;
+        let mut blocks = Vec::with_capacity(alloc, groups.len() + 1)?;
+        sum_line(&mut slaves, &mut blocks, fronts.as_slice(), groups);
+        Ok(Index {
+            aliases,
+            stations,
+            variables,
+            owners,
+            fronts,
+            ranks,
+            slaves,
+            blocks,
+        })
+    }
+
+    /// Other groups of those that it has the aliases and the slaves' addresses of are present: it becomes
+    /// the index of the groups as they are now. It looks at no slave, and takes no memory.
+    pub fn follow(&mut self, groups: &[Declared])
+        requires { IsIndexOfDeclared groups.now self.old }
+        ensures { IsIndexOf groups.now self.new }
+    {
+        self.slaves.clear();
+        self.blocks.clear();
+        let fronts = self.fronts.as_slice();
+        sum_line(&mut self.slaves, &mut self.blocks, fronts, groups);
+    }
+
+    /// The groups that it is the index of, for look-ups.
+    pub fn of<'a>(&'a self, groups: &'a [Declared]) -> Indexed<'a>
+        requires { IsIndexOf groups.now self.now }
+        ensures { result ≡ groups.now }
+    {
+        Indexed {
+            groups,
+            aliases: self.aliases.as_slice(),
+            stations: self.stations.as_slice(),
+            variables: self.variables.as_slice(),
+            owners: self.owners.as_slice(),
+            fronts: self.fronts.as_slice(),
+            ranks: self.ranks.as_slice(),
+            slaves: self.slaves.as_slice(),
+            blocks: self.blocks.as_slice(),
+        }
+    }
+}
+
+/// A project's declared groups with their index. Contracts see the groups.
+#[derive(Drop)]
+pub struct Indexed<'a> {
+    groups: &'a [Declared],
+    aliases: &'a [Alias],
+    stations: &'a [u16],
+    variables: &'a [u32],
+    owners: &'a [u16],
+    fronts: &'a [Vec<u32>],
+    ranks: &'a [u32],
+    slaves: &'a [u32],
+    blocks: &'a [u32],
+}
+
+impl<'a> Model for Indexed<'a> {
+    ghost use Rattle.std.specs.Prelude.{List, map};
+    ghost use Rattle.std.specs.List.Sorted.{IsNonDecreasing, IsNonDecreasingBy};
+    ghost use Rattle.hc_records.specs.declared.records.Declared.{Declared};
+    ghost use Rattle.hc_groups.specs.Index.{IsIndexOf};
+
+    ghost Value = { List Declared };
+
+    ghost view = { λ indexed. indexed.groups.now };
+
+    ghost invariant = { λ indexed. IsIndexOf indexed.groups.now (record { aliases = indexed.aliases.now; stations = indexed.stations.now; variables = indexed.variables.now; owners = indexed.owners.now; fronts = map (λ sums. sums.items) indexed.fronts.now; ranks = indexed.ranks.now; slaves = indexed.slaves.now; blocks = indexed.blocks.now }) × IsNonDecreasingBy (λ alias. alias.alias) indexed.aliases.now × IsNonDecreasing indexed.variables.now };
+}
+
+impl<'a> Indexed<'a> {
+    ghost use Rattle.std.specs.Prelude.{◌≡◌, ◌≢◌, ◌==◌, ◌<◌, ◌≤◌, All, IfSome, MatchOption, find, length, option_map, position, slice_get, sum_by};
+    ghost use Rattle.std.specs.List.{list_any};
+    ghost use Rattle.hc_records.specs.Edits.{has_station, is_declared_variable};
+    ghost use Rattle.hc_records.specs.Line.{groups_of, is_at, line_from};
+    ghost use Rattle.hc_records.specs.Project.{slaves_of};
+    ghost use Rattle.hc_groups.specs.Index.{IsMember, own_blocks, owned_by, rank_in, slave_in};
+
+    /// How many slaves the line has.
+    pub fn slaves(&self) -> usize
+        ensures value { result ≡ length (line_from 1 self.now) }
+        ensures few { result < 65535 }
+    {
+        self.slaves[self.groups.len()] as usize
+    }
+
+    /// How many register blocks the slaves of the line have.
+    pub fn blocks(&self) -> u32
+        ensures { result ≡ sum_by own_blocks (line_from 1 self.now) }
+    {
+        self.blocks[self.groups.len()]
+    }
+
+    /// The number among the declared groups, from 0, of the one with an alias, present or not; none where
+    /// none has it.
+    pub fn group(&self, alias: u16) -> Option<usize>
+        ensures { result ≡ position (λ declared. declared.group.alias == alias) self.now }
+    {
+        let group = find_group(self.aliases, alias)?;
+        Some(usize::from(group))
+    }
+
+    /// Whether a slave with a station address is declared, present or not.
+    pub fn is_declared_station(&self, station: u16) -> bool
+        ensures { result ≡ list_any (λ declared. has_station station declared.group.slaves) self.now }
+    {
+        find_rank(self.stations, station).is_some()
+    }
+
+    /// How many slaves are declared, present or not.
+    pub fn declared(&self) -> usize
+        ensures { result ≡ length (slaves_of (groups_of self.now)) }
+    {
+        self.owners.len()
+    }
+
+    /// Whether an area of a declared slave, present or not, offers a variable, assigned or not.
+    pub fn is_declared_variable(&self, variable: VarId) -> bool
+        ensures { result ≡ is_declared_variable self.now variable }
+    {
+        is_one_of(self.variables, variable.number())
+    }
+
+    /// Where the slave with a rank stands, if its group is present: the number of the group, from 0, and the
+    /// slave's place in it.
+    fn find_present(&self, rank: u16) -> Option<Spot>
+        requires { 1 ≤ rank }
+        ensures { MatchOption result (All (λ member. member.rank ≢ rank) (line_from 1 self.now)) (λ spot. IsMember self.now rank spot.index spot.offset) }
+    {
+        let index = usize::from(*self.owners.get(usize::from(rank) - 1)?);
+        let offset = u32::from(rank) - 1 - self.ranks[index];
+        if self.groups[index].present {
+            Some(Spot { index, offset })
+        } else {
+            None
+        }
+    }
+
+    /// The position in the line, from 0, of the slave with a station address; none where it isn't
+    /// present.
+    pub fn position(&self, station: u16) -> Option<usize>
+        ensures value { result ≡ position (is_at station) (line_from 1 self.now) }
+        ensures low { IfSome result (λ index. index < 65535) }
+    {
+        let rank = find_rank(self.stations, station)?;
+        let spot = self.find_present(rank)?;
+        let position = number_at(self.slaves, spot.index, spot.offset);
+        Some(usize::from(position))
+    }
+
+    /// The slave at a place in a group with a number, both from 0; none where there is none.
+    fn slave_in(&self, group: usize, place: u32) -> Option<LineSlave<'a>>
+        ensures { result ≡ option_map (λ slave. record { rank = rank_in self.now group place; slave = slave }) (slave_in self.now group place) }
+    {
+        let declared = self.groups.get(group)?;
+        let slaves = declared.group.slaves.as_slice();
+        let slave = slaves.get(place as usize)?;
+        Some(LineSlave {
+            rank: number_at(self.ranks, group, place) + 1,
+            slave,
+        })
+    }
+
+    /// The slave at a position of the line, from 0; none where the line is shorter.
+    pub fn nth(&self, position: usize) -> Option<LineSlave<'a>>
+        ensures { result ≡ slice_get (line_from 1 self.now) position }
+    {
+        if position >= self.slaves() {
+            return None;
+        }
+        let spot = find_spot(self.slaves, position as u32)?;
+        self.slave_in(spot.index, spot.offset)
+    }
+
+    /// The slave of the line with a station address; none where it isn't present.
+    pub fn slave_at(&self, station: u16) -> Option<LineSlave<'a>>
+        ensures { result ≡ find (is_at station) (line_from 1 self.now) }
+    {
+        let rank = find_rank(self.stations, station)?;
+        let spot = self.find_present(rank)?;
+        self.slave_in(spot.index, spot.offset)
+    }
+
+    /// The slave that has the register block with a number, from 0, in line and block order, with the
+    /// block's number in the slave's own order; none where the line has fewer.
+    pub fn block_owner(&self, n: u32) -> Option<(LineSlave<'a>, u8)>
+        ensures { result ≡ owned_by (line_from 1 self.now) n }
+    {
+        let group = find_spot(self.blocks, n)?;
+        let own = self.fronts.get(group.index)?;
+        let place = find_spot(own.as_slice(), group.offset)?;
+        let slave = self.slave_in(group.index, place.index as u32)?;
+        Some((slave, place.offset as u8))
+    }
+}

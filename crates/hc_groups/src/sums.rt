@@ -1,0 +1,151 @@
+//! Sums along lists, in which the element that a number falls in is found by halves.
+ghost use Rattle.std.specs.Prelude.{◌≡◌, ◌+◌, ◌<◌, ◌≤◌, if◌then◌else◌, All, IfOk, MatchOption, length, map, slice_index, sum_by, vec_capacity, vec_len};
+ghost use Rattle.std.specs.List.Sorted.{IsNonDecreasing, IsPartitionPoint};
+ghost use Rattle.hc_records.specs.Line.{IsCounted};
+ghost use Rattle.hc_groups.specs.Index.{AreSums, IsSpot, block_sum, block_sums, blocks_of, declared_count, own_sum, present_count, sums_from};
+
+use hc_records::records::{Declared, Slave};
+use std::alloc::{AllocError, Global};
+
+/// Where a number falls among sums.
+#[derive(Drop)]
+pub(crate) struct Spot {
+    /// The number of the element that it falls in, from 0.
+    pub index: usize,
+    /// How far behind the element's front it is.
+    pub offset: u32,
+}
+
+/// So many, if a condition holds, and else 0. It takes no branch.
+fn count_if(holds: bool, count: usize) -> usize
+    ensures { result ≡ (if holds then count else 0) }
+{
+    count * usize::from(holds)
+}
+
+/// How many sums are no greater. Half of those that are left goes in each step, without a branch on what was read.
+fn count_begun(sums: &[u32], n: u32) -> usize
+    requires { IsNonDecreasing sums.now }
+    ensures bound { result ≤ length sums.now }
+    ensures parted { IsPartitionPoint (λ sum. sum ≤ n) (λ sum. n < sum) sums.now result }
+{
+    let mut begun = 0;
+    let mut left = sums.len();
+    while left > 0 {
+        let half = left - left / 2;
+        begun += count_if(sums[begun + half - 1] <= n, half);
+        left /= 2;
+    }
+    begun
+}
+
+/// Where a number falls among sums; none where it is no lower than the last.
+pub(crate) fn find_spot(sums: &[u32], n: u32) -> Option<Spot>
+    requires { AreSums sums.now }
+    ensures { MatchOption result (All (λ sum. sum ≤ n) sums.now) (λ spot. IsSpot sums.now n spot.index spot.offset) }
+{
+    let begun = count_begun(sums, n);
+    if begun == sums.len() {
+        return None;
+    }
+    let index = begun - 1;
+    let offset = n - sums[index];
+    Some(Spot { index, offset })
+}
+
+/// The number that is so far behind the front of the element with an index, by sums.
+pub(crate) fn number_at(sums: &[u32], index: usize, offset: u32) -> u16
+    requires inside { index < length sums.now }
+    requires low { slice_index sums.now index + offset < 65535 }
+    ensures value { result ≡ slice_index sums.now index + offset }
+    ensures low { result < 65535 }
+{
+    (sums[index] + offset) as u16
+}
+
+/// The sums of the blocks of slaves.
+pub(crate) fn slave_sums(alloc: Global, slaves: &[Slave]) -> Result<Vec<u32>, AllocError>
+    requires { block_sum slaves.now < 4294967296 }
+    ensures { IfOk result (λ sums. sums.items ≡ sums_from blocks_of 0 slaves.now) }
+{
+    let mut sums = Vec::with_capacity(alloc, slaves.len() + 1)?;
+    let mut blocks = 0;
+    for slave in slaves {
+        sums.push(blocks)?;
+        blocks += 2 * slave.areas.len() as u32;
+    }
+    sums.push(blocks)?;
+    Ok(sums)
+}
+
+/// The sums of the blocks of each declared group's slaves.
+pub(crate) fn group_fronts(alloc: Global, groups: &[Declared]) -> Result<Vec<Vec<u32>>, AllocError>
+    requires { All (λ declared. block_sum declared.group.slaves < 4294967296) groups.now }
+    ensures { IfOk result (λ fronts. map (λ sums. sums.items) fronts.items ≡ map block_sums groups.now) }
+{
+    let mut fronts = Vec::with_capacity(alloc, groups.len())?;
+    for declared in groups {
+        fronts.push(slave_sums(alloc, declared.group.slaves.as_slice())?)?;
+    }
+    Ok(fronts)
+}
+
+/// The sums of the slaves that groups declare.
+pub(crate) fn declared_sums(alloc: Global, groups: &[Declared]) -> Result<Vec<u32>, AllocError>
+    requires { IsCounted groups.now }
+    ensures { IfOk result (λ ranks. ranks.items ≡ sums_from declared_count 0 groups.now) }
+{
+    let mut ranks = Vec::with_capacity(alloc, groups.len() + 1)?;
+    let mut declared_slaves = 0;
+    for declared in groups {
+        ranks.push(declared_slaves)?;
+        declared_slaves += declared.group.slaves.len() as u32;
+    }
+    ranks.push(declared_slaves)?;
+    Ok(ranks)
+}
+
+/// How many slaves and how many blocks a declared group has in the line.
+fn line_counts(declared: &Declared, sums: &[u32]) -> (u32, u32)
+    requires sums { sums.now ≡ block_sums declared.now }
+    requires few { declared_count declared.now < 65535 }
+    ensures slaves { result.0 ≡ present_count declared.now }
+    ensures blocks { result.1 ≡ own_sum declared.now }
+{
+    if !declared.present {
+        return (0, 0);
+    }
+    let count = declared.group.slaves.len();
+    (count as u32, sums[count])
+}
+
+/// Adds the sums of the groups' slaves in the line and of their blocks, for which there is room, to none.
+pub(crate) fn sum_line(
+    slaves: &mut Vec<u32>,
+    blocks: &mut Vec<u32>,
+    fronts: &[Vec<u32>],
+    groups: &[Declared],
+)
+    requires empty { (vec_len slaves.old ≡ 0) × (vec_len blocks.old ≡ 0) }
+    requires room { (length groups.now < vec_capacity slaves.old) × (length groups.now < vec_capacity blocks.old) }
+    requires fronts { map (λ sums. sums.items) fronts.now ≡ map block_sums groups.now }
+    requires counted { IsCounted groups.now }
+    requires few { sum_by own_sum groups.now < 4294967296 }
+    ensures slaves { slaves.new.items ≡ sums_from present_count 0 groups.now }
+    ensures blocks { blocks.new.items ≡ sums_from own_sum 0 groups.now }
+    ensures room { (vec_capacity slaves.new ≡ vec_capacity slaves.old) × (vec_capacity blocks.new ≡ vec_capacity blocks.old) }
+{
+    let mut line = 0;
+    let mut line_blocks = 0;
+    let mut group = 0;
+    for declared in groups {
+        slaves.push_reserved(line);
+        blocks.push_reserved(line_blocks);
+        let (count, own) = line_counts(declared, fronts[group].as_slice());
+        line += count;
+        line_blocks += own;
+        group += 1;
+    }
+    slaves.push_reserved(line);
+    blocks.push_reserved(line_blocks);
+}

@@ -1,0 +1,8 @@
+pub mod lemmas
+pub mod Carrying
+pub mod Masks
+pub mod Numbered
+pub mod Outcomes
+pub mod Resizing
+pub mod Standing
+pub mod Writing

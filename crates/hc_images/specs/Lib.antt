@@ -1,0 +1,5 @@
+pub mod Image
+pub mod Moves
+pub mod Packed
+pub mod Pieces
+pub mod Values

@@ -1,0 +1,130 @@
+//! The output values of a line, packed as they are sent.
+ghost use Rattle.std.specs.Prelude.{◌≡◌, ◌<◌, drop};
+ghost use Rattle.hc_records.specs.declared.limits.TheConstants.{TASKS};
+ghost use Rattle.hc_images.specs.Packed.{IsWhole};
+ghost use Rattle.hc_images.specs.Pieces.{Posts};
+
+use crate::moves::Moves;
+use crate::row::Row;
+use crate::rows::{blank_rows, make_masks, slot_number};
+use hc_places::swap::Swap;
+use hc_places::table::Places;
+use hc_records::limits::{MOST_DATAGRAMS, TASKS};
+use std::alloc::{AllocError, Global};
+use std::marker::Model;
+
+/// The bytes of each datagram as they are sent, and masks of the bits of output variables. It has room for
+/// the longest data of every datagram that a line can have, twice about 190,000 bytes, from the start: so no
+/// post takes memory, and an edit for the moved values alone.
+#[derive(Debug)]
+pub struct Outputs {
+    sent: Vec<Row>,
+    masks: Vec<Row>,
+}
+
+impl Drop for Outputs {
+    fn drop(self) {
+        let Outputs { sent: _, masks: _ } = self;
+    }
+}
+
+impl Model for Outputs {
+    ghost use Rattle.hc_images.specs.Packed.{IsWhole, Packed};
+
+    ghost Value = { Packed };
+
+    ghost view = { λ outputs. record { sent = outputs.sent.items; masks = outputs.masks.items } };
+
+    ghost invariant = { λ outputs. IsWhole (record { sent = outputs.sent.items; masks = outputs.masks.items }) };
+}
+
+/// The bytes from one on; none where there are fewer.
+fn from_byte(bytes: &[u8], offset: u16) -> &[u8]
+    ensures { result.now ≡ drop offset bytes.now }
+{
+    match bytes.get(usize::from(offset)..) {
+        Some(rest) => rest,
+        None => &[],
+    }
+}
+
+/// Takes a post of a task into the bytes of its datagrams, by their masks.
+fn post_datagrams(sent: &mut [Row], masks: &[Row], places: &Places, task: u8, bytes: &[u8])
+    requires task { task < TASKS }
+    requires whole { IsWhole (record { sent = sent.old; masks = masks.now }) }
+    ensures { Posts places.now sent.old sent.new masks.now task bytes.now }
+{
+    let datagrams = places.datagrams(task);
+    for number in 0..datagrams.len() {
+        let slot = slot_number(task, number as u8);
+        sent[slot].post(&masks[slot], from_byte(bytes, datagrams[number].offset));
+    }
+}
+
+/// The same of all rows that are kept.
+fn post_all(sent: &mut Vec<Row>, masks: &Vec<Row>, places: &Places, task: u8, bytes: &[u8])
+    requires task { task < TASKS }
+    requires whole { IsWhole (record { sent = sent.old.items; masks = masks.now.items }) }
+    ensures { Posts places.now sent.old.items sent.new.items masks.now.items task bytes.now }
+{
+    post_datagrams(sent.as_mut_slice(), masks.as_slice(), places, task, bytes);
+}
+
+impl Outputs {
+    ghost use Rattle.std.specs.Prelude.{◌≡◌, ◌<◌, ℕ, IfOk};
+    ghost use Rattle.hc_records.specs.declared.limits.TheConstants.{TASKS};
+    ghost use Rattle.hc_images.specs.Moves.{table_after};
+    ghost use Rattle.hc_images.specs.Packed.{HasSizes, Holds, IsLaidOut, sent_bytes};
+    ghost use Rattle.hc_images.specs.Values.{KeepEntries, kept, posted};
+
+    /// The outputs of a table whose values are all 0. `AllocError` where a growth was refused; no other call
+    /// takes memory.
+    pub fn new(alloc: Global, places: &Places) -> Result<Outputs, AllocError>
+        requires { IsLaidOut places.now }
+        ensures { IfOk result (λ outputs. Holds places.now (λ variable k. 0) outputs) }
+    {
+        let sent = blank_rows(alloc, places)?;
+        let mut masks = blank_rows(alloc, places)?;
+        make_masks(&mut masks, places);
+        Ok(Outputs { sent, masks })
+    }
+
+    /// A post of a task, 0 to 7, by the table of the present line: the task's output variables have their
+    /// bits in the post as their values, bits behind its end being 0; those of other tasks keep theirs.
+    /// Bits of the post that belong to no output variable are never sent. It takes no memory.
+    pub fn post(&mut self, places: &Places, task: u8, bytes: &[u8])
+        requires task { task < TASKS }
+        requires laid { IsLaidOut places.now }
+        ensures { (value : ℕ → ℕ → ℕ) → Holds places.now value self.old → Holds places.now (posted places.now task bytes.now value) self.new }
+    {
+        post_all(&mut self.sent, &self.masks, places, task, bytes);
+    }
+
+    /// The data with which a datagram is sent, by its task, 0 to 7, and its number in the task, 0 to 15; no
+    /// bytes where the table has no such datagram, and for any other task or number.
+    pub fn bytes(&self, task: u8, number: u8) -> &[u8]
+        ensures { result.now ≡ sent_bytes self.now task number }
+    {
+        if task < TASKS && usize::from(number) < MOST_DATAGRAMS {
+            self.sent[slot_number(task, number)].as_slice()
+        } else {
+            &[]
+        }
+    }
+
+    /// The line changed from one table to another, by a swap: a variable with a place in the old one keeps
+    /// its value, and the value of any other is 0. Only the bytes of changed variables and of changed tasks
+    /// are touched. It takes no memory.
+    pub fn change(&mut self, moves: Moves, swap: &Swap)
+        requires swap { swap.now.change ≡ moves.change }
+        requires laid { IsLaidOut moves.before }
+        requires laid_out { IsLaidOut (table_after moves) }
+        requires entries { KeepEntries moves.before (table_after moves) }
+        requires sizes { HasSizes moves.before self.old.sent }
+        ensures { (value : ℕ → ℕ → ℕ) → Holds moves.before value self.old → Holds (table_after moves) (kept moves.before value) self.new }
+    {
+        let mut moves = moves;
+        moves.carry(&mut self.sent, swap, false);
+        moves.carry(&mut self.masks, swap, true);
+    }
+}

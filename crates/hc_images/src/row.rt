@@ -1,0 +1,138 @@
+//! The bytes of one datagram.
+ghost use Rattle.std.specs.Prelude.{◌≡◌, ◌+◌, ◌*◌, ◌^◌, ◌<◌, ◌≤◌, ℕ, length, min};
+ghost use Rattle.std.specs.Int.{bit_at};
+ghost use Rattle.hc_bits.specs.Bits.{AreBytes, bit_of, ReplacesRun};
+
+use arrayvec::ArrayVec;
+use hc_bits::{get_bits, put_bits};
+use std::marker::Model;
+
+/// The bytes of a datagram, at most 1,486, with room for so many.
+#[derive(Debug, Drop)]
+pub(crate) struct Row {
+    bytes: ArrayVec<u8, 1486>,
+}
+
+impl Model for Row {
+    ghost use Rattle.std.specs.Prelude.{ℕ, List};
+
+    ghost Value = { List ℕ };
+
+    ghost view = { λ row. row.bytes.items };
+}
+
+/// Each byte becomes that of `bytes` at its index with the bits of the mask alone, or 0 behind their end.
+fn copy_masked(own: &mut [u8], mask: &[u8], bytes: &[u8])
+    requires { length mask.now ≡ length own.old }
+    ensures bits { (k : ℕ) → bit_of own.new k ≡ min (bit_of bytes.now k) (bit_of mask.now k) }
+    ensures bytes { AreBytes own.new }
+{
+    let count = own.len().min(bytes.len());
+    let (front, rest) = own.split_at_mut(count);
+    for index in 0..count {
+        front[index] = bytes[index] & mask[index];
+    }
+    rest.fill(0);
+}
+
+/// A number whose bits are ones, so many, from 1 to 64.
+fn ones(bits: u8) -> u64
+    requires some { 1 ≤ bits }
+    requires most { bits ≤ 64 }
+    ensures below { result < 2 ^ bits }
+    ensures ones { (k : ℕ) → k < bits → bit_at result k ≡ 1 }
+{
+    u64::MAX >> (64 - bits)
+}
+
+/// The lowest bits of a value, so many, from 1 to 64.
+fn lowest(value: u64, bits: u8) -> u64
+    requires some { 1 ≤ bits }
+    requires most { bits ≤ 64 }
+    ensures below { result < 2 ^ bits }
+    ensures bits { (k : ℕ) → k < bits → bit_at result k ≡ bit_at value k }
+{
+    value & ones(bits)
+}
+
+/// Puts the lowest bits of a value, 1 to 64, from one on.
+fn put_run(bytes: &mut [u8], at: usize, bits: u8, value: u64)
+    requires some { 1 ≤ bits }
+    requires most { bits ≤ 64 }
+    requires within { at + bits ≤ 8 * length bytes.old }
+    ensures put { ReplacesRun bytes.old bytes.new at bits (bit_at value) }
+    ensures bytes { AreBytes bytes.new }
+{
+    put_bits(bytes, at, usize::from(bits), lowest(value, bits));
+}
+
+impl Row {
+    ghost use Rattle.std.specs.Prelude.{◌≡◌, ◌+◌, ◌*◌, ◌<◌, ◌≤◌, ℕ, length, min, replicate};
+    ghost use Rattle.std.specs.Int.{bit_at};
+    ghost use Rattle.hc_bits.specs.Bits.{AreBytes, bit_of, ReplacesRun};
+    ghost use Rattle.hc_records.specs.declared.limits.TheConstants.{MOST_DATAGRAM_BYTES, MOST_ENTRY_BITS};
+    ghost use Rattle.hc_images.specs.Pieces.{resized};
+
+    /// So many zeros.
+    pub(crate) fn zeros(length: u16) -> Row
+        requires { length ≤ MOST_DATAGRAM_BYTES }
+        ensures { result ≡ replicate length 0 }
+    {
+        let mut bytes = ArrayVec::new();
+        for _ in 0..length {
+            bytes.push(0);
+        }
+        Row { bytes }
+    }
+
+    /// The bytes.
+    pub(crate) fn as_slice(&self) -> &[u8]
+        ensures { result.now ≡ self.now }
+    {
+        self.bytes.as_slice()
+    }
+
+    /// Gets another length: bytes behind it go, and those that come are zeros.
+    pub(crate) fn resize(&mut self, length: u16)
+        requires { length ≤ MOST_DATAGRAM_BYTES }
+        ensures { self.new ≡ resized length self.old }
+    {
+        let length = usize::from(length);
+        let missing = length.saturating_sub(self.bytes.len());
+        self.bytes.truncate(length);
+        for _ in 0..missing {
+            self.bytes.push(0);
+        }
+    }
+
+    /// The 1 to 64 bits from one on, as a number.
+    pub(crate) fn value(&self, at: u16, bits: u8) -> u64
+        requires most { bits ≤ MOST_ENTRY_BITS }
+        requires within { at + bits ≤ 8 * length self.now }
+        ensures { (k : ℕ) → k < bits → bit_at result k ≡ bit_of self.now (at + k) }
+    {
+        get_bits(self.bytes.as_slice(), usize::from(at), usize::from(bits))
+    }
+
+    /// Puts the lowest bits of a value, 1 to 64, from one on.
+    pub(crate) fn put(&mut self, at: u16, bits: u8, value: u64)
+        requires some { 1 ≤ bits }
+        requires most { bits ≤ MOST_ENTRY_BITS }
+        requires within { at + bits ≤ 8 * length self.old }
+        ensures put { ReplacesRun self.old self.new at bits (bit_at value) }
+        ensures size { length self.new ≡ length self.old }
+        ensures bytes { AreBytes self.new }
+    {
+        put_run(self.bytes.as_mut_slice(), usize::from(at), bits, value);
+    }
+
+    /// Takes the bits of the mask from bytes, from their first on; every other bit becomes 0.
+    pub(crate) fn post(&mut self, mask: &Row, bytes: &[u8])
+        requires { length mask.now ≡ length self.old }
+        ensures bits { (k : ℕ) → bit_of self.new k ≡ min (bit_of bytes.now k) (bit_of mask.now k) }
+        ensures size { length self.new ≡ length self.old }
+        ensures bytes { AreBytes self.new }
+    {
+        copy_masked(self.bytes.as_mut_slice(), mask.as_slice(), bytes);
+    }
+}

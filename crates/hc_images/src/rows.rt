@@ -1,0 +1,194 @@
+//! The bytes of all datagrams that a line can have: made for a table, and what an edit does to them.
+ghost use Rattle.std.specs.Prelude.{◌≡◌, ◌+◌, ◌*◌, ◌<◌, ◌≤◌, ℕ, All, IfOk, IfSome, Some, length, option_and_then, slice_index_or};
+ghost use Rattle.std.specs.Int.{bit_at};
+ghost use Rattle.std.specs.Option.{MatchOption};
+ghost use Rattle.hc_bits.specs.Bits.{bit_of};
+ghost use Rattle.hc_records.specs.declared.limits.TheConstants.{MOST_DATAGRAMS, TASKS};
+ghost use Rattle.hc_places.specs.Swap.{ChangesAscend};
+ghost use Rattle.hc_images.specs.Packed.{Carries, IsLaidOut, length_in, slot_bytes, slot_number};
+ghost use Rattle.hc_images.specs.Pieces.{AreApart, AreBlank, Fit, ReadsEach, Resizes, ResizesEach, WritesAt, WritesEach, length_of, of_changed, of_list, output_of};
+
+use crate::row::Row;
+use hc_places::swap::{ChangedRow, ChangedTask};
+use hc_places::table::{Place, Places, TaskTable};
+use hc_records::limits::{MOST_DATAGRAMS, TASKS};
+use hc_records::records::Dir;
+use std::alloc::{AllocError, Global};
+
+/// The datagrams that a line can have: 16 in each of the eight tasks.
+const SLOTS: usize = TASKS as usize * MOST_DATAGRAMS;
+
+/// The place of a datagram's bytes among all.
+pub(crate) fn slot_number(task: u8, number: u8) -> usize
+    ensures { result ≡ slot_number task number }
+{
+    MOST_DATAGRAMS * usize::from(task) + usize::from(number)
+}
+
+/// The bytes of a datagram in a table; 0 where the task has no such datagram.
+fn length_in(places: &Places, task: u8, number: u8) -> u16
+    ensures length { result ≡ length_in places.now task number }
+    ensures most { result ≤ 1486 }
+{
+    match places.datagram(task, number) {
+        Some(datagram) => datagram.length,
+        None => 0,
+    }
+}
+
+/// Rows for the datagrams of a table, all 0. `AllocError` where the growth was refused.
+pub(crate) fn blank_rows(alloc: Global, places: &Places) -> Result<Vec<Row>, AllocError>
+    ensures { IfOk result (λ rows. AreBlank places.now rows.items) }
+{
+    let mut rows = Vec::with_capacity(alloc, SLOTS)?;
+    for slot in 0..SLOTS {
+        let length = length_in(
+            places,
+            (slot / MOST_DATAGRAMS) as u8,
+            (slot % MOST_DATAGRAMS) as u8,
+        );
+        rows.push(Row::zeros(length))?;
+    }
+    Ok(rows)
+}
+
+/// A place, if there is one and it is that of an output variable.
+pub(crate) fn output(place: Option<Place>) -> Option<Place>
+    ensures { result ≡ option_and_then output_of place }
+{
+    let place = place?;
+    if place.dir == Dir::Out {
+        Some(place)
+    } else {
+        None
+    }
+}
+
+/// Puts the lowest bits of a value at a place.
+fn put_at(rows: &mut [Row], place: Place, value: u64)
+    requires all { length rows.old ≡ MOST_DATAGRAMS * TASKS }
+    requires within { place.bit + place.bits ≤ 8 * length (slot_bytes rows.old place.task place.datagram) }
+    ensures { WritesAt (Some place) (bit_at value) rows.old rows.new }
+{
+    rows[slot_number(place.task, place.datagram)].put(place.bit, place.bits, value);
+}
+
+/// The bits at a place, as a number.
+fn value_at(rows: &[Row], place: Place) -> u64
+    requires all { length rows.now ≡ MOST_DATAGRAMS * TASKS }
+    requires within { place.bit + place.bits ≤ 8 * length (slot_bytes rows.now place.task place.datagram) }
+    ensures { (k : ℕ) → k < place.bits → bit_at result k ≡ bit_of (slot_bytes rows.now place.task place.datagram) (place.bit + k) }
+{
+    rows[slot_number(place.task, place.datagram)].value(place.bit, place.bits)
+}
+
+/// Puts the lowest bits of a value at a place, if there is one.
+fn put(rows: &mut [Row], place: Option<Place>, value: u64)
+    requires all { length rows.old ≡ MOST_DATAGRAMS * TASKS }
+    requires within { IfSome place (λ place. place.bit + place.bits ≤ 8 * length (slot_bytes rows.old place.task place.datagram)) }
+    ensures { WritesAt place (bit_at value) rows.old rows.new }
+{
+    if let Some(place) = place {
+        put_at(rows, place, value);
+    }
+}
+
+/// Takes the bits at a place up, which are 0 from then on; if there is none, the value that is given.
+fn take(rows: &mut [Row], place: Option<Place>, lacking: u64) -> u64
+    requires all { length rows.old ≡ MOST_DATAGRAMS * TASKS }
+    requires within { IfSome place (λ place. place.bit + place.bits ≤ 8 * length (slot_bytes rows.old place.task place.datagram)) }
+    ensures writes { WritesAt place (bit_at 0) rows.old rows.new }
+    ensures value { MatchOption place (result ≡ lacking) (λ place. (k : ℕ) → k < place.bits → bit_at result k ≡ bit_of (slot_bytes rows.old place.task place.datagram) (place.bit + k)) }
+{
+    let Some(place) = place else {
+        return lacking;
+    };
+    let value = value_at(rows, place);
+    put_at(rows, place, 0);
+    value
+}
+
+/// Makes ones of the bits of a table's output variables, in bytes that are all 0.
+fn mark(rows: &mut [Row], places: &Places)
+    requires laid { IsLaidOut places.now }
+    requires blank { AreBlank places.now rows.old }
+    ensures carries { Carries places.now (λ variable k. 1) rows.new }
+    ensures all { length rows.new ≡ MOST_DATAGRAMS * TASKS }
+{
+    for (_, place) in places.variables() {
+        put(rows, output(Some(*place)), u64::MAX);
+    }
+}
+
+/// Makes the masks of a table of bytes that are all 0.
+pub(crate) fn make_masks(rows: &mut Vec<Row>, places: &Places)
+    requires laid { IsLaidOut places.now }
+    requires blank { AreBlank places.now rows.old.items }
+    ensures carries { Carries places.now (λ variable k. 1) rows.new.items }
+    ensures all { length rows.new.items ≡ MOST_DATAGRAMS * TASKS }
+{
+    mark(rows.as_mut_slice(), places);
+}
+
+/// Takes the values at places up; the value of one that is lacking is given.
+pub(crate) fn take_up(rows: &mut [Row], places: &[Option<Place>], lacking: u64, values: &mut [u64])
+    requires all { length rows.old ≡ MOST_DATAGRAMS * TASKS }
+    requires values { length values.old ≡ length places.now }
+    requires fit { Fit (length places.now) (of_list places.now) rows.old }
+    requires apart { AreApart (length places.now) (of_list places.now) }
+    ensures writes { WritesEach (length places.now) (of_list places.now) (λ i. bit_at 0) rows.old rows.new }
+    ensures reads { ReadsEach (length places.now) (of_list places.now) rows.old lacking values.new }
+    ensures values { length values.new ≡ length places.now }
+{
+    for i in 0..places.len() {
+        values[i] = take(rows, places[i], lacking);
+    }
+}
+
+/// Puts the values of changed variables down at the new places of the outputs among them.
+pub(crate) fn put_down(rows: &mut [Row], changed: &[ChangedRow], values: &[u64])
+    requires all { length rows.old ≡ MOST_DATAGRAMS * TASKS }
+    requires values { length values.now ≡ length changed.now }
+    requires fit { Fit (length changed.now) (of_changed changed.now) rows.old }
+    requires apart { AreApart (length changed.now) (of_changed changed.now) }
+    ensures { WritesEach (length changed.now) (of_changed changed.now) (λ i. bit_at (slice_index_or values.now i 0)) rows.old rows.new }
+{
+    for i in 0..changed.len() {
+        put(rows, output(changed[i].1), values[i]);
+    }
+}
+
+/// The bytes of a datagram in the table of its task; 0 where the task has no such datagram.
+fn length_of(table: &TaskTable, number: usize) -> u16
+    ensures length { result ≡ length_of table.now number }
+    ensures most { result ≤ 1486 }
+{
+    match table.datagrams().get(number) {
+        Some(datagram) => datagram.length,
+        None => 0,
+    }
+}
+
+/// Gives the datagrams of a task, 0 to 7, the lengths of its table.
+fn resize_task(rows: &mut [Row], task: u8, table: &TaskTable)
+    requires all { length rows.old ≡ MOST_DATAGRAMS * TASKS }
+    requires task { task < TASKS }
+    ensures { Resizes task table.now rows.old rows.new }
+{
+    for number in 0..MOST_DATAGRAMS {
+        let length = length_of(table, number);
+        rows[slot_number(task, number as u8)].resize(length);
+    }
+}
+
+/// Gives the datagrams of changed tasks the lengths of their new tables.
+pub(crate) fn resize(rows: &mut [Row], changed: &[ChangedTask])
+    requires all { length rows.old ≡ MOST_DATAGRAMS * TASKS }
+    requires eight { All (λ changed. changed.0 < TASKS) changed.now }
+    requires ascends { ChangesAscend changed.now }
+    ensures { ResizesEach (length changed.now) changed.now rows.old rows.new }
+{
+    for (task, table) in changed {
+        resize_task(rows, *task, table);
+    }
+}

@@ -1,2 +1,0 @@
--- What the crates above cite, a file a subject.
-pub mod Edited

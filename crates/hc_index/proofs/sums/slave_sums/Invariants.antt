@@ -1,8 +1,0 @@
-use Rattle.std.proofs.Common.{◌≡◌, ◌+◌, ◌++◌, drop}
-use Rattle.hc_index.specs.Index.{block_sum, blocks_of, sums_from}
-use Rattle.hc_index.proofs.sums.slave_sums.Given as goal
-
-abbrev pub invariant-loop-slave : goal.invariant-loop-slave
-invariant-loop-slave l =
-    let left = drop l.slave-index l.slaves in
-    (l.sums.items ++ sums_from blocks_of l.blocks left ≡ sums_from blocks_of 0 l.slaves) × (l.blocks + block_sum left ≡ block_sum l.slaves)

@@ -1,6 +1,0 @@
-pub mod Dealt
-pub mod Fourths
-pub mod Written
-pub mod Turning
-pub mod Counted
-pub mod lemmas

@@ -1,5 +1,0 @@
-use Rattle.std.proofs.Common.{length}
-use Rattle.hc_line.proofs.changing.+slaves_before.Given as goal
-
-abbrev pub decreases-slaves_before : goal.decreases-slaves_before
-decreases-slaves_before l = length l.groups.now

@@ -1,5 +1,0 @@
-use Rattle.std.proofs.Common.{length}
-use Rattle.hc_line.proofs.line.+write_in.Given as goal
-
-abbrev pub decreases-write_in : goal.decreases-write_in
-decreases-write_in l = length l.segments.now

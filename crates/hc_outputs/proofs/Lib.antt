@@ -1,8 +1,0 @@
-pub mod Carrying
-pub mod Masks
-pub mod Numbered
-pub mod Outcomes
-pub mod Resizing
-pub mod Standing
-pub mod Writing
-pub mod lemmas

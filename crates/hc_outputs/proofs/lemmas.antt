@@ -1,4 +1,0 @@
--- What the crates above cite, a file a subject.
-pub mod Bits
-pub mod Entries
-pub mod LaidOut

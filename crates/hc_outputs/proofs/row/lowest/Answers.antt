@@ -1,5 +1,0 @@
-use Rattle.hc_outputs.proofs.Masks.{lowest-bit}
-use Rattle.hc_outputs.proofs.row.lowest.Goals as goal
-
-pub returns-clause-bits : goal.returns-clause-bits
-returns-clause-bits c = λ k low. lowest-bit c.args.value c.ones.result k (c.ones.ensures.ones k low)

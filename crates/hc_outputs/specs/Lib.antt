@@ -1,4 +1,0 @@
-pub mod Moves
-pub mod Packed
-pub mod Pieces
-pub mod Values

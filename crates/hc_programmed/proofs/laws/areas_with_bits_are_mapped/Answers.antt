@@ -1,5 +1,0 @@
-use Rattle.hc_programmed.proofs.lemmas.Listed.{areas-mapped}
-use Rattle.hc_programmed.proofs.laws.areas_with_bits_are_mapped.Goals as goal
-
-pub returns : goal.returns
-returns c = areas-mapped

@@ -1,5 +1,0 @@
-use Rattle.hc_programmed.proofs.lemmas.Decoded.{block-one}
-use Rattle.hc_programmed.proofs.laws.pairs_are_one_to_one.Goals as goal
-
-pub returns : goal.returns
-returns c = block-one

@@ -1,5 +1,0 @@
-use Rattle.hc_programmed.proofs.lemmas.Programmed.{programmed-pairs}
-use Rattle.hc_programmed.proofs.laws.programmed_slaves_pair_their_areas.Goals as goal
-
-pub returns : goal.returns
-returns c = programmed-pairs

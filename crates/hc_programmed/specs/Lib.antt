@@ -1,4 +1,0 @@
-pub mod Pairs
-pub mod Laws
-pub mod Writing
-pub mod WritingLaws

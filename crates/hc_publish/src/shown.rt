@@ -1,0 +1,200 @@
+//! A copy of what tasks see, and how it takes changes in.
+ghost use Rattle.std.specs.Prelude.{◌≡◌, ◌+◌, ◌*◌, ◌≤◌, length};
+ghost use Rattle.hc_publish.specs.Values.{number_at};
+
+use crate::history::History;
+use crate::view_faults::ViewFault;
+use hc_bits::get_bits;
+use hc_bits::laws::reading_takes_list;
+use hc_events::change::{Change, GoodAnswer};
+use hc_images::inputs::Inputs;
+use hc_places::swap::Swap;
+use hc_places::table::{Datagram, Place, Places};
+use hc_plan::plan::Plan;
+use hc_records::limits::{MOST_DATAGRAMS, TASKS};
+use hc_records::records::{Dir, VarId};
+use std::alloc::{AllocError, Global};
+use std::marker::Model;
+use std::snapshot::Snapshot;
+
+/// The table of a line's places, its epoch, and each datagram's data of this epoch, or none. Contracts see the
+/// groups of the project that was opened and the changes that were taken in since: all else follows from these.
+pub struct Shown {
+    alloc: Global,
+    opened: Snapshot<Plan>,
+    history: History,
+    places: Places,
+    epoch: u32,
+    inputs: Inputs,
+}
+
+impl Drop for Shown {
+    fn drop(self) {
+        let Shown {
+            alloc: _,
+            opened: _,
+            history: _,
+            places: _,
+            epoch: _,
+            inputs: _,
+        } = self;
+    }
+}
+
+impl Model for Shown {
+    ghost use Rattle.hc_publish.specs.Told.{Told};
+    ghost use Rattle.hc_publish.specs.Shown.{Follows, told_in};
+
+    ghost Value = { Told };
+
+    ghost view = { told_in };
+
+    ghost invariant = { Follows };
+}
+
+/// The value of a variable in its datagram's data, in which its place ends.
+fn read_number(bytes: &[u8], place: Place) -> u64
+    requires { place.bit + place.bits ≤ 8 * length bytes.now }
+    ensures { result ≡ number_at bytes.now place }
+{
+    // tells what the single bits of the answer spell
+    reading_takes_list();
+    get_bits(bytes, usize::from(place.bit), usize::from(place.bits))
+}
+
+impl Shown {
+    ghost use Rattle.std.specs.Prelude.{◌≡◌, ◌++◌, ◌∷◌, [], IfOk, IfSome, IsOk, MatchResult, min};
+    ghost use Rattle.std.specs.Option.{option_copied};
+    ghost use Rattle.hc_records.specs.declared.limits.TheConstants.{LAST_EPOCH};
+    ghost use Rattle.hc_records.specs.Line.{groups_of};
+    ghost use Rattle.hc_places.specs.Swap.{KeepRows};
+    ghost use Rattle.hc_places.specs.Ranges.{IsDatagram};
+    ghost use Rattle.hc_places.specs.Table.{datagram_in, part_in, place_in};
+    ghost use Rattle.hc_events.specs.declared.change.Change.TheVariants as change;
+    ghost use Rattle.hc_publish.specs.Told.{IsLegal, IsOpening, TakesNoMemory, data_shown, epoch_shown, just_told, table_shown, with_change};
+    ghost use Rattle.hc_publish.specs.Values.{value_shown};
+
+    /// What tasks see of a plan at its opening: the places of its line, epoch 0, and no datagram with data. It
+    /// has room for the longest data of every datagram that a line can have. `AllocError` where a growth was
+    /// refused.
+    pub fn of(alloc: Global, plan: &Plan) -> Result<Shown, AllocError>
+        requires { IsOpening plan.now }
+        ensures { IfOk result (λ shown. shown ≡ just_told (groups_of plan.now.groups)) }
+    {
+        let places = plan.places().copied(alloc)?;
+        let inputs = Inputs::new(alloc)?;
+        Ok(Shown {
+            alloc,
+            opened: Snapshot::of(plan),
+            history: History::Opened,
+            places,
+            epoch: 0,
+            inputs,
+        })
+    }
+
+    /// A swap: the next epoch with its places, in which no datagram has data. The memory for it is taken first;
+    /// `AllocError` where a growth was refused, and then nothing has changed.
+    fn take_swap(&mut self, swap: &Swap) -> Result<(), AllocError>
+        ensures taken { MatchResult result (λ _. self.new ≡ with_change self.old (change.Swapped swap.now)) (λ _. self.new ≡ self.old) }
+        ensures succeeds { KeepRows (table_shown self.old).variables swap.now.change.rows → IsOk result }
+    {
+        let room = self.places.room_for(self.alloc, swap)?;
+        self.places.carry_out(swap, room);
+        self.epoch = self.epoch.saturating_add(1);
+        self.inputs.clear();
+        self.history.add_swap(swap);
+        Ok(())
+    }
+
+    /// A good answer: its datagram has its data from now on. It takes no memory.
+    fn take_good(&mut self, good: &GoodAnswer)
+        ensures { self.new ≡ with_change self.old (change.Good good.now) }
+    {
+        self.inputs.put(good.task(), good.datagram(), good.bytes());
+        self.history.add_good(good);
+    }
+
+    /// Takes a change in, behind those that were taken in before; it needn't be legal. A swap changes the copy
+    /// where it stands, and costs what it changes; a good answer costs its bytes. Only a swap by which a variable
+    /// appears or goes takes memory: `AllocError` where that was refused, and then nothing has changed.
+    pub fn take_in(&mut self, change: &Change) -> Result<(), AllocError>
+        ensures taken { MatchResult result (λ _. self.new ≡ with_change self.old change.now) (λ _. self.new ≡ self.old) }
+        ensures succeeds { TakesNoMemory self.old change.now → IsOk result }
+    {
+        match change {
+            Change::Swapped(swap) => self.take_swap(swap),
+            Change::Good(good) => {
+                self.take_good(good);
+                Ok(())
+            }
+        }
+    }
+
+    /// The epoch: the number of swaps taken in, which in a legal list is the number of accepted edits. It stays
+    /// at the last epoch.
+    pub fn epoch(&self) -> u32
+        ensures value { result ≡ min (epoch_shown self.now) LAST_EPOCH }
+        ensures legal { IsLegal self.now → result ≡ epoch_shown self.now }
+    {
+        self.epoch
+    }
+
+    /// The bytes of the outputs, which come first, and of the inputs of a task's image; 0 and 0 where there is
+    /// no such task.
+    pub fn part(&self, task: u8) -> (u16, u16)
+        ensures { result ≡ part_in (table_shown self.now) task }
+    {
+        self.places.part(task)
+    }
+
+    /// The datagram of a task with a number; none where the task has fewer, or there is no such task.
+    pub fn datagram(&self, task: u8, number: u8) -> Option<Datagram>
+        ensures datagram { result ≡ datagram_in (table_shown self.now) task number }
+        ensures ranges { IfSome result IsDatagram }
+    {
+        self.places.datagram(task, number)
+    }
+
+    /// Where a variable stands; none where it has no place in the line. It takes no memory.
+    pub fn place(&self, variable: VarId) -> Option<Place>
+        ensures { result ≡ place_in (table_shown self.now) variable }
+    {
+        self.places.place(variable)
+    }
+
+    /// The data of a task's datagram, lent: those of its last good answer in this epoch, or none; none too where
+    /// no line has such a task or datagram. It takes no memory.
+    pub fn data(&self, task: u8, datagram: u8) -> Option<&[u8]>
+        ensures { option_copied result ≡ data_shown self.now task datagram }
+    {
+        if task < TASKS && usize::from(datagram) < MOST_DATAGRAMS {
+            self.inputs.data(task, datagram)
+        } else {
+            None
+        }
+    }
+
+    /// The value of an input variable for a task: its bits in its datagram's data, the first one the least
+    /// significant, so it is below 2 to the power of the variable's bits. Otherwise the first of these that holds:
+    /// `NoSuchVariable` where the variable has no place in the line, `IsOutput` where it is an output, `OtherTask`
+    /// where it lies in another task, `NotAnswered` where its datagram has no data. It takes no memory.
+    pub fn value(&self, task: u8, variable: VarId) -> Result<u64, ViewFault>
+        requires { IsLegal self.now }
+        ensures { result ≡ value_shown self.now task variable }
+    {
+        let Some(place) = self.places.place(variable) else {
+            return Err(ViewFault::NoSuchVariable);
+        };
+        if place.dir == Dir::Out {
+            return Err(ViewFault::IsOutput);
+        }
+        if place.task != task {
+            return Err(ViewFault::OtherTask);
+        }
+        match self.data(place.task, place.datagram) {
+            Some(bytes) => Ok(read_number(bytes, place)),
+            None => Err(ViewFault::NotAnswered),
+        }
+    }
+}

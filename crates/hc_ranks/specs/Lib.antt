@@ -1,4 +1,0 @@
-pub mod Blocks
-pub mod Places
-pub mod Differences
-pub mod Laws

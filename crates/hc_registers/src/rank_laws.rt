@@ -1,0 +1,23 @@
+//! What follows from the definitions, so that a reader can trust them: each function here does nothing, and
+//! its contract is a law. Nobody calls it.
+ghost use Rattle.hc_registers.specs.RankLaws.{DeclaredGroupsAddEmptyPlaces, MembersHavePlaces, PlacesHoldTheLine, RankedAreMoved};
+
+/// The blocks at the places of a project's line are the line's blocks, in line and block order.
+pub fn places_hold_the_line()
+    ensures { PlacesHoldTheLine }
+{}
+
+/// Each slave of a line has its blocks at its places, each at that of its number, and nothing at the others.
+pub fn members_have_places()
+    ensures { MembersHavePlaces }
+{}
+
+/// The moved blocks that are told with their ranks are those of the definition, in line and block order.
+pub fn ranked_are_moved()
+    ensures { RankedAreMoved }
+{}
+
+/// A group that is declared, absent, adds sixteen empty places for each of its slaves behind those of the others.
+pub fn declared_groups_add_empty_places()
+    ensures { DeclaredGroupsAddEmptyPlaces }
+{}

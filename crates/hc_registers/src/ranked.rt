@@ -1,0 +1,70 @@
+//! What is told by rank of the blocks of a line and of the slaves that leave it.
+ghost use Rattle.std.specs.Prelude.{◌≡◌, ◌≤◌};
+ghost use Rattle.hc_registers.specs.RankPlaces.{place};
+
+use crate::blocks::Block;
+use std::marker::Model;
+
+/// The place of the block with a number of the slave with a rank.
+fn place(rank: u16, number: u8) -> usize
+    requires { 1 ≤ rank }
+    ensures { result ≡ place rank number }
+{
+    16 * (usize::from(rank) - 1) + usize::from(number)
+}
+
+/// A block of a line, with the rank of its slave.
+#[derive(Debug, Drop)]
+pub struct RankedBlock {
+    /// The rank of its slave: declared slaves are counted from 1, present or not.
+    pub rank: u16,
+    /// The station address of its slave.
+    pub station: u16,
+    /// Its number in the slave's order, from 0.
+    pub number: u8,
+    /// Its register and its bytes.
+    pub block: Block,
+}
+
+impl Model for RankedBlock {
+    ghost use Rattle.hc_registers.specs.Ranked.{RankedBlock};
+
+    ghost Value = { RankedBlock };
+
+    ghost view = { λ it. record { rank = it.rank; found = record { station = it.station; number = it.number; block = it.block } } };
+}
+
+/// The slaves that leave a line with an edit: so many, from a rank on.
+#[derive(Clone, Copy, Debug, PartialEq, Eq)]
+pub struct Gone {
+    /// The rank of the first of them, from 1.
+    pub rank: u16,
+    /// How many they are; 0 where none leaves.
+    pub slaves: u16,
+}
+
+impl RankedBlock {
+    ghost use Rattle.std.specs.Prelude.{◌≡◌, ◌≤◌};
+    ghost use Rattle.hc_registers.specs.RankDifferences.{block_place};
+
+    /// The block's place, from 0.
+    pub fn place(&self) -> usize
+        requires { 1 ≤ self.now.rank }
+        ensures { result ≡ block_place self.now }
+    {
+        place(self.rank, self.number)
+    }
+}
+
+impl Gone {
+    ghost use Rattle.std.specs.Prelude.{◌≡◌, ◌≤◌};
+    ghost use Rattle.hc_registers.specs.RankDifferences.{first_gone};
+
+    /// The first of the places of the slaves that leave, from 0.
+    pub fn first_place(&self) -> usize
+        requires { 1 ≤ self.now.rank }
+        ensures { result ≡ first_gone self.now }
+    {
+        16 * (usize::from(self.rank) - 1)
+    }
+}

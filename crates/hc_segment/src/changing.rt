@@ -1,0 +1,234 @@
+//! Machines come and go with their group.
+ghost use Rattle.std.specs.Prelude.{◌≡◌, ◌+◌, ◌^◌, ◌<◌, ◌≤◌, [], ◌++◌, IfOk, IfSome, find, length, option_and_then, option_map, reverse, sum_by, vec_len, vec_capacity};
+ghost use Rattle.std.specs.Option.{option_copied};
+ghost use Rattle.hc_records.specs.Line.{IsCounted, groups_of, line_from, present_slaves};
+ghost use Rattle.hc_records.specs.Project.{lowest_fault};
+ghost use Rattle.hc_segment.specs.Line.{all_machines};
+ghost use Rattle.hc_segment.specs.Machines.{coming_at, going_at, has_alias, replaced, replacement, slaves_before};
+
+use crate::Segment;
+use crate::fresh::fresh_machines;
+use crate::line::SimulatedLine;
+use crate::rows::Cut;
+use hc_machine::SlaveMachine;
+use hc_records::edit::Edit;
+use hc_records::records::Declared;
+use std::alloc::{AllocError, Global};
+use std::marker::Model;
+
+/// What an edit makes of a line's machines, and all room for it. Contracts see what it replaces, and for how many machines
+/// it was prepared.
+#[derive(Drop)]
+pub struct LineEdit {
+    count: usize,
+    position: usize,
+    gone: usize,
+    coming: Vec<SlaveMachine>,
+    // no machine yet, but a place for each old and each coming one
+    all: Vec<SlaveMachine>,
+    cut: Cut,
+}
+
+impl Model for LineEdit {
+    ghost use Rattle.hc_segment.specs.Changing.{Prepared};
+
+    ghost Value = { Prepared };
+
+    ghost use Rattle.hc_segment.specs.Prepared.{IsReady, prepared_in};
+
+    ghost view = { prepared_in };
+
+    ghost invariant = { IsReady };
+}
+
+/// The declared group with an alias.
+fn group_with(groups: &[Declared], alias: u16) -> Option<&Declared>
+    ensures { option_copied result ≡ find (has_alias alias) groups.now }
+{
+    groups.iter().find(|declared| declared.group.alias == alias)
+}
+
+/// How many slaves of a declared group are in the line.
+fn present_count(declared: &Declared) -> usize
+    ensures { result ≡ length (present_slaves declared.now) }
+{
+    if declared.present {
+        declared.group.slaves.len()
+    } else {
+        0
+    }
+}
+
+/// How many slaves of the line stand in front of the group with an alias. There are 512 groups at most, so deep is this
+/// recursion.
+fn slaves_before(groups: &[Declared], alias: u16) -> usize
+    requires { IsCounted groups.now }
+    ensures { result ≡ slaves_before alias groups.now }
+{
+    let Some((declared, others)) = groups.split_first() else {
+        return 0;
+    };
+    if declared.group.alias == alias {
+        return 0;
+    }
+    present_count(declared) + slaves_before(others, alias)
+}
+
+/// The machines of segments in a row; no segment is left.
+fn gathered(segments: &mut Vec<Segment>, room: Vec<SlaveMachine>) -> Vec<SlaveMachine>
+    requires empty { room.items ≡ [] }
+    requires room { length (all_machines segments.old.items) ≤ vec_capacity room }
+    ensures items { result.items ≡ all_machines segments.old.items }
+    ensures room { vec_capacity room ≤ vec_capacity result }
+{
+    let mut all = room;
+    segments.reverse();
+    while let Some(segment) = segments.pop() {
+        let mut machines = segment.into_machines();
+        let _moved = all.append(&mut machines);
+    }
+    all
+}
+
+/// Behind so many machines, which stay, so many go and others come in their place.
+fn turned(
+    machines: Vec<SlaveMachine>,
+    position: usize,
+    gone: usize,
+    coming: Vec<SlaveMachine>,
+) -> Vec<SlaveMachine>
+    requires few { position + gone < 2 ^ 64 }
+    requires room { vec_len machines + vec_len coming ≤ vec_capacity machines }
+    ensures { result.items ≡ replaced (record { position = position; gone = gone; coming = coming.items }) machines.items }
+{
+    let mut machines = machines;
+    let mut coming = coming;
+    let front = position.min(machines.len());
+    let back = (position + gone).min(machines.len());
+    let behind = machines.len() - back;
+    machines.rotate_left(back);
+    machines.truncate(behind + front);
+    let _moved = machines.append(&mut coming);
+    machines.rotate_left(behind);
+    machines
+}
+
+impl LineEdit {
+    /// The edit of a line of so many machines, with the room for it.
+    fn new(
+        alloc: Global,
+        count: usize,
+        position: usize,
+        gone: usize,
+        coming: Vec<SlaveMachine>,
+    ) -> Result<LineEdit, AllocError>
+        requires { position + gone < 2 ^ 32 }
+        ensures { IfOk result (λ ready. ready ≡ record { count = count; replacement = record { position = position; gone = gone; coming = coming.items } }) }
+    {
+        // no memory has so many machines that their number doesn't fit
+        let Some(most) = count.checked_add(coming.len()) else {
+            return Err(AllocError);
+        };
+        let all = Vec::with_capacity(alloc, most)?;
+        let left = (position + gone).min(count) - position.min(count);
+        let cut = Cut::new(alloc, most - left)?;
+        Ok(LineEdit {
+            count,
+            position,
+            gone,
+            coming,
+            all,
+            cut,
+        })
+    }
+}
+
+impl SimulatedLine {
+    /// The group with an alias comes, where it isn't there.
+    fn prepare_coming(
+        &self,
+        alloc: Global,
+        groups: &[Declared],
+        alias: u16,
+    ) -> Result<Option<LineEdit>, AllocError>
+        requires { lowest_fault (groups_of groups.now) ≡ None }
+        ensures replacement { IfOk result (λ ready. option_map (λ r. r.replacement) ready ≡ option_and_then (coming_at (slaves_before alias groups.now)) (find (has_alias alias) groups.now)) }
+        ensures count { IfOk result (λ ready. IfSome ready (λ r. r.count ≡ length self.now)) }
+    {
+        match group_with(groups, alias) {
+            Some(declared) => {
+                if declared.present {
+                    return Ok(None);
+                }
+                let position = slaves_before(groups, alias);
+                let coming = fresh_machines(alloc, &declared.group)?;
+                Ok(Some(LineEdit::new(alloc, self.len(), position, 0, coming)?))
+            }
+            None => Ok(None),
+        }
+    }
+
+    /// The group with an alias goes, where it is there.
+    fn prepare_going(
+        &self,
+        alloc: Global,
+        groups: &[Declared],
+        alias: u16,
+    ) -> Result<Option<LineEdit>, AllocError>
+        requires { lowest_fault (groups_of groups.now) ≡ None }
+        ensures replacement { IfOk result (λ ready. option_map (λ r. r.replacement) ready ≡ option_and_then (going_at (slaves_before alias groups.now)) (find (has_alias alias) groups.now)) }
+        ensures count { IfOk result (λ ready. IfSome ready (λ r. r.count ≡ length self.now)) }
+    {
+        match group_with(groups, alias) {
+            Some(declared) => {
+                if !declared.present {
+                    return Ok(None);
+                }
+                let position = slaves_before(groups, alias);
+                let gone = declared.group.slaves.len();
+                Ok(Some(LineEdit::new(alloc, self.len(), position, gone, Vec::new(alloc))?))
+            }
+            None => Ok(None),
+        }
+    }
+
+    /// What an edit, which these groups accept, would make of the machines; none where it touches none. All memory for it
+    /// is taken here, and nothing changes. `AllocError` where a growth was refused.
+    pub fn prepare(
+        &self,
+        alloc: Global,
+        groups: &[Declared],
+        edit: &Edit,
+    ) -> Result<Option<LineEdit>, AllocError>
+        requires { lowest_fault (groups_of groups.now) ≡ None }
+        ensures replacement { IfOk result (λ ready. option_map (λ r. r.replacement) ready ≡ replacement groups.now edit.now) }
+        ensures count { IfOk result (λ ready. IfSome ready (λ r. r.count ≡ length self.now)) }
+    {
+        match edit {
+            Edit::Connect(alias) => self.prepare_coming(alloc, groups, *alias),
+            Edit::Disconnect(alias) => self.prepare_going(alloc, groups, *alias),
+            _ => Ok(None),
+        }
+    }
+
+    /// Carries out what was prepared for a line of as many machines: those that go are dropped, fresh ones come in their
+    /// place, and the others keep their memory. The machines are then cut into at most four segments again, each of a
+    /// fourth of them, rounded up. It takes no memory.
+    pub fn carry_out(&mut self, ready: LineEdit)
+        requires { ready.count ≡ length self.old }
+        ensures { self.new ≡ replaced ready.replacement self.old }
+    {
+        let LineEdit {
+            count: _,
+            position,
+            gone,
+            coming,
+            all,
+            cut,
+        } = ready;
+        let machines = gathered(&mut self.segments, all);
+        let machines = turned(machines, position, gone, coming);
+        self.count = machines.len();
+        self.segments = cut.segments(machines);
+    }
+}

@@ -1,0 +1,74 @@
+-- The row of a datagram in the table of its line.
+use Rattle.std.proofs.Common.{◌≡◌, ℕ, zero, suc, ◌<◌, Bool, cond, ap, ◌∙◌, arith, List, map, Some, None}
+use Rattle.std.specs.Prelude.{slice_get}
+use Rattle.std.specs.List.{range_with_len}
+use Rattle.std.proofs.lemmas.List.FromFn.{get_or-map-range_with_len, length-map-range_with_len}
+use Rattle.std.proofs.lemmas.Option.{slice_get-get_or, slice_get_within}
+use Rattle.hc_records.specs.declared.limits.TheConstants.{TASKS}
+use Rattle.hc_records.specs.Line.{Member}
+use Rattle.hc_records.specs.Image.{datagram_count, task_places}
+use Rattle.hc_places.specs.declared.table.Datagram.{Datagram}
+use Rattle.hc_places.specs.Table.{datagram_in, datagram_of, table_of}
+use Rattle.hc_events.specs.Accepted.{StandsIn}
+use Rattle.hc_events.specs.Answering.{has_head}
+use Rattle.hc_events.specs.Arrivals.{Part}
+use Rattle.hc_events.specs.Heads.{data_head}
+use Rattle.hc_events.specs.Sendings.{Named}
+use Rattle.hc_sendings.specs.Walk.{head_of}
+
+blank : Datagram
+blank = record { address = 0; length = 0; expected = 0; offset = 0 }
+
+row-of : (line : List Member) (task d : ℕ) → d < datagram_count (task_places task line)
+    → slice_get (map (datagram_of line task) (range_with_len 0 (datagram_count (task_places task line)))) d ≡ Some (datagram_of line task d)
+row-of line task d stands =
+    let count = length-map-range_with_len (datagram_of line task) 0 (datagram_count (task_places task line)) in
+    slice_get-get_or (map (datagram_of line task) (range_with_len 0 (datagram_count (task_places task line)))) d blank (omega (arith, count, stands))
+    ∙ ap (λ (row : Datagram). Some row) (get_or-map-range_with_len (datagram_of line task) 0 (datagram_count (task_places task line)) d d blank stands (omega arith))
+
+row-at : (line : List Member) (task d : ℕ) → task < TASKS → d < datagram_count (task_places task line) → datagram_in (table_of line) task d ≡ Some (datagram_of line task d)
+row-at line zero d low stands = row-of line 0 d stands
+row-at line (suc zero) d low stands = row-of line 1 d stands
+row-at line (suc (suc zero)) d low stands = row-of line 2 d stands
+row-at line (suc (suc (suc zero))) d low stands = row-of line 3 d stands
+row-at line (suc (suc (suc (suc zero)))) d low stands = row-of line 4 d stands
+row-at line (suc (suc (suc (suc (suc zero))))) d low stands = row-of line 5 d stands
+row-at line (suc (suc (suc (suc (suc (suc zero)))))) d low stands = row-of line 6 d stands
+row-at line (suc (suc (suc (suc (suc (suc (suc zero))))))) d low stands = row-of line 7 d stands
+row-at line (suc (suc (suc (suc (suc (suc (suc (suc task)))))))) d low stands = absurd (omega arith)
+
+pub row-is : (line : List Member) (named : Named) → named.0 < TASKS → StandsIn line named → datagram_in (table_of line) named.0 named.1 ≡ Some (datagram_of line named.0 named.1)
+row-is line named low stands = row-at line named.0 named.1 low stands
+
+same-row : (a b : Datagram) → Some a ≡ Some b → a ≡ b
+same-row a b e = cc
+
+-- it came back with its head, or it didn't
+
+pub row-back : (line : List Member) (named : Named) (part : Part) (row : Datagram) (back : Bool) → Some row ≡ Some (datagram_of line named.0 named.1)
+    → back ≡ has_head (head_of named row) part
+    → cond back (Some row) None ≡ cond (has_head (data_head line named) part) (Some (datagram_of line named.0 named.1)) None
+row-back line named part row back is e =
+    let same = same-row row (datagram_of line named.0 named.1) is in
+    ap (λ (b : Bool). cond b (Some row) None) e
+    ∙ ap (λ (one : Datagram). cond (has_head (head_of named one) part) (Some one) None) same
+
+-- a datagram with a row in the table is one of the line
+
+within : (line : List Member) (task d : ℕ) (row : Datagram) → slice_get (map (datagram_of line task) (range_with_len 0 (datagram_count (task_places task line)))) d ≡ Some row
+    → d < datagram_count (task_places task line)
+within line task d row e =
+    let inside = slice_get_within (map (datagram_of line task) (range_with_len 0 (datagram_count (task_places task line)))) d row e in
+    let count = length-map-range_with_len (datagram_of line task) 0 (datagram_count (task_places task line)) in
+    omega (arith, inside, count)
+
+stands-at : (line : List Member) (task d : ℕ) (row : Datagram) → task < TASKS → datagram_in (table_of line) task d ≡ Some row → d < datagram_count (task_places task line)
+stands-at line zero d row low e = within line 0 d row e
+stands-at line (suc zero) d row low e = within line 1 d row e
+stands-at line (suc (suc zero)) d row low e = within line 2 d row e
+stands-at line (suc (suc (suc zero))) d row low e = within line 3 d row e
+stands-at line (suc (suc (suc (suc zero)))) d row low e = within line 4 d row e
+stands-at line (suc (suc (suc (suc (suc zero))))) d row low e = within line 5 d row e
+stands-at line (suc (suc (suc (suc (suc (suc zero)))))) d row low e = within line 6 d row e
+stands-at line (suc (suc (suc (suc (suc (suc (suc zero))))))) d row low e = within line 7 d row e
+stands-at line (suc (suc (suc (suc (suc (suc (suc (suc task)))))))) d row low e = absurd (omega arith)

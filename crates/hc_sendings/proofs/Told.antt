@@ -1,0 +1,116 @@
+-- What an arrival is told, by what is awaited with its serial.
+use Rattle.std.proofs.Common.{◌≡◌, ℕ, ◌==◌, true, false, cond, ◌||◌, List, [], ◌∷◌, map, refl, sym, ap, ◌∙◌, subst, Option, Some, None}
+use Rattle.std.specs.Prelude.{All, find, option_and_then, option_map}
+use Rattle.std.specs.List.{list_any, zip}
+use Rattle.std.specs.Option.{option_map_or, option_or}
+use Rattle.std.proofs.lemmas.Bool.{and_parts}
+use Rattle.std.proofs.lemmas.List.Elements.{All-head, All-tail}
+use Rattle.hc_records.specs.Line.{Member}
+use Rattle.hc_records.proofs.lemmas.Lists.{All-unmap}
+use Rattle.hc_events.specs.declared.answer.Answer.TheVariants as answer
+use Rattle.hc_events.specs.declared.answer.Outcome.{Outcome}
+use Rattle.hc_events.specs.Accepted.{StandsIn}
+use Rattle.hc_events.specs.Answering.{Judged, has_head, has_heads, is_news, only_if}
+use Rattle.hc_events.specs.Arrivals.{Arrival, Part}
+use Rattle.hc_events.specs.Steps.{outcome_for, told_of}
+use Rattle.hc_events.proofs.lemmas.Awaited.{by_bool}
+use Rattle.hc_sendings.specs.Judging.{Due, due_of, found_frame, frame_due, judge_due, judged_due, judged_in, write_due}
+use Rattle.hc_sendings.specs.Kept.{KeptFrame, Newest, carried_by, frame_by}
+use Rattle.hc_sendings.specs.Waiting.{AwaitedFrame, AwaitedWrite, Carried, Waiting, is_alive}
+use Rattle.hc_sendings.specs.Walk.{outcomes_in}
+
+-- a frame
+
+is-news : (due : Due) (part : Part) → is_news (judge_due (due, part)) ≡ due.newest
+is-news due part = by_bool due.newest (λ t. by_bool (part.counter == due.head.expected) (λ u. rw (t, u) refl) (λ u. rw (t, u) refl)) (λ t. rw t refl)
+
+any-news : (dues : List Due) (parts : List Part) → has_heads (map (λ (one : Due). one.head) dues) parts ≡ true
+    → list_any is_news (map judge_due (zip dues parts)) ≡ list_any (λ (one : Due). one.newest) dues
+any-news [] [] e = refl
+any-news [] (part ∷ parts) e = cc
+any-news (due ∷ dues) [] e = cc
+any-news (due ∷ dues) (part ∷ parts) e =
+    ap (λ b. b || list_any is_news (map judge_due (zip dues parts))) (is-news due part)
+    ∙ ap (λ b. due.newest || b) (any-news dues parts (and_parts (has_head due.head part) (has_heads (map (λ (one : Due). one.head) dues) parts) e).1)
+
+any-due : (line : List Member) (carried : List Carried) → list_any (λ (one : Due). one.newest) (map (due_of line) carried) ≡ list_any (λ (one : Carried). one.newest) carried
+any-due line [] = refl
+any-due line (one ∷ carried) = ap (λ b. one.newest || b) (any-due line carried)
+
+map-twice : (pairs : List (Due × Part)) → map outcome_for (map judge_due pairs) ≡ map (λ (pair : Due × Part). outcome_for (judge_due pair)) pairs
+map-twice [] = refl
+map-twice (pair ∷ pairs) = ap (λ (rest : List Outcome). outcome_for (judge_due pair) ∷ rest) (map-twice pairs)
+
+news-told : (line : List Member) (carried : Carried) (part : Part) (rest : List Judged) → list_any is_news (judge_due (due_of line carried, part) ∷ rest) ≡ true
+    → told_of (judge_due (due_of line carried, part) ∷ rest) ≡ answer.Answered (map outcome_for (judge_due (due_of line carried, part) ∷ rest))
+news-told line carried part rest news = rw news refl
+
+frame-told_either : (line : List Member) (carried : List Carried) (arrival : Arrival) → list_any (λ (one : Carried). one.newest) carried ≡ true
+    → has_heads (map (λ (one : Due). one.head) (map (due_of line) carried)) arrival.parts ≡ true
+    → answer.Answered (map (λ (pair : Due × Part). outcome_for (judge_due pair)) (zip (map (due_of line) carried) arrival.parts)) ≡ told_of (map judge_due (zip (map (due_of line) carried) arrival.parts))
+frame-told_either line [] arrival alive back = cc
+frame-told_either line (one ∷ carried) arrival alive back = by_parts line one carried arrival.parts alive back
+  where
+    by_parts : (line : List Member) (one : Carried) (carried : List Carried) (parts : List Part) → list_any (λ (c : Carried). c.newest) (one ∷ carried) ≡ true
+        → has_heads (map (λ (d : Due). d.head) (map (due_of line) (one ∷ carried))) parts ≡ true
+        → answer.Answered (map (λ (pair : Due × Part). outcome_for (judge_due pair)) (zip (map (due_of line) (one ∷ carried)) parts)) ≡ told_of (map judge_due (zip (map (due_of line) (one ∷ carried)) parts))
+    by_parts line one carried [] alive back = cc
+    by_parts line one carried (part ∷ parts) alive back =
+        let news : list_any is_news (judge_due (due_of line one, part) ∷ map judge_due (zip (map (due_of line) carried) parts)) ≡ true =
+        any-news (due_of line one ∷ map (due_of line) carried) (part ∷ parts) back ∙ any-due line (one ∷ carried) ∙ alive in
+        ap answer.Answered (sym (map-twice (zip (map (due_of line) (one ∷ carried)) (part ∷ parts))))
+        ∙ sym (news-told line one part (map judge_due (zip (map (due_of line) carried) parts)) news)
+
+-- all came back
+pub frame-told : (line : List Member) (frame : AwaitedFrame) (arrival : Arrival) (outcomes : List Outcome) → is_alive frame ≡ true
+    → Some outcomes ≡ outcomes_in (frame_due line frame) arrival.parts
+    → answer.Answered outcomes ≡ told_of (judged_due arrival (frame_due line frame))
+frame-told line frame arrival outcomes alive e =
+    by_bool (has_heads (map (λ (one : Due). one.head) (frame_due line frame)) arrival.parts)
+    (λ t. let same : outcomes ≡ map (λ (pair : Due × Part). outcome_for (judge_due pair)) (zip (frame_due line frame) arrival.parts) =
+    same-some _ _ (e ∙ ap (λ b. cond b (Some (map (λ (pair : Due × Part). outcome_for (judge_due pair)) (zip (frame_due line frame) arrival.parts))) None) t) in
+    ap answer.Answered same ∙ frame-told_either line frame.datagrams arrival alive t
+    ∙ sym (ap (λ b. told_of (cond b (map judge_due (zip (frame_due line frame) arrival.parts)) [])) t))
+    (λ t. absurd (never outcomes (e ∙ ap (λ b. cond b (Some (map (λ (pair : Due × Part). outcome_for (judge_due pair)) (zip (frame_due line frame) arrival.parts))) None) t)))
+  where
+    same-some : (a b : List Outcome) → Some a ≡ Some b → a ≡ b
+    same-some a b e = cc
+
+    never : (a : List Outcome) → Some a ≡ None → ⊥
+    never a e = cc
+
+-- what is found
+
+pub judged-frame : (line : List Member) (waiting : Waiting) (arrival : Arrival) (write : Option AwaitedWrite) (found : Option AwaitedFrame) → write ≡ waiting.write
+    → option_map_or (λ (one : AwaitedWrite). one.serial == arrival.serial) write false ≡ false
+    → found ≡ found_frame arrival.serial waiting
+    → option_map_or (judged_due arrival) (option_map (frame_due line) found) [] ≡ judged_in line waiting arrival
+judged-frame line waiting arrival write found is has there =
+    ap (λ (one : Option AwaitedFrame). option_map_or (judged_due arrival) (option_map (frame_due line) one) []) there
+    ∙ unwritten write has
+    ∙ ap (λ (found : Option AwaitedWrite). option_map_or (judged_due arrival) (option_or (option_map write_due (option_and_then (only_if (λ (one : AwaitedWrite). one.serial == arrival.serial)) found)) (option_map (frame_due line) (found_frame arrival.serial waiting))) []) is
+  where
+    unwritten : (found : Option AwaitedWrite) → option_map_or (λ (one : AwaitedWrite). one.serial == arrival.serial) found false ≡ false
+        → option_map_or (judged_due arrival) (option_map (frame_due line) (found_frame arrival.serial waiting)) []
+        ≡ option_map_or (judged_due arrival) (option_or (option_map write_due (option_and_then (only_if (λ (one : AwaitedWrite). one.serial == arrival.serial)) found)) (option_map (frame_due line) (found_frame arrival.serial waiting))) []
+    unwritten None has = refl
+    unwritten (Some one) has = rw has refl
+
+-- a frame that is found is one of those that are awaited
+pub found-holds : (P : AwaitedFrame → Type 0) (serial : ℕ) (frames : List AwaitedFrame) (frame : AwaitedFrame) → All P frames
+    → Some frame ≡ find (λ (one : AwaitedFrame). one.serial == serial) frames → P frame
+found-holds P serial [] frame all e = absurd (never frame e)
+  where
+    never : (a : AwaitedFrame) → Some a ≡ None → ⊥
+    never a e = cc
+found-holds P serial (one ∷ frames) frame all e =
+    by_bool (one.serial == serial)
+    (λ t. subst P (same one frame (sym (e ∙ ap (λ b. cond b (Some one) (find (λ (f : AwaitedFrame). f.serial == serial) frames)) t))) (All-head P one frames all))
+    (λ t. found-holds P serial frames frame (All-tail P one frames all) (e ∙ ap (λ b. cond b (Some one) (find (λ (f : AwaitedFrame). f.serial == serial) frames)) t))
+  where
+    same : (a b : AwaitedFrame) → Some a ≡ Some b → a ≡ b
+    same a b e = cc
+
+-- so its datagrams are the line's
+pub found-stands : (line : List Member) (newest : Newest) (frame : KeptFrame) → All (λ (carried : Carried). StandsIn line carried.datagram) (frame_by newest frame).datagrams → All (StandsIn line) frame.datagrams
+found-stands line newest frame all = All-unmap (λ (carried : Carried). StandsIn line carried.datagram) (carried_by newest frame.serial) frame.datagrams all

@@ -1,0 +1,68 @@
+-- What an arrival is for what is awaited with its serial: compared datagram for datagram with what was sent, and judged by the working counter (ETG.1000.4, 5.4; this project's profile).
+use Rattle.std.specs.Prelude.{ℕ, ◌==◌, Bool, true, if◌then◌else◌, List, [], ◌∷◌, find, map, Option, option_and_then, option_map}
+use Rattle.std.specs.Option.{option_map_or, option_or}
+use Rattle.std.specs.List.{zip}
+use Rattle.hc_records.specs.Line.{Member}
+use Rattle.hc_registers.specs.declared.counters.TheConstants.{WRITE_COUNT}
+use Rattle.hc_frames.specs.declared.commands.Command.TheVariants.{Fpwr}
+use Rattle.hc_events.specs.Arrivals.{Arrival, Part}
+use Rattle.hc_events.specs.Heads.{Head, Block, data_head}
+use Rattle.hc_events.specs.Answering.{Judged, Verdict, Good, Wrong, Stale, has_heads, only_if}
+use Rattle.hc_sendings.specs.Waiting.{AwaitedFrame, AwaitedWrite, Carried, Waiting}
+
+-- what is due to come back of a datagram or a register block: what the sending said of it, and whether it wasn't sent again since
+pub record Due : Type 0 where
+  pub head : Head
+  pub newest : Bool
+
+-- of a frame: what the line says of its datagrams
+abbrev pub due_of : List Member → Carried → Due
+due_of line carried = record { head = data_head line carried.datagram; newest = carried.newest }
+
+-- what is due of an awaited frame, datagram by datagram: the head that each has in the line, and whether this is the newest frame that it was sent in
+abbrev pub frame_due : List Member → AwaitedFrame → List Due
+frame_due line frame = map (due_of line) frame.datagrams
+
+-- of a register write: a write of its block, by one slave
+abbrev pub written_head : AwaitedWrite → Head
+written_head write = record {
+  item = Block write.station write.number;
+  command = Fpwr;
+  address = write.address;
+  length = write.length;
+  expected = WRITE_COUNT;
+}
+
+-- what is due of an awaited register write: its one datagram, which is the newest of its kind, since a later write takes its place
+abbrev pub write_due : AwaitedWrite → List Due
+write_due write = record { head = written_head write; newest = true } ∷ []
+
+-- what is awaited with a serial: the write under way, or a frame
+abbrev pub found_write : ℕ → Waiting → Option AwaitedWrite
+found_write serial waiting = option_and_then (only_if (λ write. write.serial == serial)) waiting.write
+
+-- the awaited frame with a serial, if there is one
+abbrev pub found_frame : ℕ → Waiting → Option AwaitedFrame
+found_frame serial waiting = find (λ frame. frame.serial == serial) waiting.frames
+
+-- what is due to come back with a serial: that of the write with this serial, else that of the frame; none where neither is awaited
+abbrev pub due_with : List Member → Waiting → ℕ → Option (List Due)
+due_with line waiting serial =
+    option_or (option_map write_due (found_write serial waiting)) (option_map (frame_due line) (found_frame serial waiting))
+
+-- a datagram that came back: stale where it was sent again, else good or wrong by its working counter
+abbrev pub verdict_of : Due → Part → Verdict
+verdict_of due part = if due.newest then (if part.counter == due.head.expected then Good else Wrong) else Stale
+
+-- a datagram that is due, with what came back of it and the verdict on that
+abbrev pub judge_due : Due × Part → Judged
+judge_due pair = record { head = pair.0.head; part = pair.1; verdict = verdict_of pair.0 pair.1 }
+
+-- where all came back, each with its command, address and length, each is judged; else nothing is
+abbrev pub judged_due : Arrival → List Due → List Judged
+judged_due arrival due =
+    if has_heads (map (λ one. one.head) due) arrival.parts then map judge_due (zip due arrival.parts) else []
+
+-- the datagrams of what an arrival answers; none where it answers nothing
+abbrev pub judged_in : List Member → Waiting → Arrival → List Judged
+judged_in line waiting arrival = option_map_or (judged_due arrival) (due_with line waiting arrival.serial) []

@@ -1,0 +1,189 @@
+//! What an arrival is for what is awaited with its serial.
+ghost use Rattle.std.specs.Option.{option_map_or};
+ghost use Rattle.std.specs.Prelude.{◌≡◌, ◌==◌, List, [], All, IfOk, None, Some, if◌then◌else◌};
+ghost use Rattle.hc_records.specs.Line.{line};
+ghost use Rattle.hc_registers.specs.declared.counters.TheConstants.{WRITE_COUNT};
+ghost use Rattle.hc_places.specs.Table.{datagram_of};
+ghost use Rattle.hc_events.specs.declared.answer.Outcome.{Outcome};
+ghost use Rattle.hc_events.specs.Accepted.{StandsIn};
+ghost use Rattle.hc_events.specs.Answering.{Good, Wrong, has_head};
+ghost use Rattle.hc_events.specs.Heads.{data_head};
+ghost use Rattle.hc_events.specs.Outcomes.{told_with};
+ghost use Rattle.hc_events.specs.Sendings.{Named};
+ghost use Rattle.hc_events.specs.Steps.{outcome_for, told_of, told_of_block};
+ghost use Rattle.hc_sendings.specs.Waiting.{IsNamed};
+ghost use Rattle.hc_sendings.specs.Judging.{frame_due, judge_due, judged_due, write_due};
+ghost use Rattle.hc_sendings.specs.Kept.{frame_by};
+ghost use Rattle.hc_sendings.specs.Walk.{head_of, outcomes_in};
+
+use crate::awaited::{Awaited, Write, find_frame, has_serial};
+use crate::kept::KeptFrame;
+use crate::newest::Newest;
+use hc_events::answer::{Arrived, Outcome};
+use hc_events::sending::Named;
+use hc_frames::Command;
+use hc_frames::reading::{Part, Returned};
+use hc_places::table::Datagram;
+use hc_plan::plan::Plan;
+use hc_registers::counters::WRITE_COUNT;
+use std::alloc::AllocError;
+
+/// What a register write is that came back with this working counter.
+fn told_of_write(counter: u16) -> Arrived
+    ensures { (none : List Outcome) → told_with result none ≡ told_of_block (if counter == WRITE_COUNT then Good else Wrong) }
+{
+    if counter == WRITE_COUNT {
+        Arrived::WriteDone
+    } else {
+        Arrived::WriteMissed
+    }
+}
+
+impl Write {
+    ghost use Rattle.std.specs.Prelude.{◌≡◌, List};
+    ghost use Rattle.hc_events.specs.declared.answer.Outcome.{Outcome};
+    ghost use Rattle.hc_events.specs.Answering.{has_head};
+    ghost use Rattle.hc_events.specs.Outcomes.{told_with};
+    ghost use Rattle.hc_events.specs.Steps.{told_of};
+    ghost use Rattle.hc_sendings.specs.Judging.{judged_due, write_due, written_head};
+
+    /// Whether a datagram came back with the write's command, address and length.
+    fn is_of(&self, part: &Part<'_>) -> bool
+        ensures { result ≡ has_head (written_head self.now) part.now.carried }
+    {
+        part.command == Command::Fpwr
+            && part.address == self.address
+            && part.bytes.len() == self.length
+    }
+
+    /// What an arrival with the write's serial is for it.
+    fn judge(&self, arrival: &Returned<'_>) -> Arrived
+        ensures { (none : List Outcome) → told_with result none ≡ told_of (judged_due arrival.now (write_due self.now)) }
+    {
+        let mut parts = arrival.parts();
+        let Some(part) = parts.next() else {
+            return Arrived::Stale;
+        };
+        if parts.next().is_some() || !self.is_of(&part) {
+            return Arrived::Stale;
+        }
+        told_of_write(part.counter)
+    }
+}
+
+/// What an arrival is for the write, if there is one.
+fn judge_write(write: &Option<Write>, arrival: &Returned<'_>) -> Arrived
+    ensures { (none : List Outcome) → told_with result none ≡ told_of (option_map_or (λ write. judged_due arrival.now (write_due write)) write.now []) }
+{
+    match write {
+        Some(write) => write.judge(arrival),
+        None => Arrived::Stale,
+    }
+}
+
+/// Whether a datagram came back with the command, the address and the length of this one.
+fn is_of(part: &Part<'_>, sent: Datagram) -> bool
+    ensures { (named : Named) → result ≡ has_head (head_of named sent) part.now.carried }
+{
+    part.command == Command::Lrw
+        && part.address == sent.address
+        && part.bytes.len() == usize::from(sent.length)
+}
+
+/// What a datagram is that came back with its head, by whether it wasn't sent again since.
+fn judge(datagram: Named, sent: Datagram, is_newest: bool, part: &Part<'_>) -> Outcome
+    ensures { result ≡ outcome_for (judge_due (record { head = head_of datagram sent; newest = is_newest }, part.now.carried)) }
+{
+    if !is_newest {
+        return Outcome::Stale;
+    }
+    if part.counter != sent.expected {
+        return Outcome::WrongCount {
+            expected: sent.expected,
+            got: part.counter,
+        };
+    }
+    Outcome::Inputs {
+        task: datagram.0,
+        datagram: datagram.1,
+    }
+}
+
+/// The datagram of the plan's line, where it came back with its command, its address and its length.
+fn sent_datagram(plan: &Plan, datagram: Named, part: &Part<'_>) -> Option<Datagram>
+    requires named { IsNamed datagram }
+    requires stands { StandsIn (line plan.now) datagram }
+    ensures { result ≡ (if has_head (data_head (line plan.now) datagram) part.now.carried then Some (datagram_of (line plan.now) datagram.0 datagram.1) else None) }
+{
+    let sent = plan.places().datagram(datagram.0, datagram.1)?;
+    if is_of(part, sent) { Some(sent) } else { None }
+}
+
+/// Puts into an empty list what the datagrams of a frame are that came back as this arrival, in one walk over both.
+/// Whether all are there: not where a datagram is missing or left over, or came back with another command, address or
+/// length.
+fn judge_parts(
+    plan: &Plan,
+    newest: &Newest,
+    frame: &KeptFrame,
+    arrival: &Returned<'_>,
+    outcomes: &mut Vec<Outcome>,
+) -> Result<bool, AllocError>
+    requires named { All IsNamed frame.now.datagrams }
+    requires stands { All (StandsIn (line plan.now)) frame.now.datagrams }
+    requires empty { outcomes.old.items ≡ [] }
+    ensures { IfOk result (λ whole. (if whole then Some outcomes.new.items else None) ≡ outcomes_in (frame_due (line plan.now) (frame_by newest.now frame.now)) arrival.now.parts) }
+{
+    outcomes.reserve(frame.datagrams().len())?;
+    let mut parts = arrival.parts();
+    for datagram in frame.datagrams() {
+        let Some(part) = parts.next() else {
+            return Ok(false);
+        };
+        let Some(sent) = sent_datagram(plan, *datagram, &part) else {
+            return Ok(false);
+        };
+        let is_newest = newest.is(frame.serial(), *datagram);
+        outcomes.push(judge(*datagram, sent, is_newest, &part))?;
+    }
+    Ok(parts.next().is_none())
+}
+
+impl Awaited {
+    ghost use Rattle.std.specs.Prelude.{◌≡◌, [], IfOk};
+    ghost use Rattle.hc_records.specs.Line.{line};
+    ghost use Rattle.hc_events.specs.Outcomes.{told_with};
+    ghost use Rattle.hc_events.specs.Steps.{told_of};
+    ghost use Rattle.hc_sendings.specs.Waiting.{AllStand};
+    ghost use Rattle.hc_sendings.specs.Judging.{judged_in};
+
+    /// What an arrival is, by what is awaited with its serial: `Stale` where nothing is, or where a datagram is missing
+    /// or left over, or came back with another command, address or length; else `WriteDone` or `WriteMissed` of a
+    /// register write, by its working counter; else `Answered`, and the list, which is empty before, has of each
+    /// datagram in the frame's order that it is stale where it was sent again since, else good or wrong by its working
+    /// counter. What is awaited is of the plan's line. It takes memory where the list has no room for the frame's
+    /// datagrams, 115 at most, alone: `AllocError` where that was refused.
+    pub fn judge(
+        &self,
+        plan: &Plan,
+        arrival: &Returned<'_>,
+        outcomes: &mut Vec<Outcome>,
+    ) -> Result<Arrived, AllocError>
+        requires stand { AllStand (line plan.now) self.now }
+        requires empty { outcomes.old.items ≡ [] }
+        ensures { IfOk result (λ arrived. told_with arrived outcomes.new.items ≡ told_of (judged_in (line plan.now) self.now arrival.now)) }
+    {
+        if has_serial(&self.write, arrival.serial()) {
+            return Ok(judge_write(&self.write, arrival));
+        }
+        let found = find_frame(&self.newest, self.frames.as_slice(), arrival.serial());
+        let Some(frame) = found else {
+            return Ok(Arrived::Stale);
+        };
+        if judge_parts(plan, &self.newest, frame, arrival, outcomes)? {
+            Ok(Arrived::Answered)
+        } else {
+            Ok(Arrived::Stale)
+        }
+    }
+}

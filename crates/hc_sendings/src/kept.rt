@@ -1,0 +1,60 @@
+//! A frame of tasks as it is kept while it is awaited.
+use arrayvec::ArrayVec;
+use hc_events::sending::{Named, Sending};
+use std::marker::Model;
+
+/// The serial of a frame, and its datagrams in order: 115 at most, since the 1,498 bytes behind the EtherCAT
+/// header hold so many of one data byte, 13 bytes each (ETG.1000.4, 5.3 and 5.4). It owns no memory.
+#[derive(Debug, Drop)]
+pub(crate) struct KeptFrame {
+    serial: u64,
+    datagrams: ArrayVec<Named, 115>,
+}
+
+impl Model for KeptFrame {
+    ghost use Rattle.hc_sendings.specs.Kept.{KeptFrame};
+
+    ghost Value = { KeptFrame };
+
+    ghost view = { λ kept. record { serial = kept.serial; datagrams = kept.datagrams.items } };
+}
+
+impl KeptFrame {
+    ghost use Rattle.std.specs.Prelude.{◌≡◌, []};
+    ghost use Rattle.hc_sendings.specs.Kept.{kept_of};
+
+    /// What is kept of a frame.
+    pub(crate) fn of(frame: &Sending) -> KeptFrame
+        ensures { result ≡ kept_of frame.now }
+    {
+        let mut datagrams = ArrayVec::new();
+        for datagram in frame.datagrams() {
+            datagrams.push(*datagram);
+        }
+        KeptFrame {
+            serial: frame.serial(),
+            datagrams,
+        }
+    }
+
+    /// It was answered: nothing is awaited of it any more.
+    pub(crate) fn clear(&mut self)
+        ensures { self.new ≡ record self.old { datagrams = [] } }
+    {
+        self.datagrams.clear();
+    }
+
+    /// Its serial.
+    pub(crate) fn serial(&self) -> u64
+        ensures { result ≡ self.now.serial }
+    {
+        self.serial
+    }
+
+    /// Its datagrams, in order.
+    pub(crate) fn datagrams(&self) -> &[Named]
+        ensures { result.now ≡ self.now.datagrams }
+    {
+        self.datagrams.as_slice()
+    }
+}

@@ -1,0 +1,83 @@
+//! In which frame each datagram was sent last.
+ghost use Rattle.std.specs.Prelude.{◌≡◌};
+ghost use Rattle.hc_sendings.specs.Kept.{datagram_number};
+
+use hc_events::sending::Named;
+use hc_records::limits::{MOST_DATAGRAMS, TASKS};
+use std::alloc::{AllocError, Global};
+use std::marker::Model;
+
+/// The datagrams that tasks can have, 16 each.
+pub(crate) const PLACES: usize = TASKS as usize * MOST_DATAGRAMS;
+
+/// For each datagram that a task can have the serial of the newest frame that it was sent in; none where
+/// it wasn't sent.
+#[derive(Debug, Drop)]
+pub(crate) struct Newest {
+    serials: Vec<Option<u64>>,
+}
+
+impl Model for Newest {
+    ghost use Rattle.std.specs.Prelude.{◌≡◌, length};
+    ghost use Rattle.hc_sendings.specs.Kept.{Newest};
+    ghost use Rattle.hc_sendings.specs.declared.newest.TheConstants.{PLACES};
+
+    ghost Value = { Newest };
+
+    ghost view = { λ newest. newest.serials.items };
+
+    ghost invariant = { λ newest. length newest.serials.items ≡ PLACES };
+}
+
+/// Where a datagram stands among those of all tasks.
+fn datagram_number(datagram: Named) -> usize
+    ensures { result ≡ datagram_number datagram }
+{
+    MOST_DATAGRAMS * usize::from(datagram.0) + usize::from(datagram.1)
+}
+
+impl Newest {
+    ghost use Rattle.std.specs.Prelude.{◌≡◌, All, IfOk, Some, length, if◌then◌else◌};
+    ghost use Rattle.std.specs.List.{list_any};
+    ghost use Rattle.hc_events.specs.Sendings.{Named};
+    ghost use Rattle.hc_sendings.specs.Kept.{is_newest, newest_of};
+    ghost use Rattle.hc_sendings.specs.Waiting.{IsNamed, is_named};
+    ghost use Rattle.hc_sendings.specs.declared.newest.TheConstants.{PLACES};
+
+    /// No datagram was sent. `AllocError` where the table's memory was refused.
+    pub(crate) fn new(alloc: Global) -> Result<Newest, AllocError>
+        ensures { IfOk result (λ newest. length newest ≡ PLACES) }
+    {
+        Ok(Newest {
+            serials: vec![in alloc; None; PLACES]?,
+        })
+    }
+
+    /// Whether the newest frame that a datagram was sent in has this serial.
+    pub(crate) fn is(&self, serial: u64, datagram: Named) -> bool
+        ensures { result ≡ is_newest self.now serial datagram }
+    {
+        match self.serials.get(datagram_number(datagram)) {
+            Some(newest) => *newest == Some(serial),
+            None => false,
+        }
+    }
+
+    /// Whether the frame with this serial is the newest of one of these datagrams.
+    pub(crate) fn is_any(&self, serial: u64, datagrams: &[Named]) -> bool
+        ensures { result ≡ list_any (is_newest self.now serial) datagrams.now }
+    {
+        datagrams.iter().any(|datagram| self.is(serial, *datagram))
+    }
+
+    /// Datagrams are sent in a frame with this serial.
+    pub(crate) fn note(&mut self, serial: u64, datagrams: &[Named])
+        requires { All IsNamed datagrams.now }
+        ensures places { length self.new ≡ length self.old }
+        ensures noted { (named : Named) → IsNamed named → newest_of self.new named ≡ (if list_any (is_named named) datagrams.now then Some serial else newest_of self.old named) }
+    {
+        for datagram in datagrams {
+            self.serials[datagram_number(*datagram)] = Some(serial);
+        }
+    }
+}

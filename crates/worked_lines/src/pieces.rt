@@ -1,0 +1,16 @@
+//! The crates below the plan, each by itself, in rows that were worked out by hand. There is nothing to call: these
+//! are tests. They stand in a crate of their own since a crate that has tests is proved twice.
+#[cfg(test)]
+mod cuts;
+#[cfg(test)]
+mod growing;
+#[cfg(test)]
+mod project_texts;
+#[cfg(test)]
+mod projects;
+#[cfg(test)]
+mod registers;
+#[cfg(test)]
+mod repairs;
+#[cfg(test)]
+mod trees;

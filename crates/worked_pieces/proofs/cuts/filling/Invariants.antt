@@ -1,6 +1,0 @@
-use Rattle.std.specs.Prelude.{All}
-use Rattle.hc_records.specs.Laws.{IsPackable}
-use Rattle.worked_pieces.proofs.cuts.filling.Given as goal
-
-abbrev pub invariant-loop-rank : goal.invariant-loop-rank
-invariant-loop-rank l = All IsPackable l.list.items

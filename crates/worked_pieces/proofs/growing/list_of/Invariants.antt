@@ -1,6 +1,0 @@
-use Rattle.std.specs.Prelude.{All}
-use Rattle.hc_records.specs.Laws.{IsPackable}
-use Rattle.worked_pieces.proofs.growing.list_of.Given as goal
-
-abbrev pub invariant-loop-width : goal.invariant-loop-width
-invariant-loop-width l = All IsPackable l.list.items

@@ -1,4 +1,0 @@
-use Rattle.worked_pieces.proofs.repairs.leaves.Given as goal
-
-abbrev pub ghosts-leaves_counted : goal.ghosts-leaves_counted
-ghosts-leaves_counted a = record { name = a.blank.name; parts = a.blank.parts }

@@ -1,6 +1,0 @@
-use Rattle.hc_cuts.proofs.lemmas.Inside.{were}
-use Rattle.worked_pieces.proofs.repairs.leaves_counted.Goals as goal
-
-pub repair-requires : goal.repair-requires
-repair-requires g c =
-    were c.args.cuts.now c.set_all-hulls.new.cuts c.set_all-hulls.result c.requires.holds.list c.requires.cut c.set_all-hulls.ensures.starts c.set_all-hulls.ensures.inside

@@ -1,5 +1,0 @@
-use Rattle.std.proofs.Common.{inr}
-use Rattle.worked_pieces.proofs.trees.from_key.Goals as goal
-
-pub searched-requires-clause-from : goal.searched-requires-clause-from
-searched-requires-clause-from c = inr c.requires

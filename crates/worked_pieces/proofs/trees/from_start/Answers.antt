@@ -1,5 +1,0 @@
-use Rattle.std.proofs.Common.{inl, refl}
-use Rattle.worked_pieces.proofs.trees.from_start.Goals as goal
-
-pub searched-requires-clause-from : goal.searched-requires-clause-from
-searched-requires-clause-from c = inl refl

@@ -1,4 +1,0 @@
-use Rattle.worked_pieces.proofs.trees.from_start.Given as goal
-
-abbrev pub ghosts-searched : goal.ghosts-searched
-ghosts-searched a = record { name = a.blank.name; parts = a.blank.parts }

@@ -1,0 +1,39 @@
+//! A conductor with its seats: what the contracts of `hc_conductor` leave to tests, that all is opened, sent, published,
+//! posted and seen with ample memory. There is nothing to call. The tests stand in a crate of their own since a crate that
+//! has tests is proved twice.
+#[cfg(test)]
+mod at_once;
+#[cfg(test)]
+mod changer;
+#[cfg(test)]
+mod crowded;
+#[cfg(test)]
+mod dropped;
+#[cfg(test)]
+mod fates;
+#[cfg(test)]
+mod gates;
+#[cfg(test)]
+mod growths;
+#[cfg(test)]
+mod joined;
+#[cfg(test)]
+mod lines;
+#[cfg(test)]
+mod loops;
+#[cfg(test)]
+mod often;
+#[cfg(test)]
+mod posting;
+#[cfg(test)]
+mod posts;
+#[cfg(test)]
+mod rows;
+#[cfg(test)]
+mod scopes;
+#[cfg(test)]
+mod steady;
+#[cfg(test)]
+mod steps;
+#[cfg(test)]
+mod working;
