@@ -5,34 +5,34 @@ use Rattle.std.proofs.lemmas.Nat.{pow_pos, pow-add, shr-shr, shr_split, shl_whol
 use Rattle.std.proofs.Math.Nat.{pow-suc, pow-le-pow_right, lt_of_lt_of_le}
 use Rattle.std.proofs.lemmas.Nat.Bits.{bit_at_and, bit_at_or, bit_at_not, bit_at_ones, bit_at_ones_above, bit_at_above, bit_at_cat_low, bit_at_cat_high, bit_at-lt, ones_shr}
 
-pub bit_at-shr : (n j i : ℕ) → bit_at (n / 2 ^ j) i ≡ bit_at n (j + i)
+bit_at-shr : (n j i : ℕ) → bit_at (n / 2 ^ j) i ≡ bit_at n (j + i)
 bit_at-shr n j i = ap (λ x. x % 2) (shr-shr n j i)
 
-pub bit_at-mod : (n j i : ℕ) → i < j → bit_at (n % 2 ^ j) i ≡ bit_at n i
+bit_at-mod : (n j i : ℕ) → i < j → bit_at (n % 2 ^ j) i ≡ bit_at n i
 bit_at-mod n j i h = sym (bit_at_cat_low (n / 2 ^ j) j (n % 2 ^ j) i h) ∙ ap (λ x. bit_at x i) (shr_split n j)
 
-pub bit_at-shl_below : (n j i : ℕ) → i < j → bit_at (n * 2 ^ j) i ≡ 0
+bit_at-shl_below : (n j i : ℕ) → i < j → bit_at (n * 2 ^ j) i ≡ 0
 bit_at-shl_below n j i h =
     ap (λ x. bit_at x i) (sym (add-zero (n * 2 ^ j))) ∙ bit_at_cat_low n j 0 i h ∙ bit_at_above 0 0 i (omega arith) (omega arith)
 
-pub bit_at-shl_from : (n j i : ℕ) → j ≤ i → bit_at (n * 2 ^ j) i ≡ bit_at n (i - j)
+bit_at-shl_from : (n j i : ℕ) → j ≤ i → bit_at (n * 2 ^ j) i ≡ bit_at n (i - j)
 bit_at-shl_from n j i h =
     ap (λ x. bit_at x i) (sym (add-zero (n * 2 ^ j))) ∙ bit_at_cat_high n j 0 i (pow_pos j) h
 
 -- an `or` at a place where one side has a zero
-pub bit_at-or_left : (a b i x : ℕ) → bit_at a i ≡ x → bit_at b i ≡ 0 → bit_at (bit_or a b) i ≡ x
+bit_at-or_left : (a b i x : ℕ) → bit_at a i ≡ x → bit_at b i ≡ 0 → bit_at (bit_or a b) i ≡ x
 bit_at-or_left a b i x p q = bit_at_or a b i ∙ ap (max (bit_at a i)) q ∙ (let e : max (bit_at a i) 0 ≡ bit_at a i = omega arith in e) ∙ p
 
-pub bit_at-or_right : (a b i x : ℕ) → bit_at a i ≡ 0 → bit_at b i ≡ x → bit_at (bit_or a b) i ≡ x
+bit_at-or_right : (a b i x : ℕ) → bit_at a i ≡ 0 → bit_at b i ≡ x → bit_at (bit_or a b) i ≡ x
 bit_at-or_right a b i x p q = bit_at_or a b i ∙ ap (λ y. max y (bit_at b i)) p ∙ (let e : max 0 (bit_at b i) ≡ bit_at b i = omega arith in e) ∙ q
 
 -- an `and` at a place where the mask has a one, and where it has a zero
-pub bit_at-and_one : (a b i : ℕ) → bit_at b i ≡ 1 → bit_at (bit_and a b) i ≡ bit_at a i
+bit_at-and_one : (a b i : ℕ) → bit_at b i ≡ 1 → bit_at (bit_and a b) i ≡ bit_at a i
 bit_at-and_one a b i q =
     let small = bit_at-lt a i in
     bit_at_and a b i ∙ ap (min (bit_at a i)) q ∙ (let e : min (bit_at a i) 1 ≡ bit_at a i = omega (arith, small) in e)
 
-pub bit_at-and_zero : (a b i : ℕ) → bit_at b i ≡ 0 → bit_at (bit_and a b) i ≡ 0
+bit_at-and_zero : (a b i : ℕ) → bit_at b i ≡ 0 → bit_at (bit_and a b) i ≡ 0
 bit_at-and_zero a b i q = bit_at_and a b i ∙ ap (min (bit_at a i)) q ∙ (let e : min (bit_at a i) 0 ≡ 0 = omega arith in e)
 
 -- the n lowest ones of a byte
@@ -69,7 +69,7 @@ masked-cleared : (byte mask k : ℕ) → mask < 2 ^ 8 → k < 8 → bit_at mask 
 masked-cleared byte mask k m low one = bit_at-and_zero byte (bit_not w8 mask) k (bit_at_not w8 mask k m low ∙ ap (λ x. 1 - x) one)
 
 -- a byte with n bits from `at` on replaced, as masks compute it
-abbrev pub replaced_in : ℕ → ℕ → ℕ → ℕ → ℕ
+abbrev replaced_in : ℕ → ℕ → ℕ → ℕ → ℕ
 replaced_in byte at n part = bit_or (bit_and byte (bit_not w8 ((2 ^ n - 1) * 2 ^ at % 2 ^ 8))) (part * 2 ^ at % 2 ^ 8)
 
 moved_whole : (at n part : ℕ) → at + n ≤ 8 → part < 2 ^ n → part * 2 ^ at % 2 ^ 8 ≡ part * 2 ^ at

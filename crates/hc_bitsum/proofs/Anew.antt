@@ -9,7 +9,7 @@ use Rattle.hc_records.specs.declared.records.Dir.{Dir}
 use Rattle.hc_records.specs.TaskList.{Keyed}
 use Rattle.hc_bitsum.specs.declared.sum.Sum.{Sum}
 use Rattle.hc_bitsum.specs.declared.sum.Sum.TheVariants.{Empty}
-use Rattle.hc_bitsum.specs.Branch.{AreForks, AreRowSums, IsNode}
+use Rattle.hc_bitsum.specs.Branch.{AreForks, AreRowSums}
 use Rattle.hc_bitsum.specs.Rows.{IsRow, part, row_areas}
 use Rattle.hc_bitsum.specs.Slots.{bits_at, key_at, set_at}
 use Rattle.hc_bitsum.specs.Sums.{joined, sum_of}
@@ -85,10 +85,6 @@ leaves-stay dir rows sums node own leaves above i h some = grind (arith, get_or-
 -- from some forks to fewer
 pub fewer-forks : (last : ℕ) (sums : List Sum) (node : ℕ) → AreForks (λ k. k ≢ node) last sums → AreForks (λ k. node < k) last sums
 fewer-forks last sums node forks k some less behind = forks k some less (omega arith)
-
--- no node stands above the root
-pub all-forks : (last levels : ℕ) (sums : List Sum) (node : ℕ) → IsNode levels levels node → AreForks (λ k. k ≢ node / 2) last sums → AreForks (λ k. Unit {0}) last sums
-all-forks last levels sums node is forks k some less all = grind arith
 
 bits-row : (dir : Dir) (place j : ℕ) (row : List ℕ) → j < length row → get_or row j 0 ≡ bits_at j (row_areas dir place row)
 bits-row dir place j [] h = absurd (omega arith)

@@ -13,7 +13,7 @@ use Rattle.hc_bitsum.specs.Filling.{with_area, with_areas}
 use Rattle.hc_bitsum.specs.Sums.{end_from, ended, ends_by, joined, start_at, sum_of, sum_of_area}
 
 -- whole bytes before the start move the end by as much
-pub end_from-bytes : (ends : List ℕ) (q x : ℕ) → end_from ends (8 * q + x) ≡ 8 * q + end_from ends x
+end_from-bytes : (ends : List ℕ) (q x : ℕ) → end_from ends (8 * q + x) ≡ 8 * q + end_from ends x
 end_from-bytes ends q x =
     let same : (8 * q + x) % 8 ≡ x % 8 = omega arith in
     rw same (omega arith)
@@ -35,7 +35,7 @@ end_from-ends_by end bit h =
     omega arith
 
 -- the ends of a join are ends of the one run from the end of the other
-pub end_from-both : (ends laters : List ℕ) (turns : Bool) (x : ℕ)
+end_from-both : (ends laters : List ℕ) (turns : Bool) (x : ℕ)
     → end_from (ends_by (λ bit. end_from laters (start_at turns (end_from ends bit)))) x ≡ end_from laters (start_at turns (end_from ends x))
 end_from-both ends laters turns x =
     let q = x / 8 in
@@ -70,7 +70,7 @@ joined-Empty Empty = refl
 joined-Empty (Run f l e) = refl
 
 -- a join fills a datagram as the one run and then the other
-pub ended-joined : (a b : Sum) (filled : Filled) → ended (joined a b) filled ≡ ended b (ended a filled)
+ended-joined : (a b : Sum) (filled : Filled) → ended (joined a b) filled ≡ ended b (ended a filled)
 ended-joined Empty b filled = refl
 ended-joined (Run f l e) Empty filled = refl
 ended-joined (Run f l e) (Run g m d) filled =
@@ -91,7 +91,7 @@ area-by true turns wide dir bits filled h = refl
 area-by false turns wide dir bits filled h =
     rw h (ap (λ y. let r : Filled = record { bit = y; last = dir } in r) (area-bit turns wide bits filled.bit))
 
-pub ended-area : (area : Keyed) (filled : Filled) → ended (sum_of_area area.0.dir area.1) filled ≡ with_area filled area
+ended-area : (area : Keyed) (filled : Filled) → ended (sum_of_area area.0.dir area.1) filled ≡ with_area filled area
 ended-area area filled = area-by (area.1 == 0) (is_turn filled.last area.0.dir) (nat_le 8 area.1) area.0.dir area.1 filled refl
 
 pub ended-sum_of : (areas : List Keyed) (filled : Filled) → ended (sum_of areas) filled ≡ with_areas filled areas

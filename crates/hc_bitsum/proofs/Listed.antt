@@ -41,13 +41,13 @@ pub keeps-by : (wide : Bool) (p : Keyed → Bool) (x : Keyed) (xs : List Keyed) 
 keeps-by wide p x xs own rest = grind arith
 
 -- areas that stand behind a place aren't before it, and it is before them
-pub none-before : (dir : Dir) (place behind : ℕ) (areas : List Keyed) → StandFrom dir behind areas → place ≤ behind
+none-before : (dir : Dir) (place behind : ℕ) (areas : List Keyed) → StandFrom dir behind areas → place ≤ behind
     → filter (λ area. is_before area.0 (key_at dir place)) (filter has_width areas) ≡ []
 none-before dir place behind [] stand h = refl
 none-before dir place behind (area ∷ areas) stand h =
     grind (arith, drops-by, before-not, none-before dir place (behind + 1) areas stand.1 (omega arith))
 
-pub all-behind : (dir : Dir) (place behind : ℕ) (areas : List Keyed) → StandFrom dir behind areas → place < behind
+all-behind : (dir : Dir) (place behind : ℕ) (areas : List Keyed) → StandFrom dir behind areas → place < behind
     → filter (λ area. is_before (key_at dir place) area.0) (filter has_width areas) ≡ filter has_width areas
 all-behind dir place behind [] stand h = refl
 all-behind dir place behind (area ∷ areas) stand h =

@@ -62,12 +62,12 @@ pub is-node-sum : (branch : Branch) (height node : ℕ) → IsBranch branch → 
 is-node-sum branch height node is at some = grind (arith, node-sum)
 
 -- what its sum tells of an end
-pub node-end : (branch : Branch) (height node : ℕ) (filled : Filled) → IsBranch branch → IsNode branch.levels height node → 0 < node
+node-end : (branch : Branch) (height node : ℕ) (filled : Filled) → IsBranch branch → IsNode branch.levels height node → 0 < node
     → ended (get_or branch.sums.items node Empty) filled ≡ with_areas filled (node_areas branch height node)
 node-end branch height node filled is at some = kept-end (get_or branch.sums.items node Empty) (node_areas branch height node) filled (is-node-sum branch height node is at some)
 
 -- which lies low
-pub node-ends-low : (branch : Branch) (height node : ℕ) (filled : Filled) → IsBranch branch → IsNode branch.levels height node → 0 < node
+node-ends-low : (branch : Branch) (height node : ℕ) (filled : Filled) → IsBranch branch → IsNode branch.levels height node → 0 < node
     → filled.bit < 2 ^ 30 → (ended (get_or branch.sums.items node Empty) filled).bit < 2 ^ 32
 node-ends-low branch height node filled is at some low =
     let within = node-within branch.levels height node at in
@@ -120,7 +120,7 @@ beyond-right branch height node room filled end some at is beyond =
     grind (arith, node-parts, with_areas-append)
 
 -- the areas behind some rows, part by part
-pub behind-parts : (branch : Branch) (first more : ℕ) → first + more ≤ length branch.rows.items
+behind-parts : (branch : Branch) (first more : ℕ) → first + more ≤ length branch.rows.items
     → areas_behind branch first ≡ part branch.dir branch.rows.items first more ++ areas_behind branch (first + more)
 behind-parts branch first more within =
     let rest : length branch.rows.items - first ≡ more + (length branch.rows.items - (first + more)) = omega arith in

@@ -46,7 +46,7 @@ pub behind-by : (is_run : Bool) (dir : Dir) (ends : List ℕ) (bits : ℕ) → 0
     → joined (run_of is_run dir ends) (sum_of_area dir bits) ≡ run_of true dir (ends_by (λ bit. area_end bits (slice_index ends bit)))
 behind-by is_run dir ends bits some fresh = grind (arith, nat_tests, with-run)
 
-pub row_areas-append : (dir : Dir) (place : ℕ) (xs ys : List ℕ) → row_areas dir place (xs ++ ys) ≡ row_areas dir place xs ++ row_areas dir (place + length xs) ys
+row_areas-append : (dir : Dir) (place : ℕ) (xs ys : List ℕ) → row_areas dir place (xs ++ ys) ≡ row_areas dir place xs ++ row_areas dir (place + length xs) ys
 row_areas-append dir place [] ys = let none : place + 0 ≡ place = omega arith in rw none refl
 row_areas-append dir place (x ∷ xs) ys = grind (arith, row_areas-append dir (place + 1) xs ys)
 

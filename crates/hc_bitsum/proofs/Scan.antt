@@ -19,9 +19,6 @@ le-yes a b h = grind (arith, nat_tests)
 pub le-no : (a b : ℕ) → b < a → nat_le a b ≡ false
 le-no a b h = grind (arith, nat_tests)
 
-pub yes-le : (a b : ℕ) → nat_le a b ≡ true → a ≤ b
-yes-le a b h = grind (arith, nat_tests)
-
 pub with_areas-le : (areas : List Keyed) (filled : Filled) → filled.bit ≤ (with_areas filled areas).bit
 with_areas-le [] filled = omega arith
 with_areas-le (area ∷ areas) filled =
@@ -43,7 +40,7 @@ step-by : (fits : Bool) (room : ℕ) (filled : Filled) (area : Keyed) (areas : L
 step-by fits room filled area areas end e h = grind arith
 
 -- where it goes through, all stand in the datagram
-pub scan-through : (room : ℕ) (filled : Filled) (areas : List Keyed) (end : Filled) → filled.bit ≤ room → scan room filled areas ≡ Through end
+scan-through : (room : ℕ) (filled : Filled) (areas : List Keyed) (end : Filled) → filled.bit ≤ room → scan room filled areas ≡ Through end
     → (end ≡ with_areas filled areas) × (end.bit ≤ room)
 scan-through room filled [] end h e = let same : filled ≡ end = cc in (sym same, subst (λ (r : Filled). r.bit ≤ room) same h)
 scan-through room filled (area ∷ areas) end h e =
@@ -77,7 +74,7 @@ through-left xs ys skip room filled end answer h f g =
     rw (drop-left xs ys skip h) (g ∙ sym (scan-append-through room filled (drop skip xs) ys end (sym f)))
 
 -- an area was found for which there is no room
-abbrev pub IsFound : Fit → Type 0
+abbrev IsFound : Fit → Type 0
 IsFound (Found key) = Unit {0}
 IsFound (Through end) = ⊥
 

@@ -70,7 +70,7 @@ filled-low filled first mid end xs low high =
 
 -- one more area
 
-pub drop-at : (dir : Dir) (place at : ℕ) (xs : List Keyed) → StandFrom dir place xs → at < length xs → drop at xs ≡ (key_at dir (place + at), bits_at at xs) ∷ drop (at + 1) xs
+drop-at : (dir : Dir) (place at : ℕ) (xs : List Keyed) → StandFrom dir place xs → at < length xs → drop at xs ≡ (key_at dir (place + at), bits_at at xs) ∷ drop (at + 1) xs
 drop-at dir place at [] stand h = absurd (omega arith)
 drop-at dir place zero (x ∷ xs) stand h =
     let here : place + 0 ≡ place = omega arith in
@@ -185,7 +185,7 @@ between-by false false place first end from until area areas l h from-test until
     ∙ sym (ap (λ n. take n (drop (first - place) (area ∷ areas))) none)
 
 -- where places tell which keys come before two others, the areas between these are a stretch
-pub between-stretch : (dir : Dir) (place first end : ℕ) (from until : Key) (xs : List Keyed) → StandFrom dir place xs
+between-stretch : (dir : Dir) (place first end : ℕ) (from until : Key) (xs : List Keyed) → StandFrom dir place xs
     → ((p : ℕ) → p < place + length xs → is_before (key_at dir p) from ≡ nat_lt p first)
     → ((p : ℕ) → p < place + length xs → is_before (key_at dir p) until ≡ nat_lt p end)
     → areas_between from until xs ≡ stretch (first - place) (end - place) xs

@@ -79,7 +79,7 @@ row-node levels row h = grind arith
 down : (levels height : ℕ) → 0 < height → height ≤ levels → 2 ^ (levels - (height - 1)) ≡ 2 ^ (levels - height) + 2 ^ (levels - height)
 down levels height some high = ap (λ n. 2 ^ n) (omega arith) ∙ two-pow-succ (levels - height)
 
-pub halves : (height : ℕ) → 0 < height → 2 ^ height ≡ 2 ^ (height - 1) + 2 ^ (height - 1)
+halves : (height : ℕ) → 0 < height → 2 ^ height ≡ 2 ^ (height - 1) + 2 ^ (height - 1)
 halves height some = ap (λ n. 2 ^ n) (omega arith) ∙ two-pow-succ (height - 1)
 
 pub left-node : (levels height node : ℕ) → 0 < height → IsNode levels height node → IsNode levels (height - 1) (2 * node)
@@ -88,7 +88,7 @@ left-node levels height node some is = grind (arith, down)
 pub right-node : (levels height node : ℕ) → 0 < height → IsNode levels height node → IsNode levels (height - 1) (2 * node + 1)
 right-node levels height node some is = grind (arith, down)
 
-pub left-first : (levels height node : ℕ) → 0 < height → IsNode levels height node → first_of levels (height - 1) (2 * node) ≡ first_of levels height node
+left-first : (levels height node : ℕ) → 0 < height → IsNode levels height node → first_of levels (height - 1) (2 * node) ≡ first_of levels height node
 left-first levels height node some is =
     let high = is.high in
     let more = down levels height some high in
@@ -96,7 +96,7 @@ left-first levels height node some is =
     let twice : 2 * node - 2 ^ (levels - (height - 1)) ≡ 2 * i = omega arith in
     ap (λ n. n * 2 ^ (height - 1)) twice ∙ double i (2 ^ (height - 1)) ∙ ap (λ n. i * n) (sym (halves height some))
 
-pub right-first : (levels height node : ℕ) → 0 < height → IsNode levels height node
+right-first : (levels height node : ℕ) → 0 < height → IsNode levels height node
     → first_of levels (height - 1) (2 * node + 1) ≡ first_of levels height node + 2 ^ (height - 1)
 right-first levels height node some is =
     let high = is.high in
@@ -159,9 +159,6 @@ up-right levels height node less odd is =
 
 pub root-node : (levels : ℕ) → IsNode levels levels 1
 root-node levels = grind arith
-
-pub top-node : (levels node : ℕ) → IsNode levels levels node → node ≡ 1
-top-node levels node is = grind arith
 
 pub root-first : (levels : ℕ) → first_of levels levels 1 ≡ 0
 root-first levels = grind arith

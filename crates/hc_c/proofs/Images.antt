@@ -1,5 +1,5 @@
 -- What a read is answered.
-use Rattle.std.proofs.Common.{◌≡◌, ℕ, ◌<◌, ◌≤◌, ◌∙◌, true, false, not, cond, nat_lt, List, length, Some, None, ap, sym, arith}
+use Rattle.std.proofs.Common.{◌≡◌, ℕ, ◌<◌, ◌≤◌, ◌∙◌, true, not, cond, nat_lt, List, length, Some, None, ap, sym, arith}
 use Rattle.std.proofs.lemmas.Bool.Decides.{nat_tests}
 use Rattle.hc_records.specs.declared.limits.TheConstants.{TASKS}
 use Rattle.hc_records.specs.Image.{datagram_count, task_places}
@@ -7,7 +7,7 @@ use Rattle.hc_records.specs.Line.{State, groups_of, line}
 use Rattle.hc_records.specs.Project.{lowest_fault}
 use Rattle.hc_places.specs.declared.table.Datagram.{Datagram}
 use Rattle.hc_places.specs.Table.{Table, datagrams_in, table_of}
-use Rattle.hc_events.specs.declared.answer.Answer.TheVariants.{Image, Refused}
+use Rattle.hc_events.specs.declared.answer.Answer.TheVariants.{Image}
 use Rattle.hc_events.specs.declared.faults.CoreFault.TheVariants.{NoSuchTask}
 use Rattle.hc_events.specs.Entries.{Record}
 use Rattle.hc_events.specs.Points.{epoch_of, line_of, state_of}
@@ -18,19 +18,12 @@ use Rattle.hc_c.specs.Reads.{slots_from}
 lower : (task : ℕ) → task < TASKS → nat_lt task TASKS ≡ true
 lower task low = grind (arith, nat_tests)
 
-higher : (task : ℕ) → TASKS ≤ task → nat_lt task TASKS ≡ false
-higher task high = grind (arith, nat_tests)
-
 -- a task reads the slots of all its datagrams
-pub task_read : (past : Record) (task count : ℕ) → task < TASKS → count ≡ datagram_count (task_places task (line_of past))
+task_read : (past : Record) (task count : ℕ) → task < TASKS → count ≡ datagram_count (task_places task (line_of past))
     → answer_to past (Reads task) ≡ Image (epoch_of past) (slots_from past task 0 count)
 task_read past task count low counted =
     ap (λ is. unless (cond (not is) (Some NoSuchTask) None) (image_of past task)) (lower task low)
     ∙ ap (λ n. Image (epoch_of past) (slots_from past task 0 n)) (sym counted)
-
--- what is no task is refused
-pub other_read : (past : Record) (task : ℕ) → TASKS ≤ task → answer_to past (Reads task) ≡ Refused NoSuchTask
-other_read past task high = ap (λ is. unless (cond (not is) (Some NoSuchTask) None) (image_of past task)) (higher task high)
 
 -- of a task whose datagrams a plan of the line lists
 pub listed_read : (past : Record) (plan : State) (table : Table) (task : ℕ) (datagrams : List Datagram) → plan ≡ state_of past → lowest_fault (groups_of plan.groups) ≡ None

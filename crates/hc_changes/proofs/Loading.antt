@@ -31,7 +31,7 @@ use Rattle.hc_changes.specs.Tables.{IsEdited}
 use Rattle.hc_changes.proofs.lemmas.Tables.{task-list}
 
 -- so many datagrams of a task, or all where it has fewer
-abbrev pub loaded_up_to : ℕ → List Placed → ℕ → TaskTable
+abbrev loaded_up_to : ℕ → List Placed → ℕ → TaskTable
 loaded_up_to task areas number = loaded task areas (min number (datagram_count areas))
 
 -- a datagram that has some bytes is one of the task's
@@ -39,7 +39,7 @@ some-within : (low : Bool) (list : List Keyed) (number : ℕ) → nat_lt number 
     → number < datagram_count (packed opening list)
 some-within low list number test some = search (rules, ltb-true, ltb-false, inside-none)
 
-pub next-some : (task : ℕ) (list : List Keyed) (number : ℕ) (table : TaskTable) (load : Load) → table ≡ loaded_up_to task (packed opening list) number
+next-some : (task : ℕ) (list : List Keyed) (number : ℕ) (table : TaskTable) (load : Load) → table ≡ loaded_up_to task (packed opening list) number
     → load ≡ load_in (packed opening list) number → 0 < load.length → with_load task table load ≡ loaded_up_to task (packed opening list) (number + 1)
 next-some task list number table load is own some =
     let areas = packed opening list in
@@ -55,7 +55,7 @@ none-behind : (low : Bool) (list : List Keyed) (number : ℕ) → All IsPackable
     → (load_in (packed opening list) number).length ≡ 0 → datagram_count (packed opening list) ≤ number
 none-behind low list number packable test none = search (rules, length-sendable, ltb-true, ltb-false)
 
-pub next-none : (task : ℕ) (list : List Keyed) (number : ℕ) (table : TaskTable) (load : Load) → All IsPackable list → table ≡ loaded_up_to task (packed opening list) number
+next-none : (task : ℕ) (list : List Keyed) (number : ℕ) (table : TaskTable) (load : Load) → All IsPackable list → table ≡ loaded_up_to task (packed opening list) number
     → load ≡ load_in (packed opening list) number → load.length ≡ 0 → table ≡ loaded_up_to task (packed opening list) (number + 1)
 next-none task list number table load packable is own none =
     let areas = packed opening list in

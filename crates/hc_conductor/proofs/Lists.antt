@@ -20,7 +20,7 @@ pub last-first : (xs items : List Change) (c : Change) → items ≡ xs ++ c ∷
 last-first xs items c e = ap reverse e ∙ reverse-append xs (c ∷ [])
 
 -- the front of a legal list is legal
-pub legal-front : (groups : List Group) (first second all : List Change) → all ≡ first ++ second → AreLegal groups all → AreLegal groups first
+legal-front : (groups : List Group) (first second all : List Change) → all ≡ first ++ second → AreLegal groups all → AreLegal groups first
 legal-front groups first second all e legal = (legal-parts (opened groups) first second (subst (AreLegal groups) e legal)).0
 
 -- what is published and pending, with the first that waits, is legal

@@ -17,7 +17,7 @@ use Rattle.hc_conductor.proofs.Seated.{each-at, number-at}
 use Rattle.hc_conductor.proofs.lemmas.Told.{told-same}
 
 -- a task's seat
-pub record IsSeatOf (m : Mastering) (task : ℕ) (s : TaskSeat) : Type 0 where
+record IsSeatOf (m : Mastering) (task : ℕ) (s : TaskSeat) : Type 0 where
   pub inside : task < length m.seats
   pub task_is : task_of s ≡ task
   pub knows : known s ≡ published m
@@ -39,13 +39,13 @@ seat-of m task n s d is at low there =
     }
 
 -- another seat that differs in what it viewed last alone
-pub record SeesAnother (s t : TaskSeat) : Type 0 where
+record SeesAnother (s t : TaskSeat) : Type 0 where
   pub task : task_of t ≡ task_of s
   pub knows : known t ≡ known s
   pub origin : seat_origin t ≡ seat_origin s
   pub sends : sender t ≡ sender s
 
-pub senders-kept : (ss : List TaskSeat) (n : ℕ) (s t d : TaskSeat) → s ≡ get_or ss n d → SeesAnother s t → map sender (set ss n t) ≡ map sender ss
+senders-kept : (ss : List TaskSeat) (n : ℕ) (s t d : TaskSeat) → s ≡ get_or ss n d → SeesAnother s t → map sender (set ss n t) ≡ map sender ss
 senders-kept ss n s t d there another = map-set_same sender ss n t d (another.sends ∙ ap sender there)
 
 pub seat-kept : (m : Mastering) (n : ℕ) (s t d : TaskSeat) → IsMastering m → s ≡ get_or m.seats n d → SeesAnother s t → IsMastering (record { conductor = m.conductor; seats = set m.seats n t })

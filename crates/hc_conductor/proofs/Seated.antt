@@ -33,11 +33,6 @@ number-at f xs n i d same low =
 pub seen-at : {A : Type 0} (f : A → ℕ) (xs : List A) (i : ℕ) (x : A) → i < length xs → get_or (map f (set xs i x)) i 0 ≡ f x
 seen-at f xs i x low = get_or-map f (set xs i x) i x 0 (omega (arith, length-set xs i x)) ∙ ap f (get_or-set_same xs i x x low)
 
-pub all-same : {A B : Type 0} (f : A → B) (b : B) (xs : List A) → All (λ x. f x ≡ b) xs → map f xs ≡ replicate (length xs) b
-all-same f b [] all = refl
-all-same {A = A} f b (x ∷ xs) all =
-    ap (λ y. y ∷ map f xs) (All-head (λ (y : A). f y ≡ b) x xs all) ∙ ap (λ ys. b ∷ ys) (all-same f b xs (All-tail (λ (y : A). f y ≡ b) x xs all))
-
 -- ---- rings by their places
 
 pub as-many-waiting : (P : PostSender → PostReceiver → Type 0) (ss : List PostSender) (rs : List PostReceiver) → EachRing P ss rs → length (posts_waiting ss rs) ≡ length ss

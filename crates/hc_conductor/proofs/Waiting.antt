@@ -1,6 +1,6 @@
 -- What waits between a conductor and its seats, where both ends of each ring are in one hand.
 use Rattle.std.proofs.Common.{◌≡◌, ℕ, suc, ◌+◌, ◌<◌, ◌≤◌, List, [], ◌∷◌, ◌++◌, length, map, take, drop, refl, sym, ap, subst, ◌∙◌, arith, append_assoc}
-use Rattle.std.specs.Prelude.{All, Option}
+use Rattle.std.specs.Prelude.{All}
 use Rattle.std.proofs.Math.Seq.{drop-append_seam, take-append_seam}
 use Rattle.std.proofs.lemmas.List.{append-nil, append_cancel_left, length-append, take-append-le}
 use Rattle.std.proofs.lemmas.List.Elements.{All-cons, All-nil}
@@ -8,8 +8,8 @@ use mathlib.Core.List.{IsPrefix}
 use Rattle.hc_rings.specs.declared.posts.TheConstants.{POSTS_WAITING}
 use Rattle.hc_rings.specs.declared.posts.PostReceiver.{PostReceiver}
 use Rattle.hc_rings.specs.declared.posts.PostSender.{PostSender}
-use Rattle.hc_rings.specs.Post.{Post, count_of}
-use Rattle.hc_rings.specs.Ring.{PostsEach, SameReceiver, SameSender, given_back, handed_out, held, known_places, known_spares, left, posted, spare_places, taken}
+use Rattle.hc_rings.specs.Post.{Post}
+use Rattle.hc_rings.specs.Ring.{given_back, left, posted, taken}
 use Rattle.hc_rings.proofs.lemmas.Same.{ends-still, sender-same}
 use Rattle.hc_conductor.specs.Taking.{AreTaken, AreTakenFrom, EachTakesKnown, TakesKnown}
 use Rattle.hc_conductor.specs.Together.{AreJoined, EachRing, IsWhole, KnowAll, posts_waiting, waiting_between}
@@ -26,9 +26,6 @@ first_known n (x ∷ l) m b few p =
       ap (λ y. y ∷ take n l) head ∙ ap (λ ys. b ∷ ys) (sym (take-append-le n l p.0 short) ∙ ap (take n) rest),
     )
 
-pub none-known : (r : PostReceiver) → TakesKnown 0 r r
-none-known r few = sym (append-nil (taken r))
-
 pub one-known : (n : ℕ) (old mid back new : PostReceiver) (post : Post) → IsPrefix (left old) (post ∷ left mid) → taken mid ≡ taken old ++ post ∷ []
     → taken back ≡ taken mid → left back ≡ left mid → TakesKnown n back new → TakesKnown (suc n) old new
 one-known n old mid back new post first one behind still others few =
@@ -40,42 +37,9 @@ one-known n old mid back new post first one behind still others few =
 
 -- ---- a ring whose ends look at each other
 
-each-still : (s s' : PostSender) → PostsEach s → handed_out s' ≡ handed_out s → posted s' ≡ posted s → held s' ≡ held s → PostsEach s'
-each-still s s' each out made holds =
-    out ∙ (each ∙ (ap (λ (ps : List Post). length ps + count_of (held s)) (sym made) ∙ ap (λ (h : Option Post). length (posted s') + count_of h) (sym holds)))
-
-pub ring-known : (s s' : PostSender) (r r' : PostReceiver) → AreJoined s r → SameReceiver r r' → SameSender s s' → taken r' ≡ taken r → posted s' ≡ posted s
-    → handed_out s' ≡ handed_out s → held s' ≡ held s → taken r' ++ left r' ≡ posted s' → POSTS_WAITING + 1 ≤ known_places s' + length (left r')
-    → known_spares s' + handed_out s' ≡ length (given_back r') → 4 + handed_out s' ≤ spare_places r' + length (given_back r') → given_back r' ≡ given_back r
-    → KnowAll s' r'
-ring-known s s' r r' is receiver sender took made out holds split places spares room back =
-    let long : length (taken r') + length (left r') ≡ length (posted s') = sym (length-append (taken r') (left r')) ∙ ap length split in
-    let each = each-still s s' is.each out made holds in
-    let came : length (given_back r') ≤ 4 + length (taken r') = let before = is.back in omega (arith, before, ap length back, ap length took) in
-    record {
-      joined = record { ends = ends-still s s' r r' is.ends sender receiver; each = each; back = came };
-      order = (left r', split);
-      left_are = sym (ap (drop (length (taken r'))) (sym split) ∙ drop-append_seam (taken r') (left r'));
-      spares = omega (arith, long, each, spares);
-      places = places;
-      room = omega (arith, long, each, came, room);
-    }
-
-pub ring-whole : (s s' : PostSender) (r r' : PostReceiver) → IsWhole s r → SameReceiver r r' → SameSender s s' → taken r' ≡ taken r → posted s' ≡ posted s
-    → handed_out s' ≡ handed_out s → held s' ≡ held s → taken r' ++ left r' ≡ posted s' → given_back r' ≡ given_back r → IsWhole s' r'
-ring-whole s s' r r' is receiver sender took made out holds split back = record {
-  ends = ends-still s s' r r' is.ends sender receiver;
-  each = each-still s s' is.each out made holds;
-  back = ap length back ∙ (is.back ∙ ap (λ (ps : List Post). 4 + length ps) (sym took));
-  order = (left r', split);
-}
-
-pub same-waiting : (s s' : PostSender) (r r' : PostReceiver) → taken r' ≡ taken r → posted s' ≡ posted s → waiting_between s' r' ≡ waiting_between s r
-same-waiting s s' r r' took made = ap (λ (ps : List Post). drop (length ps) (posted s')) took ∙ ap (drop (length (taken r))) made
-
 -- ---- all that waits comes out
 
-pub record AllTaken (s : PostSender) (r r' : PostReceiver) (posts : List Post) : Type 0 where
+record AllTaken (s : PostSender) (r r' : PostReceiver) (posts : List Post) : Type 0 where
   pub posts_are : posts ≡ waiting_between s r
   pub joined : AreJoined s r'
   pub whole : IsWhole s r → IsWhole s r'
@@ -119,7 +83,7 @@ ring-taken n most s r r' posts all count takes came =
     }
 
 -- so it is of each ring
-pub record EachTaken (ss : List PostSender) (rs rs' : List PostReceiver) (posts : List (List Post)) : Type 0 where
+record EachTaken (ss : List PostSender) (rs rs' : List PostReceiver) (posts : List (List Post)) : Type 0 where
   pub posts_are : posts ≡ posts_waiting ss rs
   pub joined : EachRing AreJoined ss rs'
   pub whole : EachRing IsWhole ss rs → EachRing IsWhole ss rs'
@@ -128,7 +92,7 @@ pub record EachTaken (ss : List PostSender) (rs rs' : List PostReceiver) (posts 
 abbrev IsEmpty : List Post → Type 0
 IsEmpty posts = posts ≡ []
 
-pub all-taken : (ss : List PostSender) (ns : List ℕ) (rs rs' : List PostReceiver) (posts : List (List Post)) → EachRing KnowAll ss rs → ns ≡ map length (posts_waiting ss rs)
+all-taken : (ss : List PostSender) (ns : List ℕ) (rs rs' : List PostReceiver) (posts : List (List Post)) → EachRing KnowAll ss rs → ns ≡ map length (posts_waiting ss rs)
     → EachTakesKnown ns rs rs' → AreTaken rs rs' posts → EachTaken ss rs rs' posts
 all-taken [] [] [] [] [] know count takes came = record { posts_are = refl; joined = tt; whole = λ is. tt; none = All-nil IsEmpty }
 all-taken (s ∷ ss) (n ∷ ns) (r ∷ rs) (r' ∷ rs') (ps ∷ posts) know count takes came =

@@ -92,14 +92,14 @@ none_owed (block ∷ blocks) e = let some : nat_lt 0 (suc (length blocks)) ≡ t
 not_not : (b : Bool) → not (not b) ≡ false → b ≡ false
 not_not b e = search rules
 
-pub record Allowed (past : Record) (tasks : List ℕ) : Type 0 where
+record Allowed (past : Record) (tasks : List ℕ) : Type 0 where
   pub owed : owed_blocks past ≡ []
   pub left : next_serial past + length (proposal past tasks) ≤ SETUP_SERIAL
 
 pub allowed : (past : Record) (tasks : List ℕ) → lowest (task_faults past tasks) ≡ None → Allowed past tasks
 allowed past tasks none = search (rules, passed, none_owed, ltb-false, not_not)
 
-pub proposal-left : (kept : CoreParts) (past taken : Record) (frames : List Frame) → IsProposal past frames → Agree kept past taken → kept.serial + length frames ≤ SETUP_SERIAL
+proposal-left : (kept : CoreParts) (past taken : Record) (frames : List Frame) → IsProposal past frames → Agree kept past taken → kept.serial + length frames ≤ SETUP_SERIAL
 proposal-left kept past taken frames is agree = search rules
 
 pub agree-committed : (kept : CoreParts) (past taken : Record) (frames : List Frame) → IsProposal past frames → Agree kept past taken

@@ -56,15 +56,6 @@ after-is state edit next e = ap (λ (made : Result State EditFault). result_unwr
 
 -- an edit that is accepted has no fault of its own
 
-err_ok : {X : Type 0} (fault : EditFault) (made : X) → Err fault ≡ Ok made → ⊥
-err_ok fault made e = cc
-
-none_own : (found : Option EditFault) → ((fault : EditFault) → found ≡ Some fault → ⊥) → found ≡ None
-none_own found refuses = search rules
-
-tells_none : {X : Type 0} (found : Option EditFault) (told : Result X EditFault) → found ≡ None → IfSome found (λ fault. told ≡ Err fault)
-tells_none found told none = search rules
-
 pub accepted-own : {X : Type 0} (state : State) (edit : Edit) (new : State) (told : Result X EditFault) → edited state edit ≡ Ok new → IfSome (own_fault state.groups edit) (λ fault. told ≡ Err fault)
 accepted-own state edit new told accepted = search rules
 
@@ -104,7 +95,7 @@ news-edited taken past edit changes new report accepted tell tells =
 
 -- all that is kept
 
-pub agree-edited : (kept : CoreParts) (past taken : Record) (new : State) (report : Report) (inputs : Image) (outputs : Packed) (owed : Board) → edited (state_of past) report.swap.edit ≡ Ok new → Tells (state_of past) report.swap.edit new report
+agree-edited : (kept : CoreParts) (past taken : Record) (new : State) (report : Report) (inputs : Image) (outputs : Packed) (owed : Board) → edited (state_of past) report.swap.edit ≡ Ok new → Tells (state_of past) report.swap.edit new report
     → crowded_task (line new) ≡ None → HasNone inputs → owed ≡ kept_of (known_over (state_of past) (known_bytes past)) new
     → Holds (table_of (line new)) (kept_over (table_of (line_of past)) (value_bit past)) outputs → Agree kept past taken
     → Agree (record {

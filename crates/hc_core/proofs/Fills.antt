@@ -1,13 +1,11 @@
 -- Which frames can be filled, and what `fill` asks for.
-use Rattle.std.proofs.Common.{◌≡◌, ℕ, ◌+◌, ◌<◌, ◌≤◌, ◌&&◌, nat_lt, Bool, false, cond, List, [], ◌∷◌, length, refl, sym, ap, ◌∙◌, subst, arith, Option, Some, None, rules}
+use Rattle.std.proofs.Common.{◌≡◌, ℕ, ◌+◌, ◌<◌, ◌≤◌, ◌&&◌, List, [], ◌∷◌, length, refl, sym, ap, ◌∙◌, subst, arith, Option, Some, None, rules}
 use Rattle.std.specs.Prelude.{All, IfSome, OnOk, Result, sum_by}
 use Rattle.std.specs.List.{flat_map, range_with_len}
-use Rattle.std.proofs.lemmas.Bool.{ltb-false}
 use Rattle.std.proofs.lemmas.List.Elements.{All-cons, All-head, All-nil, All-tail, All-weaker}
 use Rattle.std.proofs.lemmas.List.Sums.{sum_by-cons}
 use Rattle.hc_records.specs.declared.limits.TheConstants.{TASKS}
 use Rattle.hc_records.specs.Edits.{crowded_task}
-use Rattle.hc_records.specs.Image.{datagram_count, task_places}
 use Rattle.hc_records.specs.Line.{State, groups_of, line}
 use Rattle.hc_records.specs.Lists.{lowest}
 use Rattle.hc_records.specs.Project.{lowest_fault}
@@ -17,8 +15,8 @@ use Rattle.hc_events.specs.Calls.{AreSentTogether, preview}
 use Rattle.hc_events.specs.Entries.{Record}
 use Rattle.hc_events.specs.Owed.{owed_blocks}
 use Rattle.hc_events.specs.Points.{line_of, next_serial, state_of}
-use Rattle.hc_events.specs.Sendings.{Frame, Named, alone, length_of, sendings_of, task_datagrams}
-use Rattle.hc_events.specs.Steps.{has_serials, proposal, task_faults}
+use Rattle.hc_events.specs.Sendings.{Frame, Named, length_of, sendings_of, task_datagrams}
+use Rattle.hc_events.specs.Steps.{proposal, task_faults}
 use Rattle.hc_events.proofs.lemmas.Accepted.{proposal-stands}
 use Rattle.hc_events.proofs.lemmas.Frames.{frames-counted, proposals-numbered}
 use Rattle.hc_events.proofs.lemmas.SentBits.{sent-data}
@@ -33,9 +31,6 @@ use Rattle.hc_core.specs.Filled.{CanBeFilled}
 use Rattle.hc_core.specs.Laws.{PiecesAreTheEvent}
 use Rattle.hc_core.specs.Proposed.{IsProposal}
 use Rattle.hc_core.specs.Values.{HoldsValues}
-
-abbrev HasTask : Named → Type 0
-HasTask named = named.0 < TASKS
 
 pub known-tasks : (past : Record) (names : List Named) → lowest_fault (groups_of (state_of past).groups) ≡ None → All (StandsIn (line_of past)) names → All (λ named. named.0 < TASKS) names
 known-tasks past names project stands = search (rules, All-weaker, standing-task)
@@ -62,7 +57,7 @@ below_number (frame ∷ frames) serial most numbers left =
     let first = first-number frame (numbers_of frames) serial (range_with_len (serial + 1) (length frames)) numbers in
     All-cons (λ (one : Frame). one.serial < most) frame frames (omega (arith, left)) (below_number frames (serial + 1) most first.1 (omega (arith, left)))
 
-pub proposal-filled : (past : Record) (tasks : List ℕ) → lowest (task_faults past tasks) ≡ None → All (CanBeFilled past) (proposal past tasks)
+proposal-filled : (past : Record) (tasks : List ℕ) → lowest (task_faults past tasks) ≡ None → All (CanBeFilled past) (proposal past tasks)
 proposal-filled past tasks none =
     let frames = proposal past tasks in
     let stands = proposal-stands past tasks in
@@ -73,7 +68,7 @@ proposal-filled past tasks none =
 pub few-frames : (serial count most : ℕ) → serial + count ≤ most → count ≤ most
 few-frames serial count most left = omega (arith, left)
 
-pub proposal-few : (past : Record) (tasks : List ℕ) → lowest (task_faults past tasks) ≡ None → length (proposal past tasks) ≤ SETUP_SERIAL
+proposal-few : (past : Record) (tasks : List ℕ) → lowest (task_faults past tasks) ≡ None → length (proposal past tasks) ≤ SETUP_SERIAL
 proposal-few past tasks none = few-frames (next_serial past) (length (proposal past tasks)) SETUP_SERIAL (allowed past tasks none).left
 
 pub proposed-as : (past : Record) (state : State) (serial owed : ℕ) (tasks : List ℕ) → state ≡ state_of past → serial ≡ next_serial past → owed ≡ length (owed_blocks past) → AreSentTogether tasks
@@ -84,19 +79,6 @@ pub on-proposed : {X E : Type 0} (P Q R : Type 0) (result : Result X E) → (P �
 on-proposed P Q R result next is on = search rules
 
 -- a preview
-
-one_left : (n most : ℕ) → nat_lt most (n + 1) ≡ false → n < most
-one_left n most left = let low = ltb-false most (n + 1) left in omega (arith, low)
-
-alone_counted : (n : ℕ) → n ≡ 0 + n
-alone_counted n = omega arith
-
-shown_filled : (past : Record) (task d : ℕ) (frame : Frame) (there left : Bool) → nat_lt d (datagram_count (task_places task (line_of past))) ≡ there → has_serials past 1 ≡ left
-    → cond (there && left) (Some (alone (next_serial past) (task, d) (length_of (line_of past) (task, d)))) None ≡ Some frame → CanBeFilled past frame
-shown_filled past task d frame there left stands serials e = search rules
-
-previews : (past : Record) (task d : ℕ) (frame : Frame) → preview past task d ≡ Some frame → CanBeFilled past frame
-previews past task d frame e = shown_filled past task d frame (nat_lt d (datagram_count (task_places task (line_of past)))) (has_serials past 1) refl refl e
 
 pub preview-filled : (past : Record) (task d : ℕ) (found : Option Frame) → found ≡ preview past task d → IfSome found (CanBeFilled past)
 preview-filled past task d found e = search rules

@@ -1,19 +1,18 @@
 -- Events whose answers leave nothing can be left out.
-use Rattle.std.proofs.Common.{◌≡◌, ℕ, Bool, true, false, cond, not, List, [], ◌∷◌, map, refl, sym, ap, ◌∙◌, Option, rules}
+use Rattle.std.proofs.Common.{◌≡◌, Bool, true, false, cond, not, List, [], ◌∷◌, refl, sym, ap, ◌∙◌, Option, rules}
 use Rattle.std.specs.Prelude.{Result}
 use Rattle.hc_records.specs.Edits.{state_after}
-use Rattle.hc_registers.specs.Blocks.{LineBlock}
 use Rattle.hc_frames.specs.declared.reading.faults.FrameFault.{FrameFault}
 use Rattle.hc_events.specs.declared.answer.Answer.{Answer}
 use Rattle.hc_events.specs.declared.answer.Answer.TheVariants as answer
 use Rattle.hc_events.specs.declared.faults.CoreFault.{CoreFault}
-use Rattle.hc_events.specs.Answering.{Judged, Stale, Verdict}
+use Rattle.hc_events.specs.Answering.{Judged, Stale}
 use Rattle.hc_events.specs.Arrivals.{Arrival, arrival_in}
 use Rattle.hc_events.specs.Calls.{MayAnswer}
 use Rattle.hc_events.specs.Entries.{Record, Edited}
 use Rattle.hc_events.specs.Points.{state_of}
 use Rattle.hc_events.specs.Stale.{without_stale}
-use Rattle.hc_events.specs.Steps.{Step, Edits, Posts, SendsTasks, SendsWrite, Arrives, Reads, answer_to, answers_to, edit_refused, entries_after, entries_after_all, kept_if, outcome_for, told_of, told_of_arrival, told_of_block, told_of_edit, told_of_write, unless, with_arrival, with_write}
+use Rattle.hc_events.specs.Steps.{Step, Edits, Posts, SendsTasks, SendsWrite, Arrives, Reads, answer_to, answers_to, edit_refused, entries_after, entries_after_all, kept_if, told_of, told_of_arrival, told_of_edit, unless, with_arrival}
 use Rattle.hc_events.proofs.lemmas.SameBehind.{SameWithout, same-after, same-answer, same-says, same-stale}
 use Rattle.hc_core.specs.LastData.{GoesWithoutThem, answers_left, events_left, leaves_nothing}
 use Rattle.hc_core.specs.Serving.{MayAnswerAll}
@@ -26,21 +25,6 @@ never told plain e = search rules
 
 refused_keeps : (refused : Option CoreFault) (past next : Record) (told : Answer) → leaves_nothing told ≡ false → leaves_nothing (unless refused told) ≡ true → kept_if refused past next ≡ past
 refused_keeps refused past next told plain e = search rules
-
-write_keeps : (refused : Option CoreFault) (past : Record) (blocks : List LineBlock) (serial : ℕ) → leaves_nothing (unless refused (told_of_write serial blocks)) ≡ true → kept_if refused past (with_write past blocks) ≡ past
-write_keeps refused past blocks serial e = search rules
-
-block_stale : (verdict : Verdict) → leaves_nothing (told_of_block verdict) ≡ true → told_of_block verdict ≡ answer.Stale
-block_stale verdict e = search rules
-
-frame_stale : (news : Bool) (datagrams : List Judged) → leaves_nothing (cond news (answer.Answered (map outcome_for datagrams)) answer.Stale) ≡ true
-    → cond news (answer.Answered (map outcome_for datagrams)) answer.Stale ≡ answer.Stale
-frame_stale news datagrams e = search rules
-
-either_stale : (block news : Bool) (verdict : Verdict) (datagrams : List Judged)
-    → leaves_nothing (cond block (told_of_block verdict) (cond news (answer.Answered (map outcome_for datagrams)) answer.Stale)) ≡ true
-    → cond block (told_of_block verdict) (cond news (answer.Answered (map outcome_for datagrams)) answer.Stale) ≡ answer.Stale
-either_stale block news verdict datagrams e = search rules
 
 told_stale : (datagrams : List Judged) → leaves_nothing (told_of datagrams) ≡ true → told_of datagrams ≡ answer.Stale
 told_stale datagrams e = search rules

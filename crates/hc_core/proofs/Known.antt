@@ -1,5 +1,5 @@
 -- Which bytes blocks are known to have, behind each entry.
-use Rattle.std.proofs.Common.{◌≡◌, ℕ, ◌==◌, ◌≤◌, Bool, true, false, cond, ◌&&◌, ◌||◌, List, [], ◌∷◌, ◌++◌, map, refl, sym, ap, ◌∙◌, arith, Option, Some, None, rules}
+use Rattle.std.proofs.Common.{◌≡◌, ℕ, ◌==◌, ◌≤◌, Bool, true, false, cond, ◌&&◌, ◌||◌, List, [], ◌∷◌, ◌++◌, refl, sym, ap, ◌∙◌, arith, Option, Some, None, rules}
 use Rattle.std.specs.Prelude.{option_and_then}
 use Rattle.std.specs.List.{list_any}
 use Rattle.std.proofs.lemmas.Bool.{and_parts, eqb-true}
@@ -18,20 +18,10 @@ use Rattle.hc_events.specs.SendingLaws.{is_opening}
 use Rattle.hc_events.proofs.lemmas.Awaited.{by_bool}
 use Rattle.hc_events.proofs.lemmas.OneWrite.{awaited-heads, known-same, unconfirmed}
 use Rattle.hc_events.proofs.lemmas.Standing.{found-under}
-use Rattle.hc_owed.specs.Board.{Knowledge, kept_of, known_in, owed_in}
+use Rattle.hc_owed.specs.Board.{Knowledge, kept_of}
 use Rattle.hc_owed.specs.Laws.{known_over, known_with, same_name}
 
 -- what is kept by the same knowledge is the same
-
-map_alike : {X Y : Type 0} (f g : X → Y) → ((x : X) → f x ≡ g x) → (xs : List X) → map f xs ≡ map g xs
-map_alike f g k [] = refl
-map_alike f g k (x ∷ xs) = ap (λ y. y ∷ map f xs) (k x) ∙ ap (λ ys. g x ∷ ys) (map_alike f g k xs)
-
-known_same : (a b : Knowledge) → ((station number : ℕ) → a station number ≡ b station number) → (place : Option LineBlock) → known_in a place ≡ known_in b place
-known_same a b same number = search rules
-
-owed_same : (a b : Knowledge) → ((station number : ℕ) → a station number ≡ b station number) → (place : Option LineBlock) → owed_in a place ≡ owed_in b place
-owed_same a b same number = search rules
 
 pub kept-alike : (a b : Knowledge) (state : State) → ((station number : ℕ) → a station number ≡ b station number) → kept_of a state ≡ kept_of b state
 kept-alike a b state same = search rules

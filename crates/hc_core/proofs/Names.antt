@@ -1,5 +1,5 @@
 -- In a project's line a block is told by its slave's station address and its number.
-use Rattle.std.proofs.Common.{◌≡◌, ◌==◌, Bool, true, false, List, [], ◌∷◌, filter, refl, subst, Some, None, rules}
+use Rattle.std.proofs.Common.{◌≡◌, ◌==◌, Bool, true, false, List, [], ◌∷◌, filter, refl, subst, None, rules}
 use Rattle.std.specs.Prelude.{All, Contains}
 use Rattle.std.proofs.lemmas.Bool.{and_parts, eqb-true}
 use Rattle.std.proofs.lemmas.List.Elements.{All-head, All-tail, All-contains_itself, All-weaker, filter_passes}
@@ -8,7 +8,7 @@ use Rattle.hc_records.specs.Project.{lowest_fault}
 use Rattle.hc_records.proofs.lemmas.Stations.{project-distinct}
 use Rattle.hc_records.specs.Lists.{has_repeat}
 use Rattle.hc_records.proofs.lemmas.Stations.{stations}
-use Rattle.hc_registers.specs.Blocks.{LineBlock, RegisterBlock, line_blocks}
+use Rattle.hc_registers.specs.Blocks.{LineBlock, line_blocks}
 use Rattle.hc_plan.proofs.lemmas.Configured.{configured-block}
 use Rattle.hc_events.specs.Entries.{Record, Wrote}
 use Rattle.hc_events.specs.Points.{line_of, state_of}
@@ -18,11 +18,8 @@ use Rattle.hc_events.proofs.lemmas.Answers.{owed-in_line}
 use Rattle.hc_events.proofs.lemmas.Awaited.{by_bool}
 use Rattle.hc_events.proofs.lemmas.OneWrite.{others-as_before, written-is_owed}
 
-same_block : (a b : RegisterBlock) → Some a ≡ Some b → a ≡ b
-same_block a b e = cc
-
 -- blocks of one name are one block
-pub one-name : (line : List Member) → has_repeat (stations line) ≡ false → (a b : LineBlock) → Contains (line_blocks line) a → Contains (line_blocks line) b → same_item (block_item a) (block_item b) ≡ true → a ≡ b
+one-name : (line : List Member) → has_repeat (stations line) ≡ false → (a b : LineBlock) → Contains (line_blocks line) a → Contains (line_blocks line) b → same_item (block_item a) (block_item b) ≡ true → a ≡ b
 one-name line distinct a b in_a in_b same =
     let both = and_parts (a.station == b.station) (a.number == b.number) same in
     let station : a.station ≡ b.station = eqb-true a.station b.station both.0 in
@@ -34,7 +31,7 @@ one-name line distinct a b in_a in_b same =
 
 -- a filter by what is the same of each element
 
-pub filter-alike : {X : Type 0} (p q : X → Bool) (xs : List X) → All (λ x. p x ≡ q x) xs → filter p xs ≡ filter q xs
+filter-alike : {X : Type 0} (p q : X → Bool) (xs : List X) → All (λ x. p x ≡ q x) xs → filter p xs ≡ filter q xs
 filter-alike p q [] all = refl
 filter-alike {X} p q (x ∷ xs) all = search (rules, All-head, All-tail, filter-alike p q xs (All-tail (λ y. p y ≡ q y) x xs all))
 

@@ -44,7 +44,7 @@ posted_alike : (past : Record) (task : ℕ) (bytes : List ℕ) → lowest_fault 
     → AreAlike (table_of (line_of past)) (posted (table_of (line_of past)) task bytes (value_bit past)) (value_bit (Posted task bytes ∷ past))
 posted_alike past task bytes project variable k place is low = search (rules, place-of_line, variables-lie, offset-of_line)
 
-pub values-posted : (past : Record) (task : ℕ) (bytes : List ℕ) (packed : Packed) → lowest_fault (groups_of (state_of past).groups) ≡ None
+values-posted : (past : Record) (task : ℕ) (bytes : List ℕ) (packed : Packed) → lowest_fault (groups_of (state_of past).groups) ≡ None
     → Holds (table_of (line_of past)) (posted (table_of (line_of past)) task bytes (value_bit past)) packed → HoldsValues (Posted task bytes ∷ past) packed
 values-posted past task bytes packed project holds = search (rules, holds-alike, posted_alike)
 

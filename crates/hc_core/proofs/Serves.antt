@@ -1,5 +1,5 @@
 -- What a core's calls answer is what the event may be answered.
-use Rattle.std.proofs.Common.{◌≡◌, ◌≢◌, ℕ, List, [], ◌∷◌, ◌++◌, refl, ap, true, inl, inr, Option, Some, None, rules}
+use Rattle.std.proofs.Common.{◌≡◌, ◌≢◌, ℕ, List, [], ◌∷◌, ◌++◌, ap, true, inl, inr, Option, Some, None, rules}
 use Rattle.std.specs.Prelude.{IfErr, IfOk, IfSome, OnErr, OnOk, Result, Ok, Err, ◌⊎◌, option_map}
 use Rattle.hc_records.specs.declared.edit.Edit.{Edit}
 use Rattle.hc_records.specs.declared.faults.EditFault.{EditFault}
@@ -16,13 +16,10 @@ use Rattle.hc_events.specs.Entries.{Record, Edited, Posted}
 use Rattle.hc_events.specs.Faults.{edit_refusal}
 use Rattle.hc_events.specs.Owed.{owed_blocks}
 use Rattle.hc_events.specs.Points.{state_of}
-use Rattle.hc_events.specs.Steps.{Step, Edits, Posts, SendsTasks, SendsWrite, Reads, answer_to, edit_refused, entries_after, kept_if, post_faults, task_faults, told_of_edit, unless, write_faults}
+use Rattle.hc_events.specs.Steps.{Step, Edits, Posts, SendsTasks, SendsWrite, Reads, answer_to, edit_refused, entries_after, post_faults, task_faults, told_of_edit, write_faults}
 use Rattle.hc_core.specs.Early.{TellsEarly}
 use Rattle.hc_core.specs.Serving.{MayAnswerAll, answer_of, answer_of_edit, answer_of_post, answer_or_memory}
 use Rattle.hc_core.specs.State.{CoreState}
-
-wanting : (past : Record) (step : Step) (next : Record) → takes_memory step ≡ true → next ≡ past → MayAnswer past step (answer.Refused fault.Memory) next
-wanting past step next takes same = inr (record { takes = takes; answer = refl; entries = same })
 
 -- an answer that is the event's, or want of memory
 
@@ -31,13 +28,6 @@ pub answer-served : {E : Type 0} (old new : Record) (step : Step) (result : Resu
 answer-served old new step result takes answers entries same = search rules
 
 -- a core fault is want of memory or not
-
-is_memory : (found : CoreFault) → (found ≡ fault.Memory) ⊎ (found ≢ fault.Memory)
-is_memory other = search rules
-
-refused_or : (old new : Record) (step : Step) (found : CoreFault) (told : Answer) (next : Record) (refused : Option CoreFault) → takes_memory step ≡ true → answer_to old step ≡ unless refused told → entries_after old step ≡ kept_if refused old next
-    → (found ≢ fault.Memory → refused ≡ Some found) → new ≡ old → (found ≡ fault.Memory) ⊎ (found ≢ fault.Memory) → MayAnswer old step (answer.Refused found) new
-refused_or old new step found told next refused takes answers entries names same memory = search rules
 
 -- a register write, and tasks
 

@@ -12,12 +12,12 @@ use Rattle.hc_events.specs.Accepted.{AreAccepted}
 use Rattle.hc_events.specs.AnswerLaws.{IsAwaited}
 use Rattle.hc_events.specs.Entries.{Entry, Record}
 use Rattle.hc_events.specs.Sendings.{Named}
-use Rattle.hc_events.specs.Heads.{Head, Item, data_heads, is_block, write_head}
+use Rattle.hc_events.specs.Heads.{Head, data_heads, is_block, write_head}
 use Rattle.hc_events.specs.Answering.{Judged, Sending, Verdict, has_good, has_heads, is_good, is_news, is_stale, is_stale_to, judge, judged, judged_by, sending_of, verdict}
 use Rattle.hc_events.specs.Awaited.{alive, awaited, is_write}
-use Rattle.hc_events.specs.Images.{fresh, fresh_by, fresh_item}
+use Rattle.hc_events.specs.Images.{fresh, fresh_by}
 use Rattle.hc_events.specs.Owed.{owed_blocks}
-use Rattle.hc_events.specs.Steps.{inputs_of, outcome_for, told_of, told_of_block}
+use Rattle.hc_events.specs.Steps.{outcome_for, told_of, told_of_block}
 use Rattle.hc_events.specs.SendingLaws.{heads_of, is_sending}
 use Rattle.hc_events.proofs.lemmas.Answers.{awaited-answered}
 use Rattle.hc_events.proofs.lemmas.Awaited.{by_bool}
@@ -53,9 +53,6 @@ record IsOne (arrival : Arrival) (sending : Sending) (block : LineBlock) : Type 
   part : Part
   one : judged arrival sending ≡ judge sending.since (write_head block, part) ∷ []
 
-and_false : (b : Bool) → (b && false) ≡ false
-and_false b = search rules
-
 one_back : (arrival : Arrival) (sending : Sending) (block : LineBlock) (parts : List Part) → arrival.parts ≡ parts → has_heads (write_head block ∷ []) parts ≡ true → sending.heads ≡ write_head block ∷ [] → IsOne arrival sending block
 one_back arrival sending block [] is fit heads = cc
 one_back arrival sending block (part ∷ []) is fit heads = record {
@@ -77,9 +74,6 @@ frame_told : (since : List Entry) (heads : List Head) (parts : List Part) → li
 frame_told since [] parts plain news = cc
 frame_told since (head ∷ heads) [] plain news = cc
 frame_told since (head ∷ heads) (part ∷ parts) plain news = search rules
-
-good_alike : (item : Item) (part : Part) → fresh_item item part.bytes ≡ good_of (inputs_of item) part
-good_alike item part = search rules
 
 fresh_alike : (head : Head) (part : Part) (verdict : Verdict) → fresh (record { head = head; part = part; verdict = verdict }) ≡ good_of (outcome_for (record { head = head; part = part; verdict = verdict })) part
 fresh_alike head part verdict = search rules

@@ -36,10 +36,6 @@ bit_small : (bytes : List ℕ) (k : ℕ) → bit_of bytes k < 2
 unfolding bit_of
 bit_small bytes k = bit_at-lt (get_or bytes (k / 8) 0) (k % 8)
 
-eight_small : (a b c d e f g h : ℕ) → a < 2 → b < 2 → c < 2 → d < 2 → e < 2 → f < 2 → g < 2 → h < 2
-    → a + 2 * (b + 2 * (c + 2 * (d + 2 * (e + 2 * (f + 2 * (g + 2 * (h + 2 * 0))))))) < 256
-eight_small a b c d e f g h la lb lc ld le lf lg lh = omega arith
-
 byte_small : (bit : ℕ → ℕ) (n : ℕ) → ((j : ℕ) → j < 8 → bit (8 * n + j) < 2) → byte_of bit n < 256
 unfolding number_of
 byte_small bit n small = search rules
@@ -72,7 +68,7 @@ bit_same past bytes task d k low few carries sent below (inr none) =
     (λ variable place is lies. none variable place (record { there = place-of_line (line_of past) variable ∙ is.there; output = is.output })
     (record { task_is = is.task_is; datagram = is.datagram; from = lies.from; below = lies.below })))
 
-pub data-same : (past : Record) (bytes : Bytes) (task d : ℕ) → lowest_fault (groups_of (state_of past).groups) ≡ None → task < TASKS → d < MOST_DATAGRAMS → StandsIn (line_of past) (task, d)
+data-same : (past : Record) (bytes : Bytes) (task d : ℕ) → lowest_fault (groups_of (state_of past).groups) ≡ None → task < TASKS → d < MOST_DATAGRAMS → StandsIn (line_of past) (task, d)
     → Carries (table_of (line_of past)) (value_bit past) bytes → slot_bytes bytes task d ≡ sent_data past task d
 data-same past bytes task d project low few stands carries =
     let sent = sent-values past task d project low in

@@ -1,10 +1,8 @@
 -- When the first owed block is sent, and what is answered then.
-use Rattle.std.proofs.Common.{◌≡◌, ℕ, suc, ◌+◌, ◌<◌, ◌==◌, nat_lt, false, List, ◌∷◌, ◌++◌, drop, length, take, sym, ap, ◌∙◌, arith, None, rules}
+use Rattle.std.proofs.Common.{◌≡◌, ℕ, ◌+◌, ◌<◌, ◌==◌, List, ◌∷◌, ◌++◌, drop, length, take, sym, ap, ◌∙◌, arith, rules}
 use Rattle.std.specs.Prelude.{Result}
-use Rattle.std.proofs.lemmas.Bool.Decides.{nat_tests}
 use Rattle.std.proofs.lemmas.List.{append-nil, drop_all, take-append-le}
 use Rattle.std.proofs.Math.Seq.{take-length}
-use Rattle.hc_records.specs.Lists.{lowest}
 use Rattle.hc_registers.specs.Blocks.{LineBlock}
 use Rattle.hc_frames.specs.declared.building.Room.{Room as NeededRoom}
 use Rattle.hc_frames.specs.declared.limits.TheConstants.{SETUP_SERIAL}
@@ -13,18 +11,9 @@ use Rattle.hc_events.specs.declared.answer.Answer.TheVariants as answer
 use Rattle.hc_events.specs.Entries.{Record, Wrote}
 use Rattle.hc_events.specs.Owed.{owed_blocks}
 use Rattle.hc_events.specs.Points.{next_serial}
-use Rattle.hc_events.specs.Steps.{SendsWrite, answer_to, entries_after, write_faults, write_text}
+use Rattle.hc_events.specs.Steps.{SendsWrite, answer_to, entries_after, write_text}
 
 -- what refuses it
-
-some_length : (n : ℕ) → (suc n == 0) ≡ false
-some_length n = grind (arith, nat_tests)
-
-few_left : (most n : ℕ) → n < most → nat_lt most (n + 1) ≡ false
-few_left most n left = grind (arith, nat_tests)
-
-pub write-accepted : (past : Record) (block : LineBlock) (rest : List LineBlock) → owed_blocks past ≡ block ∷ rest → next_serial past < SETUP_SERIAL → lowest (write_faults past (owed_blocks past)) ≡ None
-write-accepted past block rest first left = search rules
 
 -- what is answered, and recorded
 

@@ -16,7 +16,7 @@ use Rattle.hc_cuts.proofs.Chain.{all-areas, follows}
 use Rattle.hc_cuts.proofs.Repaired.{settles}
 
 -- the spans from a key on that aren't settled
-abbrev pub left_from : Hulls → List Key → Key → List Key → ℕ
+abbrev left_from : Hulls → List Key → Key → List Key → ℕ
 left_from hulls old from later = unsettled_by (drop 1 old) hulls.outputs hulls.inputs from later
 
 left-more : (hulls : Hulls) (old : List Key) (from next : Key) (later : List Key)

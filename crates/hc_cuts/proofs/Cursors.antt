@@ -78,13 +78,13 @@ splits first middle until (area ∷ areas) is low =
 
 -- stretches of a task's list join
 
-pub stretches-join : (from middle until : Key) (list : List Keyed) → IsTaskList list → is_within from middle ≡ true → is_within middle until ≡ true
+stretches-join : (from middle until : Key) (list : List Keyed) → IsTaskList list → is_within from middle ≡ true → is_within middle until ≡ true
     → areas_between from until list ≡ areas_between from middle list ++ areas_between middle until list
 stretches-join from middle until list is low high =
     splits from middle until (areas_from from list) (areas-from from list is) high
     ∙ ap (λ (l : List Keyed). areas_between from middle list ++ areas_before until l) (areas-twice from middle list low)
 
-pub filling-goes_on : (from middle until : Key) (list : List Keyed) (filled : Filled) → IsTaskList list → is_within from middle ≡ true → is_within middle until ≡ true
+filling-goes_on : (from middle until : Key) (list : List Keyed) (filled : Filled) → IsTaskList list → is_within from middle ≡ true → is_within middle until ≡ true
     → filled ≡ with_areas unfilled (areas_between from middle list)
     → with_areas filled (areas_between middle until list) ≡ with_areas unfilled (areas_between from until list)
 filling-goes_on from middle until list filled is low high so_far =

@@ -16,7 +16,7 @@ first_by : (fitting : Bool) (rest : List Key) (key : Key) → fitting ≡ true �
 first_by fitting rest key test = grind arith
 
 -- the first area fits the empty datagram, so no cut is made at it
-pub first_keys-cuts : (area : Keyed) (areas : List Keyed) → All IsPackable (area ∷ areas)
+first_keys-cuts : (area : Keyed) (areas : List Keyed) → All IsPackable (area ∷ areas)
     → first_keys (area ∷ areas) ≡ area.0 ∷ cuts_from (behind (placed_at opening area)) areas
 first_keys-cuts area areas all =
     let narrow = (All-head IsPackable area areas all).narrow in
@@ -27,19 +27,19 @@ first_keys-cuts area areas all =
 -- there is one for each datagram
 
 -- the same of a list with a first area, in the words of a slice
-pub first_keys-rest : (list : List Keyed) (d : Keyed) → 0 < length list → All IsPackable list
+first_keys-rest : (list : List Keyed) (d : Keyed) → 0 < length list → All IsPackable list
     → first_keys list ≡ (slice_index_or list 0 d).0 ∷ cuts_from (behind (placed_at opening (slice_index_or list 0 d))) (drop 1 list)
 first_keys-rest [] d some all = absurd (omega arith)
 first_keys-rest (area ∷ areas) d some all = first_keys-cuts area areas all
 
-pub length-first_keys-rest : (list : List Keyed) (d : Keyed) → 0 < length list → All IsPackable list
+length-first_keys-rest : (list : List Keyed) (d : Keyed) → 0 < length list → All IsPackable list
     → datagram_count (packed opening list)
     ≡ length ((slice_index_or list 0 d).0 ∷ cuts_from (behind (placed_at opening (slice_index_or list 0 d))) (drop 1 list))
 length-first_keys-rest [] d some all = absurd (omega arith)
 length-first_keys-rest (area ∷ areas) d some all = grind (arith, count-later_keys, first_keys-cuts)
 
 -- what stands of a list once its first area's key, and the cuts behind it, were added to no keys
-pub record AddsAll (list : List Keyed) (d : Keyed) (added pushed new : List Key) (begun front : Front) (place : Placed) : Type 0 where
+record AddsAll (list : List Keyed) (d : Keyed) (added pushed new : List Key) (begun front : Front) (place : Placed) : Type 0 where
   pub some : 0 < length list
   pub packable : All IsPackable list
   pub empty : new ≡ []

@@ -14,12 +14,12 @@ use Rattle.hc_cuts.specs.Areas.{list_by, rank_list}
 use Rattle.hc_cuts.specs.Kept.{IsCut, IsLine, crowded_from, kept_by, kept_from, line_kept, starts_by}
 use Rattle.hc_cuts.specs.Widths.{AreKept}
 
-pub length-kept : (count task : ℕ) (slaves : List (List Area)) → length (kept_from count task slaves) ≡ count
+length-kept : (count task : ℕ) (slaves : List (List Area)) → length (kept_from count task slaves) ≡ count
 length-kept zero task slaves = refl
 length-kept (suc count) task slaves = ap suc (length-kept count (task + 1) slaves)
 
 -- the boundaries of each are those of its areas
-pub kept-cut : (count task : ℕ) (slaves : List (List Area)) → All IsCut (kept_from count task slaves)
+kept-cut : (count task : ℕ) (slaves : List (List Area)) → All IsCut (kept_from count task slaves)
 kept-cut zero task slaves = All-nil IsCut
 kept-cut (suc count) task slaves = All-cons IsCut (kept_by task slaves) (kept_from count (task + 1) slaves) refl (kept-cut count (task + 1) slaves)
 
@@ -30,7 +30,7 @@ kept-at (suc count) task zero slaves other h = let here : task ≡ task + 0 = om
 kept-at (suc count) task (suc at) slaves other h =
     grind (arith, kept-at count (task + 1) at slaves other (omega arith))
 
-pub task-starts : (task : ℕ) (line : List (List Area)) (kept : List Kept) (other : Kept) → task < 8 → kept ≡ line_kept line
+task-starts : (task : ℕ) (line : List (List Area)) (kept : List Kept) (other : Kept) → task < 8 → kept ≡ line_kept line
     → (slice_index_or kept task other).starts ≡ starts_by task line
 task-starts task line kept other low is = grind (arith, kept-at)
 
@@ -55,7 +55,7 @@ length-absent (suc count) = ap suc (length-absent count)
 empty-list : IsTaskList []
 empty-list = grind (arith, AllPairs-nil)
 
-pub absent-kept : (count : ℕ) → All AreKept (replicate count [])
+absent-kept : (count : ℕ) → All AreKept (replicate count [])
 absent-kept zero = All-nil AreKept
 absent-kept (suc count) =
     All-cons AreKept [] (replicate count []) (record { few = omega arith; narrow = λ k d within. absurd (omega arith) }) (absent-kept count)
@@ -70,7 +70,7 @@ absent-fits (suc tasks) task count = rw (absent-none task count) (absent-fits ta
 kept-absent : (task count : ℕ) → kept_by task (replicate count []) ≡ kept_empty count
 kept-absent task count = rw (absent-none task count, length-absent count) refl
 
-pub line-absent : (tasks task count : ℕ) → replicate tasks (kept_empty count) ≡ kept_from tasks task (replicate count [])
+line-absent : (tasks task count : ℕ) → replicate tasks (kept_empty count) ≡ kept_from tasks task (replicate count [])
 line-absent zero task count = refl
 line-absent (suc tasks) task count =
     rw (kept-absent task count) (ap (λ (rest : List Kept). kept_empty count ∷ rest) (line-absent tasks (task + 1) count))

@@ -44,7 +44,7 @@ found-later test (placed ∷ places) rest all =
 
 -- what holds of each key of a list holds of one that has a width in it
 
-pub width-holds : (P : Key → Type 0) (key : Key) (list : List Keyed) → All (λ area. P area.0) list → 0 < width_in list key → P key
+width-holds : (P : Key → Type 0) (key : Key) (list : List Keyed) → All (λ area. P area.0) list → 0 < width_in list key → P key
 width-holds P key [] all some = absurd (omega arith)
 width-holds P key (area ∷ areas) all some =
     grind (arith, All-head, All-tail, width-holds P key areas (All-tail (λ a. P a.0) area areas all))
@@ -211,7 +211,7 @@ skips-spans (suc at) list key is within low =
     ∙ skips-span at list key is inside low
 
 -- by its number and its first key
-pub found-in : (at : ℕ) (list : List Keyed) (key : Key) (bits : ℕ) → IsTaskList list → at + 1 < length (boundaries list) → is_within (boundary (boundaries list) at) key ≡ true
+found-in : (at : ℕ) (list : List Keyed) (key : Key) (bits : ℕ) → IsTaskList list → at + 1 < length (boundaries list) → is_within (boundary (boundaries list) at) key ≡ true
     → is_before key (boundary (boundaries list) (suc at)) ≡ true → width_in list key ≡ bits → 0 < bits
     → StandsAt (filled_datagram at (with_areas unfilled (areas_between (boundary (boundaries list) at) key list))) (key, bits) (place_of key list)
 found-in at list key bits is within low high width some =

@@ -35,7 +35,7 @@ clear-key None span key clear low high = refl
 clear-key (Some hull) span key clear low high = clear-by (meets_hull (Some hull) (key, key)) hull span key refl clear low high
 
 -- so both lists give each of its keys the same width
-pub clear-agree : (hulls : Hulls) (old new : List Keyed) (span : Interval) → DifferInside hulls old new → meets_either hulls span ≡ false → Agree span.0 span.1 old new
+clear-agree : (hulls : Hulls) (old new : List Keyed) (span : Interval) → DifferInside hulls old new → meets_either hulls span ≡ false → Agree span.0 span.1 old new
 clear-agree hulls old new span inside clear = grind (arith, or_parts, clear-key)
 
 -- up to a next boundary within which lists agree, it is that of both

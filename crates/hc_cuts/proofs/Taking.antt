@@ -119,7 +119,7 @@ areas-all task rank count old new before after few fewer takes =
 abbrev pub up_to_rank : ℕ → ℕ → List (List Area) → List (List Area) → Key → Bool
 up_to_rank task rank old new key = nat_le key.rank rank && differs_at task old new key
 
-pub equal-differs : (task : ℕ) (old new : List (List Area)) (key : Key) → areas_at old key.rank ≡ areas_at new key.rank → differs_at task old new key ≡ false
+equal-differs : (task : ℕ) (old new : List (List Area)) (key : Key) → areas_at old key.rank ≡ areas_at new key.rank → differs_at task old new key ≡ false
 equal-differs task old new key same =
     ap not (eq-eqb (width_at task old key) (width_at task new key) (ap (λ (areas : List Area). slave_width task areas key) same))
 

@@ -51,7 +51,7 @@ rank-places slaves task dir rank (areas ∷ lists) some low kept =
     (area-places slaves task dir rank 0 areas some (omega arith) (omega arith))
     (rank-places slaves task dir (rank + 1) lists (omega arith) (omega arith) (All-tail AreKept areas lists kept))
 
-pub holds-by : (task : ℕ) (slaves : List (List Area)) → IsLine slaves → HoldsTaskList (tree_by task slaves)
+holds-by : (task : ℕ) (slaves : List (List Area)) → IsLine slaves → HoldsTaskList (tree_by task slaves)
 holds-by task slaves line = record {
   list = line.lists task;
   places =
@@ -128,7 +128,7 @@ filter-none : (test : Key → Bool) (keys : List Key) → ((key : Key) → test 
 filter-none test [] none = refl
 filter-none test (key ∷ keys) none = rw (none key) (filter-none test keys none)
 
-pub none-touched : (task : ℕ) (old new : List (List Area)) (hulls : Hulls) → AreHulls (is_touched (list_by task old) (list_by task new)) hulls → are_none hulls ≡ true
+none-touched : (task : ℕ) (old new : List (List Area)) (hulls : Hulls) → AreHulls (is_touched (list_by task old) (list_by task new)) hulls → are_none hulls ≡ true
     → is_touched_by task old new ≡ false
 none-touched task old new hulls are none = grind (arith, filter-none, untouched-key)
 

@@ -13,7 +13,7 @@ use Rattle.hc_cuts.proofs.Lines.{absent-fits, absent-line, length-absent, line-i
 use Rattle.hc_cuts.proofs.Turned.{set-tree}
 use Rattle.hc_cuts.proofs.lemmas.Turning.{whole-turn}
 
-pub as-long : (first : ℕ) (before after old new : List (List Area)) → AreLines first before after old new → length new ≡ length old
+as-long : (first : ℕ) (before after old new : List (List Area)) → AreLines first before after old new → length new ≡ length old
 as-long first before after old new lines = grind (arith, length-append)
 
 -- a task whose widths are set to those of the new line
@@ -44,11 +44,11 @@ tail-of : (a b : Kept) (these those : List Kept) → a ∷ these ≡ b ∷ those
 tail-of a b these those is = ap (λ (xs : List Kept). drop 1 xs) is
 
 -- so a turn of them is one of the first and one of the rest
-pub first-turn : (count task : ℕ) (kept : Kept) (rest : List Kept) (first : ℕ) (before after old new : List (List Area))
+first-turn : (count task : ℕ) (kept : Kept) (rest : List Kept) (first : ℕ) (before after old new : List (List Area))
     → IsTurn (suc count) task (kept ∷ rest) first before after old new → IsTaskTurn task kept first before after old new
 first-turn count task kept rest first before after old new turn = grind (arith, head-of, fits-first)
 
-pub rest-turn : (count task : ℕ) (kept : Kept) (rest : List Kept) (first : ℕ) (before after old new : List (List Area))
+rest-turn : (count task : ℕ) (kept : Kept) (rest : List Kept) (first : ℕ) (before after old new : List (List Area))
     → IsTurn (suc count) task (kept ∷ rest) first before after old new → IsTurn count (task + 1) rest first before after old new
 rest-turn count task kept rest first before after old new turn = grind (arith, tail-of, fits-first)
 

@@ -9,7 +9,7 @@ use Rattle.hc_records.specs.declared.keys.Key.{Key}
 use Rattle.hc_records.specs.declared.keys.TheConstants.Key.{END}
 use Rattle.hc_records.specs.Keys.{is_before, is_within}
 use Rattle.hc_records.specs.TaskList.{Keyed}
-use Rattle.hc_records.specs.Packing.{Front, Placed, beginning, fits, placed_at, behind}
+use Rattle.hc_records.specs.Packing.{Front, Placed, fits, placed_at, behind}
 use Rattle.hc_records.specs.Laws.{IsPackable}
 use Rattle.hc_records.specs.SpanLaws.{IsTaskList, areas_from, carried, next_cut}
 use Rattle.hc_records.proofs.lemmas.KeyOrder.{before-apart, within-apart, within-from_before, within-refl}
@@ -22,14 +22,11 @@ use Rattle.hc_cuts.specs.Walk.{blank_datagram, span_places}
 use Rattle.hc_cuts.proofs.Searched.{boundary-cut}
 
 -- the key of the first area of a list, or END
-abbrev pub head_key : List Keyed → Key
+abbrev head_key : List Keyed → Key
 head_key [] = END
 head_key (area ∷ areas) = area.0
 
 -- an area begins where the ones before it end, or behind that
-
-pub front-beginning : (last : Dir) (bit : ℕ) (area : Keyed) → bit ≤ beginning (record { datagram = 0; bit = bit; last = last }) area
-front-beginning last bit area = grind arith
 
 -- the areas from the key of the first one on are all
 
@@ -66,7 +63,7 @@ cut-number n m bit last (area ∷ areas) =
 abbrev before_cut : Key → List Keyed → List Keyed
 before_cut cut list = filter (λ area. is_before area.0 cut) list
 
-pub record IsCarried (front : Front) (cut : Key) (list : List Keyed) : Type 0 where
+record IsCarried (front : Front) (cut : Key) (list : List Keyed) : Type 0 where
   pub room : next_cut front (before_cut cut list) ≡ END
   pub carry : carried front (before_cut cut list) ≡ carried front list
 
@@ -106,7 +103,7 @@ carried-cut first cut front (area ∷ areas) is next =
     (λ later. carried-cut first cut (behind (placed_at front area)) areas (list-tail first area areas is) later)
 
 -- so of the areas of a span
-pub record IsSpan (datagram : ℕ) (from : Key) (list areas : List Keyed) : Type 0 where
+record IsSpan (datagram : ℕ) (from : Key) (list areas : List Keyed) : Type 0 where
   pub packable : All IsPackable areas
   pub below : All (λ area. is_before area.0 END ≡ true) areas
   pub room : next_cut (blank_datagram datagram) areas ≡ END

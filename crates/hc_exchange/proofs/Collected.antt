@@ -1,8 +1,6 @@
 -- Frames one after another: made, and passed through machines.
-use Rattle.std.proofs.Common.{◌≡◌, ℕ, zero, suc, ◌+◌, ◌<◌, ◌∙◌, List, [], ◌∷◌, ◌++◌, length, take, drop, get_or, set, refl, sym, ap, ap₂, arith}
-use Rattle.std.proofs.lemmas.List.{append-nil, drop_all}
+use Rattle.std.proofs.Common.{◌≡◌, ℕ, zero, suc, ◌+◌, ◌<◌, ◌∙◌, List, [], ◌∷◌, ◌++◌, length, take, drop, get_or, set, refl, ap, ap₂, arith}
 use Rattle.hc_segment.specs.Line.{frame_through, frames_through, machines_after, machines_behind}
-use Rattle.hc_exchange.proofs.Written.{take-all}
 
 -- the frames of which the first i went through the machines
 abbrev pub gone : ℕ → List (List ℕ) → List (List ℕ) → List (List ℕ)
@@ -28,7 +26,3 @@ gone-more i machines frames now machines' f low is is_now is_left =
     let one : suc i ≡ i + 1 = omega arith in
     let next = gone-next i machines frames now machines' f low is is_now is_left in
     (next.0 ∙ ap (λ (k : ℕ). gone k machines frames) one, next.1 ∙ ap (λ (k : ℕ). machines_after machines (take k frames)) one)
-
-pub gone-all : (i : ℕ) (machines frames : List (List ℕ)) → length frames ≡ i → gone i machines frames ≡ frames_through machines frames
-gone-all i machines frames all =
-    ap₂ (λ (a b : List (List ℕ)). frames_through machines a ++ b) (ap (λ (k : ℕ). take k frames) (sym all) ∙ take-all frames) (drop_all i frames (omega arith)) ∙ append-nil (frames_through machines frames)

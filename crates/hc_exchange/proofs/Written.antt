@@ -34,10 +34,6 @@ take-next (z ∷ xs) (suc n) x is =
     let next : suc n + 1 ≡ suc (n + 1) = omega arith in
     ap (λ (k : ℕ). take k (z ∷ xs)) next ∙ ap (λ rest. z ∷ rest) (take-next xs n x is)
 
-pub take-all : {X : Type 0} (xs : List X) → take (length xs) xs ≡ xs
-take-all [] = refl
-take-all (x ∷ xs) = ap (λ rest. x ∷ rest) (take-all xs)
-
 -- the block that a plan has at a number
 told-by : (o : Option LineBlock) (station : ℕ) (block : RegisterBlock) → option_map (λ found. at_station found.station found.block) o ≡ Some (station, block)
     → (own : LineBlock) × (o ≡ Some own) × (own.station ≡ station) × (own.block ≡ block)
@@ -67,10 +63,6 @@ none-at [] n none low = omega arith
 none-at (b ∷ blocks) zero none low = cc
 none-at (b ∷ blocks) (suc n) none low = none-at blocks n none (omega arith)
 
-pub written-all : (blocks : List LineBlock) (machines now : List (List ℕ)) (n : ℕ) → now ≡ machines_after machines (write_frames 0 (take n blocks)) → n ≡ length blocks
-    → now ≡ machines_after machines (write_frames 0 blocks)
-written-all blocks machines now n is all = is ∙ ap (λ (bs : List LineBlock). machines_after machines (write_frames 0 bs)) (ap (λ (k : ℕ). take k blocks) all ∙ take-all blocks)
-
 -- a block of the line has 1 to 16 bytes
 
 source-long : (line : List Member) (member : Member) (block : RegisterBlock) → Source line member block → (1 ≤ length block.bytes) × (length block.bytes ≤ 16)
@@ -91,7 +83,7 @@ block-long line n station block at =
     subst (λ (b : RegisterBlock). (1 ≤ length b.bytes) × (length b.bytes ≤ 16)) told.3 (source-long line own.member told.0.block own.of_member.source)
 
 -- the frame in a slice of its size
-pub frame-alone : (old new text : List ℕ) → length old ≡ 60 → new ≡ text ++ drop 60 old → new ≡ text
+frame-alone : (old new text : List ℕ) → length old ≡ 60 → new ≡ text ++ drop 60 old → new ≡ text
 frame-alone old new text long is = is ∙ ap (λ (rest : List ℕ). text ++ rest) (drop_all 60 old (omega arith)) ∙ append-nil text
 
 pub built-whole : (old new text : List ℕ) (result : Result ℕ Room) (size : ℕ) → Builds old new result text size → length old ≡ 60 → size ≡ 60 → new ≡ text

@@ -11,14 +11,14 @@ length-changed_at zero change (x ∷ xs) = refl
 length-changed_at (suc index) change (x ∷ xs) = ap suc (length-changed_at index change xs)
 
 -- up to and with the changed one
-pub changed-here : {X : Type 0} (index : ℕ) (change : X → X) (xs : List X) (d : X) → index < length xs →
+changed-here : {X : Type 0} (index : ℕ) (change : X → X) (xs : List X) (d : X) → index < length xs →
     take (suc index) (changed_at index change xs) ≡ take index (changed_at index change xs) ++ change (get_or xs index d) ∷ []
 changed-here index change [] d within = absurd (omega arith)
 changed-here zero change (x ∷ xs) d within = refl
 changed-here (suc index) change (x ∷ xs) d within = ap (λ rest. x ∷ rest) (changed-here index change xs d (omega arith))
 
 -- up to and with another one
-pub changed-other : {X : Type 0} (index i : ℕ) (change : X → X) (xs : List X) (d : X) → i < length xs → i ≢ index →
+changed-other : {X : Type 0} (index i : ℕ) (change : X → X) (xs : List X) (d : X) → i < length xs → i ≢ index →
     take (suc i) (changed_at index change xs) ≡ take i (changed_at index change xs) ++ get_or xs i d ∷ []
 changed-other index i change [] d within other = absurd (omega arith)
 changed-other zero zero change (x ∷ xs) d within other = absurd (other refl)

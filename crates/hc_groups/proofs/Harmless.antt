@@ -10,7 +10,7 @@ use Rattle.hc_records.specs.declared.records.Area.{Area}
 use Rattle.hc_records.specs.declared.records.Declared.{Declared}
 use Rattle.hc_records.specs.declared.edit.Edit.TheVariants.{Remap, Move}
 use Rattle.hc_records.specs.declared.faults.EditFault.{EditFault}
-use Rattle.hc_records.specs.declared.faults.EditFault.TheVariants.{UnknownStation, Absent, NoSuchArea, NoSuchTask, UnknownPdo, RepeatedPdo, AreaTooBig}
+use Rattle.hc_records.specs.declared.faults.EditFault.TheVariants.{UnknownStation, Absent, NoSuchArea, UnknownPdo, RepeatedPdo, AreaTooBig}
 use Rattle.hc_records.specs.Lists.{has_repeat, lowest}
 use Rattle.hc_records.specs.Edits.{area_at, is_too_big}
 use Rattle.hc_records.specs.Area.{has_unknown}
@@ -75,9 +75,6 @@ pdos-harmless area pdos is = record {
   narrow = λ narrow. is.narrow;
 }
 
-task-harmless : (area : Area) (task : ℕ) → not (nat_lt task TASKS) ≡ false → IsHarmless (in_task task) area
-task-harmless area task low = search rules
-
 -- the area that an edit without a fault judges
 pub record IsJudged (groups : List Declared) (station index : ℕ) (change : Area → Area) : Type 0 where
   pub area : Area
@@ -100,18 +97,6 @@ judged-remap found unknown absent groups station index pdos is none = search (ru
 
 pub remap-judged : (groups : List Declared) (station index : ℕ) (pdos : List ℕ) → own_fault groups (Remap station index pdos) ≡ None → IsJudged groups station index (with_pdos pdos)
 remap-judged groups station index pdos none = search (rules, judged-remap)
-
-abbrev move_faults : Bool → Bool → Option Area → ℕ → List (Bool × EditFault)
-move_faults unknown absent found task =
-    (unknown, UnknownStation)
-    ∷ (absent, Absent)
-    ∷ (is_none found, NoSuchArea)
-    ∷ (not (nat_lt task TASKS), NoSuchTask)
-    ∷ []
-
-judged-move : (found : Option Area) (unknown absent : Bool) (groups : List Declared) (station index task : ℕ) → area_at (state_of groups) station index ≡ found →
-    lowest (move_faults unknown absent found task) ≡ None → IsJudged groups station index (in_task task)
-judged-move found unknown absent groups station index task is none = search rules
 
 pub move-judged : (groups : List Declared) (station index task : ℕ) → own_fault groups (Move station index task) ≡ None → IsJudged groups station index (in_task task)
 move-judged groups station index task none = search rules

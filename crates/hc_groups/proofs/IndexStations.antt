@@ -78,10 +78,3 @@ none-there ranks station none = sym (unwrap_or-slice_get ranks station 0) ∙ ap
 
 pub no-rank : (all : List Address) (ranks : List ℕ) (station : ℕ) → AreRanks all ranks → get_or ranks station 0 ≡ 0 → All (λ address. address.station ≢ station) all
 no-rank all ranks station are none = subst (IsRankOf all station) none (are station)
-
-has-rank : (all : List Address) (station rank : ℕ) → IsRankOf all station rank → rank ≢ 0 → Contains all (record { station = station; rank = rank })
-has-rank all station zero is some = absurd (some refl)
-has-rank all station (suc rank) is some = is
-
-pub some-rank : (all : List Address) (ranks : List ℕ) (station rank : ℕ) → AreRanks all ranks → rank ≡ get_or ranks station 0 → rank ≢ 0 → Contains all (record { station = station; rank = rank })
-some-rank all ranks station rank are is some = has-rank all station rank (subst (IsRankOf all station) (sym is) (are station)) some

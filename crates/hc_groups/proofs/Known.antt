@@ -11,7 +11,7 @@ use Rattle.hc_groups.specs.declared.changes.SlavePlace.{SlavePlace}
 use Rattle.hc_groups.specs.Changes.{areas_change, areas_changed, has_alias, has_slave, place_in, presence_change, slave_place, slaves_at}
 use Rattle.hc_groups.proofs.Found.{first-at, some-found, there}
 
-pub mapped-none : {X Y : Type 0} (f : X → Y) (found : Option X) → option_map f found ≡ None → found ≡ None
+mapped-none : {X Y : Type 0} (f : X → Y) (found : Option X) → option_map f found ≡ None → found ≡ None
 mapped-none f found is = search rules
 
 pub known-group : (groups : List Declared) (alias : ℕ) (present : Bool) → list_any (has_alias alias) groups ≡ true → presence_change groups alias present ≢ None

@@ -13,11 +13,11 @@ use Rattle.std.proofs.lemmas.List.Sorted.{IsPermutation-append_right, IsPermutat
 use Rattle.hc_records.proofs.lemmas.Lists.{All-append_left, All-append_right, AllPairs-append, AllPairs-append_left, AllPairs-append_right, AllPairs-between, AllPairs-nil}
 
 -- each number is no greater than the later ones
-abbrev pub Rises : List ℕ → Type 0
+abbrev Rises : List ℕ → Type 0
 Rises = AllPairs (λ a b. a ≤ b)
 
 -- each of these is no greater than any of those
-abbrev pub AreBelow : List ℕ → List ℕ → Type 0
+abbrev AreBelow : List ℕ → List ℕ → Type 0
 AreBelow xs ys = All (λ x. All (λ y. x ≤ y) ys) xs
 
 pub rises : (xs : List ℕ) → IsNonDecreasing xs → Rises xs
@@ -30,7 +30,7 @@ by-place xs i j d false is pairs low within =
     let same : i ≡ j = omega (arith, least, low) in
     subst (λ (k : ℕ). get_or xs i d ≤ get_or xs k d) same (omega arith)
 
-pub non-decreasing : (xs : List ℕ) → Rises xs → IsNonDecreasing xs
+non-decreasing : (xs : List ℕ) → Rises xs → IsNonDecreasing xs
 non-decreasing xs pairs i j d low within = by-place xs i j d (nat_lt i j) refl pairs low within
 
 -- what is behind a number that is no greater than any of them
@@ -39,7 +39,7 @@ below-through : (x v : ℕ) (ys : List ℕ) → x ≤ v → All (λ y. v ≤ y) 
 below-through x v ys low all = All-weaker (λ y. v ≤ y) (λ y. x ≤ y) (λ y above. omega (arith, low, above)) ys all
 
 -- what is done so far: the numbers of both lists behind the places that are left are in order, and no lower than those in front of them
-pub record Merged (front back low high done : List ℕ) : Type 0 where
+record Merged (front back low high done : List ℕ) : Type 0 where
   pub same : IsPermutation (back ++ high) done
   pub order : Rises done
   pub first : AreBelow front done
@@ -55,7 +55,7 @@ merged-below (x ∷ xs) run done v low high behind =
     (merged-below xs run done v (All-tail (λ (n : ℕ). n ≤ v) x xs low) high (All-tail (λ (n : ℕ). All (λ y. n ≤ y) done) x xs behind))
 
 -- one number more, in front of those that are no lower
-pub merged-step : (front run back low high done : List ℕ) (v : ℕ) → Rises (front ++ run) → Rises (low ++ v ∷ []) → All (λ x. x ≤ v) front → All (λ r. v ≤ r) run
+merged-step : (front run back low high done : List ℕ) (v : ℕ) → Rises (front ++ run) → Rises (low ++ v ∷ []) → All (λ x. x ≤ v) front → All (λ r. v ≤ r) run
     → Merged (front ++ run) back (low ++ v ∷ []) high done → Merged front (run ++ back) low (v ∷ high) (v ∷ (run ++ done))
 merged-step front run back low high done v old own lower higher merged =
     let Below : ℕ → Type 0 = λ x. All (λ y. x ≤ y) done in
@@ -83,14 +83,14 @@ none-below : (xs : List ℕ) → AreBelow xs []
 none-below [] = All-nil (λ (x : ℕ). All (λ y. x ≤ y) [])
 none-below (x ∷ xs) = All-cons (λ (n : ℕ). All (λ y. n ≤ y) []) x xs (All-nil (λ (y : ℕ). x ≤ y)) (none-below xs)
 
-pub merged-none : (old names : List ℕ) → Merged old [] names [] []
+merged-none : (old names : List ℕ) → Merged old [] names [] []
 merged-none old names = record { same = IsPermutation-refl []; order = AllPairs-nil (λ (a b : ℕ). a ≤ b); first = none-below old; second = none-below names }
 
-pub merged-same : (front back names done : List ℕ) → Merged front back [] names done → IsPermutation ((front ++ back) ++ names) (front ++ done)
+merged-same : (front back names done : List ℕ) → Merged front back [] names done → IsPermutation ((front ++ back) ++ names) (front ++ done)
 merged-same front back names done merged =
     subst (λ (l : List ℕ). IsPermutation l (front ++ done)) (sym (append_assoc front back names)) (IsPermutation-append_right front (back ++ names) done merged.same)
 
-pub merged-rises : (front back names done : List ℕ) → Rises (front ++ back) → Merged front back [] names done → IsNonDecreasing (front ++ done)
+merged-rises : (front back names done : List ℕ) → Rises (front ++ back) → Merged front back [] names done → IsNonDecreasing (front ++ done)
 merged-rises front back names done old merged =
     non-decreasing (front ++ done)
     (AllPairs-append (λ (a b : ℕ). a ≤ b) front done (AllPairs-append_left (λ (a b : ℕ). a ≤ b) front back old) merged.order merged.first)
@@ -221,7 +221,7 @@ copied-parts all copied at left more low inside is =
       ap (drop to) parts ∙ drop_at (take to all) (run ++ end) to held,
     )
 
-pub record PutBelow (all new : List ℕ) (at left more v : ℕ) : Type 0 where
+record PutBelow (all new : List ℕ) (at left more v : ℕ) : Type 0 where
   pub size : length new ≡ length all
   pub front : take at new ≡ take at all
   pub behind : drop (at + more) new ≡ v ∷ (slice_range all at left ++ drop (left + more + 1) all)

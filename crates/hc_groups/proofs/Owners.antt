@@ -13,9 +13,6 @@ use Rattle.hc_records.proofs.lemmas.Lines.{each-group}
 use Rattle.hc_records.proofs.lemmas.Slaves.{IsSlaveInside, project-counted}
 use Rattle.hc_groups.specs.Index.{block_sum, blocks_of, declared_count, own_blocks, own_sum, owned_by}
 
-owned-here : (member : Member) (members : List Member) (n number : ℕ) → n ≡ number → number < own_blocks member → owned_by (member ∷ members) n ≡ Some (member, number)
-owned-here member members n number is low = search rules
-
 pub owned-at : (members : List Member) (position : ℕ) (member : Member) (number : ℕ) → slice_get members position ≡ Some member → number < own_blocks member
     → owned_by members (sum_by own_blocks (take position members) + number) ≡ Some (member, number)
 owned-at [] position member number at low = cc

@@ -5,9 +5,6 @@ use Rattle.std.proofs.lemmas.List.Sums.{sum_by-cons}
 use Rattle.hc_records.specs.declared.records.Declared.{Declared}
 use Rattle.hc_groups.specs.Changes.{slaves_at}
 
-abbrev slave_count : Declared → ℕ
-slave_count declared = length declared.group.slaves
-
 -- a slave of the group at a place is one of all
 pub rank-low : (groups : List Declared) (group slave : ℕ) → group < length groups → slave ≤ length (slaves_at groups group) →
     sum_by (λ declared. length declared.group.slaves) (take group groups) + slave ≤ sum_by (λ declared. length declared.group.slaves) groups

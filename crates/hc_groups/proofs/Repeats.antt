@@ -6,11 +6,11 @@ use Rattle.std.proofs.lemmas.Bool.{eqb-true, eqb-false, ne_eqb, or_parts}
 use Rattle.hc_records.specs.Lists.{has_repeat}
 
 -- an item has the number as its key
-abbrev pub has_key : {X : Type 0} → (X → ℕ) → ℕ → X → Bool
+abbrev has_key : {X : Type 0} → (X → ℕ) → ℕ → X → Bool
 has_key key number item = key item == number
 
 -- the number is the key of none of the items
-abbrev pub is_foreign : {X : Type 0} → (X → ℕ) → List X → ℕ → Bool
+abbrev is_foreign : {X : Type 0} → (X → ℕ) → List X → ℕ → Bool
 is_foreign key items number = not (list_any (has_key key number) items)
 
 -- the items with another key

@@ -34,9 +34,6 @@ changed-same key (suc index) change same (x ∷ xs) = ap (λ rest. key x ∷ res
 
 -- a slave with an area changed keeps what its areas keep
 
-with-by : {Y : Type 0} (here : Bool) (look : Slave → Y) (slave after : Slave) → look after ≡ look slave → look (if here then after else slave) ≡ look slave
-with-by here look slave after same = search rules
-
 abbrev pub with_areas : Slave → List Area → Slave
 with_areas slave areas = record slave { areas = areas }
 

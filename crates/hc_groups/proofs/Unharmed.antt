@@ -26,7 +26,7 @@ none-after test change (x ∷ xs) none spares =
     (All-head (Spares test change) x xs spares parts.0)
     (none-after test change xs parts.1 (All-tail (Spares test change) x xs spares))
 
-pub none-changed : {X : Type 0} (test : X → Bool) (index : ℕ) (change : X → X) (xs : List X) (x : X) → list_any test xs ≡ false → slice_get xs index ≡ Some x → Spares test change x →
+none-changed : {X : Type 0} (test : X → Bool) (index : ℕ) (change : X → X) (xs : List X) (x : X) → list_any test xs ≡ false → slice_get xs index ≡ Some x → Spares test change x →
     list_any test (changed_at index change xs) ≡ false
 none-changed test index change [] x none at spares = refl
 none-changed test zero change (first ∷ xs) x none at spares =

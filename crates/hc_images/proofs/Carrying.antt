@@ -23,7 +23,7 @@ use Rattle.hc_images.proofs.lemmas.Bits.{HasBit, HasNoBit, bit-lies, carries-ali
 
 -- the bits of a word of ones and of one of zeros
 
-pub word-bit : (ones : Bool) (k : ℕ) → k < 64 → bit_at (word_of ones) k ≡ cond ones 1 0
+word-bit : (ones : Bool) (k : ℕ) → k < 64 → bit_at (word_of ones) k ≡ cond ones 1 0
 word-bit true k low = bit_at_ones 64 k low
 word-bit false k low = bit_at-zero k
 

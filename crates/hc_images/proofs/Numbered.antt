@@ -45,7 +45,7 @@ Ascend rows = AllPairs (λ a b. a.0 < b.0) rows
 less_differs : (m n : ℕ) → m < n → m ≢ n
 less_differs m n less same = omega arith
 
-pub ascend-once : {Y : Type 0} (rows : List (ℕ × Y)) → Ascend rows → AllPairs (λ a b. a.0 ≢ b.0) rows
+ascend-once : {Y : Type 0} (rows : List (ℕ × Y)) → Ascend rows → AllPairs (λ a b. a.0 ≢ b.0) rows
 ascend-once rows ascend = λ i j e less low. less_differs (get_or rows i e).0 (get_or rows j e).0 (ascend i j e less low)
 
 pub ascend-differ : {Y : Type 0} (rows : List (ℕ × Y)) (i j : ℕ) (row other : ℕ × Y) → Ascend rows → i < j → slice_get rows i ≡ Some row → slice_get rows j ≡ Some other → row.0 ≢ other.0

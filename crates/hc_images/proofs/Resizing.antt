@@ -21,7 +21,7 @@ use Rattle.hc_images.proofs.Numbered.{same-some, ascend-differ, HasNone, HasNumb
 
 -- the bits of bytes that are cut, or have zeros behind
 
-pub bit-past : (xs : List ℕ) (k : ℕ) → 8 * length xs ≤ k → bit_of xs k ≡ 0
+bit-past : (xs : List ℕ) (k : ℕ) → 8 * length xs ≤ k → bit_of xs k ≡ 0
 unfolding bit_of
 bit-past xs k past = ap (λ b. bit_at b (k % 8)) (get_or_past xs (k / 8) 0 (omega arith)) ∙ bit_at-zero (k % 8)
 

@@ -23,7 +23,7 @@ by_dir test place other e = search (rules, same-some)
 found_by : (table : Table) (variable : ℕ) (place : VariablePlace) (found : Option VariablePlace) → place_in table variable ≡ found → option_and_then output_of found ≡ Some place → IsOutput table variable place
 found_by table variable place found there is = search (rules, by_dir, same-dirs)
 
-pub output-found : (table : Table) (variable : ℕ) (place : VariablePlace) → output_in table variable ≡ Some place → IsOutput table variable place
+output-found : (table : Table) (variable : ℕ) (place : VariablePlace) → output_in table variable ≡ Some place → IsOutput table variable place
 output-found table variable place is = found_by table variable place (place_in table variable) refl is
 
 out_is : (place : VariablePlace) → place.dir ≡ Out → output_of place ≡ Some place
@@ -34,10 +34,10 @@ found-output table variable place is = ap (option_and_then output_of) is.there �
 
 -- numbered places that are those of outputs of a table, by numbered rows
 
-abbrev pub AreOutputs : {Y : Type 0} → Table → List (ℕ × Y) → Numbered → Type 0
+abbrev AreOutputs : {Y : Type 0} → Table → List (ℕ × Y) → Numbered → Type 0
 AreOutputs table rows places = (i : ℕ) (row : ℕ × _) (place : VariablePlace) → slice_get rows i ≡ Some row → places i ≡ Some place → IsOutput table row.0 place
 
-pub record RowAt {Y : Type 0} (rows : List (ℕ × Y)) (i : ℕ) : Type 0 where
+record RowAt {Y : Type 0} (rows : List (ℕ × Y)) (i : ℕ) : Type 0 where
   pub row : ℕ × Y
   pub there : slice_get rows i ≡ Some row
 
@@ -76,7 +76,7 @@ pub rows-are : (table : Table) → RowsAscend table.variables → AreOutputs tab
 rows-are table ascend i row place there is = output-found table row.0 place (sym (of_row table i row ascend there) ∙ is)
 
 -- each output has a row
-pub record IsAmong (n : ℕ) (places : Numbered) (place : VariablePlace) : Type 0 where
+record IsAmong (n : ℕ) (places : Numbered) (place : VariablePlace) : Type 0 where
   pub index : ℕ
   pub low : index < n
   pub there : places index ≡ Some place
@@ -93,7 +93,7 @@ has-row table variable place ascend is = elim (by-number table.variables variabl
 
 -- the changed variables, in both tables
 
-pub new-place : (change : Change) (table : Table) (i : ℕ) (row : ChangedRow) → RowsAscend table.variables → ChangesAscend change.rows → slice_get change.rows i ≡ Some row → place_in (swapped change table) row.0 ≡ row.1
+new-place : (change : Change) (table : Table) (i : ℕ) (row : ChangedRow) → RowsAscend table.variables → ChangesAscend change.rows → slice_get change.rows i ≡ Some row → place_in (swapped change table) row.0 ≡ row.1
 new-place change table i row ascend order there =
     let said : said_of change row.0 ≡ Some row.1 = ap (option_map (λ (c : ChangedRow). c.1)) (found-at change.rows i row order there) in
     swaps-move change table ascend row.0 ∙ ap (λ s. unwrap_or s (place_in table row.0)) said

@@ -10,7 +10,7 @@ use Rattle.hc_records.specs.Image.{VariablePlace}
 use Rattle.hc_records.specs.ImageLaws.{SharesNoBit}
 use Rattle.hc_places.specs.Ranges.{IsPlace}
 use Rattle.hc_images.specs.Packed.{Bytes, LiesIn, slot_bytes}
-use Rattle.hc_images.proofs.Numbered.{none-some, same-some}
+use Rattle.hc_images.proofs.Numbered.{none-some}
 use Rattle.hc_images.specs.Pieces.{AreApart, Fit, Numbered, ReadsEach, Writes, WritesAt, WritesEach}
 
 -- one place is written
@@ -52,11 +52,6 @@ not-two_by b a k apart low lies = search (rules, from_two)
 
 earlier : (places : Numbered) (n i : ℕ) (place : VariablePlace) → places n ≡ None → i < n + 1 → places i ≡ Some place → i < n
 earlier places n i place none low there = search (rules, cases_lt, none-some)
-
-up_to : (P : ℕ → VariablePlace → Type 0) (places : Numbered) (n : ℕ) (last : VariablePlace) → places n ≡ Some last
-    → ((i : ℕ) (place : VariablePlace) → i < n → places i ≡ Some place → P i place) → P n last
-    → (i : ℕ) (place : VariablePlace) → i < n + 1 → places i ≡ Some place → P i place
-up_to P places n last is before own i place low there = search (rules, cases_lt, same-some)
 
 abbrev IsHeld : (ℕ → ℕ → ℕ) → Bytes → ℕ → VariablePlace → Type 0
 IsHeld run bytes i place = (k : ℕ) → k < place.bits → bit_of (slot_bytes bytes place.task place.datagram) (place.bit + k) ≡ run i k

@@ -8,7 +8,7 @@ use Rattle.std.specs.List.{concat, enumerate_from}
 use Rattle.hc_lend.specs.Work.{parts_of, numbered_parts, CanWorkOnEach}
 
 -- a list that begins with a part of the first length has that part first
-pub parts_of-append : (part rest : List ℕ) (n : ℕ) (ns : List ℕ) → length part ≡ n → parts_of (n ∷ ns) (part ++ rest) ≡ part ∷ parts_of ns rest
+parts_of-append : (part rest : List ℕ) (n : ℕ) (ns : List ℕ) → length part ≡ n → parts_of (n ∷ ns) (part ++ rest) ≡ part ∷ parts_of ns rest
 parts_of-append part rest n ns long = rw (← long, take-append_seam, drop-append_seam) refl
 
 -- parts whose lengths add up to the list's are the list

@@ -66,7 +66,7 @@ byte-at : (n : ℕ) (bit : ℕ → ℕ) (i : ℕ) → i < n → get_or (bytes_wi
 unfolding bytes_with
 byte-at n bit i low = get_or-map-range_with_len (λ i. byte_with bit (8 * i)) 0 n i i 0 low (omega arith)
 
-pub bit_of-bytes_with : (n : ℕ) (bit : ℕ → ℕ) (k : ℕ) → ((j : ℕ) → bit j < 2) → k < 8 * n → bit_of (bytes_with n bit) k ≡ bit k
+bit_of-bytes_with : (n : ℕ) (bit : ℕ → ℕ) (k : ℕ) → ((j : ℕ) → bit j < 2) → k < 8 * n → bit_of (bytes_with n bit) k ≡ bit k
 bit_of-bytes_with n bit k small low =
     let there : 8 * (k / 8) + k % 8 ≡ k = omega arith in
     ap (bit_of (bytes_with n bit)) (sym there) ∙ bit_of-byte (bytes_with n bit) (k / 8) (k % 8) (omega arith)

@@ -30,7 +30,7 @@ into x m a e b low high same inside = (low, omega arith, omega arith)
 back : (x m a e b : ℕ) → a ≤ x → x < a + min (e + 1 - 8 - a) (98304 - min b 98304) → m ≡ min b 98304 + (x - a) → (x + 8 ≤ e) × (m + a ≡ x + b) × (m < 98304)
 back x m a e b low high same = (omega arith, omega arith, omega arith)
 
-pub pairs-of-block : (block : List ℕ) (x m : ℕ) → IsPair block x m → Pairs (fmmu_of block) x m
+pairs-of-block : (block : List ℕ) (x m : ℕ) → IsPair block x m → Pairs (fmmu_of block) x m
 pairs-of-block block x m pair =
     subst (λ (f : Fmmu). Pairs f x m) (fmmu-active block pair.active) (into x m _ _ _ pair.first pair.last pair.paired pair.inside)
 

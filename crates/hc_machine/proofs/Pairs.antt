@@ -9,26 +9,26 @@ use Rattle.hc_machine.specs.declared.fmmu.Fmmu.{Fmmu}
 use Rattle.hc_machine.specs.Fmmus.{idle, is_within}
 use Rattle.hc_machine.specs.Logical.{memory_bit, logical_bit, bit_read, bit_written}
 
-pub within_yes : (from n x : ℕ) → from ≤ x → x < from + n → is_within from n x ≡ true
+within_yes : (from n x : ℕ) → from ≤ x → x < from + n → is_within from n x ≡ true
 within_yes from n x p q = grind (arith, nat_tests)
 
-pub within_below : (from n x : ℕ) → x < from → is_within from n x ≡ false
+within_below : (from n x : ℕ) → x < from → is_within from n x ≡ false
 within_below from n x p = grind (arith, nat_tests)
 
-pub within_above : (from n x : ℕ) → from + n ≤ x → is_within from n x ≡ false
+within_above : (from n x : ℕ) → from + n ≤ x → is_within from n x ≡ false
 within_above from n x p = grind (arith, nat_tests)
 
 -- the first FMMU is laid over what the others give
-pub bit_read-over : (f : Fmmu) (fs : List Fmmu) (memory : ℕ → ℕ) (x was : ℕ) → bit_read (f ∷ fs) memory x was ≡ bit_read (f ∷ []) memory x (bit_read fs memory x was)
+bit_read-over : (f : Fmmu) (fs : List Fmmu) (memory : ℕ → ℕ) (x was : ℕ) → bit_read (f ∷ fs) memory x was ≡ bit_read (f ∷ []) memory x (bit_read fs memory x was)
 unfolding bit_read
 bit_read-over f fs memory x was = refl
 
-pub bit_written-over : (f : Fmmu) (fs : List Fmmu) (sent : ℕ → ℕ) (from n m was : ℕ) → bit_written (f ∷ fs) sent from n m was ≡ bit_written (f ∷ []) sent from n m (bit_written fs sent from n m was)
+bit_written-over : (f : Fmmu) (fs : List Fmmu) (sent : ℕ → ℕ) (from n m was : ℕ) → bit_written (f ∷ fs) sent from n m was ≡ bit_written (f ∷ []) sent from n m (bit_written fs sent from n m was)
 unfolding bit_written
 bit_written-over f fs sent from n m was = refl
 
 -- what one FMMU reads
-pub read_yes : (f : Fmmu) (memory : ℕ → ℕ) (x was : ℕ) → f.reads ≡ true → f.logical ≤ x → x < f.logical + f.width → bit_read (f ∷ []) memory x was ≡ memory (memory_bit f x)
+read_yes : (f : Fmmu) (memory : ℕ → ℕ) (x was : ℕ) → f.reads ≡ true → f.logical ≤ x → x < f.logical + f.width → bit_read (f ∷ []) memory x was ≡ memory (memory_bit f x)
 unfolding bit_read
 read_yes f memory x was r p q = rw (r, within_yes f.logical f.width x p q) refl
 
@@ -36,7 +36,7 @@ pub read_off : (f : Fmmu) (memory : ℕ → ℕ) (x was : ℕ) → f.reads ≡ f
 unfolding bit_read
 read_off f memory x was r = rw r refl
 
-pub read_out : (f : Fmmu) (memory : ℕ → ℕ) (x was : ℕ) → is_within f.logical f.width x ≡ false → bit_read (f ∷ []) memory x was ≡ was
+read_out : (f : Fmmu) (memory : ℕ → ℕ) (x was : ℕ) → is_within f.logical f.width x ≡ false → bit_read (f ∷ []) memory x was ≡ was
 unfolding bit_read
 read_out f memory x was e = rw e (and_false f.reads)
   where
@@ -71,7 +71,7 @@ clip_none f memory first n start stop k was e g none h =
     ]
 
 -- what one FMMU writes
-pub write_yes : (f : Fmmu) (sent : ℕ → ℕ) (from n m was : ℕ) → f.writes ≡ true → f.memory ≤ m → m < f.memory + f.width → from ≤ logical_bit f m → logical_bit f m < from + n
+write_yes : (f : Fmmu) (sent : ℕ → ℕ) (from n m was : ℕ) → f.writes ≡ true → f.memory ≤ m → m < f.memory + f.width → from ≤ logical_bit f m → logical_bit f m < from + n
     → bit_written (f ∷ []) sent from n m was ≡ sent (logical_bit f m - from)
 unfolding bit_written
 write_yes f sent from n m was w p q a b = rw (w, within_yes f.memory f.width m p q, within_yes from n (logical_bit f m) a b) refl
@@ -89,11 +89,11 @@ and_last true true x y = refl
 and_last true false x y = refl
 and_last false b x y = refl
 
-pub write_out : (f : Fmmu) (sent : ℕ → ℕ) (from n m was : ℕ) → is_within f.memory f.width m ≡ false → bit_written (f ∷ []) sent from n m was ≡ was
+write_out : (f : Fmmu) (sent : ℕ → ℕ) (from n m was : ℕ) → is_within f.memory f.width m ≡ false → bit_written (f ∷ []) sent from n m was ≡ was
 unfolding bit_written
 write_out f sent from n m was e = rw e (and_first f.writes (is_within from n (logical_bit f m)) _ _)
 
-pub write_past : (f : Fmmu) (sent : ℕ → ℕ) (from n m was : ℕ) → is_within from n (logical_bit f m) ≡ false → bit_written (f ∷ []) sent from n m was ≡ was
+write_past : (f : Fmmu) (sent : ℕ → ℕ) (from n m was : ℕ) → is_within from n (logical_bit f m) ≡ false → bit_written (f ∷ []) sent from n m was ≡ was
 unfolding bit_written
 write_past f sent from n m was e = rw e (and_last f.writes (is_within f.memory f.width m) _ _)
 

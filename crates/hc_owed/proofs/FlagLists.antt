@@ -1,5 +1,5 @@
 -- Flags in words.
-use Rattle.std.proofs.Common.{◌≡◌, ℕ, zero, suc, ◌+◌, ◌*◌, ◌<◌, ◌≤◌, ◌==◌, Bool, true, false, cond, List, [], ◌∷◌, ◌++◌, length, take, drop, ◌⊎◌, inl, inr, refl, sym, ap, ◌∙◌, arith, rules}
+use Rattle.std.proofs.Common.{◌≡◌, ℕ, zero, suc, ◌+◌, ◌*◌, ◌<◌, ◌≤◌, ◌==◌, Bool, true, false, cond, List, [], ◌∷◌, ◌++◌, length, take, drop, ◌⊎◌, refl, sym, ap, ◌∙◌, arith, rules}
 use Rattle.std.proofs.lemmas.Bool.{cases_lt}
 use Rattle.std.proofs.lemmas.List.{get_or_append_left, take-append-le}
 use Rattle.std.proofs.lemmas.Iterator.Adapters.{position_from-zero}
@@ -19,7 +19,7 @@ length-flags words first zero = refl
 length-flags words first (suc count) = ap suc (length-flags words (first + 1) count)
 
 -- a bit in front of these, or behind them, changes none of them
-pub flags-same : (old new : List ℕ) (first count : ℕ) → ((i : ℕ) → first ≤ i → i < first + count → flag new i ≡ flag old i) → flags_from new count first ≡ flags_from old count first
+flags-same : (old new : List ℕ) (first count : ℕ) → ((i : ℕ) → first ≤ i → i < first + count → flag new i ≡ flag old i) → flags_from new count first ≡ flags_from old count first
 flags-same old new first zero same = refl
 flags-same old new first (suc count) same = search (rules, flags-same old new (first + 1) count (λ i low high. same i (omega arith) (omega arith)))
 
@@ -93,7 +93,7 @@ position-first words first (suc count) (suc n) at low here none =
     search (rules, none-here, position-first words (first + 1) count n (at + 1) (omega arith) (ap (flag words) (omega arith) ∙ here) (λ i low high. none i (omega arith) (omega arith)))
 
 -- the lowest bit that is set in the first word that isn't 0
-pub record IsLowest (words : List ℕ) (at place : ℕ) : Type 0 where
+record IsLowest (words : List ℕ) (at place : ℕ) : Type 0 where
   pub before : (k : ℕ) → k < at → slice_index words k ≡ 0
   pub inside : place < 64
   pub set : bit_at (slice_index words at) place ≡ 1
@@ -110,12 +110,6 @@ clear-word words i none = ap (λ (w : ℕ). bit_at w (i % 64) == 1) none ∙ ap 
 
 clear-place : (words : List ℕ) (i at : ℕ) → i / 64 ≡ at → bit_at (slice_index words at) (i % 64) ≡ 0 → flag words i ≡ false
 clear-place words i at same none = ap (λ (k : ℕ). bit_at (slice_index words k) (i % 64) == 1) same ∙ ap (λ (b : ℕ). b == 1) none
-
-where-stands : (i at place : ℕ) → i < 64 * at + place → place < 64 → (i / 64 < at) ⊎ ((i / 64 ≡ at) × (i % 64 < place))
-where-stands i at place low inside = elim (cases_lt (i / 64) at) [
-  | inl less ↦ inl less
-  | inr most ↦ inr (omega arith, omega arith)
-]
 
 below-lowest : (words : List ℕ) (at place i : ℕ) → IsLowest words at place → i < 64 * at + place → flag words i ≡ false
 below-lowest words at place i lowest low = search (rules, clear-word, clear-place)
@@ -140,7 +134,7 @@ first-none words count none fits =
     ∙ position-none words 0 count 0 (λ i above below. clear-word words i (none (i / 64) (omega (arith, fits, below))))
 
 -- what flags say of their fields
-pub record AreFlags (words : List ℕ) (len capacity : ℕ) (flags : Flags) : Type 0 where
+record AreFlags (words : List ℕ) (len capacity : ℕ) (flags : Flags) : Type 0 where
   pub list : flags.list ≡ flags_from words len 0
   pub length : length flags.list ≡ len
   pub room : flags.room ≡ 64 * capacity

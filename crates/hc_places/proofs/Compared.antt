@@ -10,7 +10,7 @@ use Rattle.hc_places.specs.Table.{TaskTable}
 use Rattle.hc_places.specs.Swap.{ChangedTask, ChangesAscend, IsNewTask}
 
 -- what changed tasks say of a task
-abbrev pub table_said : List ChangedTask → ℕ → Option TaskTable
+abbrev table_said : List ChangedTask → ℕ → Option TaskTable
 table_said changed task = option_map (λ (c : ChangedTask). c.1) (find (λ (c : ChangedTask). c.0 == task) changed)
 
 abbrev AreBelow : ℕ → List ChangedTask → Type 0

@@ -16,7 +16,7 @@ use Rattle.hc_places.proofs.Swapped.{merged-rows-ascend, place-merged, tables-to
 use Rattle.hc_places.proofs.Walked.{AreAbove, ascends-above, ascends-rest}
 
 -- what changed rows say of a variable
-abbrev pub said : List ChangedRow → ℕ → Option (Option VariablePlace)
+abbrev said : List ChangedRow → ℕ → Option (Option VariablePlace)
 said rows variable = option_map (λ (changed : ChangedRow). changed.1) (find (λ (changed : ChangedRow). changed.0 == variable) rows)
 
 -- tasks of which some are replaced
@@ -105,7 +105,7 @@ place-leads : (old new : Table) (change : Change) → IsTable old → SaysWhatDi
     → place_of (merged change.rows old.variables) variable ≡ place_of new.variables variable
 place-leads old new change before says variable = grind (arith, place-merged, place_of, told-by)
 
-pub says-leads : (old new : Table) (change : Change) → IsTable old → IsTable new → ChangesAscend change.tasks → SaysWhatDiffers old new change → swapped change old ≡ new
+says-leads : (old new : Table) (change : Change) → IsTable old → IsTable new → ChangesAscend change.tasks → SaysWhatDiffers old new change → swapped change old ≡ new
 says-leads old new change before after ascends says =
     grind (arith, tables-told, merged-rows-ascend, tasks-lead, place-leads)
 
@@ -126,7 +126,7 @@ among-said (row ∷ rows) variable =
 told-differs : (same : Bool) (new : Option VariablePlace) → is_told (cond same None (Some new)) ≡ not same
 told-differs same new = grind arith
 
-pub says-count : (old new : Table) (change : Change) → IsTable old → IsTable new → ChangesAscend change.rows → SaysWhatDiffers old new change
+says-count : (old new : Table) (change : Change) → IsTable old → IsTable new → ChangesAscend change.rows → SaysWhatDiffers old new change
     → length change.rows ≡ length (changed_variables old new)
 says-count old new change before after ascends says =
     sym (length-map change.rows (λ (row : ChangedRow). row.0))

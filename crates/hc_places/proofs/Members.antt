@@ -61,7 +61,7 @@ other-by here v x xs test apart is = grind arith
 rest-member : (x v : ℕ) (xs ys : List ℕ) → among x xs ≡ false → ((v : ℕ) → among v (x ∷ xs) ≡ true → among v ys ≡ true) → among v xs ≡ true → among v (others x ys) ≡ true
 rest-member x v xs ys apart within is = grind (arith, or-right, other-by, among-filter)
 
-pub no-longer : (xs ys : List ℕ) → AllPairs (λ a b. a ≢ b) xs → ((v : ℕ) → among v xs ≡ true → among v ys ≡ true) → length xs ≤ length ys
+no-longer : (xs ys : List ℕ) → AllPairs (λ a b. a ≢ b) xs → ((v : ℕ) → among v xs ≡ true → among v ys ≡ true) → length xs ≤ length ys
 no-longer [] ys once within = zero-le
 no-longer (x ∷ xs) ys once within =
     let apart = none-among x xs (AllPairs-head (λ a b. a ≢ b) x xs once) in

@@ -15,7 +15,7 @@ use Rattle.hc_places.proofs.Walked.{AreAbove, AreOf, Keeps, above-cons, ascends-
 pub of-option : (number : ℕ) (place : Option VariablePlace) → AreOf number (new_row (number, place))
 of-option number place = grind arith
 
-pub merges-keep : Keeps merges
+merges-keep : Keeps merges
 merges-keep = grind arith
 
 -- changes above a row leave it in front

@@ -49,10 +49,10 @@ table-made line tables rows first second = rw (first, second) refl
 abbrev pub tasks_from : ℕ → List ℕ
 tasks_from task = range_with_len task (8 - task)
 
-pub tasks-next : (task : ℕ) → task < 8 → tasks_from task ≡ task ∷ tasks_from (task + 1)
+tasks-next : (task : ℕ) → task < 8 → tasks_from task ≡ task ∷ tasks_from (task + 1)
 tasks-next task low = grind arith
 
-pub tasks-none : (task : ℕ) → 8 ≤ task → tasks_from task ≡ []
+tasks-none : (task : ℕ) → 8 ≤ task → tasks_from task ≡ []
 tasks-none task high = grind arith
 
 pub map-next : {X : Type 0} (f : ℕ → X) (task : ℕ) (done more all : List X) → task < 8 → more ≡ done ++ f task ∷ []

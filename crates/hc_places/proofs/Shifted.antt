@@ -5,7 +5,7 @@ use Rattle.std.proofs.lemmas.List.{drop-append-le, drop_at, length-append, lengt
 use Rattle.std.proofs.lemmas.List.Edits.{length-paste, take-paste}
 
 -- behind the first so many of a longer beginning that is kept, a shorter one is kept too
-pub front-kept : {X : Type 0} (low high : ℕ) (new old : List X) → low ≤ high → take high new ≡ take high old → take low new ≡ take low old
+front-kept : {X : Type 0} (low high : ℕ) (new old : List X) → low ≤ high → take high new ≡ take high old → take low new ≡ take low old
 front-kept low high new old order same = sym (take-take low high new order) ∙ ap (take low) same ∙ take-take low high old order
 
 -- a list with more behind it, of which the end is then copied up by as many
@@ -45,7 +45,7 @@ widened {X} old more new high bound is =
       behind = ap (drop at) parts ∙ drop_at (take at all) (drop high old) at (omega (arith, held, size, bound));
     }
 
-pub record Placed {X : Type 0} (old new : List X) (low high count : ℕ) : Type 0 where
+record Placed {X : Type 0} (old new : List X) (low high count : ℕ) : Type 0 where
   pub size : low + count ≤ length new
   pub front : take low new ≡ take low old
   pub behind : drop (low + count) new ≡ drop high old

@@ -56,7 +56,7 @@ merged-rows-ascend (changed ∷ others) rows ascends = with-ascends changed (mer
 behind-row : (here : Bool) (row : Row) (found : Option Row) → option_map (λ (r : Row). r.1) (cond here (Some row) found) ≡ cond here (Some row.1) (option_map (λ (r : Row). r.1) found)
 behind-row here row found = grind arith
 
-pub place-of-cons : (row : Row) (rows : List Row) (variable : ℕ) → place_of (row ∷ rows) variable ≡ cond (row.0 == variable) (Some row.1) (place_of rows variable)
+place-of-cons : (row : Row) (rows : List Row) (variable : ℕ) → place_of (row ∷ rows) variable ≡ cond (row.0 == variable) (Some row.1) (place_of rows variable)
 place-of-cons row rows variable = behind-row (row.0 == variable) row (find (λ (r : Row). r.0 == variable) rows)
 
 gone-by : (here : Bool) (found : Option VariablePlace) → (here ≡ true → found ≡ None) → found ≡ cond here None found
@@ -115,10 +115,10 @@ place-merged (changed ∷ others) rows variable ascends =
 
 -- rows in order are told by the places that they give
 
-abbrev pub SamePlaces : List Row → List Row → Type 0
+abbrev SamePlaces : List Row → List Row → Type 0
 SamePlaces xs ys = (variable : ℕ) → place_of xs variable ≡ place_of ys variable
 
-abbrev pub Told : List Row → List Row → Type 0
+abbrev Told : List Row → List Row → Type 0
 Told xs ys = RowsAscend xs → RowsAscend ys → SamePlaces xs ys → xs ≡ ys
 
 row-stands : {P : Type 0} (row : Row) (rows others : List Row) → AreAbove row.0 others → place_of (row ∷ rows) row.0 ≡ place_of others row.0 → P

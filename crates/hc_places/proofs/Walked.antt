@@ -3,7 +3,7 @@ use Rattle.std.proofs.Common.{◌≡◌, ◌∙◌, ℕ, ◌<◌, Bool, true, fa
 use Rattle.std.specs.Prelude.{All, AllPairs, nat_lt}
 use Rattle.std.proofs.lemmas.Bool.{cond-true, cond-false}
 use Rattle.std.proofs.lemmas.List.Elements.{All-nil, All-cons, All-append, All-head, All-tail, All-weaker}
-use Rattle.hc_records.proofs.lemmas.Lists.{AllPairs-nil, AllPairs-head, AllPairs-tail, AllPairs-append}
+use Rattle.hc_records.proofs.lemmas.Lists.{AllPairs-head, AllPairs-tail, AllPairs-append}
 use Rattle.hc_places.specs.inner.Walk.{Gives, walked}
 
 -- what holds of two lists, from their heads
@@ -62,12 +62,6 @@ pub record AreOf {X : Type 0} (number : ℕ) (piece : List (ℕ × X)) : Type 0 
   pub numbers : All (λ (x : ℕ × X). x.0 ≡ number) piece
   pub ascends : Ascends piece
 
-pub none-of : {X : Type 0} (number : ℕ) → AreOf {X = X} number []
-none-of {X} number = record { numbers = All-nil (λ (x : ℕ × X). x.0 ≡ number); ascends = AllPairs-nil (λ (a b : ℕ × X). a.0 < b.0) }
-
-pub one-of : {X : Type 0} (number : ℕ) (x : X) → AreOf number ((number, x) ∷ [])
-one-of {X} number x = grind arith
-
 -- what a walk adds has the numbers of what it meets
 pub record Keeps {X Y Z : Type 0} (gives : Gives X Y (ℕ × Z)) : Type 0 where
   pub first : (x : ℕ × X) → AreOf x.0 (gives.first x)
@@ -84,7 +78,7 @@ piece-ascends {Z} number piece rest of above ascends =
     (All-weaker (λ (z : ℕ × Z). z.0 ≡ number) (λ (z : ℕ × Z). AreAbove z.0 rest)
     (λ z same. All-weaker (λ (r : ℕ × Z). number < r.0) (λ (r : ℕ × Z). z.0 < r.0) (λ r below. omega arith) rest above) piece of.numbers)
 
-pub above-lower : {X : Type 0} (low number : ℕ) (xs : List (ℕ × X)) → low < number → AreAbove number xs → AreAbove low xs
+above-lower : {X : Type 0} (low number : ℕ) (xs : List (ℕ × X)) → low < number → AreAbove number xs → AreAbove low xs
 above-lower {X} low number xs below above = All-weaker (λ (x : ℕ × X). number < x.0) (λ (x : ℕ × X). low < x.0) (λ x higher. omega arith) xs above
 
 pub above-cons : {X : Type 0} (low : ℕ) (x : ℕ × X) (xs : List (ℕ × X)) → low < x.0 → AreAbove x.0 xs → AreAbove low (x ∷ xs)

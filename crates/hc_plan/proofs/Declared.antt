@@ -40,7 +40,7 @@ use Rattle.hc_plan.specs.Reports.{name_of}
 use Rattle.hc_plan.proofs.Telling.{is-table}
 
 -- no block of a line moves to the same line
-pub none-moved : (line : List Member) → moved_blocks line line ≡ []
+none-moved : (line : List Member) → moved_blocks line line ≡ []
 none-moved line =
     let blocks = line_blocks line in
     none-kept (λ block. not (list_any (same_block block) blocks)) blocks

@@ -52,20 +52,20 @@ late-answered state edit fault none uncrowded more late =
     answered state edit fault none
     (late-left (crowded_task (line (changed state edit))) (state.epoch == LAST_EPOCH) (late_faults state edit) uncrowded more ∙ late)
 
-pub accepted : (state : State) (edit : Edit) → own_fault state.groups edit ≡ None → crowded_task (line (changed state edit)) ≡ None
+accepted : (state : State) (edit : Edit) → own_fault state.groups edit ≡ None → crowded_task (line (changed state edit)) ≡ None
     → (state.epoch == LAST_EPOCH) ≡ false → lowest (late_faults state edit) ≡ None → edited state edit ≡ Ok (changed state edit)
 accepted state edit none uncrowded more free = late-answered state edit None none uncrowded more free
 
-pub late-refused : (state : State) (edit : Edit) (fault : EditFault) → own_fault state.groups edit ≡ None → crowded_task (line (changed state edit)) ≡ None
+late-refused : (state : State) (edit : Edit) (fault : EditFault) → own_fault state.groups edit ≡ None → crowded_task (line (changed state edit)) ≡ None
     → (state.epoch == LAST_EPOCH) ≡ false → lowest (late_faults state edit) ≡ Some fault → edited state edit ≡ Err fault
 late-refused state edit fault none uncrowded more late = late-answered state edit (Some fault) none uncrowded more late
 
-pub crowded-refused : (state : State) (edit : Edit) (fault : EditFault) → own_fault state.groups edit ≡ None
+crowded-refused : (state : State) (edit : Edit) (fault : EditFault) → own_fault state.groups edit ≡ None
     → option_map TooManyDatagrams (crowded_task (line (changed state edit))) ≡ Some fault → edited state edit ≡ Err fault
 crowded-refused state edit fault none names =
     answered state edit (Some fault) none (crowded-left (crowded_task (line (changed state edit))) (state.epoch == LAST_EPOCH) (late_faults state edit) fault names)
 
-pub spent-refused : (state : State) (edit : Edit) → own_fault state.groups edit ≡ None → crowded_task (line (changed state edit)) ≡ None
+spent-refused : (state : State) (edit : Edit) → own_fault state.groups edit ≡ None → crowded_task (line (changed state edit)) ≡ None
     → (state.epoch == LAST_EPOCH) ≡ true → edited state edit ≡ Err EpochsSpent
 spent-refused state edit none uncrowded last =
     answered state edit (Some EpochsSpent) none (spent-left (crowded_task (line (changed state edit))) (state.epoch == LAST_EPOCH) (late_faults state edit) uncrowded last)

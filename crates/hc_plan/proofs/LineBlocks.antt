@@ -26,7 +26,7 @@ use Rattle.hc_plan.proofs.Mapped.{slave-mapped}
 use Rattle.hc_plan.proofs.Numbered.{get-numbered-from-0, numbered-get}
 
 -- every slave of the line that a layout is of has its areas mapped
-pub layout-slaves : (groups : List Declared) (layout : List (List Placed)) → IsLayoutOf groups layout → All (IsMappedSlave layout) (line_from 1 groups)
+layout-slaves : (groups : List Declared) (layout : List (List Placed)) → IsLayoutOf groups layout → All (IsMappedSlave layout) (line_from 1 groups)
 layout-slaves groups layout known j d inside =
     let member = slice_index_or (line_from 1 groups) j d in
     subst (λ (l : List (List Placed)). IsMappedSlave l member) (sym known.stands)
@@ -37,7 +37,7 @@ pub found-mapped : (groups : List Declared) (layout : List (List Placed)) (stati
 found-mapped groups layout station member known found = (find-holds (IsMappedSlave layout) (is_at station) (line_from 1 groups) member found (layout-slaves groups layout known)).0
 
 -- the blocks by a layout of the line are the blocks of the line
-pub slave_blocks-line : (groups : List Declared) (layout : List (List Placed)) (member : Member) → IsLayoutOf groups layout → IsMappedSlave layout member
+slave_blocks-line : (groups : List Declared) (layout : List (List Placed)) (member : Member) → IsLayoutOf groups layout → IsMappedSlave layout member
     → slave_blocks_in layout member ≡ slave_blocks (line_from 1 groups) member
 slave_blocks-line groups layout member known mapped =
     let members = line_from 1 groups in
@@ -57,15 +57,15 @@ told-numbered : (station n : ℕ) (o : Option RegisterBlock)
 told-numbered station n o = search rules
 
 -- a block of the first slave of a part of the line
-pub block-here : (whole rest : List Member) (member : Member) (n : ℕ) → n < 2 * length member.slave.areas
+block-here : (whole rest : List Member) (member : Member) (n : ℕ) → n < 2 * length member.slave.areas
     → option_map told (slice_get (flat_map (member_blocks whole) (member ∷ rest)) n) ≡ option_map (at_station member.slave.station) (slice_get (slave_blocks whole member) n)
 block-here whole rest member n inside = search (rules, length-member, get-front, slice_get-map, get-numbered-from-0, told-numbered)
 
-pub block-behind : (whole rest : List Member) (member : Member) (n : ℕ) → 2 * length member.slave.areas ≤ n
+block-behind : (whole rest : List Member) (member : Member) (n : ℕ) → 2 * length member.slave.areas ≤ n
     → slice_get (flat_map (member_blocks whole) (member ∷ rest)) n ≡ slice_get (flat_map (member_blocks whole) rest) (n - 2 * length member.slave.areas)
 block-behind whole rest member n past = search (rules, length-member, get-back)
 
-pub blocks-met : (whole rest : List Member) (member : Member)
+blocks-met : (whole rest : List Member) (member : Member)
     → length (flat_map (member_blocks whole) (member ∷ rest)) ≡ 2 * length member.slave.areas + length (flat_map (member_blocks whole) rest)
 blocks-met whole rest member = search (rules, length-append, length-member)
 
@@ -119,14 +119,14 @@ pub found-block : (groups : List Declared) (layout : List (List Placed)) (statio
 found-block groups layout station number member known found = search (rules, slave_blocks-line, found-mapped)
 
 -- a slave has at most 16 blocks
-pub length-blocks : (layout : List (List Placed)) (all members : List Member) → All (IsMappedSlave layout) members
+length-blocks : (layout : List (List Placed)) (all members : List Member) → All (IsMappedSlave layout) members
     → length (flat_map (member_blocks all) members) ≤ 16 * length members
 length-blocks layout all [] mapped = omega arith
 length-blocks layout all (member ∷ members) mapped =
     search (rules, All-head, length-member, length-append, All-tail, length-blocks layout all members (All-tail (IsMappedSlave layout) member members mapped))
 
 -- so no line has more blocks than a number of 32 bits
-pub few-blocks : (groups : List Declared) (layout : List (List Placed)) → IsLayoutOf groups layout → length (line_blocks (line_from 1 groups)) < 4294967296
+few-blocks : (groups : List Declared) (layout : List (List Placed)) → IsLayoutOf groups layout → length (line_blocks (line_from 1 groups)) < 4294967296
 few-blocks groups layout known =
     let line = line_from 1 groups in
     let counted : sum_by (λ (d : Declared). length d.group.slaves) groups < 65535 = project-counted groups known.project in

@@ -33,12 +33,12 @@ use Rattle.hc_changes.specs.Moved.{bits_of}
 use Rattle.hc_plan.proofs.Widths.{area-bits}
 
 -- the areas of a task's list with their places, in the line of a project that isn't crowded
-pub record StandsWell (placed : Placed) : Type 0 where
+record StandsWell (placed : Placed) : Type 0 where
   pub packable : IsPackable (area_of placed)
   pub inside : LiesInside placed
   pub early : placed.datagram < MOST_DATAGRAMS
 
-pub places-stand : (groups : List Declared) (task : ℕ) → lowest_fault (map (λ declared. declared.group) groups) ≡ None → crowded_task (line_from 1 groups) ≡ None → task < TASKS
+places-stand : (groups : List Declared) (task : ℕ) → lowest_fault (map (λ declared. declared.group) groups) ≡ None → crowded_task (line_from 1 groups) ≡ None → task < TASKS
     → All StandsWell (task_places task (line_from 1 groups))
 places-stand groups task project uncrowded below i d under =
     let members = line_from 1 groups in

@@ -23,7 +23,6 @@ use Rattle.hc_groups.specs.Rows.{ChangesRow}
 use Rattle.hc_places.specs.Room.{IsRoomFor}
 use Rattle.hc_places.specs.Table.{Table, table_of}
 use Rattle.hc_changes.specs.EditedLine.{EditedLine, IsEditedLine, IsRoomFor as HasRoomFor, edited_line_of}
-use Rattle.hc_changes.proofs.lemmas.EditedLines.{change-edited_line}
 use Rattle.hc_plan.specs.declared.report.Report.{Report}
 use Rattle.hc_plan.specs.Gone.{gone_of}
 use Rattle.hc_plan.specs.inner.Applied.{Makes}
@@ -31,7 +30,7 @@ use Rattle.hc_plan.specs.declared.declaring.Declaration.{Declaration}
 use Rattle.hc_plan.specs.declared.work.LineWork.{LineWork}
 use Rattle.hc_plan.specs.declared.work.Work.TheVariants.{NewGroup, NewLine}
 use Rattle.hc_plan.specs.inner.Declaring.{CanDeclare, TellsNothing}
-use Rattle.hc_plan.specs.inner.Prepared.{IsLineReady, IsReady, prepared_of}
+use Rattle.hc_plan.specs.inner.Prepared.{IsReady, prepared_of}
 use Rattle.hc_plan.specs.Prepared.{IsPrepared}
 use Rattle.hc_plan.proofs.Declared.{none-ranked}
 use Rattle.hc_plan.proofs.Editing.{declared-accepted}
@@ -78,10 +77,6 @@ pub is-ready : (old : State) (work : LineWork) (it : EditedLine) (edit : Edit) (
     → IsReady old report (NewLine work)
 is-ready old work it edit report table named changes leads project row same known room stands space = search rules
 
--- the edited line, where it is built again
-pub ready-edited_line : (old : State) (report : Report) (work : LineWork) → lowest_fault (groups_of old.groups) ≡ None → IsLineReady old report work → IsEditedLine (edited_line_of work.change old.groups)
-ready-edited_line old report work project ready = search (rules, change-edited_line)
-
 -- a declared group changes no block of the line
 pub declared-prepared : (old : State) (edit : Edit) (declaration : Declaration) (report : Report) → lowest_fault (groups_of old.groups) ≡ None → crowded_task (line old) ≡ None
     → (old.epoch == LAST_EPOCH) ≡ false → edit ≡ Declare declaration.group → report.swap.edit ≡ edit → lowest (declaring_faults old.groups declaration.group) ≡ None → TellsNothing old edit report
@@ -105,7 +100,7 @@ pub nothing-named : (old : State) (edit : Edit) (report : Report) → TellsNothi
 nothing-named old edit report nothing = (nothing (record { groups = old.groups; epoch = old.epoch + 1 }) refl refl).named
 
 -- the groups with the declared one, and their line
-pub record IsDeclared (groups : List Declared) (table : Table) : Type 0 where
+record IsDeclared (groups : List Declared) (table : Table) : Type 0 where
   pub project : lowest_fault (groups_of groups) ≡ None
   pub fits : crowded_task (line_from 1 groups) ≡ None
   pub stands : table ≡ table_of (line_from 1 groups)

@@ -17,13 +17,8 @@ use Rattle.hc_changes.specs.EditedLine.{EditedLine, IsEditedLine}
 pub crowded-line : (groups : List Declared) (crowded : Option ℕ) → crowded_from 8 0 (areas_by_rank groups) ≡ crowded → crowded_task (line_from 1 groups) ≡ crowded
 crowded-line groups crowded is = line-crowded groups ∙ is
 
-pub line-areas : (groups : List Declared) (crowded : Option ℕ) → crowded_task (line_from 1 groups) ≡ crowded → crowded_from 8 0 (areas_by_rank groups) ≡ crowded
+line-areas : (groups : List Declared) (crowded : Option ℕ) → crowded_task (line_from 1 groups) ≡ crowded → crowded_from 8 0 (areas_by_rank groups) ≡ crowded
 line-areas groups crowded is = sym (line-crowded groups) ∙ is
-
--- the rank and the areas that are read from an edited line are its own
-read-lines : (first first' : ℕ) (before before' after after' old new : List (List Area)) → first ≡ first' → before ≡ before' → after ≡ after' → AreLines first' before' after' old new
-    → AreLines first before after old new
-read-lines first first' before before' after after' old new same second third lines = search rules
 
 pub edited_line-lines : (it : EditedLine) (first : ℕ) (before after : List (List Area)) → IsEditedLine it → first ≡ it.first → before ≡ it.before → after ≡ it.after
     → AreLines first before after (areas_by_rank it.old) (areas_by_rank it.new)

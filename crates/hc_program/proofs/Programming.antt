@@ -116,10 +116,10 @@ ends-at count s next all is whole =
     let e : count + 0 ≡ count = omega arith in
     sym whole ∙ ap (plus count) is ∙ ap (λ (n : ℕ). record { standing = next; written = n }) e
 
-pub none-sent : (count : ℕ) (s next : Standing) (all : Programmed) → can_write s.past ≡ false → next ≡ s → plus count (programmed s) ≡ all → all ≡ record { standing = next; written = count }
+none-sent : (count : ℕ) (s next : Standing) (all : Programmed) → can_write s.past ≡ false → next ≡ s → plus count (programmed s) ≡ all → all ≡ record { standing = next; written = count }
 none-sent count s next all cannot is whole = ends-at count s next all (ended s cannot ∙ ap (λ (t : Standing). record { standing = t; written = 0 }) (sym is)) whole
 
-pub missed : (count : ℕ) (s next : Standing) (all : Programmed) → can_write s.past ≡ true → is_done s ≡ false → next ≡ written s → plus count (programmed s) ≡ all
+missed : (count : ℕ) (s next : Standing) (all : Programmed) → can_write s.past ≡ true → is_done s ≡ false → next ≡ written s → plus count (programmed s) ≡ all
     → all ≡ record { standing = next; written = count }
 missed count s next all can not_done is whole = ends-at count s next all (step s false can not_done ∙ ap (λ (t : Standing). record { standing = t; written = 0 }) (sym is)) whole
 
@@ -158,7 +158,7 @@ pub record IsPassed (s sent gone : Standing) (frame back : List ℕ) : Type 0 wh
   pub is_gone : gone ≡ passed sent (frame ∷ [])
   pub is_back : back ≡ frame_through sent.machines frame
 
-pub passed-is : (s sent gone : Standing) (frame : List ℕ) → frame ≡ write_frame s.past → sent ≡ write_sent s → gone ≡ passed sent (frame ∷ []) → gone ≡ write_passed s
+passed-is : (s sent gone : Standing) (frame : List ℕ) → frame ≡ write_frame s.past → sent ≡ write_sent s → gone ≡ passed sent (frame ∷ []) → gone ≡ write_passed s
 passed-is s sent gone frame f is went = went ∙ ap (λ (t : Standing). passed t (frame ∷ [])) is ∙ ap (λ (bytes : List ℕ). passed (write_sent s) (bytes ∷ [])) f
 
 back-is : (s sent gone : Standing) (frame back : List ℕ) → IsPassed s sent gone frame back → back ≡ write_back s

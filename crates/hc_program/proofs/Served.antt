@@ -26,7 +26,7 @@ use Rattle.hc_program.specs.Answers.{answer_text, told}
 use Rattle.hc_program.specs.Standings.{Standing, edited, edited_unless, with_machines, with_past}
 
 -- an answer that isn't want of memory is the event's
-pub answered : (past next : Record) (step : Step) (given : Answer) → MayAnswer past step given next → given ≢ answer.Refused Memory → IsAnswered past step given next
+answered : (past next : Record) (step : Step) (given : Answer) → MayAnswer past step given next → given ≢ answer.Refused Memory → IsAnswered past step given next
 answered past next step given (inl is) other = is
 answered past next step given (inr wanting) other = absurd (other wanting.answer)
 
@@ -38,7 +38,7 @@ pub printed_as : (past next : Record) (step : Step) (given : Answer) → MayAnsw
 unfolding told
 printed_as past next step given may other = sym (ap (answer_text (next_serial past)) (answered past next step given may other).answer)
 
-pub left_as : (past next : Record) (step : Step) (given : Answer) → MayAnswer past step given next → given ≢ answer.Refused Memory → next ≡ entries_after past step
+left_as : (past next : Record) (step : Step) (given : Answer) → MayAnswer past step given next → given ≢ answer.Refused Memory → next ≡ entries_after past step
 left_as past next step given may other = (answered past next step given may other).entries
 
 -- a refused event leaves the record, whether its own fault refuses it or want of memory
@@ -46,7 +46,7 @@ pub refused_stays : (past next : Record) (step : Step) (fault : CoreFault) → (
 refused_stays past next step fault stays (inl is) = is.entries ∙ stays (sym is.answer)
 refused_stays past next step fault stays (inr wanting) = wanting.entries
 
-abbrev pub is_refusal : Answer → Bool
+abbrev is_refusal : Answer → Bool
 is_refusal (answer.Refused fault) = true
 is_refusal _ = false
 
@@ -69,7 +69,7 @@ accepted : (found : Option CoreFault) (given : Answer) (epoch recut moved : ℕ)
 accepted None given epoch recut moved e = refl
 accepted (Some fault) given epoch recut moved e = cc
 
-pub edit_accepted : (past next : Record) (edit : Edit) (epoch recut moved : ℕ) → MayAnswer past (Edits edit) (answer.Edited epoch recut moved) next → edit_refused past edit ≡ None
+edit_accepted : (past next : Record) (edit : Edit) (epoch recut moved : ℕ) → MayAnswer past (Edits edit) (answer.Edited epoch recut moved) next → edit_refused past edit ≡ None
 edit_accepted past next edit epoch recut moved may =
     accepted (edit_refused past edit) (told_of_edit (state_of past) (state_after (state_of past) edit)) epoch recut moved
     (sym (answered past next (Edits edit) (answer.Edited epoch recut moved) may (λ e. cc)).answer)
@@ -123,7 +123,7 @@ pub bytes_stay : (past : Record) (bytes : List ℕ) (fault : CoreFault) → answ
 bytes_stay past bytes fault e = arrival_stays past (arrival_in bytes) fault e
 
 -- the answers to an edit, and to an arrival
-abbrev pub IsOfEdit : Answer → Type 0
+abbrev IsOfEdit : Answer → Type 0
 IsOfEdit (answer.Edited epoch recut moved) = Unit {0}
 IsOfEdit (answer.Refused fault) = Unit {0}
 IsOfEdit _ = ⊥
@@ -150,7 +150,7 @@ one_of_edit answer.Stale is edited refused = is
 one_of_edit (answer.Image epoch slots) is edited refused = is
 
 -- the answers to an arrival that can be read: refused only in want of memory
-abbrev pub IsOfArrival : Answer → Type 0
+abbrev IsOfArrival : Answer → Type 0
 IsOfArrival (answer.Answered outcomes) = Unit {0}
 IsOfArrival answer.WriteDone = Unit {0}
 IsOfArrival answer.WriteMissed = Unit {0}

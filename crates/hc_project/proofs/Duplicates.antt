@@ -65,7 +65,7 @@ unfound : {X Y : Type 0} (test : Bool) (x : X) (rest : Option X) (f : X → Y) �
 unfound true x rest f none = cc
 unfound false x rest f none = (refl, none)
 
-pub find_none : {X Y : Type 0} (test : X → Bool) (f : X → Y) (xs : List X) → option_map f (find test xs) ≡ None → list_any test xs ≡ false
+find_none : {X Y : Type 0} (test : X → Bool) (f : X → Y) (xs : List X) → option_map f (find test xs) ≡ None → list_any test xs ≡ false
 find_none test f [] none = refl
 find_none test f (x ∷ xs) none =
     let parts = unfound (test x) x (find test xs) f none in

@@ -29,7 +29,7 @@ Searches lies_outside one flawed =
 pub judged_parts : {X : Type 0} (p : X → Bool) (reading : Reading X) → shows Outside (judged p reading) ≡ false → (reading.flaws.outside ≡ false) × (p reading.value ≡ false)
 judged_parts p reading flawless = or_parts reading.flaws.outside (p reading.value) flawless
 
-pub items_missing : {X : Type 0} (p : X → Bool) (one : Data → Reading X) (most : ℕ) (stands : Standing) (flawed : Finding) (place : Place) (index : ℕ) (ds : Items)
+items_missing : {X : Type 0} (p : X → Bool) (one : Data → Reading X) (most : ℕ) (stands : Standing) (flawed : Finding) (place : Place) (index : ℕ) (ds : Items)
     → Searches p one flawed → items_flaw Missing most stands flawed place index ds ≡ None → (each one ds).flaws.missing ≡ false
 items_missing p one most stands flawed place index no_items searches none = refl
 items_missing p one most stands flawed place index (item d ds) searches none =
@@ -37,7 +37,7 @@ items_missing p one most stands flawed place index (item d ds) searches none =
     let rest = items_missing p one most stands flawed place (suc index) ds searches (none_right _ _ none) in
     rw (first, rest) refl
 
-pub items_outside : {X : Type 0} (p : X → Bool) (one : Data → Reading X) (most : ℕ) (stands : Standing) (flawed : Finding) (place : Place) (index : ℕ) (ds : Items)
+items_outside : {X : Type 0} (p : X → Bool) (one : Data → Reading X) (most : ℕ) (stands : Standing) (flawed : Finding) (place : Place) (index : ℕ) (ds : Items)
     → Searches p one flawed → items_flaw Outside most stands flawed place index ds ≡ None
     → ((each one ds).flaws.outside ≡ false) × (list_any p (each one ds).value ≡ false)
 items_outside p one most stands flawed place index no_items searches none = (refl, refl)
@@ -49,7 +49,7 @@ items_outside p one most stands flawed place index (item d ds) searches none =
 pub below_most : (index most : ℕ) → not (nat_lt index most) ≡ false → index < most
 below_most index most within = grind (arith, nat_tests)
 
-pub items_few : {X : Type 0} (one : Data → Reading X) (most : ℕ) (stands : Standing) (flawed : Finding) (place : Place) (index : ℕ) (ds : Items)
+items_few : {X : Type 0} (one : Data → Reading X) (most : ℕ) (stands : Standing) (flawed : Finding) (place : Place) (index : ℕ) (ds : Items)
     → items_flaw Outside most stands flawed place index ds ≡ None → index ≤ most → index + length (each one ds).value ≤ most
 items_few one most stands flawed place index no_items none within = omega (arith, within)
 items_few one most stands flawed place index (item d ds) none within =
@@ -57,7 +57,7 @@ items_few one most stands flawed place index (item d ds) none within =
     let rest = items_few one most stands flawed place (suc index) ds (none_right _ _ none) (omega (arith, below)) in
     omega (arith, rest)
 
-pub counted_items : {X : Type 0} (one : Data → Reading X) (ds : Items) → length (each one ds).value ≡ item_count ds
+counted_items : {X : Type 0} (one : Data → Reading X) (ds : Items) → length (each one ds).value ≡ item_count ds
 counted_items one no_items = refl
 counted_items one (item d ds) = rw (counted_items one ds) refl
 

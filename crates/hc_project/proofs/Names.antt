@@ -18,7 +18,7 @@ use Rattle.hc_project.specs.Repeated.{area_variables, each_at, entry_variable, g
 abbrev pub named : {Y : Type 0} → List (Place × Y) → List Y
 named list = map (λ x. x.1) list
 
-pub named_each : {X Y : Type 0} (gives : ℕ → X → List (Place × Y)) (names : X → List Y) (index : ℕ) (xs : List X)
+named_each : {X Y : Type 0} (gives : ℕ → X → List (Place × Y)) (names : X → List Y) (index : ℕ) (xs : List X)
     → ((i : ℕ) (x : X) → named (gives i x) ≡ names x) → named (each_at gives index xs) ≡ flat_map names xs
 named_each gives names index [] same = refl
 named_each gives names index (x ∷ xs) same =

@@ -11,17 +11,17 @@ use Rattle.logbook.specs.Pages.{Cell, cell, keeps, no_nib, step, Moves, Goes}
 use Rattle.hc_publish.specs.Told.{Told}
 use Rattle.hc_publish.specs.Book.{Extends, last_of, top, Rises, IsKept, Adds}
 
-pub prefix_self : {A : Type 0} (xs : List A) → IsPrefix xs xs
+prefix_self : {A : Type 0} (xs : List A) → IsPrefix xs xs
 prefix_self xs = ([], append-nil xs)
 
-pub prefix_trans : {A : Type 0} (xs ys zs : List A) → IsPrefix xs ys → IsPrefix ys zs → IsPrefix xs zs
+prefix_trans : {A : Type 0} (xs ys zs : List A) → IsPrefix xs ys → IsPrefix ys zs → IsPrefix xs zs
 prefix_trans xs ys zs p q = (p.0 ++ q.0, sym (append_assoc xs p.0 q.0) ∙ (ap (λ w. w ++ q.0) p.1 ∙ q.1))
 
-pub prefix_longer : {A : Type 0} (xs ys : List A) → IsPrefix xs ys → length xs ≤ length ys
+prefix_longer : {A : Type 0} (xs ys : List A) → IsPrefix xs ys → length xs ≤ length ys
 prefix_longer xs ys p = omega (arith, ap length p.1, length-append xs p.0)
 
 -- of two beginnings of one list the shorter begins the longer
-pub prefix_shorter : {A : Type 0} (xs ys zs : List A) → IsPrefix xs zs → IsPrefix ys zs → length xs ≤ length ys → IsPrefix xs ys
+prefix_shorter : {A : Type 0} (xs ys zs : List A) → IsPrefix xs zs → IsPrefix ys zs → length xs ≤ length ys → IsPrefix xs ys
 prefix_shorter [] ys zs p q le = (ys, refl)
 prefix_shorter (x ∷ xs) [] zs p q le = absurd (omega arith)
 prefix_shorter (x ∷ xs) (y ∷ ys) [] p q le = absurd (cc (p.1))
@@ -31,7 +31,7 @@ prefix_shorter (x ∷ xs) (y ∷ ys) (z ∷ zs) p q le =
     (rest.0, cc (heads, rest.1))
 
 -- a beginning as long as the whole is the whole
-pub prefix_whole : {A : Type 0} (xs ys : List A) → IsPrefix xs ys → length ys ≤ length xs → xs ≡ ys
+prefix_whole : {A : Type 0} (xs ys : List A) → IsPrefix xs ys → length ys ≤ length xs → xs ≡ ys
 prefix_whole [] [] p le = refl
 prefix_whole [] (y ∷ ys) p le = absurd (omega arith)
 prefix_whole (x ∷ xs) [] p le = absurd (cc (p.1))
@@ -46,13 +46,13 @@ prefix_snoc (x ∷ z ∷ xs) [] y p = absurd (cc (p.1))
 prefix_snoc (x ∷ xs) (z ∷ ys) y p =
     ⊎_elim (λ (q : IsPrefix xs ys). inl (q.0, cc (p.1, q.1))) (λ (q : xs ≡ ys ++ y ∷ []). inr (cc (p.1, q))) (prefix_snoc xs ys y (p.0, cc (p.1)))
 
-pub extends_self : (x : Told) → Extends x x
+extends_self : (x : Told) → Extends x x
 extends_self x = record { groups = refl; changes = prefix_self x.changes }
 
 pub extends_same : (x y : Told) → x ≡ y → Extends x y
 extends_same x y e = subst (λ z. Extends x z) e (extends_self x)
 
-pub extends_trans : (x y z : Told) → Extends x y → Extends y z → Extends x z
+extends_trans : (x y z : Told) → Extends x y → Extends y z → Extends x z
 extends_trans x y z p q = record { groups = q.groups ∙ p.groups; changes = prefix_trans x.changes y.changes z.changes p.changes q.changes }
 
 -- of two that extend each other the changes are the same
@@ -72,7 +72,7 @@ rises_none (x ∷ a) [] ne p q = absurd (cc (p.1))
 rises_none (x ∷ a) (y ∷ b) ne p q = absurd (cc (q.1))
 
 -- an entry that goes on from the last one, where there is one
-pub rises_more : (log : List Told) (e : Told) → Rises log → (0 < length log → Extends (top log) e) → Rises (log ++ e ∷ [])
+rises_more : (log : List Told) (e : Told) → Rises log → (0 < length log → Extends (top log) e) → Rises (log ++ e ∷ [])
 rises_more log e rises on a b ne p q =
     let all = log ++ e ∷ [] in
     let last : top all ≡ e = top-append log e in
@@ -82,13 +82,13 @@ rises_more log e rises on a b ne p q =
     ⊎_elim (λ (r : IsPrefix b log). rises a b ne p r) (λ (r : b ≡ all). subst (λ z. IsPrefix a z → Extends (top a) (top z)) (sym r) whole p) (prefix_snoc b log e q)
 
 -- of two beginnings of one book, that with fewer entries is extended by the other
-pub rises_shorter : (log a b : List Told) → Rises log → 0 < length a → IsPrefix a log → IsPrefix b log → length a ≤ length b → Extends (top a) (top b)
+rises_shorter : (log a b : List Told) → Rises log → 0 < length a → IsPrefix a log → IsPrefix b log → length a ≤ length b → Extends (top a) (top b)
 rises_shorter log a b rises ne p q le = rises a b ne (prefix_shorter a b log p q le) q
 
-abbrev pub shown : List Told → List Told
+abbrev shown : List Told → List Told
 shown log = []
 
-abbrev pub moved : Told → List Told → List Told → ℕ → Type 0
+abbrev moved : Told → List Told → List Told → ℕ → Type 0
 moved ask xs ys n = Unit {0}
 
 adds_goes : (log v : List Told) (e : Told) (old : ℕ) → length v ≡ old → (0 < length v → Extends (top v) e) → Rises log → IsPrefix v log

@@ -30,7 +30,7 @@ pub admits : Admits Holds []
 admits x views h = (h.0, (λ seat v at. ⊎_elim (h.1 seat v) (λ (e : [] ≡ v). subst (λ z. Bound z x) e tt) (at_snoc views [] v seat at)))
 
 -- a sealed copy of the same book
-pub goes : (seat : ℕ) (v : List TheSeen) (x y : Story) → x.token.book ≡ y.token.book → (IsSealed x → IsSealed y) → TurnsAt Holds seat v x y Sees
+goes : (seat : ℕ) (v : List TheSeen) (x y : Story) → x.token.book ≡ y.token.book → (IsSealed x → IsSealed y) → TurnsAt Holds seat v x y Sees
 goes seat v x y book seals views h at = (
   y.token ∷ [],
   (
@@ -100,7 +100,7 @@ fold_shown s (Changed c ∷ steps) =
 fold_shown s (Sealed f ∷ steps) = fold_shown (taken s (Sealed f)) steps
 
 -- the token after some steps and a seal
-pub fold_seal : (s : Story) (steps : List Step) (f : TheSeen) → (fold taken s (steps ++ Sealed f ∷ [])).token ≡ f
+fold_seal : (s : Story) (steps : List Step) (f : TheSeen) → (fold taken s (steps ++ Sealed f ∷ [])).token ≡ f
 fold_seal s [] f = refl
 fold_seal s (Changed c ∷ steps) f = fold_seal (taken s (Changed c)) steps f
 fold_seal s (Sealed g ∷ steps) f = fold_seal (taken s (Sealed g)) steps f

@@ -24,11 +24,11 @@ IsInHull key None = ⊥
 IsInHull key (Some interval) = IsIn key interval
 
 -- the lesser and the greater of two keys
-pub lesser-within : (before : Bool) (more low key : Key) → is_before more low ≡ before → is_within low key ≡ true → is_within (if before then more else low) key ≡ true
+lesser-within : (before : Bool) (more low key : Key) → is_before more low ≡ before → is_within low key ≡ true → is_within (if before then more else low) key ≡ true
 lesser-within true more low key test within = within-trans more low key (within-from_before more low test) within
 lesser-within false more low key test within = within
 
-pub greater-within : (before : Bool) (more high key : Key) → is_before high more ≡ before → is_within key high ≡ true → is_within key (if before then more else high) ≡ true
+greater-within : (before : Bool) (more high key : Key) → is_before high more ≡ before → is_within key high ≡ true → is_within key (if before then more else high) ≡ true
 greater-within true more high key test within = within-trans key high more within (within-from_before high more test)
 greater-within false more high key test within = within
 

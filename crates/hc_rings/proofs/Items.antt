@@ -51,7 +51,7 @@ pub posts_of_ended : (xs : List Item) → posts_of (xs ++ End ∷ []) ≡ posts_
 posts_of_ended xs = posts_of_append xs (End ∷ []) ∙ append-nil (posts_of xs)
 
 -- behind the end the ring is not open
-pub is_open_ended : (posts : List Post) → is_open (items_of posts true) ≡ false
+is_open_ended : (posts : List Post) → is_open (items_of posts true) ≡ false
 is_open_ended [] = refl
 is_open_ended (b ∷ posts) = is_open_ended posts
 
@@ -111,7 +111,7 @@ known_before_end known [] x h is none =
 known_before_end known (y ∷ behind) x h is none = let no : false ≡ true = none (omega arith) in absurd (cc)
 
 -- behind the end nothing is sent
-pub nothing_behind : (posts all : List Post) (known : List Item) → items_of posts true ++ known ≡ items_of all true → known ≡ []
+nothing_behind : (posts all : List Post) (known : List Item) → items_of posts true ++ known ≡ items_of all true → known ≡ []
 nothing_behind [] [] known same = ap (drop 1) same
 nothing_behind [] (b ∷ all) known same = absurd (cc)
 nothing_behind (p ∷ posts) [] known same = absurd (cc)

@@ -6,7 +6,7 @@ use mathlib.Core.List.{IsPrefix}
 pub prefix_trans : {X : Type 0} (xs ys zs : List X) → IsPrefix xs ys → IsPrefix ys zs → IsPrefix xs zs
 prefix_trans xs ys zs p q = (p.0 ++ q.0, sym (append_assoc xs p.0 q.0) ∙ ap (λ front. front ++ q.0) p.1 ∙ q.1)
 
-pub prefix_behind : {X : Type 0} (front xs ys : List X) → IsPrefix xs ys → IsPrefix (front ++ xs) (front ++ ys)
+prefix_behind : {X : Type 0} (front xs ys : List X) → IsPrefix xs ys → IsPrefix (front ++ xs) (front ++ ys)
 prefix_behind front xs ys p = (p.0, append_assoc front xs p.0 ∙ ap (λ back. front ++ back) p.1)
 
 -- what is known to be left is no less where its first comes out and is put behind the rest

@@ -40,11 +40,6 @@ length-line rank declared groups =
     length-append (members_from rank (present_slaves declared)) (line_from (rank + slaves_in declared) groups)
     ∙ ap (λ (n : ℕ). n + length (line_from (rank + slaves_in declared) groups)) (length-members (present_slaves declared) rank)
 
-pub line-few : (rank : ℕ) (groups : List Declared) → length (line_from rank groups) ≤ sum_by slaves_in groups
-line-few rank [] = omega arith
-line-few rank (declared ∷ groups) =
-    omega (arith, length-line rank declared groups, present-few declared, line-few (rank + slaves_in declared) groups, sum_by-cons slaves_in declared groups)
-
 -- so many stand in front of a group, and no more than there are
 pub before-line : (alias rank : ℕ) (groups : List Declared) → slaves_before alias groups ≤ length (line_from rank groups)
 before-line alias rank [] = omega arith

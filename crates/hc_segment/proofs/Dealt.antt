@@ -5,7 +5,7 @@ use Rattle.std.proofs.lemmas.List.Elements.{All-push}
 use Rattle.hc_segment.specs.Line.{all_machines}
 
 -- one segment more
-pub joined-more : (segments : List (List (List ℕ))) (segment : List (List ℕ)) → all_machines (segments ++ segment ∷ []) ≡ all_machines segments ++ segment
+joined-more : (segments : List (List (List ℕ))) (segment : List (List ℕ)) → all_machines (segments ++ segment ∷ []) ≡ all_machines segments ++ segment
 joined-more [] segment = append-nil segment
 joined-more (s ∷ segments) segment = ap (λ rest. s ++ rest) (joined-more segments segment) ∙ sym (append_assoc s (all_machines segments) segment)
 

@@ -6,7 +6,7 @@ use Rattle.hc_segment.proofs.Lines.{length-frames, line_frames-joined}
 use Rattle.hc_segment.proofs.Passing.{Machines}
 
 -- of two parts the first is all where it is as long
-pub whole : (xs ys zs : List (List ℕ)) → xs ++ ys ≡ zs → length xs ≡ length zs → xs ≡ zs
+whole : (xs ys zs : List (List ℕ)) → xs ++ ys ≡ zs → length xs ≡ length zs → xs ≡ zs
 whole xs [] zs e n = sym (append-nil xs) ∙ e
 whole xs (y ∷ ys) zs e n = absurd (omega (arith, length-append xs (y ∷ ys), ap length e))
 

@@ -9,11 +9,11 @@ use Rattle.hc_segment.specs.Line.{frame_through, frames_through, machines_after,
 abbrev pub Machines : Type 0
 Machines = List (List ℕ)
 
-pub machines_after-append : (s : Machines) (fs gs : List (List ℕ)) → machines_after s (fs ++ gs) ≡ machines_after (machines_after s fs) gs
+machines_after-append : (s : Machines) (fs gs : List (List ℕ)) → machines_after s (fs ++ gs) ≡ machines_after (machines_after s fs) gs
 machines_after-append s [] gs = refl
 machines_after-append s (f ∷ fs) gs = machines_after-append (machines_behind s f) fs gs
 
-pub frames_through-append : (s : Machines) (fs gs : List (List ℕ)) → frames_through s (fs ++ gs) ≡ frames_through s fs ++ frames_through (machines_after s fs) gs
+frames_through-append : (s : Machines) (fs gs : List (List ℕ)) → frames_through s (fs ++ gs) ≡ frames_through s fs ++ frames_through (machines_after s fs) gs
 frames_through-append s [] gs = refl
 frames_through-append s (f ∷ fs) gs = ap (λ (rest : List (List ℕ)). frame_through s f ∷ rest) (frames_through-append (machines_behind s f) fs gs)
 
@@ -28,7 +28,7 @@ pub more-machines : (s t t' : Machines) (fs fs' : List (List ℕ)) (f : List ℕ
 more-machines s t t' fs fs' f a b e = b ∙ ap (λ (z : Machines). machines_behind z f) a ∙ sym (machines_after-append s fs (f ∷ [])) ∙ sym (ap (machines_after s) e)
 
 -- the machines when the frame has met the first i of them
-abbrev pub met : ℕ → Machines → List ℕ → Machines
+abbrev met : ℕ → Machines → List ℕ → Machines
 met i ms f = machines_behind (take i ms) f ++ drop i ms
 
 meets-next : (i : ℕ) (ms : Machines) (f x : List ℕ) → i < length ms → x ≡ get_or ms i x → set (met i ms f) i (memory_behind x (frame_through (take i ms) f)) ≡ met (suc i) ms f

@@ -23,7 +23,7 @@ filter-again_either : {X : Type 0} (test : X → Bool) (x : X) (xs : List X) (b 
 filter-again_either test x xs true passes e = rw passes (ap (λ ys. x ∷ ys) e)
 filter-again_either test x xs false passes e = e
 
-pub filter-again : {X : Type 0} (test : X → Bool) (xs : List X) → filter test (filter test xs) ≡ filter test xs
+filter-again : {X : Type 0} (test : X → Bool) (xs : List X) → filter test (filter test xs) ≡ filter test xs
 filter-again test [] = refl
 filter-again test (x ∷ xs) = filter-again_either test x (filter test xs) (test x) refl (filter-again test xs)
 
@@ -57,7 +57,7 @@ alive-stays at frames =
     ∙ sym (filter-map_is is_alive (told_at at) frames)
 
 -- what tables say that agree
-pub told-same : (a b : Table) → ((named : Named) → IsNamed named → a named ≡ b named) → (frame : KeptFrame) → All IsNamed frame.datagrams → told_at a frame ≡ told_at b frame
+told-same : (a b : Table) → ((named : Named) → IsNamed named → a named ≡ b named) → (frame : KeptFrame) → All IsNamed frame.datagrams → told_at a frame ≡ told_at b frame
 told-same a b same frame named =
     ap (λ datagrams. record { serial = frame.serial; datagrams = datagrams })
     (map-all IsNamed _ _ (λ d is. ap (λ found. record { datagram = d; newest = is_serial frame.serial found }) (same d is)) frame.datagrams named)
@@ -84,7 +84,7 @@ stays-more at frames i d within =
     ∙ filter-append (stays_at at) (map kept_of (take i frames)) (kept_of (get_or frames i d) ∷ [])
 
 -- those of a part of the frames are no more than those of all
-pub stays-few : (at : Table) (frames : List Frame) (i : ℕ) → length (filter (stays_at at) (map kept_of (take i frames))) ≤ length (filter (stays_at at) (map kept_of frames))
+stays-few : (at : Table) (frames : List Frame) (i : ℕ) → length (filter (stays_at at) (map kept_of (take i frames))) ≤ length (filter (stays_at at) (map kept_of frames))
 stays-few at frames i =
     let parts : filter (stays_at at) (map kept_of frames) ≡ filter (stays_at at) (map kept_of (take i frames)) ++ filter (stays_at at) (map kept_of (drop i frames)) =
     ap (λ (all : List Frame). filter (stays_at at) (map kept_of all)) (sym (take-append-drop i frames))

@@ -92,7 +92,7 @@ head_if : (own : Bool) (n : ℕ) (text : List ℕ) → n ≡ cond own 16 0 → c
 head_if true n text is = ap (λ b. cond b [] text) (ne_eqb n 0 (λ none. absurd (omega (arith, is, none))))
 head_if false n text is = ap (λ b. cond b [] text) (eq-eqb n 0 is)
 
-pub head-text : (task n : ℕ) (text : List ℕ) (found : Option Named) → n ≡ share task 16 found → cond (n == 0) [] text ≡ share_text task text found
+head-text : (task n : ℕ) (text : List ℕ) (found : Option Named) → n ≡ share task 16 found → cond (n == 0) [] text ≡ share_text task text found
 head-text task n text None is = ap (λ b. cond b [] text) (eq-eqb n 0 is)
 head-text task n text (Some named) is = head_if (named.0 == task) n text is
 
@@ -100,7 +100,7 @@ zeros_if : (own : Bool) (size : ℕ) → replicate {A = ℕ} (cond own size 0) 0
 zeros_if true size = refl
 zeros_if false size = refl
 
-pub padding-text : (task size : ℕ) (found : Option Named) → replicate {A = ℕ} (share task (padding_bytes size) found) 0 ≡ share_text task (padding size) found
+padding-text : (task size : ℕ) (found : Option Named) → replicate {A = ℕ} (share task (padding_bytes size) found) 0 ≡ share_text task (padding size) found
 padding-text task size None = refl
 padding-text task size (Some named) = zeros_if (named.0 == task) (padding_bytes size)
 

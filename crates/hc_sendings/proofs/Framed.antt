@@ -12,14 +12,10 @@ use Rattle.hc_sendings.specs.Framing.{closed, done_by, framed_from, last_with, o
 
 -- ---- frames of which the last is open
 
-last-at : (frames : List Frame) → length frames ≡ 0 → frames ≡ []
-last-at [] none = refl
-last-at (frame ∷ frames) none = absurd (omega (arith, none))
-
 pub open-at : (frames : List Frame) (frame : Frame) → 1 ≤ length frames → frame ≡ get_or frames (length frames - 1) frame → open_in frames ≡ Some frame
 open-at frames frame some is = slice_get-get_or frames (length frames - 1) frame (omega (arith, some)) ∙ ap (λ (f : Frame). Some f) (sym is)
 
-pub closed-open : (frames : List Frame) (frame : Frame) → open_in frames ≡ Some frame → closed frames ++ frame ∷ [] ≡ frames
+closed-open : (frames : List Frame) (frame : Frame) → open_in frames ≡ Some frame → closed frames ++ frame ∷ [] ≡ frames
 closed-open frames frame is =
     let inside = slice_get_within frames (length frames - 1) frame is in
     let last : length frames - 1 + 1 ≡ length frames = omega (arith, inside) in
@@ -27,23 +23,18 @@ closed-open frames frame is =
     ∙ sym (take_more frames (length frames - 1) frame inside)
     ∙ ap (λ (n : ℕ). take n frames) last ∙ take_all (length frames) frames (omega arith)
 
-pub closed-push : (frames : List Frame) (frame : Frame) → closed (frames ++ frame ∷ []) ≡ frames
+closed-push : (frames : List Frame) (frame : Frame) → closed (frames ++ frame ∷ []) ≡ frames
 closed-push frames frame =
     let long = length-append frames (frame ∷ []) in
     ap (λ (n : ℕ). take n (frames ++ frame ∷ [])) (omega (arith, long)) ∙ take-append-le (length frames) frames (frame ∷ []) (omega arith) ∙ take_all (length frames) frames (omega arith)
 
-pub open-push : (frames : List Frame) (frame : Frame) → open_in (frames ++ frame ∷ []) ≡ Some frame
+open-push : (frames : List Frame) (frame : Frame) → open_in (frames ++ frame ∷ []) ≡ Some frame
 open-push frames frame =
     let long = length-append frames (frame ∷ []) in
     let last : length (frames ++ frame ∷ []) - 1 ≡ length frames = omega (arith, long) in
     open-at (frames ++ frame ∷ []) frame (omega (arith, long)) (sym (ap (λ (n : ℕ). get_or (frames ++ frame ∷ []) n frame) last ∙ get_or-append_seam frames frame [] frame))
 
 -- none is open before the first
-
-pub push-first : (frames : List Frame) (frame : Frame) (serial bytes : ℕ) (datagram : Named) → length frames ≡ 0 → frame ≡ alone serial datagram bytes
-    → (closed (frames ++ frame ∷ []) ≡ closed frames ++ done_by (open_in frames) bytes) × (open_in (frames ++ frame ∷ []) ≡ Some (last_with serial (open_in frames) datagram bytes))
-push-first [] frame serial bytes datagram none is = (refl, ap (λ (f : Frame). Some f) is)
-push-first (first ∷ frames) frame serial bytes datagram none is = absurd (omega (arith, none))
 
 -- the open one has room
 

@@ -33,7 +33,7 @@ own_place a b first second e same =
     let never : true ≡ false = sym (are_same a.0 a.1 b.0 b.1 (is_one a.0 a.1 b.0 b.1 first.number second.number same)) ∙ e in cc
 
 -- one datagram is noted
-pub noted : (newest : Newest) (serial : ℕ) (d named : Named) → IsNamed d → IsNamed named → datagram_number d < length newest
+noted : (newest : Newest) (serial : ℕ) (d named : Named) → IsNamed d → IsNamed named → datagram_number d < length newest
     → newest_of (set newest (datagram_number d) (Some serial)) named ≡ cond (is_named named d) (Some serial) (newest_of newest named)
 noted newest serial d named own other low =
     by_bool (is_named named d)

@@ -198,7 +198,7 @@ sizes_same bytes (named ∷ rest) =
     let behind = sizes_same bytes rest in
     omega arith
 
-pub text_length : (bytes : Data) (serial : ℕ) (names : List Named) → length (datagrams_text serial (map (carried_by bytes) names)) ≡ carried_bytes bytes names
+text_length : (bytes : Data) (serial : ℕ) (names : List Named) → length (datagrams_text serial (map (carried_by bytes) names)) ≡ carried_bytes bytes names
 text_length bytes serial names = length-carried_texts serial (map sent (map (carried_by bytes) names)) ∙ sizes_same bytes names
 
 -- a text to which the parts of a frame were added, one after another

@@ -3,7 +3,7 @@ use Rattle.std.proofs.Common.{◌≡◌, ℕ, zero, suc, ◌<◌, Bool, cond, ap
 use Rattle.std.specs.Prelude.{slice_get}
 use Rattle.std.specs.List.{range_with_len}
 use Rattle.std.proofs.lemmas.List.FromFn.{get_or-map-range_with_len, length-map-range_with_len}
-use Rattle.std.proofs.lemmas.Option.{slice_get-get_or, slice_get_within}
+use Rattle.std.proofs.lemmas.Option.{slice_get-get_or}
 use Rattle.hc_records.specs.declared.limits.TheConstants.{TASKS}
 use Rattle.hc_records.specs.Line.{Member}
 use Rattle.hc_records.specs.Image.{datagram_count, task_places}
@@ -54,21 +54,3 @@ row-back line named part row back is e =
     ∙ ap (λ (one : Datagram). cond (has_head (head_of named one) part) (Some one) None) same
 
 -- a datagram with a row in the table is one of the line
-
-within : (line : List Member) (task d : ℕ) (row : Datagram) → slice_get (map (datagram_of line task) (range_with_len 0 (datagram_count (task_places task line)))) d ≡ Some row
-    → d < datagram_count (task_places task line)
-within line task d row e =
-    let inside = slice_get_within (map (datagram_of line task) (range_with_len 0 (datagram_count (task_places task line)))) d row e in
-    let count = length-map-range_with_len (datagram_of line task) 0 (datagram_count (task_places task line)) in
-    omega (arith, inside, count)
-
-stands-at : (line : List Member) (task d : ℕ) (row : Datagram) → task < TASKS → datagram_in (table_of line) task d ≡ Some row → d < datagram_count (task_places task line)
-stands-at line zero d row low e = within line 0 d row e
-stands-at line (suc zero) d row low e = within line 1 d row e
-stands-at line (suc (suc zero)) d row low e = within line 2 d row e
-stands-at line (suc (suc (suc zero))) d row low e = within line 3 d row e
-stands-at line (suc (suc (suc (suc zero)))) d row low e = within line 4 d row e
-stands-at line (suc (suc (suc (suc (suc zero))))) d row low e = within line 5 d row e
-stands-at line (suc (suc (suc (suc (suc (suc zero)))))) d row low e = within line 6 d row e
-stands-at line (suc (suc (suc (suc (suc (suc (suc zero))))))) d row low e = within line 7 d row e
-stands-at line (suc (suc (suc (suc (suc (suc (suc (suc task)))))))) d row low e = absurd (omega arith)

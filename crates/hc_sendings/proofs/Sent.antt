@@ -17,7 +17,7 @@ use Rattle.hc_sendings.proofs.Room.{few-stay}
 use Rattle.hc_sendings.proofs.Alive.{Table, alive-same, alive-stays, alive_at, filter-map_is, map-all, stays_at, told_at}
 
 -- a table where a frame is the newest of its datagrams
-abbrev pub noted_at : Frame → Table → Table
+abbrev noted_at : Frame → Table → Table
 noted_at frame at = λ named. cond (list_any (is_named named) frame.datagrams) (Some frame.serial) (at named)
 
 -- the frame itself
@@ -112,7 +112,7 @@ sent-one at frame frames below =
 abbrev Below : Frame → KeptFrame → Type 0
 Below frame kept = kept.serial < frame.serial
 
-pub sent-all : (frames : List Frame) (at : Table) (kept : List KeptFrame) (write : Option AwaitedWrite)
+sent-all : (frames : List Frame) (at : Table) (kept : List KeptFrame) (write : Option AwaitedWrite)
     → AllPairs (λ a b. a.serial < b.serial) frames
     → All (λ old. All (λ next. old.serial < next.serial) frames) kept
     → record { frames = alive_at (λ named. newest_after named (at named) frames) (kept ++ map kept_of frames); write = write }
@@ -139,20 +139,20 @@ sent-all (frame ∷ frames) at kept write ascend behind =
 abbrev Ascend : KeptFrame → KeptFrame → Type 0
 Ascend a b = a.serial < b.serial
 
-pub kept-behind : (at : Table) (kept : List KeptFrame) (frames : List Frame) → All (λ old. All (λ next. old.serial < next.serial) frames) (alive_at at kept)
+kept-behind : (at : Table) (kept : List KeptFrame) (frames : List Frame) → All (λ old. All (λ next. old.serial < next.serial) frames) (alive_at at kept)
     → All (λ (old : KeptFrame). All (λ (next : Frame). old.serial < next.serial) frames) (filter (stays_at at) kept)
 kept-behind at kept frames behind =
     All-unmap (λ (old : AwaitedFrame). All (λ (next : Frame). old.serial < next.serial) frames) (told_at at) (filter (stays_at at) kept)
     (subst (All (λ (old : AwaitedFrame). All (λ (next : Frame). old.serial < next.serial) frames)) (filter-map_is is_alive (told_at at) kept) behind)
 
-pub all-ascend : (kept : List KeptFrame) (frames : List Frame) → AllPairs (λ a b. a.serial < b.serial) kept → AllPairs (λ a b. a.serial < b.serial) frames
+all-ascend : (kept : List KeptFrame) (frames : List Frame) → AllPairs (λ a b. a.serial < b.serial) kept → AllPairs (λ a b. a.serial < b.serial) frames
     → All (λ (old : KeptFrame). All (λ (next : Frame). old.serial < next.serial) frames) kept → AllPairs (λ a b. a.serial < b.serial) (kept ++ map kept_of frames)
 all-ascend kept frames first second behind =
     AllPairs-append Ascend kept (map kept_of frames) first (AllPairs-map Ascend kept_of frames second)
     (All-weaker (λ (old : KeptFrame). All (λ (next : Frame). old.serial < next.serial) frames) (λ (old : KeptFrame). All (Ascend old) (map kept_of frames))
     (λ old all. All-map (Ascend old) kept_of frames all) kept behind)
 
-pub all-named : (kept : List KeptFrame) (frames : List Frame) → All (λ (frame : KeptFrame). All IsNamed frame.datagrams) kept → All (λ (frame : Frame). All IsNamed frame.datagrams) frames
+all-named : (kept : List KeptFrame) (frames : List Frame) → All (λ (frame : KeptFrame). All IsNamed frame.datagrams) kept → All (λ (frame : Frame). All IsNamed frame.datagrams) frames
     → All (λ (frame : KeptFrame). All IsNamed frame.datagrams) (kept ++ map kept_of frames)
 all-named kept frames first second =
     All-append (λ (frame : KeptFrame). All IsNamed frame.datagrams) kept (map kept_of frames) first (All-map (λ (frame : KeptFrame). All IsNamed frame.datagrams) kept_of frames second)
@@ -220,7 +220,7 @@ alive-append : (at : Table) (one other : List KeptFrame) → alive_at at (one ++
 alive-append at one other = ap (filter is_alive) (map-append (told_at at) one other) ∙ filter-append is_alive (map (told_at at) one) (map (told_at at) other)
 
 -- the whole of it: frames that are awaited no longer may go, the frames are noted, others may go, and those of the new frames that are the newest of a datagram come behind
-abbrev pub joined : Newest → List KeptFrame → List Frame → List KeptFrame
+abbrev joined : Newest → List KeptFrame → List Frame → List KeptFrame
 joined now second frames = second ++ filter (stays_at (newest_of now)) (map kept_of frames)
 
 pub joined-kept : (before now : Newest) (kept first second : List KeptFrame) (frames : List Frame) → AreKept before kept → length now ≡ length before

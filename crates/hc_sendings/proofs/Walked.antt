@@ -14,7 +14,7 @@ use Rattle.hc_sendings.specs.Walk.{outcomes_in}
 abbrev pub parts_of : List Placed → List Part
 parts_of placed = map (λ (one : Placed). one.carried) placed
 
-pub parts-placed : (start : ℕ) (parts : List Part) → parts_of (placed_from start parts) ≡ parts
+parts-placed : (start : ℕ) (parts : List Part) → parts_of (placed_from start parts) ≡ parts
 parts-placed start [] = refl
 parts-placed start (part ∷ parts) = ap (λ (rest : List Part). part ∷ rest) (parts-placed (start + (12 + length part.bytes)) parts)
 

@@ -1,6 +1,5 @@
 -- A publisher is given a plan's swaps.
 use Rattle.std.proofs.Common.{◌≡◌, List, [], ◌∷◌, ◌++◌, sym, ap, subst, ◌∙◌, append_assoc}
-use Rattle.std.proofs.lemmas.List.{append-nil}
 use Rattle.std.specs.Prelude.{IsOk, Ok}
 use Rattle.std.specs.Result.{is_ok, result_unwrap_or}
 use Rattle.hc_records.specs.declared.edit.Edit.{Edit}
@@ -57,10 +56,3 @@ pub all_appended : (p a : Board) (change : Change) → published a ≡ published
 all_appended p a change same grown =
     let joined : published a ++ pending a ≡ published p ++ (pending p ++ change ∷ []) = cc (same, grown) in
     joined ∙ sym (append_assoc (published p) (pending p) (change ∷ []))
-
--- and behind a publishing too
-pub all_behind : (p a q : Board) (change : Change) → published a ≡ published p → pending a ≡ pending p ++ change ∷ [] → published q ≡ published a ++ pending a → pending q ≡ []
-    → published q ++ pending q ≡ published p ++ pending p ++ change ∷ []
-all_behind p a q change same grown shown none =
-    let whole : published q ++ pending q ≡ published q = ap (λ z. published q ++ z) none ∙ append-nil (published q) in
-    whole ∙ (shown ∙ all_appended p a change same grown)

@@ -45,7 +45,7 @@ areas-of-rank groups (suc i) =
     slots-areas groups i ∙ sym (ap carried (ap (slave_of (line_from 1 groups)) rank ∙ line-slots 1 groups i))
 
 -- an area of the line stands there
-pub area-ranked : (groups : List Declared) (found : LineArea) → IsAreaOf (line_from 1 groups) found → areas_at (areas_by_rank groups) found.member.rank ≡ found.member.slave.areas
+area-ranked : (groups : List Declared) (found : LineArea) → IsAreaOf (line_from 1 groups) found → areas_at (areas_by_rank groups) found.member.rank ≡ found.member.slave.areas
 area-ranked groups found of =
     areas-of-rank groups found.member.rank
     ∙ ap carried (ap (option_map (λ (m : Member). m.slave)) (member-found (line_from 1 groups) found.member (line-ascends 1 groups) of.member))
@@ -76,7 +76,7 @@ pub area-named : (groups : List Declared) (found : LineArea) → IsAreaOf (line_
 area-named groups found of = search (rules, All-contains, numbered-get, area-ranked)
 
 -- and an area that stands at a rank is one of the line
-pub record IsRanked (groups : List Declared) (rank : ℕ) (area : Area) : Type 0 where
+record IsRanked (groups : List Declared) (rank : ℕ) (area : Area) : Type 0 where
   pub found : LineArea
   pub of : IsAreaOf (line_from 1 groups) found
   pub is : found.area ≡ area

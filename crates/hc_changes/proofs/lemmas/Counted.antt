@@ -44,7 +44,7 @@ counted-none number variable (x ∷ xs) all =
 own-one : (variable number : ℕ) → (variable == number) ≡ true → own variable number ≡ 1
 own-one variable number is = ap (λ (b : Bool). cond b 1 0) is
 
-pub counted-some : (variable : ℕ) (xs : List ℕ) → Contains xs variable → 1 ≤ total (own variable) xs
+counted-some : (variable : ℕ) (xs : List ℕ) → Contains xs variable → 1 ≤ total (own variable) xs
 counted-some variable [] (k, within, is) = absurd (omega arith)
 counted-some variable (x ∷ xs) (zero, within, is) = let here = own-one variable x (eq-eqb variable x (sym is)) in omega arith
 counted-some variable (x ∷ xs) (suc k, within, is) = let rest = counted-some variable xs (k, omega arith, is) in omega arith
@@ -86,7 +86,7 @@ candidates-once groups none variable test =
 
 -- the variables that the line's areas carry
 
-pub carried-total : (variable : ℕ) (areas : List Area) → total (own variable) (assigned_variables areas) ≡ total (weight variable) areas
+carried-total : (variable : ℕ) (areas : List Area) → total (own variable) (assigned_variables areas) ≡ total (weight variable) areas
 carried-total variable areas = search (rules, total-flat_map, total-same, entry-names)
 
 present-total : (variable : ℕ) (present : Bool) (slave : Slave) → total (weight variable) (if present then slave.areas else []) ≤ of_areas variable slave

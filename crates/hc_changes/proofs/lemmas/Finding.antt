@@ -77,7 +77,7 @@ kept-is it before cuts test task number until tells key low = search (rules, tas
 
 -- whether its task is touched
 
-pub touched-is : (it : EditedLine) (before : Before) (cuts : List Kept) → IsCandidateTest it before cuts → (task : ℕ) (some : Bool)
+touched-is : (it : EditedLine) (before : Before) (cuts : List Kept) → IsCandidateTest it before cuts → (task : ℕ) (some : Bool)
     → ((old new : List (List Area)) → StandsBefore old new before → some ≡ is_touched_by task old new)
     → some ≡ is_touched_task (line_from 1 it.old) (line_from 1 it.new) task
 touched-is it before cuts test task some tells = touched-told it.old it.new before test.stands task some tells

@@ -20,7 +20,7 @@ use Rattle.hc_changes.proofs.lemmas.Places.{area-inside}
 
 -- the areas of a slave, one by one
 
-pub areas-next : (it : EditedLine) (station rank i : ℕ) (areas : List Area) (area : Area) → i < length areas → area ≡ slice_index_or areas i area
+areas-next : (it : EditedLine) (station rank i : ℕ) (areas : List Area) (area : Area) → i < length areas → area ≡ slice_index_or areas i area
     → areas_found it station rank i (drop i areas) ≡ area_found it station rank i area ++ areas_found it station rank (i + 1) (drop (i + 1) areas)
 unfolding areas_found
 areas-next it station rank i areas area within is = search (rules, drop-cons)
@@ -59,7 +59,7 @@ task-below groups rank i areas area project stand within is =
 
 -- slaves without candidates are passed over
 
-pub passed-over : (it : EditedLine) (first count : ℕ) → ((rank : ℕ) → first ≤ rank → rank < first + count → rank_found it rank ≡ []) → found_below it (first + count) ≡ found_below it first
+passed-over : (it : EditedLine) (first count : ℕ) → ((rank : ℕ) → first ≤ rank → rank < first + count → rank_found it rank ≡ []) → found_below it (first + count) ≡ found_below it first
 unfolding found_below
 passed-over it first zero none = search rules
 passed-over it first (suc count) none =
@@ -103,7 +103,7 @@ group-station groups first declared i slave at within is =
     let many = length-map {B = ℕ} slaves (λ s. s.station) in
     search (rules, flat_map-append, index-front, at-mapped)
 
-pub group-few : (groups : List Declared) (first : ℕ) (declared : Declared) → IsGroupAt groups first declared → first + length declared.group.slaves ≤ length (areas_by_rank groups) + 1
+group-few : (groups : List Declared) (first : ℕ) (declared : Declared) → IsGroupAt groups first declared → first + length declared.group.slaves ≤ length (areas_by_rank groups) + 1
 group-few groups first declared at =
     let slaves = declared.group.slaves in
     let many = length-present declared.present slaves in

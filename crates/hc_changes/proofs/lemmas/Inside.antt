@@ -28,7 +28,7 @@ use Rattle.hc_changes.proofs.lemmas.Others.{IsAreaOf, line-area}
 use Rattle.hc_changes.proofs.lemmas.Places.{area-inside}
 use Rattle.hc_changes.proofs.lemmas.Widths.{all-contained}
 
-pub stands-inside : (state : State) → lowest_fault (groups_of state.groups) ≡ None → crowded_task (line state) ≡ None → (found : LineArea) → IsAreaOf (line state) found
+stands-inside : (state : State) → lowest_fault (groups_of state.groups) ≡ None → crowded_task (line state) ≡ None → (found : LineArea) → IsAreaOf (line state) found
     → StandsInside (candidate_of (line state) found)
 stands-inside state none fits found of placed is =
     let task = found.area.task in

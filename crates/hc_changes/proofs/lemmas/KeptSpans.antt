@@ -29,7 +29,7 @@ begun first (next ∷ later) zero key is other = (next, let same : first ≡ key
 begun first (next ∷ later) (suc i) key is other = begun next later i key is other
 
 -- what is said of a datagram that is kept
-pub record IsKept (old new : List Keyed) (datagram : ℕ) : Type 0 where
+record IsKept (old new : List Keyed) (datagram : ℕ) : Type 0 where
   pub span : Interval
   pub stands : slice_get (spans (boundaries new)) datagram ≡ Some span
   pub settled : is_settled old new span ≡ true
@@ -42,11 +42,11 @@ kept-by : (old new : List Keyed) (datagram : ℕ) (span : Option Interval) → s
     → option_map_or (λ s. is_settled old new s && begins_at old datagram s.0) span false ≡ true → IsKept old new datagram
 kept-by old new datagram span stands is = search (rules, and_parts, began-by)
 
-pub kept-parts : (old new : List Keyed) (datagram : ℕ) → is_kept old new datagram ≡ true → IsKept old new datagram
+kept-parts : (old new : List Keyed) (datagram : ℕ) → is_kept old new datagram ≡ true → IsKept old new datagram
 kept-parts old new datagram is = kept-by old new datagram (slice_get (spans (boundaries new)) datagram) refl is
 
 -- its span has the same number in the old list
-pub kept-number : (old new : List Keyed) (datagram : ℕ) → IsTaskList old → IsTaskList new → (kept : IsKept old new datagram) → slice_get (spans (boundaries old)) datagram ≡ Some kept.span
+kept-number : (old new : List Keyed) (datagram : ℕ) → IsTaskList old → IsTaskList new → (kept : IsKept old new datagram) → slice_get (spans (boundaries old)) datagram ≡ Some kept.span
 kept-number old new datagram is is' kept =
     let span = kept.span in
     let contains = at-contained (spans (boundaries new)) datagram span kept.stands in

@@ -94,7 +94,7 @@ stood-all : (found : LineArea) (old : List Member) → Contains (line_areas old)
 stood-all found old at = search (rules, All-weaker, not_from_true, had, blocks-of-areas, contains-flat_map, All-contains_itself)
 
 -- an area that isn't a candidate stood where it stands
-pub unchanged-stand : (changed : ℕ → Bool) (old new : State) → lowest_fault (groups_of old.groups) ≡ None → lowest_fault (groups_of new.groups) ≡ None → DifferAt changed (line old) (line new)
+unchanged-stand : (changed : ℕ → Bool) (old new : State) → lowest_fault (groups_of old.groups) ≡ None → lowest_fault (groups_of new.groups) ≡ None → DifferAt changed (line old) (line new)
     → (found : LineArea) → Contains (line_areas (line new)) found → is_candidate changed (line old) (line new) found ≡ false
     → IsAreaOf (line old) found × (place_of (line old) found ≡ place_of (line new) found)
 unchanged-stand changed old new was is differ found at other =

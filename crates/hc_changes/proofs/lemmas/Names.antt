@@ -52,14 +52,14 @@ later-mapped : {Y : Type 0} (made : Option Y) (y : Y) (rest : List Y) → Contai
 later-mapped None y rest at = at
 later-mapped (Some z) y rest at = contains-behind y z rest at
 
-pub contains-named : (entries : List Entry) (entry : Entry) (variable : ℕ) → Contains entries entry → entry.0 ≡ Some variable → Contains (entry_names entries) variable
+contains-named : (entries : List Entry) (entry : Entry) (variable : ℕ) → Contains entries entry → entry.0 ≡ Some variable → Contains (entry_names entries) variable
 contains-named [] entry variable (k, within, is) name = absurd (omega arith)
 contains-named (e ∷ entries) entry variable (zero, within, is) name = search (rules, here-mapped)
 contains-named (e ∷ entries) entry variable (suc k, within, is) name =
     search (rules, later-mapped, contains-named entries entry variable (k, omega arith, is) name)
 
 -- the entry that has a variable
-pub record HasName (entries : List Entry) (variable : ℕ) : Type 0 where
+record HasName (entries : List Entry) (variable : ℕ) : Type 0 where
   pub entry : Entry
   pub among : Contains entries entry
   pub name : entry.0 ≡ Some variable
@@ -71,7 +71,7 @@ named-by (Some v) e entries variable is (zero, within, same) later =
     record { entry = e; among = contains-first e entries; name = is ∙ ap (λ (n : ℕ). Some n) same }
 named-by (Some v) e entries variable is (suc k, within, same) later = search (rules, contains-behind)
 
-pub named-entry : (entries : List Entry) (variable : ℕ) → Contains (entry_names entries) variable → HasName entries variable
+named-entry : (entries : List Entry) (variable : ℕ) → Contains (entry_names entries) variable → HasName entries variable
 named-entry [] variable (k, within, is) = absurd (omega arith)
 named-entry (e ∷ entries) variable at = named-by e.0 e entries variable refl at (named-entry entries variable)
 

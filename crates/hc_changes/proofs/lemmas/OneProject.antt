@@ -35,7 +35,7 @@ one-index f xs i j a b apart first second same = elim (cases_order i j) [
 
 -- an element of a numbered list stands at its number
 
-pub numbered-at : {X : Type 0} (first : ℕ) (xs : List X) (e : ℕ × X) → Contains (enumerate_from first xs) e → (i : ℕ) × (e.0 ≡ first + i) × (slice_get xs i ≡ Some e.1)
+numbered-at : {X : Type 0} (first : ℕ) (xs : List X) (e : ℕ × X) → Contains (enumerate_from first xs) e → (i : ℕ) × (e.0 ≡ first + i) × (slice_get xs i ≡ Some e.1)
 numbered-at first [] e (k, within, is) = absurd (omega arith)
 numbered-at first (x ∷ xs) e (zero, within, is) = search rules
 numbered-at first (x ∷ xs) e (suc k, within, is) =
@@ -49,7 +49,7 @@ own-at xs e at =
     let number : found.0 ≡ e.0 = (let is = found.1 in omega arith) in
     subst (λ (i : ℕ). slice_get xs i ≡ Some e.1) number found.2
 
-pub at-numbered : {X : Type 0} (first : ℕ) (xs : List X) (i : ℕ) (x : X) → slice_get xs i ≡ Some x → Contains (enumerate_from first xs) (first + i, x)
+at-numbered : {X : Type 0} (first : ℕ) (xs : List X) (i : ℕ) (x : X) → slice_get xs i ≡ Some x → Contains (enumerate_from first xs) (first + i, x)
 at-numbered first [] i x is = cc
 at-numbered {X} first (y ∷ ys) zero x is = search rules
 at-numbered {X} first (y ∷ ys) (suc i) x is = search (rules, contains-behind, at-numbered (first + 1) ys i x is)
@@ -60,7 +60,7 @@ at-own xs i x is =
     subst (λ (n : ℕ). Contains (enumerate_from 0 xs) (n, x)) number (at-numbered 0 xs i x is)
 
 -- a slave of a line is the declared one with its rank
-pub record IsDeclaredAt (first : ℕ) (slaves : List Slave) (member : Member) : Type 0 where
+record IsDeclaredAt (first : ℕ) (slaves : List Slave) (member : Member) : Type 0 where
   pub index : ℕ
   pub rank : member.rank ≡ first + index
   pub stands : slice_get slaves index ≡ Some member.slave
@@ -104,7 +104,7 @@ pub record AreOfOneProject (old new : List Member) : Type 0 where
   pub ranks : (a b : Member) → Contains old a → Contains new b → a.slave.station ≡ b.slave.station → a.rank ≡ b.rank
 
 -- the declared slave at an index is the same before and after, but for what an edit changes
-pub kept-at : (olds news : List Slave) (i : ℕ) (slave : Slave) → map bare_slave news ≡ map bare_slave olds → slice_get news i ≡ Some slave
+kept-at : (olds news : List Slave) (i : ℕ) (slave : Slave) → map bare_slave news ≡ map bare_slave olds → slice_get news i ≡ Some slave
     → (before : Slave) × (slice_get olds i ≡ Some before) × (bare_slave before ≡ bare_slave slave)
 kept-at olds news i slave same at =
     mapped-some bare_slave (slice_get olds i) (bare_slave slave)

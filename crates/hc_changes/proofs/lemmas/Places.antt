@@ -43,11 +43,11 @@ use Rattle.hc_changes.proofs.lemmas.Standing.{placed-found}
 use Rattle.hc_changes.proofs.lemmas.Widths.{wide-listed}
 
 -- the rows of all tasks of a line
-abbrev pub line_rows : State → List Row
+abbrev line_rows : State → List Row
 line_rows state = flat_map (task_variables (line state)) tasks
 
 -- a row of a project's line is the only one of its variable
-pub row-stands : (state : State) → lowest_fault (groups_of state.groups) ≡ None → (row : Row) → Contains (line_rows state) row → place_in (table_of (line state)) row.0 ≡ Some row.1
+row-stands : (state : State) → lowest_fault (groups_of state.groups) ≡ None → (row : Row) → Contains (line_rows state) row → place_in (table_of (line state)) row.0 ≡ Some row.1
 row-stands state none row at =
     let rows = line_rows state in
     let own : (row.0 == row.0) ≡ true = eq-eqb row.0 row.0 refl in
@@ -60,7 +60,7 @@ row-stands state none row at =
     (λ a b below is is'. never-both row.0 a.0 b.0 below (eqb-true a.0 row.0 is) (eqb-true b.0 row.0 is')) (by_number rows) (table-ascends state.groups none))
     among own)
 
-pub standing-row : (state : State) (variable : ℕ) (place : VariablePlace) → place_in (table_of (line state)) variable ≡ Some place → Contains (line_rows state) (variable, place)
+standing-row : (state : State) (variable : ℕ) (place : VariablePlace) → place_in (table_of (line state)) variable ≡ Some place → Contains (line_rows state) (variable, place)
 standing-row state variable place is =
     let rows = line_rows state in
     let found = mapped-some (λ (r : Row). r.1) (find (λ (r : Row). r.0 == variable) rows) place
@@ -74,7 +74,7 @@ standing-row state variable place is =
     row-same row number stands first second = ap (λ (n : ℕ). (n, row.1)) first ∙ ap (λ (p : VariablePlace). (number, p)) second
 
 -- an area of a task's list is one of the line's
-pub record IsListedArea (state : State) (number : ℕ) (listing : Listed) : Type 0 where
+record IsListedArea (state : State) (number : ℕ) (listing : Listed) : Type 0 where
   pub found : LineArea
   pub of : IsAreaOf (line state) found
   pub key : listing.key ≡ key_of found
@@ -105,7 +105,7 @@ listed-in state task dir listing at =
     found-passing : {X : Type 0} (test : X → Bool) (xs : List X) (x : X) → Contains (filter test xs) x → test x ≡ true
     found-passing test xs x at = All-contains (λ y. test y ≡ true) (filter test xs) x (filter_passes test xs) at
 
-pub listed-area : (state : State) (task : ℕ) (listing : Listed) → Contains (task_areas task (line state)) listing → IsListedArea state task listing
+listed-area : (state : State) (task : ℕ) (listing : Listed) → Contains (task_areas task (line state)) listing → IsListedArea state task listing
 listed-area state task listing at =
     ⊎_elim (λ own. listed-in state task Out listing own) (λ own. listed-in state task In listing own)
     (Contains-append_cases (flat_map (slave_areas task Out) (line state)) (flat_map (slave_areas task In) (line state)) listing at)

@@ -27,10 +27,6 @@ none-below first groups rank low = search (rules, find-none, All-weaker, ne_eqb,
 
 -- a slave in front of others
 
-met : (here : Bool) (slave : Slave) (first : ℕ) (rest : Option Member) → here ≡ true
-    → option_map (λ (member : Member). member.slave) (cond here (Some (record { rank = first; slave = slave })) rest) ≡ Some slave
-met here slave first rest is = search rules
-
 passed : (here : Bool) (member : Member) (rest : Option Member) → here ≡ false
     → option_map (λ (m : Member). m.slave) (cond here (Some member) rest) ≡ option_map (λ (m : Member). m.slave) rest
 passed here member rest is = search rules

@@ -29,7 +29,7 @@ use Rattle.hc_changes.proofs.lemmas.Tables.{no-length, untouched-lists}
 
 -- a datagram of a list is kept by the same list, up to each key
 
-pub span-at : (first : Key) (later : List Key) (datagram : ℕ) → datagram < length later + 1
+span-at : (first : Key) (later : List Key) (datagram : ℕ) → datagram < length later + 1
     → (span : Interval) × (slice_get (zip (first ∷ (later ++ END ∷ [])) (later ++ END ∷ [])) datagram ≡ Some span) × (slice_get (first ∷ (later ++ END ∷ [])) datagram ≡ Some span.0)
 span-at first [] zero low = ((first, END), refl, refl)
 span-at first (next ∷ later) zero low = ((first, next), refl, refl)
@@ -79,7 +79,7 @@ untouched-areas old new found was is none =
     ∙ own-kept after placed.datagram placed.key (project-list new task is) nothing (omega arith))
 
 -- a recut area of a line stands in a datagram that wasn't kept up to it
-pub record IsUnkeptAt (old new : List Member) (found : LineArea) : Type 0 where
+record IsUnkeptAt (old new : List Member) (found : LineArea) : Type 0 where
   pub placed : Placed
   pub stands : Contains (task_places found.area.task new) placed
   pub key : placed.key ≡ key_of found

@@ -22,7 +22,7 @@ edited_line-change : (edited_line : EditedLine) → IsEditedLine edited_line
 edited_line-change edited_line is = search (rules, edit-keeps, and_parts, ltb-false, not-true, ltb-true)
 
 -- so its rows tell the variables whose places differ
-pub edited_line-told : (edited_line : EditedLine) → IsEditedLine edited_line
+edited_line-told : (edited_line : EditedLine) → IsEditedLine edited_line
     → TellPlaces (table_of (line_from 1 edited_line.old)) (table_of (line_from 1 edited_line.new))
     (changed_rows (table_of (line_from 1 edited_line.old)) (moved_areas_of edited_line) edited_line.before edited_line.after)
 edited_line-told edited_line is =

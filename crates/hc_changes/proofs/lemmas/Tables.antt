@@ -79,7 +79,7 @@ width-by : (old new : List Keyed) (key : Key) (before after : Option Keyed) → 
     → find (λ area. same_key area.0 key) old ≡ before → find (λ area. same_key area.0 key) new ≡ after → HasSame old new key
 width-by old new key before after none none' was is = search (rules, same-at)
 
-pub untouched-list : (old new : List Keyed) → IsTaskList old → IsTaskList new → touched old new ≡ [] → old ≡ new
+untouched-list : (old new : List Keyed) → IsTaskList old → IsTaskList new → touched old new ≡ [] → old ≡ new
 untouched-list old new is is' none =
     let all = All-unmap (λ key. is_touched old new key ≡ false) (λ (area : Keyed). area.0) (old ++ new) (nothing-kept (is_touched old new) (map (λ area. area.0) (old ++ new)) none) in
     told-by_widths old new is is' (λ key.
@@ -99,9 +99,6 @@ pub untouched-table : (old new : State) (task : ℕ) → lowest_fault (groups_of
 untouched-table old new task was is none = same-table new.groups old.groups task is was (sym (untouched-lists old new task was is none))
 
 -- whether a task is touched is told by the areas of both lines
-
-abbrev some_touched : List Keyed → List Keyed → Bool
-some_touched old new = nat_lt 0 (length (touched old new))
 
 pub touched-told : (old new : List Declared) (known : Before) → StandsBefore (areas_by_rank old) (areas_by_rank new) known → (task : ℕ) (some : Bool)
     → ((was is : List (List Area)) → StandsBefore was is known → some ≡ is_touched_by task was is)

@@ -4,8 +4,8 @@ use Rattle.std.proofs.lemmas.List.{length-append}
 use Rattle.hc_rings.specs.declared.posts.PostReceiver.{PostReceiver}
 use Rattle.hc_rings.specs.declared.posts.PostSender.{PostSender}
 use Rattle.hc_rings.specs.Post.{Post}
-use Rattle.hc_rings.specs.Ring.{PostsEach, SameSender, taken}
-use Rattle.hc_rings.proofs.lemmas.Same.{ends-still, receiver-same, sender-same}
+use Rattle.hc_rings.specs.Ring.{taken}
+use Rattle.hc_rings.proofs.lemmas.Same.{ends-still, sender-same}
 use Rattle.hc_conductor.specs.Taking.{AreTaken, AreTakenFrom}
 use Rattle.hc_conductor.specs.Together.{AreJoined, EachRing, IsWhole}
 
@@ -37,10 +37,3 @@ taken-joined [] (r ∷ rs) rs' posts each came = absurd each
 taken-joined (s ∷ ss) [] rs' posts each came = absurd each
 taken-joined (s ∷ ss) (r ∷ rs) [] posts each came = absurd came
 taken-joined (s ∷ ss) (r ∷ rs) (r' ∷ rs') [] each came = absurd came
-
--- the first seat posts, or not: it has the same end, and posted or holds each buffer; the others stay joined
-pub seat-joined : (s t : PostSender) (ss ts : List PostSender) → SameSender s t → (PostsEach s → PostsEach t) → ((rs : List PostReceiver) → EachRing AreJoined ss rs → EachRing AreJoined ts rs)
-    → (rs : List PostReceiver) → EachRing AreJoined (s ∷ ss) rs → EachRing AreJoined (t ∷ ts) rs
-seat-joined s t ss ts same each others (r ∷ rs) joined =
-    (record { ends = ends-still s t r r joined.0.ends same (receiver-same r); each = each joined.0.each; back = joined.0.back }, others rs joined.1)
-seat-joined s t ss ts same each others [] joined = absurd joined

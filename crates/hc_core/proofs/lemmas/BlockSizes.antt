@@ -1,15 +1,14 @@
 -- A register block has 8 or 16 bytes, so that the frame that writes it has 60: zeros fill it up.
-use Rattle.std.proofs.Common.{◌≡◌, ◌≤◌, ℕ, Bool, false, List, [], ◌∷◌, length, refl, arith, get_or, Option, rules}
+use Rattle.std.proofs.Common.{◌≡◌, ◌≤◌, ℕ, Bool, false, List, [], ◌∷◌, get_or, rules}
 use Rattle.std.specs.Prelude.{All, nat_lt}
 use Rattle.std.specs.List.{enumerate_from}
 use Rattle.std.proofs.lemmas.Bool.{le-ltb}
-use Rattle.std.proofs.lemmas.List.Elements.{All-cons, All-contains, All-filter, All-head, All-map, All-nil}
+use Rattle.std.proofs.lemmas.List.Elements.{All-contains, All-filter, All-head, All-map}
 use Rattle.hc_records.specs.declared.records.Area.{Area}
 use Rattle.hc_records.specs.Line.{Member}
 use Rattle.hc_records.specs.Lists.{lowest}
 use Rattle.hc_records.proofs.lemmas.Lists.{All-enumerate_from, All-flat_map}
-use Rattle.hc_registers.specs.declared.fmmu.Mapping.{Mapping}
-use Rattle.hc_registers.specs.Blocks.{LineBlock, RegisterBlock, area_blocks, fmmu_block, fmmu_bytes, line_blocks, member_blocks, slave_blocks, sync_manager_block, sync_manager_bytes}
+use Rattle.hc_registers.specs.Blocks.{LineBlock, RegisterBlock, area_blocks, line_blocks, member_blocks, slave_blocks}
 use Rattle.hc_events.specs.Calls.{write_into_faults, write_size}
 use Rattle.hc_events.specs.declared.faults.CoreFault.TheVariants.{NothingOwed, Room, SerialsSpent}
 use Rattle.hc_events.specs.Entries.{Record}
@@ -18,21 +17,6 @@ use Rattle.hc_events.specs.Points.{line_of}
 use Rattle.hc_events.specs.Steps.{write_faults}
 use Rattle.hc_events.proofs.lemmas.Answers.{owed-in_line}
 use Rattle.hc_core.specs.Firsts.{HasBytes, IsFirstOwed}
-
-sync_length : (area : Area) → length (sync_manager_bytes area) ≡ 8
-sync_length area = refl
-
-fmmu_length : (area : Area) (mapping : Option Mapping) → length (fmmu_bytes area mapping) ≡ 16
-fmmu_length area mapping = search rules
-
-sync_has : (area : Area) → HasBytes (sync_manager_block area)
-sync_has area = let long = sync_length area in record { some = omega (arith, long); most = omega (arith, long) }
-
-fmmu_has : (index : ℕ) (area : Area) (mapping : Option Mapping) → HasBytes (fmmu_block index area mapping)
-fmmu_has index area mapping = let long = fmmu_length area mapping in record { some = omega (arith, long); most = omega (arith, long) }
-
-pair_has : (first second : RegisterBlock) → HasBytes first → HasBytes second → All HasBytes (first ∷ second ∷ [])
-pair_has first second a b = All-cons HasBytes first (second ∷ []) a (All-cons HasBytes second [] b (All-nil HasBytes))
 
 area_has : (line : List Member) (rank : ℕ) (e : ℕ × Area) → All HasBytes (area_blocks line rank e)
 area_has line rank e = search rules

@@ -1,13 +1,11 @@
 -- Which posts are refused.
-use Rattle.std.proofs.Common.{◌≡◌, ◌≢◌, ℕ, suc, ◌<◌, ◌==◌, nat_lt, Bool, true, false, not, List, [], ◌∷◌, length, refl, ap, arith, Option, Some, None, rules}
-use Rattle.std.proofs.lemmas.Bool.Decides.{nat_tests}
+use Rattle.std.proofs.Common.{◌≡◌, ◌≢◌, ℕ, suc, ◌<◌, ◌==◌, List, [], ◌∷◌, length, refl, arith, Some, None, rules}
 use Rattle.hc_records.specs.declared.limits.TheConstants.{TASKS}
 use Rattle.hc_records.specs.Image.{output_length, task_places}
 use Rattle.hc_records.specs.Line.{Member}
 use Rattle.hc_records.specs.Lists.{lowest}
 use Rattle.hc_places.specs.Table.{part_in, table_of}
-use Rattle.hc_events.specs.declared.faults.CoreFault.{CoreFault}
-use Rattle.hc_events.specs.declared.faults.CoreFault.TheVariants.{NoSuchTask, PostLength, StalePost}
+use Rattle.hc_events.specs.declared.faults.CoreFault.TheVariants.{PostLength, StalePost}
 use Rattle.hc_events.specs.Entries.{Record}
 use Rattle.hc_events.specs.Points.{epoch_of, line_of}
 use Rattle.hc_events.specs.Steps.{post_faults}
@@ -19,18 +17,6 @@ outputs-listed line (suc (suc (suc (suc (suc (suc (suc (suc task)))))))) low = a
 outputs-listed line other low = refl
 
 -- the three tests
-
-is_task : (task : ℕ) → task < TASKS → not (nat_lt task TASKS) ≡ false
-is_task task low = let there : nat_lt task TASKS ≡ true = grind (arith, nat_tests) in ap not there
-
-equal : (a b : ℕ) → a ≡ b → not (a == b) ≡ false
-equal a b same = let there : (a == b) ≡ true = grind (arith, nat_tests) in ap not there
-
-unequal : (a b : ℕ) → a ≢ b → not (a == b) ≡ true
-unequal a b other = let there : (a == b) ≡ false = grind (arith, nat_tests) in ap not there
-
-abbrev judged : Bool → Bool → Bool → Option CoreFault
-judged task epoch size = lowest ((task, NoSuchTask) ∷ (epoch, StalePost) ∷ (size, PostLength) ∷ [])
 
 pub post-stale : (past : Record) (task epoch : ℕ) (bytes : List ℕ) → task < TASKS → epoch ≢ epoch_of past → lowest (post_faults past task epoch bytes) ≡ Some StalePost
 post-stale past task epoch bytes low other = search rules

@@ -1,21 +1,17 @@
 -- A line with slaves behind its own that have no areas, as those of a declared group that isn't present.
 use Rattle.std.specs.Prelude.{map, replicate}
-use Rattle.std.proofs.Common.{◌≡◌, ℕ, ◌+◌, ◌≤◌, false, List, [], ◌∷◌, ◌++◌, length, refl, sym, ap, subst, ◌∙◌, arith, append-nil, length-append}
+use Rattle.std.proofs.Common.{◌≡◌, ℕ, ◌+◌, ◌≤◌, false, List, [], ◌∷◌, ◌++◌, length, refl, ap, ◌∙◌, append-nil, length-append}
 use Rattle.std.proofs.lemmas.Grind.{flat_map-append}
-use Rattle.std.proofs.lemmas.List.Elements.{All-append}
 use Rattle.hc_records.specs.declared.records.Dir.{Dir}
 use Rattle.hc_records.specs.declared.records.Dir.TheVariants.{Out, In}
 use Rattle.hc_records.specs.declared.records.Area.{Area}
 use Rattle.hc_records.specs.declared.records.Slave.{Slave}
 use Rattle.hc_records.specs.declared.records.Group.{Group}
 use Rattle.hc_records.specs.declared.records.Declared.{Declared}
-use Rattle.hc_records.specs.SpanLaws.{IsTaskList}
 use Rattle.hc_records.specs.TaskList.{Keyed}
 use Rattle.hc_cuts.specs.Areas.{areas_by_rank, list_by, present_areas, rank_list}
-use Rattle.hc_cuts.specs.Kept.{IsLine}
 use Rattle.hc_cuts.specs.Room.{with_absent}
-use Rattle.hc_cuts.specs.Widths.{AreKept}
-use Rattle.hc_cuts.proofs.Lines.{absent-kept, absent-list, length-absent}
+use Rattle.hc_cuts.proofs.Lines.{absent-list, length-absent}
 use Rattle.hc_cuts.proofs.lemmas.Told.{rank_list-append}
 
 rank-absent : (task : ℕ) (dir : Dir) (rank count : ℕ) (line : List (List Area)) → rank_list task dir rank (with_absent count line) ≡ rank_list task dir rank line
@@ -30,14 +26,6 @@ list-absent task count line = rw (rank-absent task Out 1 count line, rank-absent
 
 pub length-with_absent : (count : ℕ) (line : List (List Area)) → length (with_absent count line) ≡ length line + count
 length-with_absent count line = length-append line (replicate count []) ∙ ap (λ (n : ℕ). length line + n) (length-absent count)
-
--- so they make a line again, if there are few
-pub line-absent : (count : ℕ) (line : List (List Area)) → IsLine line → length line + count ≤ 2048 → IsLine (with_absent count line)
-line-absent count line is few = record {
-  few = let many = length-with_absent count line in omega arith;
-  kept = All-append AreKept line (replicate count []) is.kept (absent-kept count);
-  lists = λ task. subst (λ (list : List Keyed). IsTaskList list) (sym (list-absent task count line)) (is.lists task);
-}
 
 -- a declared group that isn't present
 

@@ -151,7 +151,7 @@ heads_of_line before (Sent frame) sends accepted = frame_of_line (line_of before
 heads_of_line before (Wrote block) sends accepted =
     All-cons (IsHeadOf (line_of before)) (write_head block) [] (block, owed-in_line before block accepted.rest accepted.first, refl) (All-nil (IsHeadOf (line_of before)))
 
-pub of-line : (past : Record) (arrival : Arrival) (sending : Sending) → AreAccepted past → IsFirstAnswer past arrival sending → All (IsHeadOf (line_of past)) sending.heads
+of-line : (past : Record) (arrival : Arrival) (sending : Sending) → AreAccepted past → IsFirstAnswer past arrival sending → All (IsHeadOf (line_of past)) sending.heads
 of-line past arrival sending all first =
     let at = first.stands in
     let accepted = accepted_at sending.since at.before at.entry at.running at.sends (subst AreAccepted at.split all) in

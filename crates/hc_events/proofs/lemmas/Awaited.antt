@@ -100,7 +100,7 @@ news-is since (head ∷ heads) (part ∷ parts) e =
     ∙ ap (λ b. not (list_any (sends head.item) since) || b) (news-is since heads parts rest)
     ∙ not_both (list_any (sends head.item) since) (all_sent_again since heads)
 
-pub news_any : (datagrams : List Judged) → list_any is_news (news datagrams) ≡ list_any is_news datagrams
+news_any : (datagrams : List Judged) → list_any is_news (news datagrams) ≡ list_any is_news datagrams
 news_any datagrams = by_bool (list_any is_news datagrams) (λ t. rw t t) (λ t. rw t refl)
 
 news_told : (arrival : Arrival) (found : Option Sending) → news (option_map_or (judged arrival) (option_and_then (only_if (is_answer arrival)) found) []) ≡ news_from (option_and_then (alive arrival.serial) found) arrival

@@ -73,7 +73,7 @@ epoch_goods epoch (good ∷ goods) = epoch_goods epoch goods
 
 -- the news of a record lead to its slots, its state and its epoch
 
-pub record Follows (groups : List Group) (past : Record) : Type 0 where
+record Follows (groups : List Group) (past : Record) : Type 0 where
   pub slots : (task d : ℕ) → slot_by task d None (news_of past) ≡ slot_of past task d
   pub state : state_by (opened groups) (news_of past) ≡ state_of past
   pub epoch : epoch_by 0 (news_of past) ≡ epoch_of past
@@ -109,7 +109,7 @@ follows_more past (Sent frame) accepted follows = follows_grows (opened_with pas
 follows_more past (Wrote block) accepted follows = follows_grows (opened_with past) past (Wrote block) accepted follows
 follows_more past (Came arrival) accepted follows = follows_grows (opened_with past) past (Came arrival) accepted follows
 
-pub records-follow : (past : Record) → AreAccepted past → Follows (opened_with past) past
+records-follow : (past : Record) → AreAccepted past → Follows (opened_with past) past
 records-follow past all =
     held-of_accepted FollowsOwn follows_more (λ groups. record { slots = λ task d. refl; state = refl; epoch = refl }) past all
 

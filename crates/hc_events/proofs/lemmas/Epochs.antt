@@ -7,10 +7,10 @@ use Rattle.hc_events.specs.Points.{epoch_of, state_of}
 use Rattle.hc_events.specs.Accepted.{AreAccepted}
 use Rattle.hc_events.proofs.lemmas.Accepted.{Keeps, held-of_accepted}
 
-abbrev pub Counted : Record → Type 0
+abbrev Counted : Record → Type 0
 Counted past = (state_of past).epoch ≡ epoch_of past
 
-pub counted-more : Keeps Counted
+counted-more : Keeps Counted
 counted-more past (Opened groups) accepted before = absurd accepted
 counted-more past (Edited edit) accepted before =
     ap (λ fault. (result_unwrap_or (refused_by fault (changed (state_of past) edit)) (state_of past)).epoch) accepted ∙ ap (λ n. n + 1) before

@@ -41,10 +41,10 @@ proposals-carry past tasks = row-of (line_of past) (next_serial past) (flat_map 
 
 -- a frame's bytes are those of its datagrams
 
-abbrev pub bytes_with : List Member → List Named → ℕ
+abbrev bytes_with : List Member → List Named → ℕ
 bytes_with line names = sum_by (λ (named : Named). 12 + length_of line named) names
 
-abbrev pub IsCounted : List Member → Frame → Type 0
+abbrev IsCounted : List Member → Frame → Type 0
 IsCounted line frame = frame.bytes ≡ bytes_with line frame.datagrams
 
 pub alone-counted : (line : List Member) (serial : ℕ) (datagram : Named) → IsCounted line (alone serial datagram (length_of line datagram))
@@ -71,7 +71,7 @@ pub frames-counted : (line : List Member) (serial : ℕ) (datagrams : List Named
 frames-counted line serial [] = All-nil (IsCounted line)
 frames-counted line serial (datagram ∷ datagrams) = counted_behind line (alone serial datagram (length_of line datagram)) datagrams (alone-counted line serial datagram)
 
-pub text-counted : (past : Record) (names : List Named) → text_size (map sent (map (sent_datagram past) names)) ≡ bytes_with (line_of past) names
+text-counted : (past : Record) (names : List Named) → text_size (map sent (map (sent_datagram past) names)) ≡ bytes_with (line_of past) names
 text-counted past [] = refl
 text-counted past (named ∷ names) =
     let size = (sent-data past named.0 named.1).size in
@@ -96,7 +96,7 @@ frames-sized past tasks =
 
 -- their serials are the next ones, in order
 
-abbrev pub Numbered : ℕ → List Frame → Type 0
+abbrev Numbered : ℕ → List Frame → Type 0
 Numbered serial frames = map (λ sending. sending.serial) frames ≡ range_with_len serial (length frames)
 
 numbered_either : (room : Bool) (sending : Frame) (rest other : List Frame) → Numbered sending.serial rest → Numbered (sending.serial + 1) other → Numbered sending.serial (cond room rest (sending ∷ other))

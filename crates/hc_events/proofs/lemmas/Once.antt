@@ -80,7 +80,7 @@ ended serial None = Unit {0}
 ended serial (Some sending) = list_any (ends serial sending.heads) sending.since ≡ true
 
 -- a sending with the serial was made, and it ended
-pub record HasEnded (serial : ℕ) (past : Record) : Type 0 where
+record HasEnded (serial : ℕ) (past : Record) : Type 0 where
   pub made : serial < next_serial past
   pub over : ended serial (sending_of past serial)
 

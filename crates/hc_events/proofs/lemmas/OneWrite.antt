@@ -121,11 +121,11 @@ pub known-same : (past : Record) (arrival : Arrival) (write : Option (ℕ × Lis
 known-same past arrival None none = refl
 known-same past arrival (Some write) none = ap (λ b. cond b (Some write.1) None) (confirmed_same past arrival write.0 none)
 
-pub filter-same : (p q : LineBlock → Bool) → ((x : LineBlock) → p x ≡ q x) → (xs : List LineBlock) → filter p xs ≡ filter q xs
+filter-same : (p q : LineBlock → Bool) → ((x : LineBlock) → p x ≡ q x) → (xs : List LineBlock) → filter p xs ≡ filter q xs
 filter-same p q k [] = refl
 filter-same p q k (x ∷ xs) = ap (λ b. cond b (x ∷ filter p xs) (filter p xs)) (k x) ∙ ap (λ ys. cond (q x) (x ∷ ys) ys) (filter-same p q k xs)
 
-pub owed-same : (past : Record) (arrival : Arrival) → list_any has_good (judged_by past arrival) ≡ false → owed_blocks (Came arrival ∷ past) ≡ owed_blocks past
+owed-same : (past : Record) (arrival : Arrival) → list_any has_good (judged_by past arrival) ≡ false → owed_blocks (Came arrival ∷ past) ≡ owed_blocks past
 owed-same past arrival none =
     filter-same (is_owed (Came arrival ∷ past)) (is_owed past)
     (λ block. ap (λ known. not (option_map_or (bytes_eq block.block.bytes) known false)) (known-same past arrival (last_write past block.station block.number) none))
@@ -149,7 +149,7 @@ any_news (datagram ∷ datagrams) e =
     (λ t. or_left (is_news datagram) _ (good_news datagram.verdict t))
     (λ t. or_right (is_news datagram) _ (any_news datagrams (sym (ap (λ b. b || list_any has_good datagrams) t) ∙ e)))
 
-pub record IsFor (past : Record) (arrival : Arrival) : Type 0 where
+record IsFor (past : Record) (arrival : Arrival) : Type 0 where
   pub sending : Sending
   pub there : awaited past arrival.serial ≡ Some sending
   pub fit : has_heads sending.heads arrival.parts ≡ true
@@ -161,7 +161,7 @@ is_for past arrival (Some sending) there e =
     (λ t. record { sending = sending; there = there; fit = t })
     (λ t. let never : false ≡ true = rw t at e in cc)
 
-pub good-for : (past : Record) (arrival : Arrival) → list_any has_good (judged_by past arrival) ≡ true → IsFor past arrival
+good-for : (past : Record) (arrival : Arrival) → list_any has_good (judged_by past arrival) ≡ true → IsFor past arrival
 good-for past arrival e =
     is_for past arrival (awaited past arrival.serial) refl (sym (awaited-any past arrival) ∙ any_news (judged_by past arrival) e)
 
@@ -241,7 +241,7 @@ first_behind past block (x ∷ xs) rest e =
 
 -- a write that is awaited: of the first owed block, and nothing else is awaited
 
-pub record IsAlone (past : Record) (serial : ℕ) (now : Sending) : Type 0 where
+record IsAlone (past : Record) (serial : ℕ) (now : Sending) : Type 0 where
   pub head : Head
   pub heads : now.heads ≡ head ∷ []
   pub first : LineBlock
@@ -250,7 +250,7 @@ pub record IsAlone (past : Record) (serial : ℕ) (now : Sending) : Type 0 where
   pub same : same_item head.item (block_item first) ≡ true
   pub alone : (other : ℕ) (sending : Sending) → awaited past other ≡ Some sending → other ≡ serial
 
-pub record WritesAlone (past : Record) : Type 0 where
+record WritesAlone (past : Record) : Type 0 where
   pub writes : (serial : ℕ) (now : Sending) → awaited past serial ≡ Some now → is_write now ≡ true → IsAlone past serial now
   pub frames : (serial : ℕ) (now : Sending) → awaited past serial ≡ Some now → is_write now ≡ false → owed_blocks past ≡ []
 
@@ -408,7 +408,7 @@ wrote_frames past block rest serial now all owed e w =
     (λ t. let never : true ≡ false = sym (ap (list_any (λ head. is_block head.item)) (new_wrote past block serial now e t)) ∙ w in cc)
     (λ t. nothing_older past block rest serial now all owed (older_wrote past block serial now e t))
 
-pub alone-grows : Keeps WritesAlone
+alone-grows : Keeps WritesAlone
 alone-grows past (Opened groups) accepted all = absurd accepted
 alone-grows past (Edited edit) accepted all = record {
   writes = λ serial now e w. absurd (none_some now (sym (alive_edited serial edit (sending_of past serial)) ∙ e));
@@ -433,7 +433,7 @@ alone-grows past (Came arrival) accepted all = record {
   frames = λ serial now e w. came_frames past arrival serial now all (still_came past serial arrival now e) w;
 }
 
-pub just-opened_alone : (groups : List Group) → WritesAlone (just_opened groups)
+just-opened_alone : (groups : List Group) → WritesAlone (just_opened groups)
 just-opened_alone groups = record {
   writes = λ serial now e w. absurd (none_some now e);
   frames = λ serial now e w. absurd (none_some now e);

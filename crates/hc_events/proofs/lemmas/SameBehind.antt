@@ -50,7 +50,7 @@ same-says a b same = record {
 without_came : (past : Record) (arrival : Arrival) → without_stale (Came arrival ∷ past) ≡ cond (is_stale_to (without_stale past) arrival) (without_stale past) (Came arrival ∷ without_stale past)
 without_came past arrival = ap (λ b. cond b (without_stale past) (Came arrival ∷ without_stale past)) (sym (without-stale past arrival))
 
-pub same-grows : (entry : Entry) (a b : Record) → SameWithout a b → SameWithout (entry ∷ a) (entry ∷ b)
+same-grows : (entry : Entry) (a b : Record) → SameWithout a b → SameWithout (entry ∷ a) (entry ∷ b)
 same-grows (Opened groups) a b same = ap (λ past. Opened groups ∷ past) same
 same-grows (Edited edit) a b same = ap (λ past. Edited edit ∷ past) same
 same-grows (Posted task bytes) a b same = ap (λ past. Posted task bytes ∷ past) same
@@ -94,7 +94,7 @@ filter_alike : {X : Type 0} (p q : X → Bool) → ((x : X) → p x ≡ q x) →
 filter_alike p q k [] = refl
 filter_alike p q k (x ∷ xs) = ap (λ b. cond b (x ∷ filter p xs) (filter p xs)) (k x) ∙ ap (λ ys. cond (q x) (x ∷ ys) ys) (filter_alike p q k xs)
 
-pub same-line : (a b : Record) → SaysTheSame a b → line_of a ≡ line_of b
+same-line : (a b : Record) → SaysTheSame a b → line_of a ≡ line_of b
 same-line a b says = ap line says.state
 
 pub same-owed : (a b : Record) → SaysTheSame a b → owed_blocks a ≡ owed_blocks b
@@ -102,7 +102,7 @@ same-owed a b says =
     filter_alike (is_owed a) (is_owed b) (λ block. ap (λ known. not (option_map_or (bytes_eq block.block.bytes) known false)) (says.known block.station block.number)) (line_blocks (line_of a))
     ∙ ap (λ members. filter (is_owed b) (line_blocks members)) (same-line a b says)
 
-pub same-proposal : (a b : Record) (tasks : List ℕ) → SaysTheSame a b → proposal a tasks ≡ proposal b tasks
+same-proposal : (a b : Record) (tasks : List ℕ) → SaysTheSame a b → proposal a tasks ≡ proposal b tasks
 same-proposal a b tasks says =
     ap (λ members. sendings_of members (next_serial a) tasks) (same-line a b says) ∙ ap (λ n. sendings_of (line_of b) n tasks) says.serial
 
@@ -114,12 +114,12 @@ bytes_alike : (bit other : ℕ → ℕ) → ((k : ℕ) → bit k ≡ other k) �
 bytes_alike bit other alike size =
     map_alike (byte_of bit) (byte_of other) (λ n. ap number_of (map_alike (λ k. bit (8 * n + k)) (λ k. other (8 * n + k)) (λ k. alike (8 * n + k)) (range_with_len 0 8))) (range_with_len 0 size)
 
-pub same-data : (a b : Record) (task d : ℕ) → SaysTheSame a b → sent_data a task d ≡ sent_data b task d
+same-data : (a b : Record) (task d : ℕ) → SaysTheSame a b → sent_data a task d ≡ sent_data b task d
 same-data a b task d says =
     bytes_alike (sent_bit a (outputs_in (line_of a) task d)) (sent_bit b (outputs_in (line_of a) task d)) (λ k. found_alike a b k says (find (has_bit k) (outputs_in (line_of a) task d))) (datagram_length (task_places task (line_of a)) d)
     ∙ ap (λ members. bytes_of (sent_bit b (outputs_in members task d)) (datagram_length (task_places task members) d)) (same-line a b says)
 
-pub same-text : (a b : Record) (sending : Frame) → SaysTheSame a b → sent_text a sending ≡ sent_text b sending
+same-text : (a b : Record) (sending : Frame) → SaysTheSame a b → sent_text a sending ≡ sent_text b sending
 same-text a b sending says =
     ap (frame_text sending.serial) (map_alike (sent_datagram a) (sent_datagram b) (λ named. ap (lrw (logical_address named.0 named.1)) (same-data a b named.0 named.1 says)) sending.datagrams)
 

@@ -73,7 +73,7 @@ byte_bit bit small n i below =
     spelled (map (λ k. bit (8 * n + k)) (range_with_len 0 8)) i (eight_small bit small n 0 8)
     ∙ get_or-map-range_with_len (λ k. bit (8 * n + k)) 0 8 i i 0 below (omega arith)
 
-pub made_bit : (bit : ℕ → ℕ) → ((k : ℕ) → bit k < 2) → (size k : ℕ) → k < 8 * size → bit_of (bytes_of bit size) k ≡ bit k
+made_bit : (bit : ℕ → ℕ) → ((k : ℕ) → bit k < 2) → (size k : ℕ) → k < 8 * size → bit_of (bytes_of bit size) k ≡ bit k
 unfolding bit_of
 made_bit bit small size k below =
     let inside : k / 8 < size = omega arith in
@@ -84,7 +84,7 @@ made_bit bit small size k below =
     ∙ ap bit whole
 
 -- the bytes that are made of sent bits
-pub record HasBits (past : Record) (task d : ℕ) (bytes : List ℕ) : Type 0 where
+record HasBits (past : Record) (task d : ℕ) (bytes : List ℕ) : Type 0 where
   pub size : length bytes ≡ length_of (line_of past) (task, d)
   pub bits : (k : ℕ) → k < 8 * length_of (line_of past) (task, d) → bit_of bytes k ≡ sent_bit past (outputs_in (line_of past) task d) k
 

@@ -14,7 +14,7 @@ use Rattle.hc_events.proofs.lemmas.Accepted.{Keeps, kept-after_all}
 use Rattle.hc_events.proofs.lemmas.Awaited.{by_bool, news_from, news-is, awaited-any, again-more, unless_fits, unless_again, alive_edited, alive_came, alive_other}
 
 -- an arrival is no news for what is awaited
-abbrev pub quiet : Arrival → Option Sending → Type 0
+abbrev quiet : Arrival → Option Sending → Type 0
 quiet arrival found = list_any is_news (news_from found arrival) ≡ false
 
 quiet_came : (serial : ℕ) (other arrival : Arrival) (found : Option Sending) → quiet arrival found → quiet arrival (option_and_then (unless_fits serial other) found)
@@ -52,7 +52,7 @@ quiet_grows past (Wrote block) arrival below q =
     ∙ alive_other arrival.serial (Wrote block) (λ heads. refl) refl (sending_of past arrival.serial))) (quiet_other (Wrote block) arrival (awaited past arrival.serial) q)
 
 -- a sending with the arrival's serial was made, and the arrival is no news for what is awaited with it
-pub record IsOver (arrival : Arrival) (past : Record) : Type 0 where
+record IsOver (arrival : Arrival) (past : Record) : Type 0 where
   pub made : arrival.serial < next_serial past
   pub quiet_now : quiet arrival (awaited past arrival.serial)
 

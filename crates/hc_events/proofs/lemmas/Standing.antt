@@ -72,7 +72,7 @@ sent_counts before (Sent frame) sends = one_more (next_serial before)
 sent_counts before (Wrote block) sends = one_more (next_serial before)
 
 -- behind a sending the next serial is above its own
-pub serial-above : (since : List Entry) (before : Record) (entry : Entry) → is_sending entry ≡ true → list_any is_opening since ≡ false → next_serial before < next_serial (since ++ entry ∷ before)
+serial-above : (since : List Entry) (before : Record) (entry : Entry) → is_sending entry ≡ true → list_any is_opening since ≡ false → next_serial before < next_serial (since ++ entry ∷ before)
 serial-above [] before entry sends running = sent_counts before entry sends
 serial-above (Opened groups ∷ since) before entry sends running = cc
 serial-above (Edited edit ∷ since) before entry sends running = serial-above since before entry sends running

@@ -34,7 +34,7 @@ without-state (Sent frame ∷ past) = without-state past
 without-state (Wrote block ∷ past) = without-state past
 without-state (Came arrival ∷ past) = came_skips state_of (is_stale_to past arrival) arrival (without_stale past) refl ∙ without-state past
 
-pub without-line : (past : Record) → line_of (without_stale past) ≡ line_of past
+without-line : (past : Record) → line_of (without_stale past) ≡ line_of past
 without-line past = ap line (without-state past)
 
 pub without-epoch : (past : Record) → epoch_of (without_stale past) ≡ epoch_of past
@@ -69,7 +69,7 @@ without-value (Wrote block ∷ past) variable k = without-value past variable k
 without-value (Came arrival ∷ past) variable k =
     came_skips (λ record'. value_bit record' variable k) (is_stale_to past arrival) arrival (without_stale past) refl ∙ without-value past variable k
 
-pub without-write : (past : Record) (station number : ℕ) → last_write (without_stale past) station number ≡ last_write past station number
+without-write : (past : Record) (station number : ℕ) → last_write (without_stale past) station number ≡ last_write past station number
 without-write [] station number = refl
 without-write (Opened groups ∷ past) station number = refl
 without-write (Edited edit ∷ past) station number =
@@ -89,7 +89,7 @@ none_of : (b : Bool) → not b ≡ true → b ≡ false
 none_of true e = cc
 none_of false e = refl
 
-abbrev pub no_news : Record → Arrival → Type 0
+abbrev no_news : Record → Arrival → Type 0
 no_news past arrival = list_any is_news (judged_by past arrival) ≡ false
 
 -- what holds of a record without a stale arrival and of one with an arrival holds without the stale ones
@@ -97,7 +97,7 @@ came_either : {X : Type 0} (k : Record → X) (past slim : Record) (arrival : Ar
 came_either k past slim arrival true e stale other = stale (none_of (list_any is_news (judged_by past arrival)) e)
 came_either k past slim arrival false e stale other = other
 
-pub without-awaited : (past : Record) (serial : ℕ) → awaited (without_stale past) serial ≡ awaited past serial
+without-awaited : (past : Record) (serial : ℕ) → awaited (without_stale past) serial ≡ awaited past serial
 without-awaited [] serial = refl
 without-awaited (Opened groups ∷ past) serial = refl
 without-awaited (Edited edit ∷ past) serial = awaited-grows (without_stale past) past serial (Edited edit) (without-serial past) (without-line past) (without-awaited past serial)
@@ -155,18 +155,18 @@ goods-of_news datagrams =
     (λ t. rw t refl)
     (λ t. goods_none datagrams t ∙ sym (ap (λ b. flat_map fresh (cond b datagrams [])) t))
 
-pub any-of_news : (datagrams : List Judged) → list_any has_good datagrams ≡ list_any has_good (news datagrams)
+any-of_news : (datagrams : List Judged) → list_any has_good datagrams ≡ list_any has_good (news datagrams)
 any-of_news datagrams =
     by_bool (list_any is_news datagrams)
     (λ t. rw t refl)
     (λ t. any_none datagrams t ∙ sym (ap (λ b. list_any has_good (cond b datagrams [])) t))
 
 -- so the good answers of an arrival
-pub without-fresh : (past : Record) (arrival : Arrival) → fresh_by (without_stale past) arrival ≡ fresh_by past arrival
+without-fresh : (past : Record) (arrival : Arrival) → fresh_by (without_stale past) arrival ≡ fresh_by past arrival
 without-fresh past arrival =
     goods-of_news (judged_by (without_stale past) arrival) ∙ ap (flat_map fresh) (without-news past arrival) ∙ sym (goods-of_news (judged_by past arrival))
 
-pub without-good : (past : Record) (arrival : Arrival) → list_any has_good (judged_by (without_stale past) arrival) ≡ list_any has_good (judged_by past arrival)
+without-good : (past : Record) (arrival : Arrival) → list_any has_good (judged_by (without_stale past) arrival) ≡ list_any has_good (judged_by past arrival)
 without-good past arrival =
     any-of_news (judged_by (without_stale past) arrival)
     ∙ ap (list_any has_good) (without-news past arrival)
@@ -202,7 +202,7 @@ and_none : (a b : Bool) → b ≡ false → (a && b) ≡ false
 and_none true b e = e
 and_none false b e = refl
 
-pub without-confirmed : (past : Record) (serial : ℕ) → was_confirmed (without_stale past) serial ≡ was_confirmed past serial
+without-confirmed : (past : Record) (serial : ℕ) → was_confirmed (without_stale past) serial ≡ was_confirmed past serial
 without-confirmed [] serial = refl
 without-confirmed (Opened groups ∷ past) serial = refl
 without-confirmed (Edited edit ∷ past) serial = without-confirmed past serial

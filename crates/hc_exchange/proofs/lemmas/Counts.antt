@@ -124,7 +124,7 @@ in-datagram state task datagram member dir bit m can is has low carries =
 
 -- and a slave that counts there has an area with a bit in the datagram
 
-pub record HasArea (line : List Member) (task : ℕ) (keyed : Keyed) : Type 0 where
+record HasArea (line : List Member) (task : ℕ) (keyed : Keyed) : Type 0 where
   member : Member
   index : ℕ
   area : Area

@@ -88,7 +88,7 @@ one-station line a b keeps has has' same =
 pub slave-of : (line : List Member) (member : Member) → KeepsLine line → Contains line member → IsSlaveInside member.slave
 slave-of line member keeps has = All-contains (λ (m : Member). IsSlaveInside m.slave) line member keeps.slaves has
 
-pub area-at : (P : Area → Type 0) (areas : List Area) (index : ℕ) (area : Area) → All P areas → slice_get areas index ≡ Some area → P area
+area-at : (P : Area → Type 0) (areas : List Area) (index : ℕ) (area : Area) → All P areas → slice_get areas index ≡ Some area → P area
 area-at P areas index area all found = subst P (get_or_from_slice_get areas index area area found) (all index area (slice_get_within areas index area found))
 
 pub area-inside : (line : List Member) (member : Member) (index : ℕ) (area : Area) → KeepsLine line → Contains line member → slice_get member.slave.areas index ≡ Some area → IsAreaInside area

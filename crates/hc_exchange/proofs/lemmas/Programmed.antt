@@ -28,7 +28,7 @@ use Rattle.hc_exchange.proofs.Wrote.{IsPlain, Misses}
 
 -- each block of the line can be written
 
-pub record IsSized (block : RegisterBlock) : Type 0 where
+record IsSized (block : RegisterBlock) : Type 0 where
   pub from : 1536 ≤ block.register
   pub to : block.register + length block.bytes ≤ 4096
   pub some : 1 ≤ length block.bytes
@@ -251,7 +251,7 @@ writing-bytes state machines can are small =
 none-zero : (x m : ℕ) → ¬ (IsPair (replicate 16 0) x m)
 none-zero x m pair = let active = pair.active in cc
 
-pub fmmu-stands : (line : List Member) (member : Member) (memory : List ℕ) (index : ℕ) (area : Area) → IsProgrammed line member memory → slice_get member.slave.areas index ≡ Some area
+fmmu-stands : (line : List Member) (member : Member) (memory : List ℕ) (index : ℕ) (area : Area) → IsProgrammed line member memory → slice_get member.slave.areas index ≡ Some area
     → block_at memory index ≡ fmmu_bytes area (mapping_of line area.task (key_of member index area))
 fmmu-stands line member memory index area programmed found =
     let at = 1536 + 16 * index in
@@ -296,7 +296,7 @@ slave-to-areas line member memory x m keeps has programmed pairs =
     record { member = member; index = pairs.fmmu; area = told.area; mapping = told.mapping; station_is = refl; is_mapped = told.is; pair = told.pair }
 
 -- and the FMMU of an area that is mapped stands in the machine of its slave
-pub record AreaStands (memory : List ℕ) (index : ℕ) (area : Area) (mapping : Mapping) : Type 0 where
+record AreaStands (memory : List ℕ) (index : ℕ) (area : Area) (mapping : Mapping) : Type 0 where
   pub below : index < 16
   pub stands : block_at memory index ≡ mapped_bytes area mapping
 

@@ -22,14 +22,14 @@ abbrev pub own_fmmu : List Member → Member → ℕ → Area → RegisterBlock
 own_fmmu line member index area = fmmu_block index area (mapping_of line area.task (key_of member index area))
 
 -- a block of a slave is the FMMU block of one of its areas
-pub record IsAreaBlock (line : List Member) (member : Member) (block : RegisterBlock) : Type 0 where
+record IsAreaBlock (line : List Member) (member : Member) (block : RegisterBlock) : Type 0 where
   pub index : ℕ
   pub area : Area
   pub found : slice_get member.slave.areas index ≡ Some area
   pub is : block ≡ own_fmmu line member index area
 
 -- or the sync manager block of one
-pub record IsManagerBlock (member : Member) (block : RegisterBlock) : Type 0 where
+record IsManagerBlock (member : Member) (block : RegisterBlock) : Type 0 where
   pub index : ℕ
   pub area : Area
   pub found : slice_get member.slave.areas index ≡ Some area
@@ -79,7 +79,7 @@ line-sources line =
 
 -- a pair of a block is a pair of the area whose block it is, where it is mapped
 
-pub record PairOf (line : List Member) (member : Member) (block : LineBlock) (x m : ℕ) : Type 0 where
+record PairOf (line : List Member) (member : Member) (block : LineBlock) (x m : ℕ) : Type 0 where
   pub index : ℕ
   pub area : Area
   pub mapping : Mapping
@@ -145,7 +145,7 @@ fmmu-in-slave line member index area found =
 
 -- slave by slave, the pairs of the blocks are those of the areas
 
-pub blocks-to-areas : (line : List Member) (station x m : ℕ) → KeepsLine line → BlocksPair line station x m → AreasPair line station x m
+blocks-to-areas : (line : List Member) (station x m : ℕ) → KeepsLine line → BlocksPair line station x m → AreasPair line station x m
 blocks-to-areas line station x m keeps pairs =
     let source = All-contains (IsOfLine line) (line_blocks line) pairs.block (line-sources line) pairs.in_line in
     let told = pair-of line source.member pairs.block x m keeps source.in_line source.of_member pairs.pair in
@@ -164,7 +164,7 @@ pub mapped-area : (line : List Member) (member : Member) (index : ℕ) (area : A
 mapped-area line member index area mapping x m keeps is pair =
     (block-pairs area mapping x m (in-memory line member index area keeps is.in_line is.in_record) (mappable line member index area mapping keeps is.in_line is.in_record is.mapped)).1 pair
 
-pub areas-to-blocks : (line : List Member) (station x m : ℕ) → KeepsLine line → AreasPair line station x m → BlocksPair line station x m
+areas-to-blocks : (line : List Member) (station x m : ℕ) → KeepsLine line → AreasPair line station x m → BlocksPair line station x m
 areas-to-blocks line station x m keeps pairs =
     let is = pairs.is_mapped in
     let area = pairs.area in

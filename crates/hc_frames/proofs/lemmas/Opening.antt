@@ -17,11 +17,11 @@ drop_front front back n e = ap (λ (k : ℕ). drop k (front ++ back)) (sym e) �
 pub drop_twice : (m n : ℕ) (xs : List ℕ) → drop n (drop m xs) ≡ drop (m + n) xs
 drop_twice m n xs = grind (arith, common_steps)
 
-pub blank_length : (serial : ℕ) (more : Bool) (d : ℕ × ℕ) → length (datagram_text serial more (blank_lrw d)) ≡ 12 + d.1
+blank_length : (serial : ℕ) (more : Bool) (d : ℕ × ℕ) → length (datagram_text serial more (blank_lrw d)) ≡ 12 + d.1
 blank_length serial more d = datagram_length serial d.0 d.1 more (replicate d.1 0) (length-replicate d.1 0)
 
 -- the others stand open where the first was cut off
-pub open_others : (serial : ℕ) (ds : List (ℕ × ℕ)) (rest : List ℕ) → StandOpen serial ds rest
+open_others : (serial : ℕ) (ds : List (ℕ × ℕ)) (rest : List ℕ) → StandOpen serial ds rest
     → let behind : List ℕ = drop (12 + first_size ds) rest in 0 < length ds → StandOpen serial (drop 1 ds) behind
 open_others serial [] rest e some = absurd (omega arith)
 open_others serial (d ∷ []) rest e some = refl
@@ -34,7 +34,7 @@ open_others serial (d ∷ f ∷ ds) rest e some =
     ∙ ap (λ (n : ℕ). others ++ drop n rest) (sum_by-cons (λ (x : ℕ × ℕ). 12 + x.1) d (f ∷ ds))
     ∙ ap (λ (t : List ℕ). others ++ t) (sym (drop_twice (12 + d.1) (datagrams_size (f ∷ ds)) rest))
 
-pub blank_lengths : (serial : ℕ) (ds : List (ℕ × ℕ)) → length (datagrams_text serial (map blank_lrw ds)) ≡ datagrams_size ds
+blank_lengths : (serial : ℕ) (ds : List (ℕ × ℕ)) → length (datagrams_text serial (map blank_lrw ds)) ≡ datagrams_size ds
 blank_lengths serial [] = refl
 blank_lengths serial (d ∷ []) = blank_length serial false d ∙ sym (zero-add (12 + d.1))
 blank_lengths serial (d ∷ f ∷ ds) =

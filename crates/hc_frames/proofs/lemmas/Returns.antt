@@ -93,7 +93,7 @@ same_some [] (part ∷ parts) back some = absurd back
 same_some (d ∷ ds) [] back some = absurd back
 same_some (d ∷ ds) (part ∷ parts) back some = omega arith
 
-pub returned-carried : (serial : ℕ) (ds : List Datagram) (parts : List Carried) → CanBeCarried serial (map sent ds) → AllComeBack ds parts → All FitsFields parts → CanBeCarried serial parts
+returned-carried : (serial : ℕ) (ds : List Datagram) (parts : List Carried) → CanBeCarried serial (map sent ds) → AllComeBack ds parts → All FitsFields parts → CanBeCarried serial parts
 returned-carried serial ds parts can back fields =
     let within : text_size (map sent ds) ≤ 1498 = can.within in
     let same : text_size parts ≡ text_size (map sent ds) = same_text ds parts back in

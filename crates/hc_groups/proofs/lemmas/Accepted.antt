@@ -39,7 +39,7 @@ free-by : (fault : Option EditFault) (next new : State) → refused_by fault nex
 free-by None next new is = refl
 free-by (Some fault) next new is = cc
 
-pub declared-free : (old new : State) (group : Group) → edited old (Declare group) ≡ Ok new → lowest (declaring_faults old.groups group) ≡ None
+declared-free : (old new : State) (group : Group) → edited old (Declare group) ≡ Ok new → lowest (declaring_faults old.groups group) ≡ None
 declared-free old new group accepted =
     let all = free-by (lowest (edit_faults old (Declare group))) (changed old (Declare group)) new accepted in
     let crowded = crowded_task (line (changed old (Declare group))) in

@@ -60,9 +60,6 @@ declared-kept change keeps groups index is none =
 
 -- presence set
 
-same-group : (present here : Bool) (declared : Declared) → (if here then record declared { present = present } else declared).group ≡ declared.group
-same-group present here declared = search rules
-
 presence-keeps : (alias : ℕ) (present : Bool) → KeepsDeclared (with_presence alias present)
 presence-keeps alias present = search rules
 

@@ -11,18 +11,13 @@ use Rattle.hc_records.specs.Edits.{changed, crowded_task, edit_faults, edited, l
 use Rattle.hc_groups.specs.Edits.{own_fault, state_of}
 
 -- those of a state are those over its groups
-pub any-epoch : (state : State) (edit : Edit) → own_faults state edit ≡ own_faults (state_of state.groups) edit
+any-epoch : (state : State) (edit : Edit) → own_faults state edit ≡ own_faults (state_of state.groups) edit
 any-epoch state edit = search rules
 
 lowest-behind : {F : Type 0} (faults others : List (Bool × F)) → lowest faults ≡ None → lowest (faults ++ others) ≡ lowest others
 lowest-behind [] others none = refl
 lowest-behind ((true, fault) ∷ faults) others none = cc
 lowest-behind ((false, fault) ∷ faults) others none = lowest-behind faults others none
-
-lowest-before : {F : Type 0} (faults others : List (Bool × F)) (fault : F) → lowest faults ≡ Some fault → lowest (faults ++ others) ≡ Some fault
-lowest-before [] others fault some = cc
-lowest-before ((true, first) ∷ faults) others fault some = some
-lowest-before ((false, first) ∷ faults) others fault some = lowest-before faults others fault some
 
 -- the faults that concern the new line, the epoch and a declared group
 abbrev pub line_faults : State → Edit → List (Bool × EditFault)

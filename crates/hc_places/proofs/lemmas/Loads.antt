@@ -68,7 +68,7 @@ first-by true false bytes datagram placed rest first at input all found own late
 first-by false input bytes datagram placed rest first at test all found own later =
     later (λ same. let other = eqb-false placed.datagram datagram at in absurd (other same)) all found
 
-pub first-low : (bytes datagram : ℕ) (front : Front) (list : List Keyed) (first : Placed) → (front.datagram ≡ datagram → (front.last ≡ Out) × (front.bit ≤ 8 * bytes))
+first-low : (bytes datagram : ℕ) (front : Front) (list : List Keyed) (first : Placed) → (front.datagram ≡ datagram → (front.last ≡ Out) × (front.bit ≤ 8 * bytes))
     → All (FillsTo bytes) (inside datagram (packed front list)) → find is_input (inside datagram (packed front list)) ≡ Some first → first.bit ≤ 8 * bytes
 first-low bytes datagram front [] first filled all found = cc
 first-low bytes datagram front (area ∷ areas) first filled all found =
@@ -128,7 +128,7 @@ part-by list datagram (Some first) ascends found =
     let same : first.bit / 8 ≡ bytes = omega arith in
     same ∙ sym (min-eq_left {n = bytes} {m = datagram_length areas datagram} (omega arith))
 
-pub load-part : (list : List Keyed) (datagram : ℕ) → Ascends list
+load-part : (list : List Keyed) (datagram : ℕ) → Ascends list
     → (load_in (packed opening list) datagram).outputs
     ≡ min (output_length (packed opening list) - datagram_offset (packed opening list) datagram) (datagram_length (packed opening list) datagram)
 load-part list datagram ascends = part-by list datagram (find is_input (inside datagram (packed opening list))) ascends refl
@@ -143,7 +143,7 @@ datagram_at task areas datagram = record {
   offset = datagram_offset areas datagram;
 }
 
-pub record IsLoaded (task : ℕ) (areas : List Placed) (count : ℕ) (table : TaskTable) : Type 0 where
+record IsLoaded (task : ℕ) (areas : List Placed) (count : ℕ) (table : TaskTable) : Type 0 where
   pub datagrams : table.datagrams ≡ map (datagram_at task areas) (range_with_len 0 count)
   pub bytes : table.outputs + table.inputs ≡ datagram_offset areas count
   pub outputs : table.outputs ≡ min (datagram_offset areas count) (output_length areas)

@@ -24,7 +24,7 @@ abbrev AreInOrder : List Placed → Type 0
 AreInOrder areas = AllPairs (λ a b. IsTrue (is_before a.key b.key)) areas
 
 -- so do those of the places of a list whose keys ascend
-pub places-in-order : (list : List Keyed) → Ascends list → AreInOrder (packed opening list)
+places-in-order : (list : List Keyed) → Ascends list → AreInOrder (packed opening list)
 places-in-order list ascends =
     let same = packed-areas opening list in
     AllPairs-unmap (λ a b. IsTrue (is_before a.0 b.0)) area_of (packed opening list) (rw same ascends)

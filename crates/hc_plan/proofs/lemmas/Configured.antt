@@ -16,7 +16,7 @@ use Rattle.hc_records.proofs.lemmas.Stations.{IsAbsent, stations}
 pub at-contained : {X : Type 0} (xs : List X) (i : ℕ) (x : X) → slice_get xs i ≡ Some x → Contains xs x
 at-contained xs i x is = (i, slice_get_within xs i x is, get_or_from_slice_get xs i x x is)
 
-pub contained-at : {X : Type 0} (xs : List X) (x : X) (at : Contains xs x) → slice_get xs at.0 ≡ Some x
+contained-at : {X : Type 0} (xs : List X) (x : X) (at : Contains xs x) → slice_get xs at.0 ≡ Some x
 contained-at xs x at = slice_get-get_or xs at.0 x at.1 ∙ ap (λ (y : _). Some y) at.2
 
 -- the blocks of one slave

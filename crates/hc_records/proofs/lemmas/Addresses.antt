@@ -21,7 +21,7 @@ uncrowded-few line task none low =
     (found-none (λ task. nat_lt MOST_DATAGRAMS (datagram_count (task_places task line))) tasks none) task low)
 
 -- an address tells its task and its datagram
-pub address-tells : (task datagram bytes other another others address : ℕ) → datagram < MOST_DATAGRAMS → another < MOST_DATAGRAMS → bytes ≤ MOST_DATAGRAM_BYTES → others ≤ MOST_DATAGRAM_BYTES →
+address-tells : (task datagram bytes other another others address : ℕ) → datagram < MOST_DATAGRAMS → another < MOST_DATAGRAMS → bytes ≤ MOST_DATAGRAM_BYTES → others ≤ MOST_DATAGRAM_BYTES →
     logical_address task datagram ≤ address → address < logical_address task datagram + bytes → logical_address other another ≤ address → address < logical_address other another + others →
     (task ≡ other) × (datagram ≡ another)
 address-tells task datagram bytes other another others address low low' few few' from to from' to' =

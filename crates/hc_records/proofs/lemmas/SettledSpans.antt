@@ -72,7 +72,7 @@ held-by old new key (inl none) (inl none') touched =
     let never : true ≡ false = sym same ∙ kept in
     cc
 
-pub touched-held : (old new : List Keyed) (key : Key) → is_touched old new key ≡ true → IsInHull key (hull key.dir (touched old new))
+touched-held : (old new : List Keyed) (key : Key) → is_touched old new key ≡ true → IsInHull key (hull key.dir (touched old new))
 touched-held old new key =
     let all = all-held old new key.dir in
     held-by old new key (width-or (IsHeld old new key.dir) old key (All-append_left (λ area. IsHeld old new key.dir area.0) old new all))
@@ -134,14 +134,14 @@ shifted span first rest (k, within, found) = (suc k, omega arith, found)
 next-shifted : (from next key : Key) (later : List Key) → (last : Key) × Contains (spans_from next later) (key, last) → (last : Key) × Contains (spans_from from (next ∷ later)) (key, last)
 next-shifted from next key later (last, contains) = (last, shifted (key, last) (from, next) (spans_from next later) contains)
 
-pub next-span : (from : Key) (later : List Key) (key : Key) → Contains (from ∷ later) key → (last : Key) × Contains (spans_from from later) (key, last)
+next-span : (from : Key) (later : List Key) (key : Key) → Contains (from ∷ later) key → (last : Key) × Contains (spans_from from later) (key, last)
 next-span from [] key (zero, within, found) = (END, (0, omega arith, ap (λ (k : Key). (k, END)) found))
 next-span from [] key (suc k, within, found) = absurd (omega arith)
 next-span from (next ∷ later) key (zero, within, found) = (next, (0, omega arith, ap (λ (k : Key). (k, next)) found))
 next-span from (next ∷ later) key (suc k, within, found) = next-shifted from next key later (next-span next later key (k, omega arith, found))
 
 -- a span of one list that begins at a boundary of another, and in which both lists give each key the same width, is a span of the other and carries the same
-pub span-kept : (list other : List Keyed) (span : Interval) → IsTaskList list → IsTaskList other → Contains (spans (boundaries list)) span → Contains (START ∷ later_keys other) span.0 →
+span-kept : (list other : List Keyed) (span : Interval) → IsTaskList list → IsTaskList other → Contains (spans (boundaries list)) span → Contains (START ∷ later_keys other) span.0 →
     Agree span.0 span.1 list other → CarriesTheSame other list span
 span-kept list other span is is' contains begins agree =
     let alone = span-alone list span is contains in

@@ -23,14 +23,14 @@ use Rattle.hc_records.proofs.Alone.{before-count, first-raised, packed-alone}
 use Rattle.hc_records.proofs.Touched.{spans_from}
 
 -- a span that begins at an area which doesn't fit
-pub record IsCutAt (front : Front) (list : List Keyed) (span : Interval) (before : List Keyed) (area : Keyed) (after : List Keyed) : Type 0 where
+record IsCutAt (front : Front) (list : List Keyed) (span : Interval) (before : List Keyed) (area : Keyed) (after : List Keyed) : Type 0 where
   pub whole : list ≡ before ++ area ∷ after
   pub other : fits (front_after front before) area ≡ false
   pub first : area.0 ≡ span.0
   pub next : span.1 ≡ next_cut (behind (placed_at (front_after front before) area)) after
 
 -- a span that begins at the first key, or at such an area
-abbrev pub IsSpanOf : Front → List Keyed → Key → Interval → Type 0
+abbrev IsSpanOf : Front → List Keyed → Key → Interval → Type 0
 IsSpanOf front list begun span =
     ((span.0 ≡ begun) × (span.1 ≡ next_cut front list)) ⊎ ((before : List Keyed) × (area : Keyed) × (after : List Keyed) × IsCutAt front list span before area after)
 
@@ -70,13 +70,13 @@ last-span : (front : Front) (begun : Key) (span : Interval) → ((span.0 ≡ beg
 last-span front begun span (inl is) = inl is
 last-span front begun span (inr (k, within, found)) = absurd (omega arith)
 
-pub span-walk : (front : Front) (list : List Keyed) (begun : Key) (span : Interval) → Contains (spans_from begun (cuts_from front list)) span → IsSpanOf front list begun span
+span-walk : (front : Front) (list : List Keyed) (begun : Key) (span : Interval) → Contains (spans_from begun (cuts_from front list)) span → IsSpanOf front list begun span
 span-walk front [] begun span contains = last-span front begun span (first-or begun END [] span contains)
 span-walk front (first ∷ list) begun span contains =
     let front' = behind (placed_at front first) in
     walk-by (fits front first) front first list begun span (cuts_from front' list) refl (λ from. span-walk front' list from span) contains
 
-pub list-span : (list : List Keyed) (span : Interval) → All IsPackable list → Contains (spans (boundaries list)) span → IsSpanOf opening list START span
+list-span : (list : List Keyed) (span : Interval) → All IsPackable list → Contains (spans (boundaries list)) span → IsSpanOf opening list START span
 list-span list span all contains =
     span-walk opening list START span (subst (λ (keys : List Key). Contains (spans_from START keys) span) (later_keys-cuts list all) contains)
 

@@ -56,7 +56,7 @@ cut-all P front (area ∷ areas) all end =
     cond_both (fits front area) (next_cut front' areas) area.0 P (λ yes. cut-all P front' areas (All-tail (λ a. P a.0) area areas all) end) (λ no. All-head (λ a. P a.0) area areas all)
 
 -- the next cut isn't before the first area
-pub cut-from : (first : Key) (front : Front) (area : Keyed) (areas : List Keyed) → IsListFrom first (area ∷ areas) → is_within area.0 (next_cut front (area ∷ areas)) ≡ true
+cut-from : (first : Key) (front : Front) (area : Keyed) (areas : List Keyed) → IsListFrom first (area ∷ areas) → is_within area.0 (next_cut front (area ∷ areas)) ≡ true
 cut-from first front area areas is =
     cut-all (λ key. is_within area.0 key ≡ true) front (area ∷ areas)
     (All-cons (λ other. is_within area.0 other.0 ≡ true) area areas (within-refl area.0)

@@ -90,7 +90,7 @@ tasks-apart line low high less =
     (λ x is. All-weaker (λ y. y.1.task ≡ high) (IsFirst x) (λ y is' same same'. absurd (omega arith)) (task_variables line high) (of-task line high))
     (task_variables line low) (of-task line low)
 
-pub line-apart : (line : List Member) → AllPairs IsFirst (flat_map (task_variables line) tasks)
+line-apart : (line : List Member) → AllPairs IsFirst (flat_map (task_variables line) tasks)
 line-apart line = AllPairs-flat_map IsFirst (λ a b. a < b) (task_variables line) (task-apart line) (tasks-apart line) tasks tasks-ascend
 
 either-way : (a b : ℕ × VariablePlace) → IsFirst a b ⊎ IsFirst b a → SharesNoBit a.1 b.1

@@ -90,7 +90,7 @@ place-is : (fitting : Bool) (front : Front) (listed : Listed) → IsPlaced (list
 place-is true front listed = record { key = refl; bits = refl }
 place-is false front listed = record { key = refl; bits = refl }
 
-pub zip-placed : (front : Front) (areas : List Listed) → All IsPlaced (zip areas (packed front (map keyed areas)))
+zip-placed : (front : Front) (areas : List Listed) → All IsPlaced (zip areas (packed front (map keyed areas)))
 zip-placed front [] = All-nil IsPlaced
 zip-placed front (listed ∷ areas) =
     let first = placed_at front (keyed listed) in

@@ -22,12 +22,8 @@ abbrev Places : Type 0
 Places = List (Option LineBlock)
 
 -- empty places
-abbrev pub empty_places : ℕ → List (Option LineBlock)
+abbrev empty_places : ℕ → List (Option LineBlock)
 empty_places count = replicate count None
-
-none-at : (ns : List ℕ) → map (slice_get {X = LineBlock} []) ns ≡ empty_places (length ns)
-none-at [] = refl
-none-at (n ∷ ns) = ap (λ (rest : Places). None ∷ rest) (none-at ns)
 
 empty-sum : (a b : ℕ) → empty_places a ++ empty_places b ≡ empty_places (a + b)
 empty-sum zero b = let same : b ≡ 0 + b = omega arith in ap empty_places same
@@ -60,7 +56,7 @@ places-more line rank (declared ∷ groups) group =
     ap (λ (behind : Places). own ++ behind) (places-more line next groups group)
     ∙ sym (append_assoc own (places_from line next groups) (empty_places (16 * length group.slaves)))
 
-pub declared-line : (state : State) (group : Group) → line (changed state (Declare group)) ≡ line state
+declared-line : (state : State) (group : Group) → line (changed state (Declare group)) ≡ line state
 declared-line state group = line-absent 1 state.groups group
 
 pub declared-places : (state : State) (group : Group) → places (changed state (Declare group)) ≡ places state ++ empty_places (16 * length group.slaves)

@@ -21,7 +21,7 @@ pub length-slave : (line : List Member) (present : Bool) (member : Member) → l
 unfolding numbers
 length-slave line present member = length-map numbers (slice_get (cond present (member_blocks line member) [])) ∙ length-range_with_len 0 16
 
-pub length-slaves : (line : List Member) (present : Bool) (rank : ℕ) (slaves : List Slave) → length (flat_map (slave_places line present) (members_from rank slaves)) ≡ 16 * length slaves
+length-slaves : (line : List Member) (present : Bool) (rank : ℕ) (slaves : List Slave) → length (flat_map (slave_places line present) (members_from rank slaves)) ≡ 16 * length slaves
 length-slaves line present rank [] = refl
 length-slaves line present rank (slave ∷ slaves) =
     let member : Member = record { rank = rank; slave = slave } in

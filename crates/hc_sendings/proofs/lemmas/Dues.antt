@@ -47,7 +47,7 @@ found_judged arrival None = refl
 found_judged arrival (Some sending) = due_judged arrival sending
 
 -- what an arrival is by what is kept is what it is by the record, where it is news
-pub news-join : (past : Record) (waiting : Waiting) (arrival : Arrival) → KeepsAwaited past waiting → judged_in (line_of past) waiting arrival ≡ news (judged_by past arrival)
+news-join : (past : Record) (waiting : Waiting) (arrival : Arrival) → KeepsAwaited past waiting → judged_in (line_of past) waiting arrival ≡ news (judged_by past arrival)
 news-join past waiting arrival waits =
     ap (λ found. option_map_or (judged_due arrival) found []) (waits.due arrival.serial)
     ∙ found_judged arrival (awaited past arrival.serial)

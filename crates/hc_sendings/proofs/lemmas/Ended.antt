@@ -78,7 +78,7 @@ dues_ended : (line : List Member) (over : Bool) (write : Option AwaitedWrite) (f
 dues_ended line true write frame = refl
 dues_ended line false write frame = refl
 
-pub due_ended : (line : List Member) (n : ℕ) (waiting : Waiting) (serial : ℕ) → due_with line (ended n waiting) serial ≡ cond (serial == n) None (due_with line waiting serial)
+due_ended : (line : List Member) (n : ℕ) (waiting : Waiting) (serial : ℕ) → due_with line (ended n waiting) serial ≡ cond (serial == n) None (due_with line waiting serial)
 due_ended line n waiting serial =
     ap (λ write. option_or (option_map write_due write) (option_map (frame_due line) (found_frame serial (ended n waiting)))) (write_ended n serial waiting.write)
     ∙ ap (λ frame. option_or (option_map write_due (cond (serial == n) None (found_write serial waiting))) (option_map (frame_due line) frame)) (frame_ended n serial waiting.frames)

@@ -38,7 +38,7 @@ is_due past serial dues e = due_found past serial dues (awaited past serial) ref
 
 -- a write
 
-pub record IsAwaitedWrite (past : Record) (write : AwaitedWrite) : Type 0 where
+record IsAwaitedWrite (past : Record) (write : AwaitedWrite) : Type 0 where
   pub sending : Sending
   pub there : awaited past write.serial ≡ Some sending
   pub heads : sending.heads ≡ written_head write ∷ []
@@ -99,7 +99,7 @@ none-framed past waiting block rest all waits owed = no_frame past waiting waiti
 
 -- a write that is awaited is kept
 
-pub record IsKeptWrite (past : Record) (kept : Waiting) (serial : ℕ) (sending : Sending) : Type 0 where
+record IsKeptWrite (past : Record) (kept : Waiting) (serial : ℕ) (sending : Sending) : Type 0 where
   pub write : AwaitedWrite
   pub there : kept.write ≡ Some write
   pub serial_is : write.serial ≡ serial
