@@ -11,6 +11,7 @@ use Rattle.hc_records.specs.Keys.{is_before}
 use Rattle.hc_records.specs.Laws.{Ascends, IsPackable}
 use Rattle.hc_records.specs.TaskList.{Keyed}
 use Rattle.hc_records.proofs.lemmas.Lists.{All-passing, AllPairs-append, AllPairs-nil}
+use Rattle.hc_records.proofs.lemmas.Ascending.{before-end}
 use Rattle.hc_bitsum.specs.Slots.{IsNarrow, Slots, key_at}
 use Rattle.hc_bitsum.specs.Tree.{HasPlace, HoldsTaskList, has_width}
 use Rattle.hc_bitsum.specs.Places.{IsPlaced, KeepsSlaves, StandFrom}
@@ -49,9 +50,6 @@ outputs-first place (output ∷ outputs) inputs out into =
 above-start : (dir : Dir) (rank area : ℕ) → 1 ≤ rank → IsTrue (is_before START (record { dir = dir; rank = rank; area = area }))
 above-start dir rank area some = grind arith
 
-below-end : (dir : Dir) (rank area : ℕ) → rank < 65535 → IsTrue (is_before (record { dir = dir; rank = rank; area = area }) END)
-below-end dir rank area low = grind arith
-
 -- an area with a width is packable
 wide-packable : (areas : List Keyed) → All IsNarrow areas → All IsPackable (filter has_width areas)
 wide-packable areas narrow =
@@ -77,7 +75,7 @@ holds-list slaves outputs inputs out into =
               (λ area place. above-start area.0.dir area.0.rank area.0.area place.first) (filter has_width all) places;
           below =
               All-weaker (λ area. HasPlace slaves area.0) (λ area. IsTrue (is_before area.0 END))
-              (λ area place. let last = place.last in below-end area.0.dir area.0.rank area.0.area (omega arith)) (filter has_width all) places;
+              (λ area place. let last = place.last in before-end area.0.dir area.0.rank area.0.area (omega arith)) (filter has_width all) places;
         };
       };
       places = places;

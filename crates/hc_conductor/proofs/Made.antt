@@ -17,7 +17,7 @@ use Rattle.hc_images.specs.Values.{image_bit}
 use Rattle.hc_conductor.specs.declared.one_thread.settings.Setting.{Setting}
 use Rattle.hc_conductor.specs.Posting.{covers, set_bit}
 use Rattle.hc_conductor.specs.Viewing.{numbered_place}
-use Rattle.hc_conductor.proofs.Seated.{written}
+use Rattle.hc_conductor.proofs.Takings.{whole-list}
 
 -- a byte is the number that its bits spell
 byte-bits : (x : ℕ) → x < 256 → x ≡ x / 1 % 2 + 2 * (x / 2 % 2 + 2 * (x / 4 % 2 + 2 * (x / 8 % 2 + 2 * (x / 16 % 2 + 2 * (x / 32 % 2 + 2 * (x / 64 % 2 + 2 * (x / 128 % 2 + 2 * 0)))))))
@@ -82,6 +82,6 @@ value-set table old new place setting there put k =
     bit_put (8 * offset_in table place.task place.datagram + place.bit) place.bits k old new (bit_at setting.value) put
     ∙ ap (λ (found : Option VariablePlace). option_map_or (λ p. cond (covers table p k) (bit_at setting.value (k - image_bit table p 0)) (bit_of old k)) found (bit_of old k)) (sym there)
 
--- as many bytes written over zeros are what then stands there
+-- as many bytes whole-list over zeros are what then stands there
 pub written_over : (size : ℕ) (bytes : List ℕ) → length bytes ≡ size → overwritten (replicate size 0) bytes ≡ bytes
-written_over size bytes same = written bytes _ (length (replicate size 0)) (same ∙ sym (length-replicate size 0))
+written_over size bytes same = whole-list bytes _ (length (replicate size 0)) (same ∙ sym (length-replicate size 0))

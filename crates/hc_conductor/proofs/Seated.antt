@@ -1,8 +1,7 @@
 -- Seats by their places.
-use Rattle.std.proofs.Common.{◌≡◌, ℕ, zero, suc, ◌<◌, List, [], ◌∷◌, ◌++◌, length, map, get_or, set, replicate, refl, sym, ap, subst, ◌∙◌, arith, drop, take, None}
+use Rattle.std.proofs.Common.{◌≡◌, ℕ, zero, suc, ◌<◌, List, [], ◌∷◌, ◌++◌, length, map, get_or, set, replicate, refl, sym, ap, ◌∙◌, arith, drop, take, None}
 use Rattle.std.specs.Prelude.{All}
 use Rattle.std.specs.List.{range_with_len}
-use Rattle.std.proofs.Math.Seq.{take-append_seam}
 use Rattle.std.proofs.lemmas.List.{get_or-map, get_or-replicate, get_or-set_same, length-map, length-replicate, length-set}
 use Rattle.std.proofs.lemmas.List.Elements.{All-head, All-tail}
 use Rattle.std.proofs.lemmas.List.FromFn.{get_or-range_with_len, length-range_with_len}
@@ -17,6 +16,7 @@ use Rattle.hc_conductor.specs.Openings.{IsUnused}
 use Rattle.hc_conductor.specs.Seats as seats
 use Rattle.hc_conductor.specs.Seats.{known, seat_of, seat_origin, sender}
 use Rattle.hc_conductor.specs.Together.{EachRing, IsWhole, posts_waiting, waiting_between}
+use Rattle.hc_conductor.proofs.Takings.{whole-list}
 
 -- what is the same of each, is so of one
 pub each-at : {A B : Type 0} (f : A → B) (xs : List A) (n : ℕ) (b : B) (i : ℕ) (d : A) → map f xs ≡ replicate n b → i < n → f (get_or xs i d) ≡ b
@@ -46,10 +46,6 @@ as-many-waiting P (s ∷ ss) [] each = absurd each
 pub map-twice : {A B C : Type 0} (f : B → C) (g : A → B) (xs : List A) → map f (map g xs) ≡ map (λ x. f (g x)) xs
 map-twice f g [] = refl
 map-twice f g (x ∷ xs) = ap (λ ys. f (g x) ∷ ys) (map-twice f g xs)
-
--- what is written over as many is the whole
-pub written : {A : Type 0} (news rest : List A) (n : ℕ) → length news ≡ n → take n (news ++ rest) ≡ news
-written news rest n e = subst (λ (k : ℕ). take k (news ++ rest) ≡ news) e (take-append_seam news rest)
 
 -- one that is the same of each is so of what is seen of each
 pub seen-alike : {A B C : Type 0} (f : B → C) (g : A → B) (xs ys : List A) → map g ys ≡ map g xs → map (λ x. f (g x)) ys ≡ map (λ x. f (g x)) xs

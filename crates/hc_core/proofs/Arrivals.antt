@@ -25,6 +25,7 @@ use Rattle.hc_events.proofs.lemmas.SameBehind.{same-says, same-stale}
 use Rattle.hc_events.proofs.lemmas.Slots.{AllSent, FitsFresh, fresh-fits}
 use Rattle.hc_sendings.proofs.lemmas.Listed.{standing-task}
 use Rattle.hc_events.proofs.lemmas.WithoutStale.{goods-of_news}
+use Rattle.hc_events.proofs.lemmas.OneWrite.{heads_same}
 use Rattle.hc_sendings.specs.Judging.{found_write}
 use Rattle.hc_sendings.specs.Waiting.{AwaitedWrite, Waiting, ended}
 use Rattle.hc_sendings.proofs.lemmas.Sorts.{write-kept}
@@ -108,9 +109,6 @@ agree-missed kept past taken arrival tells agree = record {
 }
 
 -- the block of the write under way is the first owed one
-
-pub heads_same : (a b : LineBlock) (xs ys : List LineBlock) → a ∷ xs ≡ b ∷ ys → a ≡ b
-heads_same a b xs ys e = cc
 
 -- its block is kept with it
 pub kept-block : (waiting : Waiting) (write : AwaitedWrite) (serial : ℕ) → waiting.write ≡ Some write → write.serial ≡ serial

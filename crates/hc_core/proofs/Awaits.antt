@@ -1,6 +1,5 @@
 -- What is kept as awaited stays what the record awaits: at the opening, and behind each entry but frames of tasks.
-use Rattle.std.proofs.Common.{◌≡◌, ℕ, true, false, List, ◌∷◌, refl, ap, ◌∙◌, subst, Some, None, rules}
-use Rattle.std.specs.Prelude.{is_some}
+use Rattle.std.proofs.Common.{◌≡◌, ℕ, true, false, List, ◌∷◌, refl, ◌∙◌, subst, Some, None, rules}
 use Rattle.hc_records.specs.declared.edit.Edit.{Edit}
 use Rattle.hc_records.specs.declared.records.Group.{Group}
 use Rattle.hc_records.specs.Line.{groups_of}
@@ -19,19 +18,17 @@ use Rattle.hc_events.proofs.lemmas.SameBehind.{same-owed, same-says, same-stale}
 use Rattle.hc_sendings.specs.Waiting.{AwaitedWrite, Waiting, awaited_write, ended, nothing, wrote}
 use Rattle.hc_sendings.proofs.lemmas.Awaits as awaited
 use Rattle.hc_sendings.proofs.lemmas.Ended as over
+use Rattle.hc_sendings.proofs.lemmas.Awaits.{none_some}
 use Rattle.hc_core.proofs.Names.{owed-wrote}
 use Rattle.hc_core.specs.Waits.{IsUnderWay, Waits}
-
-pub none-some : (write : AwaitedWrite) → None ≡ Some write → ⊥
-none-some write e = let never : false ≡ true = ap is_some e in cc
 
 -- nothing is awaited at the opening, and behind an accepted edit
 
 pub waits-opened : (groups : List Group) → Waits (just_opened groups) nothing
-waits-opened groups = record { kept = awaited.waits-opened groups; written = λ write e. absurd (none-some write e) }
+waits-opened groups = record { kept = awaited.waits-opened groups; written = λ write e. absurd (none_some write e) }
 
 pub waits-edited : (past : Record) (edit : Edit) → Waits (Edited edit ∷ past) nothing
-waits-edited past edit = record { kept = awaited.waits-edited past edit; written = λ write e. absurd (none-some write e) }
+waits-edited past edit = record { kept = awaited.waits-edited past edit; written = λ write e. absurd (none_some write e) }
 
 -- a stale arrival changes nothing, and a post neither
 

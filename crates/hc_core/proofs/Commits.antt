@@ -1,9 +1,8 @@
 -- What a commit asks of the present proposal, and what is kept behind it.
-use Rattle.std.proofs.Common.{◌≡◌, ℕ, ◌+◌, ◌<◌, ◌≤◌, Bool, true, false, not, nat_lt, List, [], ◌∷◌, length, map, refl, sym, ◌∙◌, subst, arith, suc, None, rules}
+use Rattle.std.proofs.Common.{◌≡◌, ℕ, ◌+◌, ◌<◌, ◌≤◌, false, not, List, [], ◌∷◌, length, map, sym, ◌∙◌, subst, arith, None, rules}
 use Rattle.std.specs.Prelude.{All, AllPairs}
 use Rattle.std.specs.List.{range_with_len}
 use Rattle.std.proofs.lemmas.Bool.{ltb-false}
-use Rattle.std.proofs.lemmas.Bool.Decides.{nat_tests}
 use Rattle.std.proofs.lemmas.List.Elements.{All-nil, All-cons, All-weaker}
 use Rattle.std.proofs.lemmas.List.Kept.{AllPairs-cons}
 use Rattle.hc_records.specs.Edits.{crowded_task}
@@ -12,7 +11,6 @@ use Rattle.hc_records.specs.Lists.{lowest}
 use Rattle.hc_records.specs.Project.{lowest_fault}
 use Rattle.hc_records.proofs.lemmas.Addresses.{uncrowded-few}
 use Rattle.hc_records.proofs.lemmas.Lists.{AllPairs-nil}
-use Rattle.hc_registers.specs.Blocks.{LineBlock}
 use Rattle.hc_frames.specs.declared.limits.TheConstants.{SETUP_SERIAL}
 use Rattle.hc_events.specs.Accepted.{StandsIn}
 use Rattle.hc_events.specs.Entries.{Record}
@@ -20,8 +18,10 @@ use Rattle.hc_events.specs.Owed.{owed_blocks}
 use Rattle.hc_events.specs.Points.{line_of, next_serial, state_of}
 use Rattle.hc_events.specs.Sendings.{Frame, Named}
 use Rattle.hc_events.specs.Steps.{proposal, task_faults, with_sent}
-use Rattle.hc_events.proofs.lemmas.Accepted.{passed, proposal-stands}
+use Rattle.hc_events.proofs.lemmas.Accepted.{passed, proposal-stands, none_owed}
 use Rattle.hc_events.proofs.lemmas.Frames.{proposals-numbered}
+use Rattle.hc_events.proofs.lemmas.Answers.{twice}
+use Rattle.hc_events.proofs.lemmas.OneWrite.{at_least}
 use Rattle.hc_sendings.proofs.lemmas.Listed.{standing-task}
 use Rattle.hc_sendings.specs.Waiting.{AwaitedFrame, ComeBehind, IsNamed, all_sent}
 use Rattle.hc_core.proofs.Sendings.{agree-sent}
@@ -62,9 +62,6 @@ not_above a n b less low = omega (arith, less, low)
 next_low : (n : ℕ) → n + 1 ≤ n + 1
 next_low n = omega arith
 
-itself_low : (n : ℕ) → n ≤ n
-itself_low n = omega arith
-
 numbers_ascend : (frames : List Frame) (serial : ℕ) → numbers_of frames ≡ range_with_len serial (length frames) → AllPairs (λ a b. a.serial < b.serial) frames
 numbers_ascend [] serial numbers = AllPairs-nil (λ (a b : Frame). a.serial < b.serial)
 numbers_ascend (frame ∷ frames) serial numbers =
@@ -79,25 +76,18 @@ proposal-behind kept past taken frames is agree =
       behind = All-weaker (λ (frame : AwaitedFrame). frame.serial < next_serial past) (λ (frame : AwaitedFrame). All (λ (next : Frame). frame.serial < next.serial) (proposal past tasks))
           (λ frame less. All-weaker (λ (next : Frame). next_serial past ≤ next.serial) (λ (next : Frame). frame.serial < next.serial)
           (λ next low. not_above frame.serial (next_serial past) next.serial less low) (proposal past tasks)
-          (from_number (proposal past tasks) (next_serial past) (next_serial past) (proposals-numbered past tasks) (itself_low (next_serial past))))
+          (from_number (proposal past tasks) (next_serial past) (next_serial past) (proposals-numbered past tasks) (at_least (next_serial past))))
           kept.awaited.frames agree.waits.kept.below;
     })
 
 -- nothing is owed, and the serials suffice
-
-none_owed : (blocks : List LineBlock) → nat_lt 0 (length blocks) ≡ false → blocks ≡ []
-none_owed [] e = refl
-none_owed (block ∷ blocks) e = let some : nat_lt 0 (suc (length blocks)) ≡ true = grind (arith, nat_tests) in let never : true ≡ false = sym some ∙ e in cc
-
-not_not : (b : Bool) → not (not b) ≡ false → b ≡ false
-not_not b e = search rules
 
 record Allowed (past : Record) (tasks : List ℕ) : Type 0 where
   pub owed : owed_blocks past ≡ []
   pub left : next_serial past + length (proposal past tasks) ≤ SETUP_SERIAL
 
 pub allowed : (past : Record) (tasks : List ℕ) → lowest (task_faults past tasks) ≡ None → Allowed past tasks
-allowed past tasks none = search (rules, passed, none_owed, ltb-false, not_not)
+allowed past tasks none = search (rules, passed, none_owed, ltb-false, twice)
 
 proposal-left : (kept : CoreParts) (past taken : Record) (frames : List Frame) → IsProposal past frames → Agree kept past taken → kept.serial + length frames ≤ SETUP_SERIAL
 proposal-left kept past taken frames is agree = search rules

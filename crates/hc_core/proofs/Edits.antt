@@ -6,7 +6,7 @@ use Rattle.std.proofs.lemmas.List.{length-map, map-append}
 use Rattle.hc_records.specs.declared.edit.Edit.{Edit}
 use Rattle.hc_records.specs.declared.faults.EditFault.{EditFault}
 use Rattle.hc_records.specs.Boundaries.{recut}
-use Rattle.hc_records.specs.Edits.{changed as changed_state, crowded_task, edit_faults, edited, refused_by, state_after}
+use Rattle.hc_records.specs.Edits.{changed as changed_state, crowded_task, edit_faults, edited, state_after}
 use Rattle.hc_records.specs.Line.{State, groups_of, line}
 use Rattle.hc_records.specs.Lists.{lowest}
 use Rattle.hc_records.specs.Project.{lowest_fault}
@@ -45,11 +45,9 @@ use Rattle.hc_core.specs.Agreement.{Agree, CoreParts}
 use Rattle.hc_core.specs.News.{TellNews}
 use Rattle.hc_core.specs.Prepared.{CanFollow, CoreEdit, IsReady}
 use Rattle.hc_core.specs.State.{CoreState}
+use Rattle.hc_core.proofs.Serves.{accepted_edit}
 
 -- the state that an accepted edit leads to is that behind it
-
-accepted_next : (fault : Option EditFault) (made next : State) → refused_by fault made ≡ Ok next → fault ≡ None
-accepted_next fault made next e = search rules
 
 pub after-is : (state : State) (edit : Edit) (next : State) → edited state edit ≡ Ok next → state_after state edit ≡ next
 after-is state edit next e = ap (λ (made : Result State EditFault). result_unwrap_or made state) e
@@ -111,7 +109,7 @@ agree-edited kept past taken new report inputs outputs owed accepted tell uncrow
     let edit = report.swap.edit in
     let after : state_after (state_of past) edit ≡ new = after-is (state_of past) edit new accepted in
     record {
-      accepted = (accepted_next (lowest (edit_faults (state_of past) edit)) (changed_state (state_of past) edit) new accepted, agree.accepted);
+      accepted = (accepted_edit (lowest (edit_faults (state_of past) edit)) (changed_state (state_of past) edit) new accepted, agree.accepted);
       state = sym after;
       project = subst (λ state. lowest_fault (groups_of state.groups) ≡ None) (sym after) (accepted-project (state_of past) new edit agree.project accepted);
       uncrowded = subst (λ state. crowded_task (line state) ≡ None) (sym after) uncrowded;

@@ -1,10 +1,11 @@
 -- Which bytes blocks are known to have, behind each entry.
-use Rattle.std.proofs.Common.{◌≡◌, ℕ, ◌==◌, ◌≤◌, Bool, true, false, cond, ◌&&◌, ◌||◌, List, [], ◌∷◌, ◌++◌, refl, sym, ap, ◌∙◌, arith, Option, Some, None, rules}
+use Rattle.std.proofs.Common.{◌≡◌, ℕ, ◌==◌, ◌≤◌, Bool, true, false, cond, ◌&&◌, ◌||◌, List, [], ◌∷◌, ◌++◌, refl, sym, ap, ◌∙◌, Option, Some, None, rules}
 use Rattle.std.specs.Prelude.{option_and_then}
 use Rattle.std.specs.List.{list_any}
 use Rattle.std.proofs.lemmas.Bool.{and_parts, eqb-true}
 use Rattle.hc_records.specs.declared.edit.Edit.{Edit}
 use Rattle.hc_records.specs.Line.{State}
+use Rattle.hc_records.proofs.lemmas.Choices.{by_bool, own-swap}
 use Rattle.hc_registers.specs.Blocks.{LineBlock}
 use Rattle.hc_plan.specs.Reports.{name_of}
 use Rattle.hc_events.specs.Arrivals.{Arrival}
@@ -15,8 +16,7 @@ use Rattle.hc_events.specs.Answering.{Sending, has_good, judged_by, sending_of}
 use Rattle.hc_events.specs.Awaited.{alive, awaited, is_write}
 use Rattle.hc_events.specs.Owed.{if_confirmed, is_in_line, known_bytes, last_write}
 use Rattle.hc_events.specs.SendingLaws.{is_opening}
-use Rattle.hc_events.proofs.lemmas.Awaited.{by_bool}
-use Rattle.hc_events.proofs.lemmas.OneWrite.{awaited-heads, known-same, unconfirmed}
+use Rattle.hc_events.proofs.lemmas.OneWrite.{awaited-heads, known-same, unconfirmed, at_least}
 use Rattle.hc_events.proofs.lemmas.Standing.{found-under}
 use Rattle.hc_owed.specs.Board.{Knowledge, kept_of}
 use Rattle.hc_owed.specs.Laws.{known_over, known_with, same_name}
@@ -117,11 +117,8 @@ known-missed past arrival none station number = known-same past arrival (last_wr
 one_head : (a b : LineBlock) → write_head a ∷ [] ≡ write_head b ∷ [] → block_item a ≡ block_item b
 one_head a b e = let same : write_head a ≡ write_head b = cc in ap (λ (head : Head). head.item) same
 
-turned : (a b : ℕ) → (a == b) ≡ (b == a)
-turned a b = search rules
-
 name_turned : (a b c d : ℕ) → ((a == b) && (c == d)) ≡ ((b == a) && (d == c))
-name_turned a b c d = ap (λ t. t && (c == d)) (turned a b) ∙ ap (λ t. (b == a) && t) (turned c d)
+name_turned a b c d = ap (λ t. t && (c == d)) (own-swap a b) ∙ ap (λ t. (b == a) && t) (own-swap c d)
 
 pub known-done : (past : Record) (arrival : Arrival) (sending : Sending) (block : LineBlock) → awaited past arrival.serial ≡ Some sending → sending.heads ≡ write_head block ∷ []
     → last_write past block.station block.number ≡ Some (arrival.serial, block.block.bytes) → list_any has_good (judged_by past arrival) ≡ true
@@ -143,9 +140,6 @@ known-done past arrival sending block there heads last good station number =
     ∙ sym (ap (λ b. cond b (Some block.block.bytes) (known_bytes past station number)) t))
 
 -- behind a write nothing is known of its block
-
-at_least : (n : ℕ) → n ≤ n
-at_least n = omega arith
 
 pub known-wrote : (past : Record) (block : LineBlock) (station number : ℕ) → known_bytes (Wrote block ∷ past) station number ≡ known_with (name_of block) None (known_bytes past) station number
 known-wrote past block station number = search (rules, by_bool, unconfirmed, at_least, name_turned)

@@ -23,8 +23,9 @@ use Rattle.hc_events.specs.SendingLaws.{heads_of, is_sending}
 use Rattle.hc_events.specs.Steps.{image_of, unless}
 use Rattle.hc_events.proofs.lemmas.Answers.{answers-first, none-opened}
 use Rattle.hc_events.proofs.lemmas.Slots.{slots-fit}
+use Rattle.hc_events.proofs.lemmas.OneWrite.{same_sending}
+use Rattle.hc_events.proofs.lemmas.Views.{is_task}
 use Rattle.hc_core.specs.LastData.{CameBack, GoodAnswer, IsGoodIn, IsLastData, IsLater, TasksReadLastData, begins_epoch}
-use Rattle.hc_core.proofs.Shown.{is-task}
 
 -- a frame that came back is the answer to its sending
 
@@ -46,9 +47,6 @@ answered_back past arrival back =
       fits = back.fits;
       left_open = back.first;
     })
-
-same_sending : (a b : Sending) → Some a ≡ Some b → a ≡ b
-same_sending a b e = cc
 
 same_split : (since : List Entry) (one other : Entry) (a b : Record) → since ++ one ∷ a ≡ since ++ other ∷ b → (one ≡ other) × (a ≡ b)
 same_split [] one other a b e = search rules
@@ -434,7 +432,7 @@ counted_list f first (suc count) = ap suc (counted_list f (first + 1) count)
 pub reads-last : (past : Record) → TasksReadLastData past
 reads-last past task low = record {
   slots = slots_of past task;
-  image = ap (λ b. unless (cond b (Some NoSuchTask) None) (image_of past task)) (is-task task low);
+  image = ap (λ b. unless (cond b (Some NoSuchTask) None) (image_of past task)) (is_task task low);
   counted = counted_list (slot_of past task) 0 (datagram_count (task_places task (line_of past)));
   each = λ d slot e.
       let same = listed (slot_of past task) 0 (datagram_count (task_places task (line_of past))) d slot e in

@@ -8,6 +8,7 @@ use Rattle.hc_records.specs.Project.{lowest_fault}
 use Rattle.hc_records.proofs.lemmas.Stations.{project-distinct}
 use Rattle.hc_records.specs.Lists.{has_repeat}
 use Rattle.hc_records.proofs.lemmas.Stations.{stations}
+use Rattle.hc_records.proofs.lemmas.Choices.{by_bool}
 use Rattle.hc_registers.specs.Blocks.{LineBlock, line_blocks}
 use Rattle.hc_plan.proofs.lemmas.Configured.{configured-block}
 use Rattle.hc_events.specs.Entries.{Record, Wrote}
@@ -15,7 +16,6 @@ use Rattle.hc_events.specs.Points.{line_of, state_of}
 use Rattle.hc_events.specs.Heads.{block_item, same_item}
 use Rattle.hc_events.specs.Owed.{is_owed, owed_blocks}
 use Rattle.hc_events.proofs.lemmas.Answers.{owed-in_line}
-use Rattle.hc_events.proofs.lemmas.Awaited.{by_bool}
 use Rattle.hc_events.proofs.lemmas.OneWrite.{others-as_before, written-is_owed}
 
 -- blocks of one name are one block

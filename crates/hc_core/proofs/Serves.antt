@@ -53,7 +53,7 @@ post-early found result accepted names = search rules
 
 -- an edit
 
-accepted_edit : (found : Option EditFault) (made next : State) → refused_by found made ≡ Ok next → found ≡ None
+pub accepted_edit : (found : Option EditFault) (made next : State) → refused_by found made ≡ Ok next → found ≡ None
 accepted_edit found made next e = search rules
 
 refused_edit : (found : Option EditFault) (made : State) (one : EditFault) → refused_by found made ≡ Err one → found ≡ Some one

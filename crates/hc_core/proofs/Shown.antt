@@ -1,11 +1,11 @@
 -- What the input image shows of a task is what the task reads.
-use Rattle.std.proofs.Common.{◌≡◌, ℕ, zero, suc, ◌+◌, ◌<◌, ◌≤◌, true, false, not, nat_lt, map, refl, ap, arith, rules}
+use Rattle.std.proofs.Common.{◌≡◌, ℕ, zero, suc, ◌+◌, ◌<◌, ◌≤◌, true, nat_lt, map, refl, ap, arith, rules}
 use Rattle.std.specs.List.{range_with_len}
 use Rattle.std.proofs.lemmas.Bool.Decides.{nat_tests}
-use Rattle.hc_records.specs.declared.limits.TheConstants.{MOST_DATAGRAMS, TASKS}
+use Rattle.hc_records.specs.declared.limits.TheConstants.{MOST_DATAGRAMS}
 use Rattle.hc_events.specs.Entries.{Record}
 use Rattle.hc_events.specs.Images.{slot_of}
-use Rattle.hc_events.specs.Steps.{is_no_task}
+use Rattle.hc_events.proofs.lemmas.Views.{is_task}
 use Rattle.hc_images.specs.Image.{Image, data_of}
 use Rattle.hc_core.specs.Agreement.{ShowsSlots}
 
@@ -25,6 +25,3 @@ slots-shown past image task count shows few = shown_from past image task 0 count
 
 below_is : (m n : ℕ) → m < n → nat_lt m n ≡ true
 below_is m n less = grind (arith, nat_tests)
-
-pub is-task : (task : ℕ) → task < TASKS → is_no_task task ≡ false
-is-task task low = ap not (below_is task TASKS low)

@@ -2,7 +2,7 @@
 use Rattle.std.proofs.Common.{◌≡◌, ◌⊎◌, ℕ, Bool, true, false, cond, not, ◌&&◌, ◌||◌, List, [], ◌∷◌, ◌++◌, map, refl, sym, ap, ◌∙◌, Option, Some, None, rules}
 use Rattle.std.specs.Prelude.{option_and_then}
 use Rattle.std.specs.List.{flat_map, list_any, zip}
-use Rattle.hc_records.specs.Line.{Member}
+use Rattle.hc_records.proofs.lemmas.Choices.{by_bool, or-no}
 use Rattle.hc_registers.specs.Blocks.{LineBlock}
 use Rattle.hc_events.specs.declared.answer.Answer.{Answer}
 use Rattle.hc_events.specs.declared.answer.Answer.TheVariants as answer
@@ -11,8 +11,7 @@ use Rattle.hc_events.specs.Arrivals.{Arrival, Part}
 use Rattle.hc_events.specs.Accepted.{AreAccepted}
 use Rattle.hc_events.specs.AnswerLaws.{IsAwaited}
 use Rattle.hc_events.specs.Entries.{Entry, Record}
-use Rattle.hc_events.specs.Sendings.{Named}
-use Rattle.hc_events.specs.Heads.{Head, data_heads, is_block, write_head}
+use Rattle.hc_events.specs.Heads.{Head, is_block, write_head}
 use Rattle.hc_events.specs.Answering.{Judged, Sending, Verdict, has_good, has_heads, is_good, is_news, is_stale, is_stale_to, judge, judged, judged_by, sending_of, verdict}
 use Rattle.hc_events.specs.Awaited.{alive, awaited, is_write}
 use Rattle.hc_events.specs.Images.{fresh, fresh_by}
@@ -20,8 +19,7 @@ use Rattle.hc_events.specs.Owed.{owed_blocks}
 use Rattle.hc_events.specs.Steps.{outcome_for, told_of, told_of_block}
 use Rattle.hc_events.specs.SendingLaws.{heads_of, is_sending}
 use Rattle.hc_events.proofs.lemmas.Answers.{awaited-answered}
-use Rattle.hc_events.proofs.lemmas.Awaited.{by_bool}
-use Rattle.hc_events.proofs.lemmas.OneWrite.{all-alone, awaited-heads}
+use Rattle.hc_events.proofs.lemmas.OneWrite.{all-alone, awaited-heads, no_blocks, some_of_none}
 use Rattle.hc_events.proofs.lemmas.SameBehind.{told-of_news}
 use Rattle.hc_events.proofs.lemmas.Standing.{stands-at}
 use Rattle.hc_core.specs.Goods.{good_of, goods_in}
@@ -30,10 +28,6 @@ use Rattle.hc_core.specs.Goods.{good_of, goods_in}
 
 abbrev IsSort : Sending → Type 0
 IsSort sending = (is_write sending ≡ false) ⊎ ((block : LineBlock) × (sending.heads ≡ write_head block ∷ []))
-
-no_blocks : (line : List Member) (frame : List Named) → list_any (λ head. is_block head.item) (data_heads line frame) ≡ false
-no_blocks line [] = refl
-no_blocks line (named ∷ frame) = no_blocks line frame
 
 sort_by : (sending : Sending) (before : Record) (entry : Entry) → is_sending entry ≡ true → sending.heads ≡ heads_of before entry → IsSort sending
 sort_by sending before entry sends heads = search (rules, no_blocks)
@@ -60,9 +54,6 @@ one_back arrival sending block (part ∷ []) is fit heads = record {
   one = ap (λ all. map (judge sending.since) (zip all arrival.parts)) heads ∙ ap (λ all. map (judge sending.since) (zip (write_head block ∷ []) all)) is;
 }
 one_back arrival sending block (part ∷ other ∷ parts) is fit heads = search rules
-
-or_false : (b : Bool) → (b || false) ≡ b
-or_false b = search rules
 
 no_good : (block : LineBlock) (part : Part) (verdict : Verdict) → good_of (outcome_for (record { head = write_head block; part = part; verdict = verdict })) part ++ [] ≡ []
 no_good block part verdict = search rules
@@ -137,7 +128,7 @@ pub record TellsWrite (past : Record) (arrival : Arrival) (good : Bool) : Type 0
 
 write_by : (past : Record) (arrival : Arrival) (told : Answer) (good : Bool) → (is : IsNews past arrival) → list_any is_news (judged_by past arrival) ≡ true → told_of (judged_by past arrival) ≡ told
     → ((verdict : Verdict) → told_of_block verdict ≡ told → is_good verdict ≡ good) → ((outcomes : List Outcome) → answer.Answered outcomes ≡ told → ⊥) → IsSort is.awaits.sending → TellsWrite past arrival good
-write_by past arrival told good is news e of_block of_frame sort = search (rules, frame_told, one_back, or_false, fresh_alike, no_good)
+write_by past arrival told good is news e of_block of_frame sort = search (rules, frame_told, one_back, or-no, fresh_alike, no_good)
 
 told_write : (past : Record) (arrival : Arrival) (told : Answer) (good : Bool) → told_of (judged_by past arrival) ≡ told
     → ((verdict : Verdict) → told_of_block verdict ≡ told → is_good verdict ≡ good) → ((outcomes : List Outcome) → answer.Answered outcomes ≡ told → ⊥) → (answer.Stale ≡ told → ⊥) → TellsWrite past arrival good
@@ -165,7 +156,7 @@ is_over : (verdict : Verdict) → told_of_block verdict ≡ answer.Stale → not
 is_over verdict e = search rules
 
 stale_by : (past : Record) (arrival : Arrival) → (is : IsNews past arrival) → list_any is_news (judged_by past arrival) ≡ true → told_of (judged_by past arrival) ≡ answer.Stale → IsSort is.awaits.sending → ⊥
-stale_by past arrival is news e sort = search (rules, frame_told, one_back, or_false, is_over)
+stale_by past arrival is news e sort = search (rules, frame_told, one_back, or-no, is_over)
 
 pub told-stale : (past : Record) (arrival : Arrival) → told_of (judged_by past arrival) ≡ answer.Stale → is_stale_to past arrival ≡ true
 told-stale past arrival e =
@@ -175,10 +166,7 @@ told-stale past arrival e =
 
 -- where a write is answered something is owed
 
-some_owed : (block : LineBlock) (rest : List LineBlock) → [] ≡ block ∷ rest → ⊥
-some_owed block rest e = cc
-
 pub written-owes : (past : Record) (arrival : Arrival) (good : Bool) → AreAccepted past → TellsWrite past arrival good → owed_blocks past ≡ [] → ⊥
 written-owes past arrival good all tells none =
     let one = (all-alone past all).writes arrival.serial tells.sending tells.there tells.writes in
-    some_owed one.first one.rest (sym none ∙ one.owed)
+    some_of_none one.first one.rest (sym none ∙ one.owed)

@@ -3,7 +3,6 @@ use Rattle.std.proofs.Common.{◌≡◌, ◌⊎◌, inl, inr, ℕ, ◌+◌, ◌-
 use Rattle.std.specs.Prelude.{All}
 use Rattle.std.proofs.lemmas.List.Elements.{All-head, All-tail}
 use Rattle.std.proofs.lemmas.List.FromFn.{get_or-map-range_with_len}
-use Rattle.std.proofs.lemmas.Nat.Bits.{bit_at-lt}
 use Rattle.hc_bits.specs.Bits.{AreBytes, bit_of, number_of}
 use Rattle.hc_bits.proofs.lemmas.Places.{same_bytes_from_bits}
 use Rattle.hc_records.specs.declared.limits.TheConstants.{MOST_DATAGRAMS, TASKS}
@@ -22,7 +21,7 @@ use Rattle.hc_events.specs.DataLaws.{IsSentData}
 use Rattle.hc_events.specs.Points.{line_of, state_of}
 use Rattle.hc_events.specs.Sendings.{Frame, Named}
 use Rattle.hc_events.specs.Steps.{sent_datagram, sent_text}
-use Rattle.hc_events.proofs.lemmas.SentBits.{sent-data}
+use Rattle.hc_events.proofs.lemmas.SentBits.{sent-data, bit_small}
 use Rattle.hc_events.proofs.lemmas.SentValues.{sent-values}
 use Rattle.hc_images.specs.Packed.{Bytes, Carries, Packed, sent_bytes, slot_bytes}
 use Rattle.hc_images.proofs.lemmas.Bits.{HasBit, HasNoBit, bit-lies, carried-bit, sent-there}
@@ -31,10 +30,6 @@ use Rattle.hc_sendings.specs.Texts.{carried_by, text_of}
 use Rattle.hc_core.specs.Values.{HoldsValues}
 
 -- the data that the record sends are bytes
-
-bit_small : (bytes : List ℕ) (k : ℕ) → bit_of bytes k < 2
-unfolding bit_of
-bit_small bytes k = bit_at-lt (get_or bytes (k / 8) 0) (k % 8)
 
 byte_small : (bit : ℕ → ℕ) (n : ℕ) → ((j : ℕ) → j < 8 → bit (8 * n + j) < 2) → byte_of bit n < 256
 unfolding number_of

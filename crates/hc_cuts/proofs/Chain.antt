@@ -13,22 +13,20 @@ use Rattle.hc_records.specs.Packing.{Front, opening, fits, behind, packed}
 use Rattle.hc_records.specs.Image.{datagram_count}
 use Rattle.hc_records.specs.Boundaries.{later_keys}
 use Rattle.hc_records.specs.Laws.{IsPackable, cuts_from}
-use Rattle.hc_records.specs.SpanLaws.{IsTaskList, areas_from, next_cut}
+use Rattle.hc_records.specs.SpanLaws.{areas_from, next_cut}
 use Rattle.hc_records.proofs.lemmas.Cuts.{count-later_keys, later_keys-cuts}
 use Rattle.hc_records.proofs.lemmas.KeyOrder.{before-apart, before-other, other-sym, same_key-refl, within-from_before, within-refl, within-trans}
 use Rattle.hc_records.proofs.lemmas.Lengths.{opening-beginning, opening-fits}
 use Rattle.hc_records.proofs.lemmas.Packed.{place}
-use Rattle.hc_records.proofs.lemmas.SpanCuts.{areas-from}
+use Rattle.hc_records.proofs.lemmas.SpanCuts.{areas-from, all-from}
 use Rattle.hc_records.proofs.lemmas.Spans.{IsListFrom, cut-all, filter-keeps, list-behind, list-tail}
 use Rattle.hc_bitsum.specs.Tree.{HasPlace, HoldsTaskList, Tree}
 use Rattle.hc_cuts.specs.Firsts.{IsCrowded}
 use Rattle.hc_cuts.specs.Starts.{next_boundary}
 use Rattle.hc_cuts.proofs.Searched.{boundary-cut}
+use Rattle.hc_cuts.proofs.lemmas.Datagrams.{front_of}
 
 -- cuts don't depend on the number of the datagram that is being filled
-
-abbrev front_of : ℕ → ℕ → Dir → Front
-front_of datagram bit last = record { datagram = datagram; bit = bit; last = last }
 
 number-by : (fitting : Bool) (n m bit : ℕ) (last : Dir) (area : Keyed) (areas : List Keyed)
     → ((k l to : ℕ) (dir : Dir) → cuts_from (front_of k to dir) areas ≡ cuts_from (front_of l to dir) areas)
@@ -138,16 +136,12 @@ pub follows : (tree : Tree) (from next : Key) → HoldsTaskList tree → next �
 follows tree from next holds searched =
     subst (λ (key : Key). Follows tree from key) (sym (searched ∙ boundary-cut from tree.list holds.list)) (follows-cut tree from holds)
 
--- from START on they are all areas
-pub all-areas : (list : List Keyed) → IsTaskList list → areas_from START list ≡ list
-all-areas list is = grind (arith, filter-keeps, All-weaker, within-from_before)
-
 -- the boundaries up to a key, and those behind it, are all boundaries
 pub record Stands (tree : Tree) (starts : List Key) (from : Key) : Type 0 where
   pub keys : starts ++ later_keys (areas_from from tree.list) ≡ START ∷ later_keys (areas_from START tree.list)
 
 stands-all : (tree : Tree) (starts : List Key) (from : Key) → HoldsTaskList tree → Stands tree starts from → starts ++ later_keys (areas_from from tree.list) ≡ START ∷ later_keys tree.list
-stands-all tree starts from holds stands = stands.keys ∙ ap (λ (list : List Keyed). START ∷ later_keys list) (all-areas tree.list holds.list)
+stands-all tree starts from holds stands = stands.keys ∙ ap (λ (list : List Keyed). START ∷ later_keys list) (all-from tree.list holds.list)
 
 pub begun : (tree : Tree) → Stands tree (START ∷ []) START
 begun tree = record { keys = refl }

@@ -7,12 +7,13 @@ use Rattle.hc_records.specs.Keys.{same_key}
 use Rattle.hc_records.specs.Boundaries.{later_keys}
 use Rattle.hc_records.specs.SpanLaws.{areas_from}
 use Rattle.hc_records.proofs.lemmas.KeyOrder.{same_key-same}
+use Rattle.hc_records.proofs.lemmas.SpanCuts.{all-from}
 use Rattle.hc_bitsum.specs.Tree.{HoldsTaskList, Tree}
 use Rattle.hc_cuts.specs.declared.hulls.Hulls.{Hulls}
 use Rattle.hc_cuts.specs.Repair.{unsettled_between}
 use Rattle.hc_cuts.specs.Spans.{unsettled_by}
 use Rattle.hc_cuts.specs.Starts.{next_boundary}
-use Rattle.hc_cuts.proofs.Chain.{all-areas, follows}
+use Rattle.hc_cuts.proofs.Chain.{follows}
 use Rattle.hc_cuts.proofs.Repaired.{settles}
 
 -- the spans from a key on that aren't settled
@@ -31,7 +32,7 @@ abbrev pub Counts : Hulls → List Key → Tree → Key → ℕ → Type 0
 Counts hulls old tree from count = count + left_from hulls old from (later_keys (areas_from from tree.list)) ≡ left_from hulls old START (later_keys tree.list)
 
 pub counts-begin : (hulls : Hulls) (old : List Key) (tree : Tree) → HoldsTaskList tree → Counts hulls old tree START 0
-counts-begin hulls old tree holds = grind (arith, all-areas)
+counts-begin hulls old tree holds = grind (arith, all-from)
 
 pub counts-go : (hulls : Hulls) (old : List Key) (tree : Tree) (from next : Key) (count one : ℕ) → HoldsTaskList tree → next ≡ next_boundary from tree.list
     → same_key next END ≡ false → one ≡ (if settles hulls old (from, next) then 0 else 1) → Counts hulls old tree from count → Counts hulls old tree next (count + one)

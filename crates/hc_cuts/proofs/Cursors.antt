@@ -21,19 +21,20 @@ use Rattle.hc_cuts.specs.Cursors.{StandsIn, unfilled}
 use Rattle.hc_cuts.specs.Place.{place_of}
 use Rattle.hc_cuts.specs.Walk.{filled_datagram}
 use Rattle.hc_cuts.proofs.Chain.{areas-twice}
-use Rattle.hc_cuts.proofs.Placed.{StandsAt, areas_before, found-at, none-before, room-low}
+use Rattle.hc_cuts.proofs.Placed.{StandsAt, found-at, none-before, room-low}
 use Rattle.hc_cuts.proofs.Whole.{length-end}
+use Rattle.hc_cuts.proofs.Walked.{before_cut}
 
 -- no area lies from a key on and before it
 
 none-by : (low : Bool) (key : Key) (area : Keyed) (areas : List Keyed) → is_within key area.0 ≡ low → areas_between key key areas ≡ []
     → areas_between key key (area ∷ areas) ≡ []
 none-by true key area areas low rest =
-    ap (areas_before key) (cond-true (is_within key area.0) (area ∷ areas_from key areas) (areas_from key areas) low)
+    ap (before_cut key) (cond-true (is_within key area.0) (area ∷ areas_from key areas) (areas_from key areas) low)
     ∙ cond-false (is_before area.0 key) (area ∷ areas_between key key areas) (areas_between key key areas) (within-apart key area.0 low)
     ∙ rest
 none-by false key area areas low rest =
-    ap (areas_before key) (cond-false (is_within key area.0) (area ∷ areas_from key areas) (areas_from key areas) low) ∙ rest
+    ap (before_cut key) (cond-false (is_within key area.0) (area ∷ areas_from key areas) (areas_from key areas) low) ∙ rest
 
 none-between : (key : Key) (list : List Keyed) → areas_between key key list ≡ []
 none-between key [] = refl
@@ -51,15 +52,15 @@ before-low a b c before low = before-else a c (none (is_within c a) refl)
 -- the areas before a key are those before a lower one and those between both
 
 splits-by : (before : Bool) (first middle until : Key) (area : Keyed) (areas : List Keyed) → is_before area.0 middle ≡ before → IsListFrom first (area ∷ areas)
-    → is_within middle until ≡ true → areas_before until areas ≡ areas_before middle areas ++ areas_between middle until areas
-    → areas_before until (area ∷ areas) ≡ areas_before middle (area ∷ areas) ++ areas_between middle until (area ∷ areas)
+    → is_within middle until ≡ true → before_cut until areas ≡ before_cut middle areas ++ areas_between middle until areas
+    → before_cut until (area ∷ areas) ≡ before_cut middle (area ∷ areas) ++ areas_between middle until (area ∷ areas)
 splits-by true first middle until area areas test is low rest =
     let later : is_before area.0 until ≡ true = before-low area.0 middle until test low in
-    cond-true (is_before area.0 until) (area ∷ areas_before until areas) (areas_before until areas) later
+    cond-true (is_before area.0 until) (area ∷ before_cut until areas) (before_cut until areas) later
     ∙ ap (λ (l : List Keyed). area ∷ l) rest
     ∙ ap (λ (l : List Keyed). l ++ areas_between middle until areas)
-    (sym (cond-true (is_before area.0 middle) (area ∷ areas_before middle areas) (areas_before middle areas) test))
-    ∙ ap (λ (l : List Keyed). areas_before middle (area ∷ areas) ++ areas_before until l)
+    (sym (cond-true (is_before area.0 middle) (area ∷ before_cut middle areas) (before_cut middle areas) test))
+    ∙ ap (λ (l : List Keyed). before_cut middle (area ∷ areas) ++ before_cut until l)
     (sym (cond-false (is_within middle area.0) (area ∷ areas_from middle areas) (areas_from middle areas) (before-apart area.0 middle test)))
 splits-by false first middle until area areas test is low rest =
     let here : is_within middle area.0 ≡ true = within-else area.0 middle test in
@@ -67,11 +68,11 @@ splits-by false first middle until area areas test is low rest =
     All-cons (λ a. is_within middle a.0 ≡ true) area areas here
     (All-weaker (λ a. is_before area.0 a.0 ≡ true) (λ a. is_within middle a.0 ≡ true) (λ a later. within-trans middle area.0 a.0 here (within-from_before area.0 a.0 later)) areas
     (list-behind first area areas is)) in
-    ap (areas_before until) (sym (filter-keeps (λ a. is_within middle a.0) (area ∷ areas) all))
+    ap (before_cut until) (sym (filter-keeps (λ a. is_within middle a.0) (area ∷ areas) all))
     ∙ ap (λ (l : List Keyed). l ++ areas_between middle until (area ∷ areas)) (sym (none-before middle (area ∷ areas) all))
 
 splits : (first middle until : Key) (list : List Keyed) → IsListFrom first list → is_within middle until ≡ true
-    → areas_before until list ≡ areas_before middle list ++ areas_between middle until list
+    → before_cut until list ≡ before_cut middle list ++ areas_between middle until list
 splits first middle until [] is low = refl
 splits first middle until (area ∷ areas) is low =
     splits-by (is_before area.0 middle) first middle until area areas refl is low (splits first middle until areas (list-tail first area areas is) low)
@@ -82,7 +83,7 @@ stretches-join : (from middle until : Key) (list : List Keyed) → IsTaskList li
     → areas_between from until list ≡ areas_between from middle list ++ areas_between middle until list
 stretches-join from middle until list is low high =
     splits from middle until (areas_from from list) (areas-from from list is) high
-    ∙ ap (λ (l : List Keyed). areas_between from middle list ++ areas_before until l) (areas-twice from middle list low)
+    ∙ ap (λ (l : List Keyed). areas_between from middle list ++ before_cut until l) (areas-twice from middle list low)
 
 filling-goes_on : (from middle until : Key) (list : List Keyed) (filled : Filled) → IsTaskList list → is_within from middle ≡ true → is_within middle until ≡ true
     → filled ≡ with_areas unfilled (areas_between from middle list)

@@ -14,6 +14,7 @@ use Rattle.hc_records.specs.Boundaries.{Interval, boundaries, hull, is_settled, 
 use Rattle.hc_records.specs.SpanLaws.{IsTaskList}
 use Rattle.hc_records.proofs.lemmas.KeyOrder.{before-apart, before-other, other-sym, within-else}
 use Rattle.hc_records.proofs.lemmas.SpanCuts.{span-begins}
+use Rattle.hc_records.proofs.lemmas.Choices.{and_right}
 use Rattle.hc_cuts.specs.declared.hulls.Hulls.{Hulls}
 use Rattle.hc_cuts.specs.Hulls.{AreHulls}
 use Rattle.hc_cuts.specs.Keeping.{begins_at, is_kept, is_kept_by, is_kept_up_to, is_kept_up_to_by, span_from}
@@ -119,13 +120,10 @@ not-within a b = grind arith
 both-true : (a b : Bool) → b ≡ true → (a && b) ≡ a
 both-true a b is = grind arith
 
-both-false : (a b : Bool) → b ≡ false → (a && b) ≡ false
-both-false a b is = grind arith
-
 -- where the hull ends before the interval begins, none does
 pub met-never : (hull : Interval) (start key : Key) → is_before hull.1 start ≡ true → is_before key END ≡ true → is_before key END ≡ not (meets_hull (Some hull) (start, key))
 met-never hull start key ends low =
-    low ∙ sym (ap not (both-false (is_within hull.0 key) (is_within start hull.1) (before-apart hull.1 start ends)))
+    low ∙ sym (ap not (and_right (is_within hull.0 key) (is_within start hull.1) (before-apart hull.1 start ends)))
 
 -- else the hull's first key does
 pub met-first : (hull : Interval) (start key : Key) → is_before hull.1 start ≡ false → is_before key hull.0 ≡ not (meets_hull (Some hull) (start, key))

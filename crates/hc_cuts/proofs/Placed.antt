@@ -26,7 +26,7 @@ use Rattle.hc_cuts.specs.Cursors.{unfilled}
 use Rattle.hc_cuts.specs.Place.{has_key, place_of}
 use Rattle.hc_cuts.specs.Walk.{blank_datagram, filled_datagram, span_places}
 use Rattle.hc_cuts.proofs.Searched.{boundary-cut}
-use Rattle.hc_cuts.proofs.Walked.{cut-number, cuts-on, keyed-is}
+use Rattle.hc_cuts.proofs.Walked.{cut-number, cuts-on, keyed-is, before_cut}
 use Rattle.hc_cuts.proofs.Whole.{before-end, boundary, boundary-front, length-end, next-at, places_from, span-places, spans-begin}
 
 -- what is found in a list
@@ -63,18 +63,15 @@ pub record StandsAt (front : Front) (area : Keyed) (found : Option Placed) : Typ
   pub room : fits front area ≡ true
   pub place : found ≡ Some (placed_at front area)
 
-abbrev pub areas_before : Key → List Keyed → List Keyed
-areas_before key list = filter (λ area. is_before area.0 key) list
-
 abbrev Stands : ℕ → Filled → Key → ℕ → List Keyed → Type 0
 Stands datagram filled key bits list =
-    StandsAt (filled_datagram datagram (with_areas filled (areas_before key list))) (key, bits) (find (has_key key) (packed (filled_datagram datagram filled) list))
+    StandsAt (filled_datagram datagram (with_areas filled (before_cut key list))) (key, bits) (find (has_key key) (packed (filled_datagram datagram filled) list))
 
 -- where the next cut comes behind an area, the area fits
 fits-before : (fitting : Bool) (next own key : Key) → is_within own key ≡ true → is_before key (if fitting then next else own) ≡ true → fitting ≡ true
 fits-before fitting next own key low before = grind arith
 
-pub none-before : (key : Key) (areas : List Keyed) → All (λ area. is_within key area.0 ≡ true) areas → areas_before key areas ≡ []
+pub none-before : (key : Key) (areas : List Keyed) → All (λ area. is_within key area.0 ≡ true) areas → before_cut key areas ≡ []
 none-before key areas all = grind (arith, filter-drops, All-weaker, within-apart)
 
 stands-here : (datagram : ℕ) (filled : Filled) (key first : Key) (bits : ℕ) (area : Keyed) (areas : List Keyed) → IsListFrom first (area ∷ areas) → same_key area.0 key ≡ true
@@ -85,7 +82,7 @@ stands-here datagram filled key first bits area areas is test width before =
     let own : (key, bits) ≡ area = keyed-is area key bits here (sym width ∙ width-here area areas key test) in
     let low : is_within area.0 key ≡ true = ap (is_within area.0) (sym here) ∙ within-refl area.0 in
     let high : is_within key area.0 ≡ true = ap (is_within key) here ∙ within-refl key in
-    let none : areas_before key (area ∷ areas) ≡ [] =
+    let none : before_cut key (area ∷ areas) ≡ [] =
     none-before key (area ∷ areas)
     (All-cons (λ a. is_within key a.0 ≡ true) area areas high
     (All-weaker (λ a. is_before area.0 a.0 ≡ true) (λ a. is_within key a.0 ≡ true) (λ a later. subst (λ (k : Key). is_within k a.0 ≡ true) here (within-from_before area.0 a.0 later)) areas
@@ -123,7 +120,7 @@ stands-behind datagram filled key first bits area areas is test width some befor
     let cut : next_cut front (area ∷ areas) ≡ next_cut (filled_datagram datagram so_far) areas =
     cuts-on (fits front area) (next_cut (behind (placed_at front area)) areas) area.0 room ∙ ap (λ (f : Front). next_cut f areas) goes in
     let rest = later so_far width' (subst (λ (k : Key). is_before key k ≡ true) cut before) in
-    let more : areas_before key (area ∷ areas) ≡ area ∷ areas_before key areas = cond-true (is_before area.0 key) (area ∷ areas_before key areas) (areas_before key areas) earlier in
+    let more : before_cut key (area ∷ areas) ≡ area ∷ before_cut key areas = cond-true (is_before area.0 key) (area ∷ before_cut key areas) (before_cut key areas) earlier in
     record {
       room = ap (λ (l : List Keyed). fits (filled_datagram datagram (with_areas filled l)) (key, bits)) more ∙ rest.room;
       place =

@@ -11,21 +11,15 @@ use Rattle.hc_records.specs.Keys.{same_dir, same_key}
 use Rattle.hc_records.proofs.lemmas.KeyOrder.{same_key-same}
 use Rattle.hc_cuts.specs.declared.hulls.Hulls.{Hulls}
 use Rattle.hc_cuts.specs.Hulls.{AreHulls, TakeIn, no_hulls}
-use Rattle.hc_cuts.proofs.lemmas.HullKeys.{hulls-none, hulls-same}
+use Rattle.hc_cuts.proofs.lemmas.HullKeys.{hulls-none, hulls-same, or-assoc, or-other}
 use Rattle.hc_cuts.specs.Areas.{areas_at, slave_width, width_at}
 use Rattle.hc_cuts.specs.Widths.{differs, differs_at}
 use Rattle.hc_cuts.proofs.Setting.{below-next, key_of, no-area}
 
 -- hulls that take keys in, one set of them after another
 
-or-off : (a b : Bool) → b ≡ false → a ≡ (a || b)
-or-off a b none = grind arith
-
-or-assoc : (a b c : Bool) → ((a || b) || c) ≡ (a || (b || c))
-or-assoc a b c = grind arith
-
 takes-none : (hulls : Hulls) (keys : Key → Bool) → ((key : Key) → keys key ≡ false) → TakeIn hulls hulls keys
-takes-none hulls keys none = λ test are. hulls-same test (λ key. test key || keys key) hulls (λ key. or-off (test key) (keys key) (none key)) are
+takes-none hulls keys none = λ test are. hulls-same test (λ key. test key || keys key) hulls (λ key. or-other (test key) (keys key) (none key)) are
 
 takes-same : (old new : Hulls) (p q : Key → Bool) → ((key : Key) → p key ≡ q key) → TakeIn old new p → TakeIn old new q
 takes-same old new p q same takes = λ test are.

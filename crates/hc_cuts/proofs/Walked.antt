@@ -20,6 +20,7 @@ use Rattle.hc_bitsum.specs.Filling.{areas_between}
 use Rattle.hc_cuts.specs.Starts.{next_boundary}
 use Rattle.hc_cuts.specs.Walk.{blank_datagram, span_places}
 use Rattle.hc_cuts.proofs.Searched.{boundary-cut}
+use Rattle.hc_cuts.proofs.lemmas.Datagrams.{front_of}
 
 -- the key of the first area of a list, or END
 abbrev head_key : List Keyed → Key
@@ -44,9 +45,6 @@ none-from_end list below =
 
 -- the next cut doesn't depend on the number of the datagram
 
-abbrev front_of : ℕ → ℕ → Dir → Front
-front_of datagram bit last = record { datagram = datagram; bit = bit; last = last }
-
 number-by : (fitting : Bool) (n m bit : ℕ) (last : Dir) (area : Keyed) (areas : List Keyed)
     → ((k l to : ℕ) (dir : Dir) → next_cut (front_of k to dir) areas ≡ next_cut (front_of l to dir) areas)
     → (if fitting then next_cut (behind (place fitting (front_of n bit last) area)) areas else area.0)
@@ -60,7 +58,7 @@ cut-number n m bit last (area ∷ areas) =
 
 -- the areas up to the next cut have room together, and are what is carried up to it
 
-abbrev before_cut : Key → List Keyed → List Keyed
+abbrev pub before_cut : Key → List Keyed → List Keyed
 before_cut cut list = filter (λ area. is_before area.0 cut) list
 
 record IsCarried (front : Front) (cut : Key) (list : List Keyed) : Type 0 where

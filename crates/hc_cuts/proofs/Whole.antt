@@ -2,7 +2,7 @@
 use Rattle.std.specs.Prelude.{All, Contains, Some, slice_get, slice_index_or}
 use Rattle.std.proofs.Common.{◌≡◌, ℕ, zero, suc, ◌+◌, ◌<◌, ◌≤◌, inl, inr, Bool, true, false, List, [], ◌∷◌, ◌++◌, length, refl, sym, ap, subst, ◌∙◌, arith, if◌then◌else◌, length-append}
 use Rattle.std.proofs.lemmas.Bool.{cond-false}
-use Rattle.std.proofs.lemmas.List.Elements.{All-head, All-weaker}
+use Rattle.std.proofs.lemmas.List.Elements.{All-head}
 use Rattle.hc_records.specs.declared.limits.TheConstants.{MOST_AREA_BITS}
 use Rattle.hc_records.specs.declared.records.Dir.TheVariants.{Out}
 use Rattle.hc_records.specs.declared.keys.Key.{Key}
@@ -16,8 +16,8 @@ use Rattle.hc_records.specs.Laws.{IsPackable}
 use Rattle.hc_records.specs.SpanLaws.{IsTaskList, areas_from, carried, next_cut}
 use Rattle.hc_records.proofs.lemmas.KeyOrder.{before-apart, before-other, other-sym, within-from_before}
 use Rattle.hc_records.proofs.lemmas.Packed.{place}
-use Rattle.hc_records.proofs.lemmas.SpanCuts.{areas-from, span-alone, span-begins}
-use Rattle.hc_records.proofs.lemmas.Spans.{IsListFrom, cut-all, filter-keeps, list-behind, list-tail}
+use Rattle.hc_records.proofs.lemmas.SpanCuts.{areas-from, span-alone, span-begins, all-from}
+use Rattle.hc_records.proofs.lemmas.Spans.{IsListFrom, cut-all, list-behind, list-tail}
 use Rattle.hc_bitsum.specs.Tree.{CanBegin, HoldsTaskList, Tree}
 use Rattle.hc_cuts.specs.Starts.{Kept, next_boundary}
 use Rattle.hc_cuts.specs.Walk.{blank_datagram, span_places}
@@ -119,9 +119,6 @@ span-places at list is within =
     ∙ ap (λ (areas : List Keyed). carried (blank_datagram at) left ++ packed (blank_datagram (at + 1)) areas) (areas-twice from (boundary keys (at + 1)) list low)
 
 -- a walk over the spans: the places so far, and those that are left
-
-all-from : (list : List Keyed) → IsTaskList list → areas_from START list ≡ list
-all-from list is = grind (arith, filter-keeps, All-weaker, within-from_before)
 
 pub spans-begin : (keys : List Key) (list : List Keyed) → IsTaskList list → keys ≡ boundaries list → places_from 0 keys list ≡ packed opening list
 spans-begin keys list is all = rw all (ap (packed opening) (all-from list is))

@@ -1,11 +1,12 @@
 -- Each piece of news is of an entry of the record.
-use Rattle.std.proofs.Common.{◌≡◌, suc, ◌==◌, Bool, true, false, cond, List, [], ◌∷◌, map, refl, ap, arith, Option, Some, None}
+use Rattle.std.proofs.Common.{◌≡◌, ◌==◌, Bool, true, false, cond, List, [], ◌∷◌, map, refl, ap, Option, Some, None}
 use Rattle.std.specs.Prelude.{All, Contains}
 use Rattle.std.specs.Option.{option_map_or}
 use Rattle.std.specs.List.{flat_map, list_any, zip}
 use Rattle.std.proofs.lemmas.Bool.{eqb-true}
 use Rattle.std.proofs.lemmas.List.Elements.{All-nil, All-cons, All-append, All-contains_itself, All-map, All-weaker}
 use Rattle.hc_records.proofs.lemmas.Lists.{All-flat_map}
+use Rattle.hc_records.proofs.lemmas.Choices.{contains-first, contains-later}
 use Rattle.hc_events.specs.Arrivals.{Arrival, Part}
 use Rattle.hc_events.specs.Entries.{Entry, Record, Opened, Edited, Posted, Sent, Wrote, Came}
 use Rattle.hc_events.specs.Heads.{Block, Datagram, Head, Item}
@@ -16,14 +17,8 @@ use Rattle.hc_events.specs.NewsLaws.{IsGoodAnswer, IsNewsOf}
 
 -- with one more entry
 
-one_further : {X : Type 0} (entry x : X) (entries : List X) → Contains entries x → Contains (entry ∷ entries) x
-one_further entry x entries at = let within = at.1 in (suc at.0, omega arith, at.2)
-
-newest_one : {X : Type 0} (entry : X) (entries : List X) → Contains (entry ∷ entries) entry
-newest_one entry entries = (0, omega arith, refl)
-
 further : (entry : Entry) (past : Record) (one : News) → IsNewsOf past one → IsNewsOf (entry ∷ past) one
-further entry past (Swapped edit) at = one_further entry (Edited edit) past at
+further entry past (Swapped edit) at = contains-later entry (Edited edit) past at
 further entry past (Answered good) is = record {
   since = entry ∷ is.since;
   arrival = is.arrival;
@@ -106,7 +101,7 @@ news-of_record [] = All-nil (IsNewsOf [])
 news-of_record (Opened groups ∷ past) = All-nil (IsNewsOf (Opened groups ∷ past))
 news-of_record (Edited edit ∷ past) =
     All-append (IsNewsOf (Edited edit ∷ past)) (news_of past) (Swapped edit ∷ []) (all_further (Edited edit) past (news_of past) (news-of_record past))
-    (All-cons (IsNewsOf (Edited edit ∷ past)) (Swapped edit) [] (newest_one (Edited edit) past) (All-nil (IsNewsOf (Edited edit ∷ past))))
+    (All-cons (IsNewsOf (Edited edit ∷ past)) (Swapped edit) [] (contains-first (Edited edit) past) (All-nil (IsNewsOf (Edited edit ∷ past))))
 news-of_record (Posted task bytes ∷ past) = all_further (Posted task bytes) past (news_of past) (news-of_record past)
 news-of_record (Sent frame ∷ past) = all_further (Sent frame) past (news_of past) (news-of_record past)
 news-of_record (Wrote block ∷ past) = all_further (Wrote block) past (news_of past) (news-of_record past)

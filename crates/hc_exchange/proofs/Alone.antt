@@ -1,16 +1,17 @@
 -- A variable stands once in a line.
-use Rattle.std.proofs.Common.{◌≡◌, ◌∙◌, ℕ, zero, suc, ◌+◌, ◌*◌, ◌≤◌, Bool, true, cond, Option, Some, None, List, [], ◌∷◌, ◌++◌, refl, sym, ap, ap₂, subst, arith}
+use Rattle.std.proofs.Common.{◌≡◌, ◌∙◌, ℕ, zero, suc, ◌+◌, ◌*◌, ◌≤◌, Bool, cond, Option, Some, None, List, [], ◌∷◌, ◌++◌, refl, sym, ap, ap₂, subst, arith}
 use Rattle.std.specs.Prelude.{Contains, slice_get, ◌==◌}
 use Rattle.std.specs.Option.{option_map_or}
-use Rattle.std.proofs.lemmas.Bool.Decides.{nat_tests}
 use Rattle.hc_records.specs.declared.records.Area.{Area}
 use Rattle.hc_records.specs.Area.{Entry, assigned_entries}
 use Rattle.hc_records.specs.Image.{variables_from}
 use Rattle.hc_records.specs.Line.{Member, State, line}
+use Rattle.hc_records.proofs.lemmas.Choices.{same-test}
 use Rattle.hc_places.proofs.lemmas.Once.{declared-once, held, line-declared, of_areas, own, weight}
 use Rattle.hc_places.proofs.lemmas.Totals.{total}
 use Rattle.hc_exchange.specs.PairLaws.{IsConfigurable}
 use Rattle.hc_exchange.specs.Exchanged.{StandsInMemory}
+use Rattle.hc_exchange.proofs.lemmas.Variables.{Found}
 
 -- what counts once in a list has one place there
 
@@ -39,14 +40,8 @@ one-place f (z ∷ xs) (suc i) (suc j) x y few is is' some some' = ap suc (one-p
 
 -- and so has a variable among entries
 
-abbrev Found : Type 0
-Found = ℕ × (ℕ × ℕ)
-
 abbrev led : Option ℕ → ℕ → ℕ → List Found → List Found
 led name bit bits rest = option_map_or (λ (v : ℕ). (v, (bit, bits)) ∷ []) name [] ++ rest
-
-pub same-test : (a b : ℕ) → a ≡ b → (a == b) ≡ true
-same-test a b same = grind (arith, nat_tests)
 
 own-one : (v w : ℕ) → w ≡ v → own v w ≡ 1
 own-one v w same = ap (λ (b : Bool). cond b 1 0) (same-test v w (sym same))

@@ -18,6 +18,7 @@ use Rattle.hc_records.proofs.lemmas.Lengths.{length-sendable}
 use Rattle.hc_records.proofs.lemmas.Packable.{project-packable}
 use Rattle.hc_records.proofs.lemmas.Projects.{project-few}
 use Rattle.hc_records.proofs.lemmas.Walks.{length-line}
+use Rattle.hc_records.proofs.lemmas.Choices.{same-test}
 use Rattle.hc_places.specs.Table.{Table, TaskTable, datagram_of, table_of}
 use Rattle.hc_places.proofs.lemmas.Loads.{table-at}
 use Rattle.hc_places.proofs.lemmas.Ranks.{expected-low}
@@ -26,7 +27,6 @@ use Rattle.hc_images.specs.Values.{image_bit, posted}
 use Rattle.hc_images.proofs.lemmas.Bits.{sent-there}
 use Rattle.hc_images.proofs.lemmas.LaidOut.{length-of_line, offset-of_line, place-of_line}
 use Rattle.hc_exchange.specs.PairLaws.{IsConfigurable}
-use Rattle.hc_exchange.proofs.Alone.{same-test}
 use Rattle.hc_exchange.specs.Sent.{IsPacked, count_of}
 
 -- the datagrams of a task

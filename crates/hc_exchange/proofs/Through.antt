@@ -1,24 +1,23 @@
 -- A frame that writes a register, through machines: each serves the datagram, which goes on as it came but for its counter.
-use Rattle.std.proofs.Common.{◌≡◌, ℕ, ◌+◌, ◌^◌, ◌<◌, ◌≤◌, ◌∙◌, List, [], ◌∷◌, length, is_none, refl, sym, ap, ap₂, subst, arith}
-use Rattle.std.specs.Prelude.{All, None, Option, map, if◌then◌else◌}
+use Rattle.std.proofs.Common.{◌≡◌, ℕ, ◌+◌, ◌^◌, ◌<◌, ◌≤◌, ◌∙◌, List, [], ◌∷◌, length, refl, sym, ap, ap₂, subst, arith}
+use Rattle.std.specs.Prelude.{All, map, if◌then◌else◌}
 use Rattle.std.proofs.lemmas.List.{append-nil}
 use Rattle.std.proofs.lemmas.List.Elements.{All-cons, All-head, All-map, All-nil, All-tail, All-weaker}
 use Rattle.hc_frames.specs.declared.commands.Command.{Command}
 use Rattle.hc_frames.specs.declared.commands.Command.TheVariants.{Fpwr}
-use Rattle.hc_frames.specs.declared.reading.faults.FrameFault.{FrameFault}
-use Rattle.hc_frames.specs.Arrived.{Reading, fault_in, reading_of}
 use Rattle.hc_frames.specs.FrameText.{Carried, Datagram, frame_text, sent, station_address}
 use Rattle.hc_frames.specs.Laws.{CanBeCarried}
 use Rattle.hc_frames.specs.Returned.{FitsLine, IsReturned}
 use Rattle.hc_frames.proofs.lemmas.Returns.{returned-read, sent-returned}
 use Rattle.hc_machine.specs.Commands.{address_after, data_after, memory_behind_command, memory_behind_datagram, served}
-use Rattle.hc_machine.specs.Frames.{frame_after, memory_behind, memory_behind_datagrams}
+use Rattle.hc_machine.specs.Frames.{frame_after, memory_behind}
 use Rattle.hc_machine.proofs.lemmas.Returned.{returned-passes}
 use Rattle.hc_registers.specs.Blocks.{LineBlock}
 use Rattle.hc_segment.specs.Line.{machines_after, machines_behind}
 use Rattle.hc_exchange.specs.Writing.{block_datagram, write_frames}
 use Rattle.hc_exchange.proofs.Blocks.{block-size, blocks_behind}
 use Rattle.hc_exchange.proofs.Wrote.{IsPlain, block_behind}
+use Rattle.hc_exchange.proofs.lemmas.Frames.{behind-read}
 
 -- a datagram writes bytes at an address
 record IsWrite (part : Carried) (address : ℕ) (bytes : List ℕ) : Type 0 where
@@ -40,13 +39,6 @@ unfolding memory_behind_datagram
 behind-write memory part address bytes is =
     ap (λ (c : Command). memory_behind_command c memory part.address part.bytes) is.command
     ∙ ap₂ (λ (a : ℕ) (b : List ℕ). memory_behind_command Fpwr memory a b) is.address_is is.bytes_are
-
-behind-read : (memory frame : List ℕ) (serial : ℕ) (parts : List Carried) → fault_in frame ≡ None → reading_of frame ≡ record { serial = serial; parts = parts }
-    → memory_behind memory frame ≡ memory_behind_datagrams memory parts
-unfolding memory_behind
-behind-read memory frame serial parts none told =
-    ap (λ (o : Option FrameFault). if is_none o then memory_behind_datagrams memory (reading_of frame).parts else memory) none
-    ∙ ap (λ (r : Reading). memory_behind_datagrams memory r.parts) told
 
 -- one write through machines
 

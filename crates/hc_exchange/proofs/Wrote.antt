@@ -4,6 +4,7 @@ use Rattle.std.specs.Prelude.{◌&&◌, ◌==◌, nat_le, if◌then◌else◌}
 use Rattle.std.proofs.lemmas.Bool.{cases_eq}
 use Rattle.std.proofs.lemmas.Bool.Decides.{nat_tests}
 use Rattle.std.proofs.lemmas.List.{get_or_append_left, get_or-append_right, get_or-drop, get_or-take}
+use Rattle.hc_records.proofs.lemmas.Choices.{both}
 use Rattle.hc_frames.specs.Arrived.{word_at}
 use Rattle.hc_frames.specs.FrameText.{station_address}
 use Rattle.hc_frames.specs.declared.commands.Command.TheVariants.{Fpwr}
@@ -94,10 +95,6 @@ block_behind memory block = memory_behind_command Fpwr memory (station_address b
 
 address-parts : (station register : ℕ) → station < 65536 → ((station + 65536 * register) % 65536 ≡ station) × ((station + 65536 * register) / 65536 ≡ register)
 address-parts station register low = (omega arith, omega arith)
-
-both : (a b : Bool) → a ≡ true → b ≡ true → (a && b) ≡ true
-both true b is is' = is'
-both false b is is' = is
 
 not-first : (a b : Bool) → a ≡ false → (a && b) ≡ false
 not-first true b is = cc

@@ -2,6 +2,7 @@
 use Rattle.std.proofs.Common.{◌≡◌, ℕ, ◌+◌, ◌%◌, ◌<◌, ◌≤◌, Bool, true, false, cond, ◌&&◌, ◌||◌, not, nat_lt, List, length, refl, ap, ◌∙◌, sym, arith, Option, Some, None}
 use Rattle.std.specs.List.{list_all, list_any}
 use Rattle.std.proofs.lemmas.Bool.Decides.{nat_tests}
+use Rattle.hc_records.proofs.lemmas.Choices.{less, not_less}
 use Rattle.hc_frames.specs.declared.limits.TheConstants.{LEAST_READ, MAX_DATAGRAMS}
 use Rattle.hc_frames.specs.declared.reading.datagrams.Survey.{Survey}
 use Rattle.hc_frames.specs.declared.reading.faults.FrameFault.{FrameFault}
@@ -27,12 +28,6 @@ found_fault e f g h seen e' f' g' h' =
     ∙ ap (λ (x : Bool). table false false false false seen.circulates x g h) (sym f')
     ∙ ap (λ (x : Bool). table false false false false seen.circulates seen.more x h) (sym g')
     ∙ ap (λ (x : Bool). table false false false false seen.circulates seen.more seen.unknown x) (sym h')
-
-not_less : (m n : ℕ) → n ≤ m → nat_lt m n ≡ false
-not_less m n h = grind (arith, nat_tests)
-
-less : (m n : ℕ) → m < n → nat_lt m n ≡ true
-less m n h = grind (arith, nat_tests)
 
 -- where the datagrams don't fill their bytes
 pub unfilled : (bytes left : List ℕ) → StandsBehind bytes left → fill_region (datagrams_in left) ≡ false → fault_in bytes ≡ Some BadLength

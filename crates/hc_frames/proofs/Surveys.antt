@@ -2,22 +2,11 @@
 use Rattle.std.proofs.Common.{◌≡◌, ℕ, ◌+◌, ◌<◌, Bool, true, false, ◌&&◌, ◌||◌, not, nat_lt, List, [], ◌∷◌, length, drop, refl, ap, ◌∙◌, sym, arith, Some, None, zero-add}
 use Rattle.std.specs.List.{list_all, list_any}
 use Rattle.std.proofs.Math.Bool.{or-false, or_assoc}
+use Rattle.hc_records.proofs.lemmas.Choices.{by_bool, none_of, not_false}
 use Rattle.hc_frames.specs.declared.reading.datagrams.Survey.{Survey}
 use Rattle.hc_frames.specs.Arrived.{circulates, data_size, datagrams_in, fill_region, has_other_index, is_unknown, is_whole, more_at_end, more_between, says_more}
 use Rattle.hc_frames.specs.Survey.{noted, nothing_seen, surveyed}
-use Rattle.hc_frames.proofs.lemmas.Datagrams.{datagrams-some}
-
-by_bool : {P : Type 0} (b : Bool) → (b ≡ true → P) → (b ≡ false → P) → P
-by_bool true f g = f refl
-by_bool false f g = g refl
-
-pub not_true : (b : Bool) → not b ≡ true → b ≡ false
-not_true true e = cc
-not_true false e = refl
-
-pub not_false : (b : Bool) → not b ≡ false → b ≡ true
-not_false true e = refl
-not_false false e = cc
+use Rattle.hc_frames.proofs.lemmas.Datagrams.{datagrams-some, and_true}
 
 -- one step of the pass
 pub survey_goes : (index : ℕ) (seen : Survey) (bytes : List ℕ) → 0 < length bytes → seen.more ≡ true → is_whole bytes ≡ true
@@ -129,10 +118,6 @@ end_more (d ∷ ds) some = last_end d ds
 some_same : (seen other : Survey) → Some seen ≡ Some other → seen ≡ other
 some_same seen other e = cc
 
-both : (a b : Bool) → (a && b) ≡ true → (a ≡ true) × (b ≡ true)
-both true b e = (refl, e)
-both false b e = cc
-
 and_wrong : (a : Bool) → (a && false) ≡ false
 and_wrong true = refl
 and_wrong false = refl
@@ -144,8 +129,8 @@ pub found : (index : ℕ) (ds : List (List ℕ)) (seen : Survey) → surveyed in
 found index ds seen e =
     by_bool (list_all is_whole ds && more_between ds)
     (λ good.
-    let whole : list_all is_whole ds ≡ true = (both _ _ good).0 in
-    let between : more_between ds ≡ true = (both _ _ good).1 in
+    let whole : list_all is_whole ds ≡ true = (and_true _ _ good).0 in
+    let between : more_between ds ≡ true = (and_true _ _ good).1 in
     let same : seen ≡ after index nothing_seen ds = some_same _ _ (sym e ∙ passes index nothing_seen ds whole (chain_all ds ∙ between)) in
     record {
       count = ap (λ (s : Survey). s.count) same ∙ zero-add (length ds);
@@ -162,5 +147,5 @@ pub not_found : (index : ℕ) (ds : List (List ℕ)) → surveyed index nothing_
 not_found index ds e =
     by_bool (list_all is_whole ds && more_between ds)
     (λ good.
-    absurd (none_some (sym e ∙ passes index nothing_seen ds (both _ _ good).0 (chain_all ds ∙ (both _ _ good).1))))
+    absurd (none_some (sym e ∙ passes index nothing_seen ds (and_true _ _ good).0 (chain_all ds ∙ (and_true _ _ good).1))))
     (λ bad. rw bad (and_wrong (nat_lt 0 (length ds))))

@@ -12,13 +12,13 @@ use Rattle.hc_records.specs.declared.records.Group.{Group}
 use Rattle.hc_records.specs.declared.records.Declared.{Declared}
 use Rattle.hc_records.specs.declared.edit.Edit.{Edit}
 use Rattle.hc_records.specs.declared.edit.Edit.TheVariants.{Connect, Disconnect, Remap, Move, Declare}
-use Rattle.hc_records.specs.declared.faults.ProjectFault.{ProjectFault}
-use Rattle.hc_records.specs.declared.faults.ProjectFault.TheVariants.{OutOfRange, RepeatedAlias, RepeatedStation, RepeatedSyncManager, OverlappingAreas, RepeatedVariable, UnknownPdo, AreaTooBig}
+use Rattle.hc_records.specs.declared.faults.ProjectFault.TheVariants.{OutOfRange}
 use Rattle.hc_records.specs.Lists.{changed_at, has_repeat, lowest, some_pair}
 use Rattle.hc_records.specs.Edits.{declares, groups_after, with_area, with_slaves}
 use Rattle.hc_records.specs.Project.{area_names, has_outside, has_overlap, has_repeated_alias, has_repeated_station, has_repeated_variable, has_unknown_pdo, is_bare, is_misplaced, is_wide, lowest_fault, pdo_names, project_faults, reach, repeats_sync_manager, slave_names, slave_outside, slaves_of, some_area, some_slave}
 use Rattle.hc_records.proofs.lemmas.Projects.{none-holds}
 use Rattle.hc_records.specs.Line.{groups_of}
+use Rattle.hc_records.proofs.lemmas.Declaring.{faults_of}
 use Rattle.hc_groups.specs.Edits.{own_fault}
 use Rattle.hc_groups.proofs.Harmless.{IsHarmless, IsJudged, in_task, move-judged, remap-judged, with_pdos}
 use Rattle.hc_groups.proofs.Same.{any-same, changed-same, flat-same, groups-with_presence, groups-with_slaves, map-same, on_group, slaves-on_group, some-slave, with-same}
@@ -130,10 +130,6 @@ outside-kept change groups inside spares =
     (some-spared slave_outside change groups three.1 spares)
 
 -- all of them
-
-abbrev faults_of : Bool → Bool → Bool → Bool → Bool → Bool → Bool → Bool → List (Bool × ProjectFault)
-faults_of a b c d e f g h =
-    (a, OutOfRange) ∷ (b, RepeatedAlias) ∷ (c, RepeatedStation) ∷ (d, RepeatedSyncManager) ∷ (e, OverlappingAreas) ∷ (f, RepeatedVariable) ∷ (g, UnknownPdo) ∷ (h, AreaTooBig) ∷ []
 
 none-of : (a b c d e f g h : Bool) → a ≡ false → b ≡ false → c ≡ false → d ≡ false → e ≡ false → f ≡ false → g ≡ false → h ≡ false → lowest (faults_of a b c d e f g h) ≡ None
 none-of a b c d e f g h is_a is_b is_c is_d is_e is_f is_g is_h = rw (is_a, is_b, is_c, is_d, is_e, is_f, is_g, is_h) refl

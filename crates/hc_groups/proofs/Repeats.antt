@@ -4,6 +4,7 @@ use Rattle.std.specs.Prelude.{◌==◌, ◌||◌, filter}
 use Rattle.std.specs.List.{list_any}
 use Rattle.std.proofs.lemmas.Bool.{eqb-true, eqb-false, ne_eqb, or_parts}
 use Rattle.hc_records.specs.Lists.{has_repeat}
+use Rattle.hc_records.proofs.lemmas.Choices.{member-by, not_false}
 
 -- an item has the number as its key
 abbrev has_key : {X : Type 0} → (X → ℕ) → ℕ → X → Bool
@@ -24,9 +25,6 @@ without-most : {X : Type 0} (key : X → ℕ) (number : ℕ) (items : List X) �
 without-most key number [] = omega arith
 without-most key number (item ∷ items) = left-most (has_key key number item) item (without key number items) items (without-most key number items)
 
-second : (a b : Bool) → (a || b) ≡ true → a ≡ false → b ≡ true
-second a b one other = search rules
-
 left-fewer : {X : Type 0} (same : Bool) (item : X) (kept rest : List X) → length kept ≤ length rest → (same ≡ false → length kept < length rest) →
     length (cond (not same) (item ∷ kept) kept) < suc (length rest)
 left-fewer same item kept rest most fewer = search rules
@@ -36,7 +34,7 @@ without-fewer : {X : Type 0} (key : X → ℕ) (number : ℕ) (items : List X) �
 without-fewer key number [] some = cc
 without-fewer key number (item ∷ items) some =
     left-fewer (has_key key number item) item (without key number items) items (without-most key number items)
-    (λ other. without-fewer key number items (second (has_key key number item) (list_any (has_key key number) items) some other))
+    (λ other. without-fewer key number items (member-by (has_key key number item) (list_any (has_key key number) items) some other))
 
 kept-any : {X : Type 0} (same : Bool) (test : X → Bool) (item : X) (kept rest : List X) → (same ≡ true → test item ≡ false) → list_any test kept ≡ list_any test rest →
     list_any test (cond (not same) (item ∷ kept) kept) ≡ (test item || list_any test rest)
@@ -58,13 +56,10 @@ none-foreign key number (other ∷ numbers) items once known =
     let here = or_parts (is_foreign key items other) (list_any (is_foreign key items) numbers) known in
     rw (without-other key number other items (eqb-false other number apart.0), here.0) (none-foreign key number numbers items apart.1 here.1)
 
-not-not : (b : Bool) → not b ≡ false → b ≡ true
-not-not b none = search rules
-
 pub no-longer : {X : Type 0} (key : X → ℕ) (numbers : List ℕ) (items : List X) → has_repeat numbers ≡ false → list_any (is_foreign key items) numbers ≡ false →
     length numbers ≤ length items
 no-longer key [] items once known = omega arith
 no-longer key (number ∷ numbers) items once known =
     let alone = or_parts (list_any (λ y. y == number) numbers) (has_repeat numbers) once in
     let here = or_parts (is_foreign key items number) (list_any (is_foreign key items) numbers) known in
-    search (rules, or_parts, without-fewer, not-not, none-foreign, no-longer key numbers (without key number items) alone.1 (none-foreign key number numbers items alone.0 here.1))
+    search (rules, or_parts, without-fewer, not_false, none-foreign, no-longer key numbers (without key number items) alone.1 (none-foreign key number numbers items alone.0 here.1))

@@ -1,17 +1,11 @@
 -- Numbered rows, each number once: a row is found by its number.
-use Rattle.std.proofs.Common.{◌≡◌, ◌≢◌, ◌⊎◌, inl, inr, ℕ, suc, ◌<◌, ◌==◌, Bool, true, false, cond, List, [], ◌∷◌, get_or, refl, sym, ap, ◌∙◌, subst, arith, Option, Some, None, rules}
+use Rattle.std.proofs.Common.{◌≡◌, ◌≢◌, ◌⊎◌, inl, inr, ℕ, suc, ◌<◌, ◌==◌, Bool, false, cond, List, [], ◌∷◌, get_or, refl, sym, ap, ◌∙◌, subst, Option, Some, None, rules}
 use Rattle.std.specs.Prelude.{All, AllPairs, find, slice_get}
 use Rattle.std.proofs.lemmas.Bool.{cases_eq}
-use Rattle.std.proofs.lemmas.Bool.Decides.{nat_tests}
 use Rattle.std.proofs.lemmas.List.Elements.{All-nil, All-cons}
 use Rattle.std.proofs.lemmas.Option.{get_or_from_slice_get, slice_get_within}
 use Rattle.hc_records.proofs.lemmas.Lists.{AllPairs-head, AllPairs-tail}
-
-is_itself : (n : ℕ) → (n == n) ≡ true
-is_itself n = grind (arith, nat_tests)
-
-is_another : (m n : ℕ) → m ≢ n → (m == n) ≡ false
-is_another m n other = grind (arith, nat_tests)
+use Rattle.hc_records.proofs.lemmas.Choices.{itself, less_differs, other-number}
 
 passed : {Y : Type 0} (test : Bool) (row : ℕ × Y) (rest : Option (ℕ × Y)) (other : ℕ × Y) → test ≡ false → rest ≡ Some other → cond test (Some row) rest ≡ Some other
 passed test row rest other e there = search rules
@@ -31,19 +25,16 @@ pub each-found : {Y : Type 0} (rows : List (ℕ × Y)) → AllPairs (λ a b. a.0
 each-found [] once = All-nil (IsFoundIn [])
 each-found (row ∷ rows) once =
     All-cons (IsFoundIn (row ∷ rows)) row rows
-    (ap (λ b. cond b (Some row) (find (λ other. other.0 == row.0) rows)) (is_itself row.0))
+    (ap (λ b. cond b (Some row) (find (λ other. other.0 == row.0) rows)) (itself row.0))
     (λ i e inside. let own = get_or rows i e in
     passed (row.0 == own.0) row (find (λ other. other.0 == own.0) rows) own
-    (is_another row.0 own.0 (AllPairs-head (λ a b. a.0 ≢ b.0) row rows once i e inside))
+    (other-number row.0 own.0 (AllPairs-head (λ a b. a.0 ≢ b.0) row rows once i e inside))
     (each-found rows (AllPairs-tail (λ a b. a.0 ≢ b.0) row rows once) i e inside))
 
 -- rows in the order of their numbers
 
 abbrev pub Ascend : {Y : Type 0} → List (ℕ × Y) → Type 0
 Ascend rows = AllPairs (λ a b. a.0 < b.0) rows
-
-less_differs : (m n : ℕ) → m < n → m ≢ n
-less_differs m n less same = omega arith
 
 ascend-once : {Y : Type 0} (rows : List (ℕ × Y)) → Ascend rows → AllPairs (λ a b. a.0 ≢ b.0) rows
 ascend-once rows ascend = λ i j e less low. less_differs (get_or rows i e).0 (get_or rows j e).0 (ascend i j e less low)
@@ -89,5 +80,5 @@ by-number (row ∷ rows) number = elim (cases_eq row.0 number) [
 pub none-found : {Y : Type 0} (rows : List (ℕ × Y)) (number : ℕ) → HasNone rows number → find (λ r. r.0 == number) rows ≡ None
 none-found [] number none = refl
 none-found (row ∷ rows) number none =
-    ap (λ b. cond b (Some row) (find (λ r. r.0 == number) rows)) (is_another row.0 number (none 0 row refl))
+    ap (λ b. cond b (Some row) (find (λ r. r.0 == number) rows)) (other-number row.0 number (none 0 row refl))
     ∙ none-found rows number (λ i. none (suc i))

@@ -3,7 +3,6 @@ use Rattle.std.proofs.Common.{◌≡◌, ◌≢◌, inl, inr, ℕ, ◌+◌, ◌*
 use Rattle.std.specs.Prelude.{slice_get}
 use Rattle.std.specs.Option.{option_and_then, option_map_or}
 use Rattle.std.proofs.lemmas.Bool.{cases_eq, cases_lt, eq-eqb}
-use Rattle.std.proofs.lemmas.Bool.Decides.{nat_tests}
 use Rattle.std.proofs.lemmas.List.{get_or_past, length-replicate}
 use Rattle.std.proofs.lemmas.Nat.Bits.{bit_at-lt}
 use Rattle.std.proofs.lemmas.Option.{slice_get_past}
@@ -11,6 +10,7 @@ use Rattle.hc_bits.specs.Bits.{AreBytes, bit_of}
 use Rattle.hc_bits.proofs.lemmas.Places.{bit_of-drop, bit_of-zeros}
 use Rattle.hc_records.specs.declared.limits.TheConstants.{MOST_DATAGRAMS, TASKS}
 use Rattle.hc_records.specs.Image.{VariablePlace}
+use Rattle.hc_records.proofs.lemmas.Choices.{other-number}
 use Rattle.hc_places.specs.Table.{Table, TaskTable, datagrams_in, place_in}
 use Rattle.hc_images.specs.Packed.{Bytes, Carries, HasSizes, IsLaidOut, IsOutput, IsWhole, length_in, offset_in, slot_bytes}
 use Rattle.hc_images.specs.Pieces.{AreBlank, Posts}
@@ -92,9 +92,6 @@ posted_there : (table : Table) (task : ℕ) (bytes : List ℕ) (value : ℕ → 
     → posted table task bytes value variable k ≡ cond own (bit_of bytes (image_bit table place k)) (value variable k)
 posted_there table task bytes value variable k place own there is = search rules
 
-not_same : (m n : ℕ) → m ≢ n → (m == n) ≡ false
-not_same m n other = grind (arith, nat_tests)
-
 post_taken : (table : Table) (new masks : Bytes) (bytes : List ℕ) (variable k : ℕ) (place : VariablePlace) → IsLaidOut table → TakesPost table new masks bytes place.task
     → Carries table (λ v j. 1) masks → IsOutput table variable place → k < place.bits
     → bit_of (slot_bytes new place.task place.datagram) (place.bit + k) ≡ bit_of bytes (image_bit table place k)
@@ -124,7 +121,7 @@ posted-carries table task bytes value sent new masks out carries ones posts = re
     | inr other ↦
         ap (λ own. bit_of own (place.bit + k)) (posts.rest place.task place.datagram (out.inside variable place is.there).datagram (inl other))
         ∙ carries.values variable k place is low
-        ∙ sym (posted_there table task bytes value variable k place false is.there (not_same place.task task other))
+        ∙ sym (posted_there table task bytes value variable k place false is.there (other-number place.task task other))
   ];
   others = search (rules, cases_eq, cases_lt, under_zero);
 }

@@ -7,9 +7,9 @@ use Rattle.std.proofs.lemmas.Option.{slice_get-get_or, slice_get_cases, slice_ge
 use Rattle.hc_records.specs.declared.records.Dir.TheVariants.{Out}
 use Rattle.hc_records.specs.Image.{VariablePlace}
 use Rattle.hc_records.specs.Keys.{same_dir}
+use Rattle.hc_records.proofs.lemmas.VariablePlaces.{same_dir-same}
 use Rattle.hc_places.specs.Swap.{Change, ChangedRow, ChangesAscend, said_of, swapped}
 use Rattle.hc_places.specs.Table.{Row, RowsAscend, Table, place_in}
-use Rattle.hc_places.proofs.lemmas.Same.{same-dirs}
 use Rattle.hc_places.proofs.lemmas.Swaps.{swaps-move}
 use Rattle.hc_images.specs.Packed.{Bytes, HasSizes, IsLaidOut, IsOutput}
 use Rattle.hc_images.specs.Pieces.{AreApart, Fit, Numbered, Stand, of_changed, of_list, of_rows, output_in, output_of}
@@ -21,7 +21,7 @@ by_dir : (test : Bool) (place other : VariablePlace) → cond test (Some place) 
 by_dir test place other e = search (rules, same-some)
 
 found_by : (table : Table) (variable : ℕ) (place : VariablePlace) (found : Option VariablePlace) → place_in table variable ≡ found → option_and_then output_of found ≡ Some place → IsOutput table variable place
-found_by table variable place found there is = search (rules, by_dir, same-dirs)
+found_by table variable place found there is = search (rules, by_dir, same_dir-same)
 
 output-found : (table : Table) (variable : ℕ) (place : VariablePlace) → output_in table variable ≡ Some place → IsOutput table variable place
 output-found table variable place is = found_by table variable place (place_in table variable) refl is

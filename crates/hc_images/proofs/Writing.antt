@@ -8,6 +8,7 @@ use Rattle.hc_bits.specs.Bits.{AreBytes, ReplacesRun, bit_of}
 use Rattle.hc_records.specs.declared.limits.TheConstants.{MOST_DATAGRAMS}
 use Rattle.hc_records.specs.Image.{VariablePlace}
 use Rattle.hc_records.specs.ImageLaws.{SharesNoBit}
+use Rattle.hc_records.proofs.lemmas.Choices.{less_differs}
 use Rattle.hc_places.specs.Ranges.{IsPlace}
 use Rattle.hc_images.specs.Packed.{Bytes, LiesIn, slot_bytes}
 use Rattle.hc_images.proofs.Numbered.{none-some}
@@ -85,9 +86,6 @@ IsValue found lacking bytes value =
 abbrev IsRead : Bytes → List ℕ → ℕ → VariablePlace → Type 0
 IsRead bytes values i place =
     (k : ℕ) → k < place.bits → bit_at (get_or values i 0) k ≡ bit_of (slot_bytes bytes place.task place.datagram) (place.bit + k)
-
-less_differs : (m n : ℕ) → m < n → m ≢ n
-less_differs m n less same = omega arith
 
 earlier_read : (n lacking value i : ℕ) (places : Numbered) (old : Bytes) (values : List ℕ) (place : VariablePlace) → i < n → places i ≡ Some place
     → ReadsEach n places old lacking values → IsRead old (set values n value) i place

@@ -7,7 +7,7 @@ use Rattle.hc_bits.specs.Bits.{bit_of, AreBytes}
 use Rattle.hc_machine.specs.Memory.{byte_with, bytes_with}
 
 -- a byte is the sum of its bits
-byte-bits : (x : ℕ) → x < 256 → x ≡ x % 2 + 2 * (x / 2 % 2) + 4 * (x / 4 % 2) + 8 * (x / 8 % 2) + 16 * (x / 16 % 2) + 32 * (x / 32 % 2) + 64 * (x / 64 % 2) + 128 * (x / 128 % 2)
+pub byte-bits : (x : ℕ) → x < 256 → x ≡ x % 2 + 2 * (x / 2 % 2) + 4 * (x / 4 % 2) + 8 * (x / 8 % 2) + 16 * (x / 16 % 2) + 32 * (x / 32 % 2) + 64 * (x / 64 % 2) + 128 * (x / 128 % 2)
 byte-bits x small = omega arith
 
 byte-spelled : (x at : ℕ) (bit : ℕ → ℕ) → x < 256 → ((j : ℕ) → j < 8 → bit (at + j) ≡ bit_at x j) → x ≡ byte_with bit at

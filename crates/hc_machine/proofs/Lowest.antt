@@ -5,6 +5,8 @@ use Rattle.std.specs.Int.{bit_at}
 use Rattle.std.proofs.lemmas.Bool.{cases_eq, cases_lt}
 use Rattle.std.proofs.lemmas.List.FromFn.{get_or-map-range_with_len, length-map-range_with_len}
 use Rattle.std.proofs.lemmas.Nat.Bits.{bit_at-lt}
+use Rattle.hc_records.proofs.lemmas.Choices.{off}
+use Rattle.hc_frames.proofs.lemmas.Datagrams.{and_true}
 use Rattle.hc_bits.specs.Bits.{bit_of}
 use Rattle.hc_machine.specs.declared.fmmu.Fmmu.{Fmmu}
 use Rattle.hc_machine.specs.Fmmus.{fmmus_of, idle, is_within}
@@ -12,7 +14,8 @@ use Rattle.hc_machine.specs.Laws.{Reads, ReadBitsComeFromMemory, UnreadBitsStay,
 use Rattle.hc_machine.specs.Logical.{bit_read, bit_written, logical_bit, logical_data, logical_memory, memory_bit}
 use Rattle.hc_machine.specs.Memory.{byte_with, bytes_with, with_alias_of}
 use Rattle.hc_machine.proofs.Bytes.{bit_of-byte}
-use Rattle.hc_machine.proofs.Paired.{fmmu-count, read-by, reads-back, within, within-back, write-by, writes-back}
+use Rattle.hc_machine.proofs.Paired.{fmmu-count, read-by, reads-back, within-back, write-by, writes-back}
+use Rattle.hc_machine.proofs.Pairs.{within_yes}
 
 -- ---- bytes and their bits
 summed : (j b0 b1 b2 b3 b4 b5 b6 b7 : ℕ) (bit : ℕ → ℕ) (at : ℕ) → j < 8 → b0 < 2 → b1 < 2 → b2 < 2 → b3 < 2 → b4 < 2 → b5 < 2 → b6 < 2 → b7 < 2
@@ -80,14 +83,6 @@ bit_of-small xs k = bit_at-lt (get_or xs (k / 8) 0) (k % 8)
 pub both-true : (a b : Bool) → a ≡ true → b ≡ true → (a && b) ≡ true
 both-true a b p q = rw (p, q) refl
 
-pub parts-true : (a b : Bool) → (a && b) ≡ true → (a ≡ true) × (b ≡ true)
-parts-true true b e = (refl, e)
-parts-true false b e = cc
-
-pub off : (b : Bool) → (b ≡ true → ⊥) → b ≡ false
-off true none = absurd (none refl)
-off false none = refl
-
 -- ---- what is read
 abbrev reads-at : Fmmu → ℕ → Bool
 reads-at f x = f.reads && is_within f.logical f.width x
@@ -107,7 +102,7 @@ read-none [] memory x was none = refl
 read-none (f ∷ fs) memory x was none =
     ap (λ (b : Bool). if b then memory (memory_bit f x) else bit_read fs memory x was) (none 0 (omega arith)) ∙ read-none fs memory x was (λ j h. none (suc j) (omega arith))
 
-chosen-small : (b : Bool) (m n : ℕ) → m < 2 → n < 2 → (if b then m else n) < 2
+pub chosen-small : (b : Bool) (m n : ℕ) → m < 2 → n < 2 → (if b then m else n) < 2
 chosen-small true m n p q = p
 chosen-small false m n p q = q
 
@@ -125,7 +120,7 @@ data-bit memory bytes from k low =
 pub not-read : (memory : List ℕ) (j x : ℕ) → j < 16 → ((n : ℕ) → ¬ Reads memory j x n) → reads-at (get_or (fmmus_of memory) j idle) x ≡ false
 not-read memory j x low none =
     let f : Fmmu = get_or (fmmus_of memory) j idle in
-    off (reads-at f x) (λ e. let parts = parts-true f.reads (is_within f.logical f.width x) e in
+    off (reads-at f x) (λ e. let parts = and_true f.reads (is_within f.logical f.width x) e in
     let place = within-back f.logical f.width x parts.1 in
     none (memory_bit f x) (reads-back memory j x (memory_bit f x) low parts.0 (place.0, place.1, refl)))
 
@@ -133,7 +128,7 @@ pub read-from-memory : ReadBitsComeFromMemory
 read-from-memory memory bytes from k i m low number reads before =
     let f : Fmmu = get_or (fmmus_of memory) i idle in
     let by = read-by memory i (from + k) m number reads in
-    let here : reads-at f (from + k) ≡ true = both-true f.reads (is_within f.logical f.width (from + k)) by.0 (within f.logical f.width (from + k) by.1.0 by.1.1) in
+    let here : reads-at f (from + k) ≡ true = both-true f.reads (is_within f.logical f.width (from + k)) by.0 (within_yes f.logical f.width (from + k) by.1.0 by.1.1) in
     data-bit memory bytes from k low
     ∙ read-lowest (fmmus_of memory) i (bit_of memory) (from + k) (bit_of bytes k) (omega (arith, fmmu-count memory)) here (λ j h. not-read memory j (from + k) (omega arith) (λ n. before j n h))
     ∙ ap (bit_of memory) (sym by.1.2)
@@ -162,7 +157,7 @@ write-none [] came from n m was none = refl
 write-none (f ∷ fs) came from n m was none =
     ap (λ (b : Bool). if b then came (logical_bit f m - from) else bit_written fs came from n m was) (none 0 (omega arith)) ∙ write-none fs came from n m was (λ j h. none (suc j) (omega arith))
 
-write-small : (fs : List Fmmu) (came : ℕ → ℕ) (from n m was : ℕ) → ((k : ℕ) → came k < 2) → was < 2 → bit_written fs came from n m was < 2
+pub write-small : (fs : List Fmmu) (came : ℕ → ℕ) (from n m was : ℕ) → ((k : ℕ) → came k < 2) → was < 2 → bit_written fs came from n m was < 2
 unfolding bit_written
 write-small [] came from n m was small low = low
 write-small (f ∷ fs) came from n m was small low = chosen-small (writes-at from n f m) _ _ (small (logical_bit f m - from)) (write-small fs came from n m was small low)
@@ -188,8 +183,8 @@ memory-bit memory bytes from m low outside =
 pub not-written : (memory : List ℕ) (from size j m : ℕ) → j < 16 → ((n : ℕ) → n < size → ¬ Writes memory j (from + n) m) → writes-at from size (get_or (fmmus_of memory) j idle) m ≡ false
 not-written memory from size j m low none =
     let f : Fmmu = get_or (fmmus_of memory) j idle in
-    off (writes-at from size f m) (λ e. let outer = parts-true (f.writes && is_within f.memory f.width m) (is_within from size (logical_bit f m)) e in
-    let inner = parts-true f.writes (is_within f.memory f.width m) outer.0 in
+    off (writes-at from size f m) (λ e. let outer = and_true (f.writes && is_within f.memory f.width m) (is_within from size (logical_bit f m)) e in
+    let inner = and_true f.writes (is_within f.memory f.width m) outer.0 in
     let place = within-back f.memory f.width m inner.1 in
     let logical = within-back from size (logical_bit f m) outer.1 in
     let back : f.logical + (m - f.memory) ≡ from + (logical_bit f m - from) = omega arith in
@@ -206,8 +201,8 @@ written-from-data memory bytes from k i m long outside low number writes before 
     let logical : logical_bit f m ≡ from + k = omega arith in
     let inside : m < 8 * length memory = omega (arith, writes.1.inside) in
     let here : writes-at from size f m ≡ true =
-    both-true (f.writes && is_within f.memory f.width m) (is_within from size (logical_bit f m)) (both-true f.writes (is_within f.memory f.width m) by.0 (within f.memory f.width m (omega arith) (omega arith)))
-    (within from size (logical_bit f m) (omega arith) (omega arith)) in
+    both-true (f.writes && is_within f.memory f.width m) (is_within from size (logical_bit f m)) (both-true f.writes (is_within f.memory f.width m) by.0 (within_yes f.memory f.width m (omega arith) (omega arith)))
+    (within_yes from size (logical_bit f m) (omega arith) (omega arith)) in
     let same : logical_bit f m - from ≡ k = omega arith in
     memory-bit memory bytes from m inside outside
     ∙ write-lowest (fmmus_of memory) i (bit_of bytes) from size m (bit_of memory m) (omega (arith, fmmu-count memory)) here (λ j h. not-written memory from size j m (omega arith) (λ n l. before j n h l))

@@ -5,6 +5,7 @@ use Rattle.std.proofs.lemmas.List.FromFn.{get_or-map-range_with_len, length-map-
 use Rattle.hc_machine.specs.declared.fmmu.Fmmu.{Fmmu}
 use Rattle.hc_machine.specs.Fmmus.{block_at, end_logical, first_logical, first_memory, fmmu_of, fmmus_of, idle, is_active, is_read, is_within, is_write}
 use Rattle.hc_machine.specs.Laws.{FmmusAreTheirPairs, IsPair, Pairs, Reads, Writes}
+use Rattle.hc_machine.proofs.Pairs.{within_yes}
 
 abbrev active-fmmu : List ℕ → Fmmu
 active-fmmu block = record {
@@ -60,9 +61,6 @@ reads-of-block block on = ap (λ (f : Fmmu). f.reads) (fmmu-active block on)
 
 writes-of-block : (block : List ℕ) → is_active block ≡ true → is_write block ≡ (fmmu_of block).writes
 writes-of-block block on = ap (λ (f : Fmmu). f.writes) (fmmu-active block on)
-
-pub within : (from n x : ℕ) → from ≤ x → x < from + n → is_within from n x ≡ true
-within from n x p q = grind (arith, nat_tests)
 
 pub within-back : (from n x : ℕ) → is_within from n x ≡ true → (from ≤ x) × (x < from + n)
 within-back from n x e = (grind (arith, nat_tests), grind (arith, nat_tests))

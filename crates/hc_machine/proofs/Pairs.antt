@@ -9,7 +9,7 @@ use Rattle.hc_machine.specs.declared.fmmu.Fmmu.{Fmmu}
 use Rattle.hc_machine.specs.Fmmus.{idle, is_within}
 use Rattle.hc_machine.specs.Logical.{memory_bit, logical_bit, bit_read, bit_written}
 
-within_yes : (from n x : ℕ) → from ≤ x → x < from + n → is_within from n x ≡ true
+pub within_yes : (from n x : ℕ) → from ≤ x → x < from + n → is_within from n x ≡ true
 within_yes from n x p q = grind (arith, nat_tests)
 
 within_below : (from n x : ℕ) → x < from → is_within from n x ≡ false

@@ -4,6 +4,7 @@ use Rattle.std.specs.Prelude.{◌&&◌, ◌||◌, if◌then◌else◌}
 use Rattle.std.specs.List.{list_any}
 use Rattle.std.proofs.lemmas.Bool.Decides.{nat_tests}
 use Rattle.std.proofs.lemmas.List.{set-get_or}
+use Rattle.hc_records.proofs.lemmas.Choices.{off}
 use Rattle.hc_bits.specs.Bits.{AreBytes, bit_of}
 use Rattle.hc_machine.specs.declared.fmmu.Fmmu.{Fmmu}
 use Rattle.hc_machine.specs.Fmmus.{block_at, fmmus_of, idle}
@@ -11,7 +12,7 @@ use Rattle.hc_machine.specs.Laws.{IsPair, Pairs, UnmappedDatagramsPass}
 use Rattle.hc_machine.specs.Logical.{logical_count, logical_data, logical_memory, meets, memory_bit, reads_any, writes_any}
 use Rattle.hc_machine.specs.Memory.{with_alias_of}
 use Rattle.hc_machine.proofs.Bytes.{bytes-spelled}
-use Rattle.hc_machine.proofs.Lowest.{not-read, not-written, off, read-none, write-none}
+use Rattle.hc_machine.proofs.Lowest.{not-read, not-written, read-none, write-none}
 use Rattle.hc_machine.proofs.Paired.{fmmu-at, fmmu-count, pairs-are-blocks}
 
 -- no test of a list holds

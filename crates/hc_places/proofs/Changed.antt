@@ -9,6 +9,7 @@ use Rattle.std.proofs.lemmas.Bool.{cond-true, cond-false, eq-eqb, or_right}
 use Rattle.std.proofs.lemmas.Bool.Decides.{nat_tests}
 use Rattle.std.proofs.lemmas.List.Elements.{All-head, All-nil, All-tail, All-weaker, All-cons, filter_passes}
 use Rattle.hc_records.specs.Image.{VariablePlace}
+use Rattle.hc_records.proofs.lemmas.Choices.{moved}
 use Rattle.hc_places.specs.Table.{Row, RowsAscend}
 use Rattle.hc_places.specs.Swap.{ChangesAscend, same_found}
 use Rattle.hc_places.proofs.Members.{among, among-filter}
@@ -37,7 +38,7 @@ different old new = filter (differs old new) (of_both old new)
 
 -- rows in front of a look-up
 
-above-apart : (a b : ℕ) → b < a → (a == b) ≡ false
+pub above-apart : (a b : ℕ) → b < a → (a == b) ≡ false
 above-apart a b less = grind (arith, nat_tests)
 
 pub place-here : (row : Row) (rows : List Row) (variable : ℕ) → row.0 ≡ variable → place_of (row ∷ rows) variable ≡ Some row.1
@@ -53,13 +54,10 @@ place-none (row ∷ rows) variable above =
 abbrev stands : Option VariablePlace → Bool
 stands found = option_map_or (λ place. true) found false
 
-or-regroup : (a b c : Bool) → (a || (b || c)) ≡ ((a || b) || c)
-or-regroup a b c = grind arith
-
 among-append : (variable : ℕ) (xs ys : List ℕ) → among variable (xs ++ ys) ≡ (among variable xs || among variable ys)
 among-append variable [] ys = refl
 among-append variable (x ∷ xs) ys =
-    ap (λ (b : Bool). (x == variable) || b) (among-append variable xs ys) ∙ or-regroup (x == variable) (among variable xs) (among variable ys)
+    ap (λ (b : Bool). (x == variable) || b) (among-append variable xs ys) ∙ moved (x == variable) (among variable xs) (among variable ys)
 
 stands-by : (here : Bool) (row : Row) (found : Option Row) → (here || stands (option_map (λ (r : Row). r.1) found)) ≡ stands (option_map (λ (r : Row). r.1) (cond here (Some row) found))
 stands-by here row found = grind arith

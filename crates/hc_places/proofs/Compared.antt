@@ -2,15 +2,15 @@
 use Rattle.std.proofs.Common.{◌≡◌, ℕ, ◌+◌, ◌<◌, ◌≤◌, Bool, true, false, cond, List, [], ◌∷◌, ◌++◌, length, refl, subst, sym, arith}
 use Rattle.std.specs.Prelude.{All, Option, Some, None, find, nat_lt, option_map, slice_get, ◌==◌, ◌≢◌}
 use Rattle.std.proofs.lemmas.Bool.{eq-eqb, ltb-true, ltb-false}
-use Rattle.std.proofs.lemmas.Bool.Decides.{nat_tests}
 use Rattle.std.proofs.lemmas.List.Elements.{All-append, All-cons, All-head, All-nil, All-tail, All-weaker}
 use Rattle.std.proofs.lemmas.Option.{slice_get_past}
 use Rattle.hc_records.proofs.lemmas.Lists.{AllPairs-append}
+use Rattle.hc_records.proofs.lemmas.Choices.{lower-other}
 use Rattle.hc_places.specs.Table.{TaskTable}
 use Rattle.hc_places.specs.Swap.{ChangedTask, ChangesAscend, IsNewTask}
 
 -- what changed tasks say of a task
-abbrev table_said : List ChangedTask → ℕ → Option TaskTable
+abbrev pub table_said : List ChangedTask → ℕ → Option TaskTable
 table_said changed task = option_map (λ (c : ChangedTask). c.1) (find (λ (c : ChangedTask). c.0 == task) changed)
 
 abbrev AreBelow : ℕ → List ChangedTask → Type 0
@@ -21,9 +21,6 @@ pub record AreTold (olds news : List TaskTable) (number : ℕ) (tasks : List Cha
   pub says : (task : ℕ) → task < number → IsNewTask (slice_get olds task) (slice_get news task) (table_said tasks task)
   pub below : All (λ (c : ChangedTask). c.0 < number) tasks
   pub ascends : ChangesAscend tasks
-
-lower-other : (a b : ℕ) → a < b → (a == b) ≡ false
-lower-other a b less = grind (arith, nat_tests)
 
 none-below : (task : ℕ) (tasks : List ChangedTask) → AreBelow task tasks → table_said tasks task ≡ None
 none-below task [] below = refl

@@ -26,7 +26,7 @@ use Rattle.hc_places.proofs.Configurable.{project-configurable}
 use Rattle.hc_places.proofs.Tables.{places-sendable, table-same}
 use Rattle.hc_places.proofs.Widths.{areas-offer}
 use Rattle.hc_cuts.specs.Areas.{area_in, areas_by_rank, list_by}
-use Rattle.hc_cuts.proofs.lemmas.Named.{keys-name}
+use Rattle.hc_cuts.proofs.lemmas.Named.{keys-name, NamesIn}
 use Rattle.hc_cuts.proofs.lemmas.Told.{task-listed}
 
 head-same : {X : Type 0} (x y : X) (xs ys : List X) → x ∷ xs ≡ y ∷ ys → x ≡ y
@@ -34,9 +34,6 @@ head-same x y xs ys same = cc
 
 tail-same : {X : Type 0} (x y : X) (xs ys : List X) → x ∷ xs ≡ y ∷ ys → xs ≡ ys
 tail-same x y xs ys same = cc
-
-abbrev NamesIn : List (List Area) → Listed → Type 0
-NamesIn slaves listed = area_in slaves listed.key ≡ Some listed.area
 
 -- a place of an area whose key names it
 own-found : (slaves : List (List Area)) (listed : Listed) (placed : Placed) → area_of placed ≡ keyed listed → NamesIn slaves listed → area_in slaves placed.key ≡ Some listed.area

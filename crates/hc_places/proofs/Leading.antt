@@ -8,21 +8,20 @@ use Rattle.std.proofs.lemmas.List.Elements.{All-head, All-tail}
 use Rattle.std.proofs.lemmas.List.{length-map}
 use Rattle.hc_records.specs.declared.edit.Edit.{Edit}
 use Rattle.hc_records.specs.Image.{VariablePlace}
+use Rattle.hc_records.proofs.lemmas.Choices.{is_other}
 use Rattle.hc_places.specs.Table.{IsTable, Table, TaskTable}
 use Rattle.hc_places.specs.Swap.{Change, ChangedRow, ChangedTask, ChangesAscend, IsNewTask, LeadsAsSaid, SaysWhatDiffers, changed_variables, merged, replaced, same_found, swapped}
 use Rattle.hc_places.proofs.Changed.{different-among, different-once, numbers, numbers-once, place_of}
 use Rattle.hc_places.proofs.Members.{among, as-long}
 use Rattle.hc_places.proofs.Swapped.{merged-rows-ascend, place-merged, tables-told}
 use Rattle.hc_places.proofs.Walked.{AreAbove, ascends-above, ascends-rest}
+use Rattle.hc_places.proofs.Compared.{table_said}
 
 -- what changed rows say of a variable
 abbrev said : List ChangedRow → ℕ → Option (Option VariablePlace)
 said rows variable = option_map (λ (changed : ChangedRow). changed.1) (find (λ (changed : ChangedRow). changed.0 == variable) rows)
 
 -- tasks of which some are replaced
-
-abbrev table_said : List ChangedTask → ℕ → Option TaskTable
-table_said changed task = option_map (λ (c : ChangedTask). c.1) (find (λ (c : ChangedTask). c.0 == task) changed)
 
 kept-as-is : {X : Type 0} (found : Option X) → found ≡ option_map (λ x. x) found
 kept-as-is found = grind arith
@@ -44,13 +43,10 @@ get-set-by here (y ∷ ys) (suc i) (suc j) x is = get-set-by here ys i j x (next
 get-set : {X : Type 0} (xs : List X) (i j : ℕ) (x : X) → slice_get (set xs i x) j ≡ cond (i == j) (option_map (λ _. x) (slice_get xs j)) (slice_get xs j)
 get-set xs i j x = get-set-by (i == j) xs i j x refl
 
-above-other : (a b : ℕ) → a < b → (b == a) ≡ false
-above-other a b less = grind (arith, nat_tests)
-
 none-said : (task : ℕ) (others : List ChangedTask) → AreAbove task others → table_said others task ≡ None
 none-said task [] above = refl
 none-said task (c ∷ others) above =
-    grind (arith, above-other, All-head, All-tail, none-said task others (All-tail (λ (c : ChangedTask). task < c.0) c others above))
+    grind (arith, is_other, All-head, All-tail, none-said task others (All-tail (λ (c : ChangedTask). task < c.0) c others above))
 
 -- a task behind the first change
 said-by : (here : Bool) (c : ChangedTask) (found : Option ChangedTask) (old : Option TaskTable)

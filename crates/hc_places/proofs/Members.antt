@@ -5,6 +5,7 @@ use Rattle.std.specs.List.{list_any}
 use Rattle.std.proofs.lemmas.Bool.{eq-eqb, eqb-true}
 use Rattle.std.proofs.lemmas.List.Elements.{All-head, All-tail}
 use Rattle.hc_records.proofs.lemmas.Lists.{AllPairs-head, AllPairs-tail, filter-few}
+use Rattle.hc_records.proofs.lemmas.Choices.{member-by, or_left, or_right}
 
 abbrev pub among : ℕ → List ℕ → Bool
 among variable xs = list_any (λ x. x == variable) xs
@@ -29,9 +30,6 @@ fewer-by : (here : Bool) (y : ℕ) (kept ys : List ℕ) → length kept ≤ leng
     → suc (length (cond (not here) (y ∷ kept) kept)) ≤ suc (length ys)
 fewer-by here y kept ys few rest = grind arith
 
-member-by : (here rest : Bool) → (here || rest) ≡ true → here ≡ false → rest ≡ true
-member-by here rest is not_here = grind arith
-
 others-fewer : (x : ℕ) (ys : List ℕ) → among x ys ≡ true → suc (length (others x ys)) ≤ length ys
 others-fewer x [] is = cc
 others-fewer x (y ∷ ys) is =
@@ -48,25 +46,19 @@ none-among x [] apart = refl
 none-among x (y ∷ ys) apart =
     none-by (y == x) (among x ys) (λ same. All-head (λ y. x ≢ y) y ys apart (sym (eqb-true y x same))) (none-among x ys (All-tail (λ y. x ≢ y) y ys apart))
 
-or-right : (here rest : Bool) → rest ≡ true → (here || rest) ≡ true
-or-right here rest is = grind arith
-
-or-left : (here rest : Bool) → here ≡ true → (here || rest) ≡ true
-or-left here rest is = grind arith
-
 other-by : (here : Bool) (v x : ℕ) (xs : List ℕ) → (v == x) ≡ here → among x xs ≡ false → among v xs ≡ true → here ≡ false
 other-by here v x xs test apart is = grind arith
 
 -- a member of the rest is a member, and not the first
 rest-member : (x v : ℕ) (xs ys : List ℕ) → among x xs ≡ false → ((v : ℕ) → among v (x ∷ xs) ≡ true → among v ys ≡ true) → among v xs ≡ true → among v (others x ys) ≡ true
-rest-member x v xs ys apart within is = grind (arith, or-right, other-by, among-filter)
+rest-member x v xs ys apart within is = grind (arith, or_right, other-by, among-filter)
 
 no-longer : (xs ys : List ℕ) → AllPairs (λ a b. a ≢ b) xs → ((v : ℕ) → among v xs ≡ true → among v ys ≡ true) → length xs ≤ length ys
 no-longer [] ys once within = zero-le
 no-longer (x ∷ xs) ys once within =
     let apart = none-among x xs (AllPairs-head (λ a b. a ≢ b) x xs once) in
     let rest = no-longer xs (others x ys) (AllPairs-tail (λ a b. a ≢ b) x xs once) (λ v is. rest-member x v xs ys apart within is) in
-    let fewer = others-fewer x ys (within x (or-left (x == x) (among x xs) (eq-eqb x x refl))) in
+    let fewer = others-fewer x ys (within x (or_left (x == x) (among x xs) (eq-eqb x x refl))) in
     omega (arith, rest, fewer)
 
 pub as-long : (xs ys : List ℕ) → AllPairs (λ a b. a ≢ b) xs → AllPairs (λ a b. a ≢ b) ys → ((v : ℕ) → among v xs ≡ among v ys) → length xs ≡ length ys

@@ -5,6 +5,7 @@ use Rattle.std.proofs.lemmas.Bool.{cond-true, cond-false, eq-eqb, lt-ltb}
 use Rattle.std.proofs.lemmas.Bool.Decides.{nat_tests}
 use Rattle.std.proofs.lemmas.List.Elements.{All-head, All-nil, All-tail}
 use Rattle.hc_records.specs.Image.{VariablePlace}
+use Rattle.hc_records.proofs.lemmas.Choices.{is_other}
 use Rattle.hc_places.specs.Table.{Row, RowsAscend}
 use Rattle.hc_places.specs.Swap.{ChangedRow, ChangesAscend, merged, new_row, with_changed}
 use Rattle.hc_places.specs.inner.Walk.{merges, walked}
@@ -24,16 +25,13 @@ skip row rows [] above = refl
 skip row rows (changed ∷ others) above =
     grind (arith, All-tail, cond-true, lt-ltb, All-head, skip row rows others (All-tail (λ (c : ChangedRow). row.0 < c.0) changed others above))
 
-lower-apart : (a b : ℕ) → a < b → (b == a) ≡ false
-lower-apart a b less = grind (arith, nat_tests)
-
 lower-not-below : (a b : ℕ) → a < b → nat_lt b a ≡ false
 lower-not-below a b less = grind (arith, nat_tests)
 
 -- a changed variable below all rows has its new row in front
 pub front : (changed : ChangedRow) (rows : List Row) → AreAbove changed.0 rows → with_changed changed rows ≡ new_row changed ++ rows
 front changed [] above = sym (append-nil (new_row changed))
-front changed (row ∷ rows) above = grind (arith, All-head, cond-false, lower-not-below, lower-apart)
+front changed (row ∷ rows) above = grind (arith, All-head, cond-false, lower-not-below, is_other)
 
 same-not-below : (a b : ℕ) → a ≡ b → nat_lt a b ≡ false
 same-not-below a b same = grind (arith, nat_tests)

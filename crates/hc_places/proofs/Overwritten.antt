@@ -2,15 +2,15 @@
 use Rattle.std.proofs.Common.{◌≡◌, ◌∙◌, ap, ℕ, ◌+◌, ◌<◌, Bool, true, false, cond, List, [], ◌∷◌, drop, drop-cons, get_or, length, map, refl, sym, subst, arith}
 use Rattle.std.specs.Prelude.{IsTrue, Option, Some, None, find, is_some, option_map, unwrap_or, ◌==◌, ◌&&◌}
 use Rattle.std.proofs.lemmas.Bool.{cond-true, cond-false, eq-eqb, eqb-true}
-use Rattle.std.proofs.lemmas.Bool.Decides.{nat_tests}
 use Rattle.std.proofs.lemmas.List.Elements.{All-head, All-tail, All-weaker}
 use Rattle.hc_records.proofs.lemmas.Lists.{AllPairs-map, AllPairs-weaker}
 use Rattle.hc_cuts.proofs.lemmas.Found.{find-none}
 use Rattle.hc_records.specs.Image.{VariablePlace}
+use Rattle.hc_records.proofs.lemmas.Choices.{lower-other}
 use Rattle.hc_places.specs.Swap.{ChangedRow, ChangesAscend, KeepRows, keeps_row, merged, with_changed}
 use Rattle.hc_places.specs.inner.Overwritten.{overwritten, row_with}
 use Rattle.hc_places.specs.Table.{Row, RowsAscend}
-use Rattle.hc_places.proofs.Changed.{place_of}
+use Rattle.hc_places.proofs.Changed.{place_of, above-apart}
 use Rattle.hc_places.proofs.Merged.{in-place}
 use Rattle.hc_places.proofs.Swapped.{merged-rows-ascend, place-merged, place-with, rows-told, with-ascends}
 use Rattle.hc_places.proofs.Walked.{AreAbove, ascends-above, ascends-rest, by-order}
@@ -49,21 +49,15 @@ keeps-still changed rows others keep =
 pub other-row : (changed : ChangedRow) (row : Row) → (row.0 == changed.0) ≡ false → row_with changed row ≡ row
 other-row changed row other = cond-false _ _ _ other
 
-below-other : (a b : ℕ) → a < b → (a == b) ≡ false
-below-other a b less = grind (arith, nat_tests)
-
-above-other : (a b : ℕ) → b < a → (a == b) ≡ false
-above-other a b less = grind (arith, nat_tests)
-
 pub above-stay : (changed : ChangedRow) (rows : List Row) → AreAbove changed.0 rows → rows ≡ map (row_with changed) rows
 above-stay changed [] above = refl
 above-stay changed (row ∷ rows) above =
-    grind (arith, other-row, above-other, All-head, All-tail, above-stay changed rows (All-tail (λ (r : Row). changed.0 < r.0) row rows above))
+    grind (arith, other-row, above-apart, All-head, All-tail, above-stay changed rows (All-tail (λ (r : Row). changed.0 < r.0) row rows above))
 
 -- a variable that keeps its row has its new place there
 
 not-found : (variable : ℕ) (rows : List Row) → AreAbove variable rows → find (λ (row : Row). row.0 == variable) rows ≡ None
-not-found variable rows above = grind (arith, find-none, All-weaker, above-other)
+not-found variable rows above = grind (arith, find-none, All-weaker, above-apart)
 
 found-behind : (changed : ChangedRow) (row : Row) (rows : List Row) → (row.0 == changed.0) ≡ false → IsTrue (keeps_row (row ∷ rows) changed) → IsTrue (keeps_row rows changed)
 found-behind changed row rows other keeps =
@@ -81,12 +75,12 @@ row-overwritten changed (row ∷ rows) ascends keeps =
     let above = ascends-above row rows ascends in
     by-order row.0 changed.0
     (λ below less.
-    let other = below-other row.0 changed.0 less in
+    let other = lower-other row.0 changed.0 less in
     ap (λ (r : Row). r ∷ map (row_with changed) rows) (other-row changed row other)
     ∙ ap (λ (l : List Row). row ∷ l) (row-overwritten changed rows (ascends-rest row rows ascends) (found-behind changed row rows other keeps))
     ∙ sym (cond-true _ _ _ below))
     (λ not_less higher less.
-    let behind = found-behind changed row rows (above-other row.0 changed.0 less) keeps in
+    let behind = found-behind changed row rows (above-apart row.0 changed.0 less) keeps in
     let none = not-found changed.0 rows (All-weaker (λ (r : Row). row.0 < r.0) (λ (r : Row). changed.0 < r.0) (λ r low. omega (arith, low, less)) rows above) in
     let never : false ≡ true = sym (ap (λ (found : Option Row). is_some found && is_some changed.1) none) ∙ behind in
     cc)
@@ -101,7 +95,7 @@ swapped-by : (here : Bool) (place : Option VariablePlace) (told : Option (Option
 swapped-by here place told old none = grind arith
 
 none-told : (others : List ChangedRow) (variable : ℕ) → AreAbove variable others → option_map (λ (c : ChangedRow). c.1) (find (λ (c : ChangedRow). c.0 == variable) others) ≡ None
-none-told others variable above = grind (arith, find-none, All-weaker, above-other)
+none-told others variable above = grind (arith, find-none, All-weaker, above-apart)
 
 pub first-made : (changed : ChangedRow) (others : List ChangedRow) (rows : List Row) → AreAbove changed.0 others → RowsAscend rows
     → merged others (with_changed changed rows) ≡ with_changed changed (merged others rows)

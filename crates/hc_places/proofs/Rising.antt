@@ -7,6 +7,7 @@ use Rattle.std.proofs.lemmas.Bool.Decides.{nat_tests}
 use Rattle.std.proofs.lemmas.List.Elements.{All-nil, All-cons, All-head, All-tail, filter_agree}
 use Rattle.std.proofs.lemmas.List.Kept.{AllPairs-cons}
 use Rattle.hc_records.proofs.lemmas.Lists.{AllPairs-nil}
+use Rattle.hc_records.proofs.lemmas.Choices.{own-swap}
 use Rattle.hc_places.specs.Swap.{ChangesAscend}
 use Rattle.hc_places.specs.Table.{Row, RowsAscend, by_number, put}
 use Rattle.hc_places.proofs.lemmas.Once.{of_row}
@@ -148,13 +149,10 @@ pub ascends-by_number : (rows : List Row) → ((number : ℕ) → length (filter
 ascends-by_number rows few =
     rising-ascends (by_number rows) (rises-by_number rows) (λ number. rw (filter-by_number number rows) (few number))
 
-same-both : (a b : ℕ) → (a == b) ≡ (b == a)
-same-both a b = grind (arith, nat_tests)
-
 kept-length-by : (passes : Bool) (row : Row) (kept : List Row) → length (cond passes (row ∷ kept) kept) ≡ cond passes 1 0 + length kept
 kept-length-by passes row kept = grind arith
 
 -- how many rows a number has
 pub kept-length : (number : ℕ) (rows : List Row) → length (filter (numbered number) rows) ≡ total (of_row number) rows
 kept-length number [] = refl
-kept-length number (row ∷ rows) = grind (arith, kept-length-by, same-both, kept-length number rows)
+kept-length number (row ∷ rows) = grind (arith, kept-length-by, own-swap, kept-length number rows)

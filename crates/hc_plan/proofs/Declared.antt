@@ -25,15 +25,16 @@ use Rattle.hc_records.specs.Area.{Entry}
 use Rattle.hc_records.specs.declared.records.Area.{Area}
 use Rattle.hc_records.specs.declared.records.Pdo.{Pdo}
 use Rattle.hc_records.specs.declared.records.Slave.{Slave}
-use Rattle.hc_records.proofs.lemmas.Declaring.{any-flat, same-recut}
+use Rattle.hc_records.proofs.lemmas.Declaring.{any-flat, same-recut, any-same}
 use Rattle.hc_registers.specs.Blocks.{line_blocks, moved_blocks, same_block}
 use Rattle.hc_records.specs.Image.{VariablePlace}
+use Rattle.hc_records.proofs.lemmas.Spans.{filter-drops}
 use Rattle.hc_registers.specs.Ranked.{RankedBlock, moved_ranked}
 use Rattle.hc_registers.proofs.lemmas.RanksMoved.{ranked-are-moved}
 use Rattle.hc_places.specs.Swap.{LeadsAsSaid, SaysWhatDiffers, changed_variables, new_place}
 use Rattle.hc_places.specs.Table.{Table, place_in, table_of}
 use Rattle.hc_places.proofs.lemmas.Same.{found-same}
-use Rattle.hc_changes.proofs.lemmas.Moved.{had, none-kept}
+use Rattle.hc_changes.proofs.lemmas.Moved.{had}
 use Rattle.hc_plan.specs.declared.report.Report.{Report}
 use Rattle.hc_plan.specs.inner.Declaring.{AreTrees, TellsNothing}
 use Rattle.hc_plan.specs.Reports.{name_of}
@@ -43,7 +44,7 @@ use Rattle.hc_plan.proofs.Telling.{is-table}
 none-moved : (line : List Member) → moved_blocks line line ≡ []
 none-moved line =
     let blocks = line_blocks line in
-    none-kept (λ block. not (list_any (same_block block) blocks)) blocks
+    filter-drops (λ block. not (list_any (same_block block) blocks)) blocks
     (All-weaker (Contains blocks) (λ block. not (list_any (same_block block) blocks) ≡ false) (λ block at. not_from_true (list_any (same_block block) blocks) (had blocks block at)) blocks
     (All-contains_itself blocks))
 
@@ -87,10 +88,6 @@ found-names : (test : ℕ → Bool) (entries : List Entry) → list_any test (en
 found-names test [] = refl
 found-names test ((None, bits) ∷ entries) = found-names test entries
 found-names test ((Some name, bits) ∷ entries) = ap (λ (b : Bool). test name || b) (found-names test entries)
-
-any-same : {X : Type 0} (test other : X → Bool) → ((x : X) → test x ≡ other x) → (xs : List X) → list_any test xs ≡ list_any other xs
-any-same test other same [] = refl
-any-same test other same (x ∷ xs) = rw (same x, any-same test other same xs) refl
 
 abbrev pdos_take : (ℕ → Bool) → List Pdo → Bool
 pdos_take test pdos = list_any (λ pdo. list_any (λ entry. option_map_or test entry.0 false) pdo.entries) pdos

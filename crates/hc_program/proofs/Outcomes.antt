@@ -1,7 +1,8 @@
 -- The outcome of an input, from where its project opens, and of what a reader had left.
-use Rattle.std.proofs.Common.{◌≡◌, ℕ, ◌≤◌, ◌<◌, List, length, cond, false, ap, subst, ◌∙◌, Ok, Err, Some, None}
-use Rattle.std.specs.Prelude.{nat_lt, IfSome, Option}
-use Rattle.std.proofs.lemmas.Bool.{le-ltb, lt-ltb}
+use Rattle.std.proofs.Common.{◌≡◌, ℕ, ◌≤◌, ◌<◌, List, length, cond, ap, subst, ◌∙◌, Ok, Err, Some, None}
+use Rattle.std.specs.Prelude.{IfSome, Option}
+use Rattle.std.proofs.lemmas.Bool.{lt-ltb}
+use Rattle.hc_records.proofs.lemmas.Choices.{not_long}
 use Rattle.hc_events.specs.Entries.{Record}
 use Rattle.hc_text.specs.declared.input.TheConstants.{MOST_INPUT}
 use Rattle.hc_program.specs.declared.opening.Unopened.{Unopened}
@@ -11,9 +12,6 @@ use Rattle.hc_program.specs.Opening.{opening_of}
 use Rattle.hc_program.specs.Runs.{run}
 use Rattle.hc_program.specs.Standings.{opened_standing}
 use Rattle.hc_program.specs.Text.{outcome_of, outcome_of_lines, run_opened, unopened, unread}
-
-not_long : (n m : ℕ) → n ≤ m → nat_lt m n ≡ false
-not_long n m within = le-ltb m n within
 
 lines_outcome : (input : List ℕ) → length input ≤ MOST_INPUT → outcome_of input ≡ outcome_of_lines (lines_of input)
 unfolding outcome_of

@@ -16,6 +16,7 @@ use Rattle.hc_events.specs.Entries.{Record}
 use Rattle.hc_events.specs.Owed.{owed_blocks}
 use Rattle.hc_events.specs.Points.{next_serial}
 use Rattle.hc_events.specs.Steps.{Arrives, SendsWrite, answer_to, entries_after, has_serials, kept_if, with_arrival, with_write, write_faults}
+use Rattle.hc_events.proofs.lemmas.Answers.{twice}
 use Rattle.hc_segment.specs.Line.{frame_through}
 use Rattle.hc_program.specs.Programs.{Programmed, WritesOnce, behind_write, can_write, is_done, programmed, programmed_within, says_done, serials_left, write_back, write_frame, write_in, write_passed, write_sent, written}
 use Rattle.hc_program.specs.Standings.{Standing, passed, stepped}
@@ -26,10 +27,6 @@ use Rattle.hc_program.specs.declared.stops.Want.TheVariants.{Memory}
 none_is : {A : Type 0} (o : Option A) → is_none o ≡ true → o ≡ None
 none_is None e = refl
 none_is (Some x) e = cc
-
-twice : (b : Bool) → not (not b) ≡ false → b ≡ false
-twice true e = cc
-twice false e = refl
 
 neither : {F : Type 0} (a b : Bool) (x y : F) → lowest ((a, x) ∷ (b, y) ∷ []) ≡ None → (a ≡ false) × (b ≡ false)
 neither true b x y e = cc

@@ -5,6 +5,7 @@ use Rattle.std.proofs.lemmas.Bool.{or_parts}
 use Rattle.std.proofs.lemmas.List.Folds.{list_any-append}
 use Rattle.std.proofs.lemmas.List.{length-append}
 use Rattle.hc_records.specs.Lists.{some_pair}
+use Rattle.hc_records.proofs.lemmas.Choices.{or-no}
 use Rattle.hc_project.specs.declared.places.Place.{Place}
 use Rattle.hc_project.specs.Places.{first_from, pair}
 use Rattle.hc_project.specs.Repeated.{first_related, related_at}
@@ -27,10 +28,6 @@ TellsEarlier {X} related whole find =
 front-is : {X : Type 0} (seen rest : List X) → take (length seen) (seen ++ rest) ≡ seen
 front-is [] rest = refl
 front-is (x ∷ seen) rest = ap (λ xs. x ∷ xs) (front-is seen rest)
-
-or-no : (a : Bool) → (a || false) ≡ a
-or-no true = refl
-or-no false = refl
 
 added : {X : Type 0} (related : X → X → Bool) (seen : List X) (x z : X)
     → list_any (λ earlier. related earlier z) (seen ++ x ∷ []) ≡ (list_any (λ earlier. related earlier z) seen || related x z)

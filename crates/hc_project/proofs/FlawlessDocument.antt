@@ -8,6 +8,7 @@ use Rattle.toml.specs.Data.{Data, Items, no_items, item, as_array, get}
 use Rattle.hc_records.specs.declared.limits.TheConstants.{MOST_GROUPS, MOST_SLAVES}
 use Rattle.hc_records.specs.declared.records.Group.{Group}
 use Rattle.hc_records.specs.Project.{has_outside, is_bare, slave_outside, slaves_of, some_slave}
+use Rattle.hc_records.proofs.lemmas.Choices.{not_less}
 use Rattle.hc_project.specs.declared.flawed.Flaw.TheVariants.{Missing, Outside}
 use Rattle.hc_project.specs.declared.places.Key.TheVariants as key
 use Rattle.hc_project.specs.declared.places.Place.{Place}
@@ -19,7 +20,7 @@ use Rattle.hc_project.specs.Flawed.{array_count, document_flaw, group_flaw, grou
 use Rattle.hc_project.specs.Levels.{declared_groups, group, slave}
 use Rattle.hc_project.proofs.Searched.{none_left, none_right, flawless}
 use Rattle.hc_project.proofs.Flawless.{array_missing, array_outside, below_most, counted_array, in_range, judged_parts, no_flaw}
-use Rattle.hc_project.proofs.FlawlessLevels.{optional_missing, optional_outside, slave_searches, few_enough, not_over}
+use Rattle.hc_project.proofs.FlawlessLevels.{optional_missing, optional_outside, slave_searches, few_enough}
 
 group_missing : (room : ℕ) (here : Place) (d : Data) → group_flaw Missing room here d ≡ None → (group d).flaws.missing ≡ false
 group_missing room here d none =
@@ -139,5 +140,5 @@ document_outside d none =
     let few_slaves : length (own ++ rest) ≤ MOST_SLAVES = together MOST_SLAVES _ _ _ mandatory.2 left (length-append own rest) in
     let few : suc (length (optional_array (MOST_GROUPS - 1) group (get (codes "group") d)).value) ≤ MOST_GROUPS = omega (arith, others.few) in (
       rw (mandatory.0, others.right) refl,
-      rw (others.bare, not_over MOST_GROUPS _ few, not_over MOST_SLAVES _ few_slaves, mandatory.1, others.slaves) refl,
+      rw (others.bare, not_less MOST_GROUPS _ few, not_less MOST_SLAVES _ few_slaves, mandatory.1, others.slaves) refl,
     )

@@ -6,6 +6,7 @@ use Rattle.hc_records.specs.declared.faults.ProjectFault.{ProjectFault}
 use Rattle.hc_records.specs.declared.faults.ProjectFault.TheVariants as fault
 use Rattle.hc_records.specs.Lists.{lowest}
 use Rattle.hc_records.specs.Project.{has_outside, has_overlap, has_repeated_alias, has_repeated_station, has_repeated_variable, has_unknown_pdo, is_wide, repeats_sync_manager, some_area, some_slave}
+use Rattle.hc_records.proofs.lemmas.Choices.{or_left, or_right}
 use Rattle.hc_project.specs.declared.reading.Reading.{Reading}
 use Rattle.hc_project.specs.Levels.{declared_groups}
 use Rattle.hc_project.specs.Located.{spot_of}
@@ -48,21 +49,13 @@ lowest_meets meets [] lowest_one judges is = cc
 lowest_meets meets (judged ∷ rest) lowest_one judges is =
     lowest_first meets judged.0 judged.1 lowest_one (lowest rest) judges.0 (lowest_meets meets rest lowest_one judges.1) is
 
-or-first : (a b : Bool) → a ≡ true → (a || b) ≡ true
-or-first true b held = refl
-or-first false b held = cc
-
-or-second : (a b : Bool) → b ≡ true → (a || b) ≡ true
-or-second true b held = refl
-or-second false b held = held
-
 judges : (read : Reading (List Group)) → Judges (condition read) (reading_faults read)
 judges read = (
   λ held. held,
   (
-    or-first read.flaws.outside (has_outside read.value),
+    or_left read.flaws.outside (has_outside read.value),
     (
-      or-second read.flaws.outside (has_outside read.value),
+      or_right read.flaws.outside (has_outside read.value),
       (λ held. held, (λ held. held, (λ held. held, (λ held. held, (λ held. held, (λ held. held, (λ held. held, tt))))))),
     ),
   ),

@@ -2,13 +2,13 @@
 use Rattle.std.proofs.Common.{◌≡◌, ℕ, ◌+◌, ◌∙◌, ap, sym, ◌++◌, List, [], ◌∷◌, map, Option, Some, None, refl}
 use Rattle.std.specs.List.{flat_map}
 use Rattle.std.proofs.lemmas.List.{map-append}
-use Rattle.std.proofs.lemmas.List.Concat.{flat_map-append}
 use Rattle.hc_records.specs.declared.records.Pdo.{Pdo}
 use Rattle.hc_records.specs.declared.records.Area.{Area}
 use Rattle.hc_records.specs.declared.records.Slave.{Slave}
 use Rattle.hc_records.specs.declared.records.Group.{Group}
 use Rattle.hc_records.specs.Area.{Entry}
 use Rattle.hc_records.specs.Project.{area_names, entry_names, pdo_names, slave_names, slaves_of}
+use Rattle.hc_records.proofs.lemmas.Choices.{flat_map-flat_map}
 use Rattle.hc_project.specs.declared.places.Place.{Place}
 use Rattle.hc_project.specs.declared.places.Key.TheVariants as key
 use Rattle.hc_project.specs.Places.{document, in_area, in_pdo, with_key}
@@ -45,11 +45,6 @@ stations_named groups =
     (λ i group. named_single (station_at (group_at i group)) (λ slave. slave.station) 0 group.slaves (λ j slave. refl))
     ∙ sym (map_flat (λ slave. slave.station) (λ group. group.slaves) groups)
 
--- the variables
-flat_flat : {X Y Z : Type 0} (f : Y → List Z) (parts : X → List Y) (xs : List X) → flat_map f (flat_map parts xs) ≡ flat_map (λ x. flat_map f (parts x)) xs
-flat_flat f parts [] = refl
-flat_flat f parts (x ∷ xs) = flat_map-append f (parts x) (flat_map parts xs) ∙ ap (λ l. flat_map f (parts x) ++ l) (flat_flat f parts xs)
-
 entry_named : (place : Place) (index : ℕ) (name : Option ℕ) (bits : ℕ) (entries : List Entry)
     → named (variable_at place name) ++ entry_names entries ≡ entry_names ((name, bits) ∷ entries)
 entry_named place index None bits entries = refl
@@ -78,4 +73,4 @@ pub variables_named : (groups : List Group) → named (each_at (group_variables 
 variables_named groups =
     named_each (group_variables document) (λ group. slave_names group.slaves) 0 groups
     (λ i group. slaves_named (group_at i group) group.slaves)
-    ∙ sym (flat_flat (λ slave. area_names slave.areas) (λ group. group.slaves) groups)
+    ∙ sym (flat_map-flat_map (λ slave. area_names slave.areas) (λ group. group.slaves) groups)

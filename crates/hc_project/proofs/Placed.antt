@@ -10,6 +10,7 @@ use Rattle.hc_records.specs.declared.records.Group.{Group}
 use Rattle.hc_records.specs.Area.{has_unknown, offers, width}
 use Rattle.hc_records.specs.Lists.{has_repeat, some_pair}
 use Rattle.hc_records.specs.Project.{has_overlap, has_repeated_alias, has_repeated_station, has_repeated_variable, has_unknown_pdo, is_wide, repeats_sync_manager, same_index, some_area, some_slave}
+use Rattle.hc_records.proofs.lemmas.Finds.{none-by}
 use Rattle.hc_project.specs.declared.places.Key.TheVariants as key
 use Rattle.hc_project.specs.declared.places.Place.{Place}
 use Rattle.hc_project.specs.declared.places.Spot.{Spot}
@@ -17,7 +18,7 @@ use Rattle.hc_project.specs.Places.{document, first_from, in_area, pair, with_ke
 use Rattle.hc_project.specs.Repeated.{alias_at, area_unknown, area_wide, areas_overlapping, assigned_unknown, assigned_wide, each_at, extent, extent_at, first_repeat, group_at, group_variables, in_areas, in_slaves, index_of, manager_at, managers_repeated, meets, offered_at, slave_at, stations_at}
 use Rattle.hc_project.proofs.Duplicates.{TellsEarlier, no_pair, none_related, unmapped}
 use Rattle.hc_project.proofs.Names.{named, named_single, stations_named, variables_named}
-use Rattle.hc_project.proofs.Searched.{none_left, none_meets, none_right, untested_else}
+use Rattle.hc_project.proofs.Searched.{none_left, none_meets, none_right}
 
 repeats_none : (list : List (Place × ℕ)) (names : List ℕ) → named list ≡ names → first_repeat list ≡ None → has_repeat names ≡ false
 repeats_none list names same none = ap has_repeat (sym same) ∙ none_related (λ earlier later. later == earlier) list none
@@ -71,12 +72,12 @@ unmapped_none f (Some x) none = cc
 index_none : {Y : Type 0} (number : ℕ) (f : ℕ → Y) (list : List ℕ) → option_map f (index_of number list) ≡ None → list_any (λ other. number == other) list ≡ false
 index_none number f list none =
     none_meets (λ index other. if number == other then Some index else None) (λ other. number == other) 0 list
-    (λ i other unfound. (untested_else (number == other) i None unfound).0) (unmapped_none f (index_of number list) none)
+    (λ i other unfound. (none-by (number == other) i None unfound).0) (unmapped_none f (index_of number list) none)
 
 unknown_tells : (area : Area) (here : Place) → TellsEarlier (λ earlier later. later == earlier) area.assigned (assigned_unknown area here)
 unknown_tells area here index number none =
     index_none number (λ earlier. pair (with_key here (key.AssignedAt earlier)) (with_key here (key.AssignedAt index))) (take index area.assigned)
-    (untested_else (not (offers area number)) _ _ none).1
+    (none-by (not (offers area number)) _ _ none).1
 
 unknown_of : (place : Place) (index : ℕ) (area : Area) → area_unknown place index area ≡ None → has_unknown_pdo area ≡ false
 unknown_of place index area none =
@@ -84,7 +85,7 @@ unknown_of place index area none =
     let assigned = none_left _ _ none in
     let known : has_unknown area.assigned area ≡ false =
     none_meets (assigned_unknown area here) (λ number. not (offers area number)) 0 area.assigned
-    (λ i number unfound. (untested_else (not (offers area number)) _ _ unfound).0) assigned in
+    (λ i number unfound. (none-by (not (offers area number)) _ _ unfound).0) assigned in
     let once : has_repeat area.assigned ≡ false =
     no_pair (λ earlier later. later == earlier) area.assigned (assigned_unknown area here) (unknown_tells area here) assigned in
     let offered : some_pair same_index area.offered ≡ false =
@@ -106,7 +107,7 @@ narrow : (area : Area) (here : Place) (seen rest : List ℕ) → seen ++ rest �
     → first_from (assigned_wide area here) (length seen) rest ≡ None → wide_with area area.assigned ≡ false
 narrow area here seen [] parts before none = ap (wide_with area) (sym parts ∙ append-nil seen) ∙ before
 narrow area here seen (x ∷ rest) parts before none =
-    let test = (untested_else (wide_with area (take (length seen + 1) area.assigned)) _ _ (none_left _ _ none)).0 in
+    let test = (none-by (wide_with area (take (length seen + 1) area.assigned)) _ _ (none_left _ _ none)).0 in
     let next : length seen + 1 ≡ suc (length seen) = omega arith in
     let front : take (length seen + 1) area.assigned ≡ seen ++ x ∷ [] =
     ap (take (length seen + 1)) (sym parts) ∙ ap (λ n. take n (seen ++ x ∷ rest)) next ∙ front-more seen x rest in

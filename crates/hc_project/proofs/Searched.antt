@@ -2,6 +2,7 @@
 use Rattle.std.proofs.Common.{◌≡◌, ℕ, suc, Bool, true, false, List, [], ◌∷◌, Option, Some, None, refl}
 use Rattle.std.specs.Prelude.{if◌then◌else◌}
 use Rattle.std.specs.List.{list_any}
+use Rattle.hc_records.proofs.lemmas.Finds.{none-by}
 use Rattle.hc_project.specs.declared.flawed.Flaw.{Flaw}
 use Rattle.hc_project.specs.declared.places.Place.{Place}
 use Rattle.hc_project.specs.declared.reading.Flaws.{Flaws}
@@ -21,10 +22,6 @@ none_right (Some x) b none = cc
 untested : {P : Type 0} (test : Bool) (x : P) (rest : Option P) → (if test then Some x else rest) ≡ None → test ≡ false
 untested true x rest none = cc
 untested false x rest none = refl
-
-pub untested_else : {P : Type 0} (test : Bool) (x : P) (rest : Option P) → (if test then Some x else rest) ≡ None → (test ≡ false) × (rest ≡ None)
-untested_else true x rest none = cc
-untested_else false x rest none = (refl, none)
 
 pub flawless : (which : Flaw) (place : Place) (flaws : Flaws) → flaw_at which place flaws ≡ None → shows which flaws ≡ false
 unfolding flaw_at

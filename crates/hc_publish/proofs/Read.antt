@@ -1,13 +1,14 @@
 -- What a copy shows is what is read, and a value is that of the last good answer.
-use Rattle.std.proofs.Common.{◌≡◌, ℕ, ◌==◌, not, Bool, true, false, List, [], ◌∷◌, map, refl, sym, ap, ◌∙◌, subst, arith, Option, Some, None, Ok, Err}
+use Rattle.std.proofs.Common.{◌≡◌, ℕ, ◌==◌, not, Bool, true, false, List, [], ◌∷◌, map, refl, sym, ap, ◌∙◌, subst, Option, Some, None, Ok, Err}
 use Rattle.std.specs.Prelude.{is_none, unwrap_or}
 use Rattle.std.specs.Option.{option_map_or}
-use Rattle.std.proofs.lemmas.Bool.Decides.{nat_tests}
+use Rattle.hc_frames.proofs.lemmas.Spelling.{unequal_not}
 use Rattle.hc_records.specs.declared.records.Dir.{Dir}
 use Rattle.hc_records.specs.declared.records.Dir.TheVariants.{In, Out}
 use Rattle.hc_records.specs.Image.{VariablePlace, variable_place}
 use Rattle.hc_records.specs.Keys.{same_dir}
 use Rattle.hc_records.specs.Lists.{lowest}
+use Rattle.hc_records.proofs.lemmas.Choices.{itself}
 use Rattle.hc_places.specs.Table.{Table, part_in, place_in}
 use Rattle.hc_events.specs.declared.change.Change.{Change}
 use Rattle.hc_events.specs.Accepted.{AreAccepted}
@@ -63,9 +64,6 @@ is_input : (dir : Dir) → same_dir dir Out ≡ false → dir ≡ In
 is_input Out is = cc
 is_input In is = refl
 
-is_own : (a b : ℕ) → not (a == b) ≡ false → a ≡ b
-is_own a b is = grind (arith, nat_tests)
-
 number_in : (out other : Bool) (task : ℕ) (place : VariablePlace) (bytes : Option (List ℕ)) (number : ℕ) → same_dir place.dir Out ≡ out → not (place.task == task) ≡ other
     → option_map_or (λ fault. Err fault) (lowest ((out, IsOutput) ∷ (other, OtherTask) ∷ (is_none bytes, NotAnswered) ∷ [])) (Ok (number_at (unwrap_or bytes []) place)) ≡ Ok number
     → IsNumber task (Some place) bytes number
@@ -76,7 +74,7 @@ number_in false false task place (Some bytes) number out_is other_is e = record 
   found = place;
   there = refl;
   input = is_input place.dir out_is;
-  own = is_own place.task task other_is;
+  own = unequal_not place.task task other_is;
   own_data = bytes;
   has = refl;
   value = cc;
@@ -86,11 +84,8 @@ number-told : (task : ℕ) (place : Option VariablePlace) (bytes : Option (List 
 number-told task None bytes number e = cc
 number-told task (Some place) bytes number e = number_in (same_dir place.dir Out) (not (place.task == task)) task place bytes number refl refl e
 
-same_number : (n : ℕ) → (n == n) ≡ true
-same_number n = grind (arith, nat_tests)
-
 told_number : (place : VariablePlace) (bytes : List ℕ) → place.dir ≡ In → value_with place.task (Some place) (Some bytes) ≡ Ok (number_at bytes place)
-told_number place bytes input = rw (input, same_number place.task) refl
+told_number place bytes input = rw (input, itself place.task) refl
 
 pub value-told : (told : Told) (task variable number : ℕ) → IsLegal told → value_shown told task variable ≡ Ok number → IsLastValue told task variable number
 value-told told task variable number legal is =

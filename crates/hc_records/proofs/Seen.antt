@@ -5,6 +5,7 @@ use Rattle.std.specs.Ordering.{nat_cmp}
 use Rattle.std.specs.BTreeMap.{is_at}
 use Rattle.std.proofs.lemmas.Bool.Decides.{nat_tests}
 use Rattle.hc_records.specs.Lists.{has_repeat}
+use Rattle.hc_records.proofs.lemmas.Choices.{moved}
 
 -- where nothing was seen, nothing comes again
 pub none_seen : (seen : ℕ → Bool) (numbers : List ℕ) → ((q : ℕ) → seen q ≡ false) → list_any seen numbers ≡ false
@@ -22,10 +23,6 @@ exchanged true b p q = refl
 exchanged false true true q = refl
 exchanged false true false q = refl
 exchanged false false p q = refl
-
-moved : (a b r : Bool) → (a || (b || r)) ≡ ((a || b) || r)
-moved true b r = refl
-moved false b r = refl
 
 -- the set after one more number tells that number and those it told before
 told : (test was : Bool) → cond test true was ≡ (was || test)

@@ -32,3 +32,4 @@ pub mod VariableBits
 pub mod VariablePlaces
 pub mod Variables
 pub mod Walks
+pub mod Choices

@@ -6,6 +6,7 @@ use Rattle.hc_machine.specs.Memory.{with_part}
 use Rattle.hc_segment.specs.Line.{all_machines}
 use Rattle.hc_segment.specs.Cutting.{IsCut}
 use Rattle.hc_segment.specs.Machines.{poked}
+use Rattle.hc_segment.proofs.lemmas.Counts.{poked-count}
 
 -- as many elements, written over all of them, are what is there
 pub overwritten-whole : {A : Type 0} (old new : List A) → length new ≡ length old → take (length old) (new ++ drop (length new) old) ≡ new
@@ -15,11 +16,6 @@ pub poked-set : (ms : List (List ℕ)) (i at : ℕ) (part m : List ℕ) → i < 
 poked-set [] i at part m within is = absurd (omega arith)
 poked-set (x ∷ ms) zero at part m within is = ap (λ (b : List ℕ). with_part at part b ∷ ms) is
 poked-set (x ∷ ms) (suc i) at part m within is = ap (λ (rest : List (List ℕ)). x ∷ rest) (poked-set ms i at part m (omega arith) is)
-
-pub poked-length : (ms : List (List ℕ)) (i at : ℕ) (part : List ℕ) → length (poked i at part ms) ≡ length ms
-poked-length [] i at part = refl
-poked-length (x ∷ ms) zero at part = refl
-poked-length (x ∷ ms) (suc i) at part = ap suc (poked-length ms i at part)
 
 -- it is one of the first, or one of the others
 pub poked-front : (a b : List (List ℕ)) (i at : ℕ) (part : List ℕ) → i < length a → poked i at part (a ++ b) ≡ poked i at part a ++ b

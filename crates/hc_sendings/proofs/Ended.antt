@@ -7,11 +7,14 @@ use Rattle.std.proofs.lemmas.Bool.Decides.{nat_tests}
 use Rattle.std.proofs.lemmas.Grind.{get_or-set_at}
 use Rattle.std.proofs.lemmas.List.{ext_get_or, get_or-map, get_or-set_other, length-map, length-set}
 use Rattle.std.proofs.lemmas.List.Elements.{All-cons, All-head, All-nil, All-tail}
+use Rattle.hc_records.proofs.lemmas.Choices.{below, by_bool, other-number, same-test}
+use Rattle.hc_frames.proofs.lemmas.Spelling.{same_number}
 use Rattle.hc_events.specs.Answering.{only_if}
-use Rattle.hc_events.proofs.lemmas.Awaited.{by_bool}
+use Rattle.hc_events.proofs.lemmas.Once.{is_below}
 use Rattle.hc_sendings.specs.Waiting.{AwaitedFrame, AwaitedWrite, IsNamed, ended, is_alive}
 use Rattle.hc_sendings.specs.Kept.{AreKept, KeptFrame, Newest, emptied, newest_of}
 use Rattle.hc_sendings.proofs.Alive.{Table, alive_at, told_at}
+use Rattle.hc_sendings.proofs.Found.{above}
 
 -- one frame
 
@@ -108,26 +111,8 @@ kept-ended newest serial frames next is are =
 
 -- the one frame with the serial stands where the serials reach it
 
-below : (a serial : ℕ) → nat_lt a serial ≡ true → (a == serial) ≡ false
-below a serial t = grind (arith, nat_tests)
-
-above : (a b serial : ℕ) → a < b → nat_lt a serial ≡ false → (b == serial) ≡ false
-above a b serial low reached = grind (arith, nat_tests)
-
-other-number : (a b : ℕ) → a ≢ b → (a == b) ≡ false
-other-number a b e = grind (arith, nat_tests)
-
-same-number : (a b : ℕ) → a ≡ b → (a == b) ≡ true
-same-number a b e = grind (arith, nat_tests)
-
-is-number : (a b : ℕ) → (a == b) ≡ true → a ≡ b
-is-number a b t = grind (arith, nat_tests)
-
 no-number : (a b : ℕ) → (a == b) ≡ false → a ≢ b
 no-number a b t = grind (arith, nat_tests)
-
-is-below : (a b : ℕ) → nat_lt a b ≡ true → a < b
-is-below a b t = grind (arith, nat_tests)
 
 is-behind : (a b : ℕ) → nat_lt a b ≡ false → a ≢ b → b < a
 is-behind a b t e = grind (arith, nat_tests)
@@ -143,7 +128,7 @@ others : (frames : List KeptFrame) (serial place i : ℕ) (d : KeptFrame) → As
     → ((get_or frames i d).serial == serial) ≡ false
 others frames serial place i d ascend parts within apart =
     by_bool (nat_lt i place)
-    (λ t. below (get_or frames i d).serial serial (parts.0 i d (omega arith) (is-below i place t)))
+    (λ t. below (get_or frames i d).serial serial (parts.0 i d (omega arith) (is_below i place t)))
     (λ t. let low = is-behind i place t apart in
     above (get_or frames place d).serial (get_or frames i d).serial serial (ascend place i d low within) (parts.1 place d (omega arith) (omega (arith, low, within))))
 
@@ -156,9 +141,9 @@ set-emptied frames serial place d ascend parts inside is =
     let size = length-set frames place empty in
     let within : i < length frames = omega (arith, size, low) in
     by_bool (i == place)
-    (λ t. let here = is-number i place t in
+    (λ t. let here = same_number i place t in
     get_or-set_at frames place i empty d here inside
-    ∙ sym (emptied-is serial (get_or frames place d) (same-number (get_or frames place d).serial serial is))
+    ∙ sym (emptied-is serial (get_or frames place d) (same-test (get_or frames place d).serial serial is))
     ∙ ap (λ n. emptied serial (get_or frames n d)) (sym here)
     ∙ sym (get_or-map (emptied serial) frames i d d within))
     (λ t. let apart = no-number i place t in
@@ -174,7 +159,7 @@ none-emptied frames serial place ascend parts none =
     (λ i within.
     sym (emptied-not serial (get_or frames i d)
     (by_bool (i == place)
-    (λ t. let here = is-number i place t in
+    (λ t. let here = same_number i place t in
     ap (λ n. (get_or frames n d).serial == serial) here ∙ other-number (get_or frames place d).serial serial (none d (omega (arith, here, within))))
     (λ t. others frames serial place i d ascend parts within (no-number i place t))))
     ∙ sym (get_or-map (emptied serial) frames i d d within))

@@ -4,11 +4,13 @@ use Rattle.std.specs.Prelude.{AllPairs, find, nat_lt, option_and_then, option_ma
 use Rattle.std.specs.List.Sorted.{IsPartitionedBy, IsPartitionPoint}
 use Rattle.std.proofs.lemmas.List.Sorted.{IsPartitionedBy-ltb}
 use Rattle.std.proofs.lemmas.Bool.Decides.{nat_tests}
+use Rattle.hc_records.proofs.lemmas.Choices.{by_bool, same-test}
+use Rattle.hc_events.proofs.lemmas.Once.{is_below}
 use Rattle.hc_cuts.proofs.lemmas.Found.{find-reached, kept}
-use Rattle.hc_events.proofs.lemmas.Awaited.{by_bool}
 use Rattle.hc_sendings.specs.Waiting.{AwaitedFrame, is_alive}
 use Rattle.hc_sendings.specs.Kept.{KeptFrame}
 use Rattle.hc_sendings.proofs.Alive.{Table, alive_at, stays_at, told_at}
+use Rattle.hc_sendings.proofs.Pieces.{weaker}
 
 -- a frame with the serial that is awaited
 abbrev is_sought : Table → ℕ → KeptFrame → Bool
@@ -20,15 +22,11 @@ apart a b c below = grind (arith, nat_tests)
 not-sought : (at : Table) (serial : ℕ) (frame : KeptFrame) → nat_lt frame.serial serial ≡ true → is_sought at serial frame ≡ false
 not-sought at serial frame below = let other = apart frame.serial serial 0 below in rw other refl
 
-above : (a b serial : ℕ) → a < b → nat_lt a serial ≡ false → (b == serial) ≡ false
+pub above : (a b serial : ℕ) → a < b → nat_lt a serial ≡ false → (b == serial) ≡ false
 above a b serial below reached = grind (arith, nat_tests)
 
 behind : (at : Table) (serial : ℕ) (a b : KeptFrame) → a.serial < b.serial → nat_lt a.serial serial ≡ false → is_sought at serial a ≡ false → is_sought at serial b ≡ false
 behind at serial a b below reached none = let other = above a.serial b.serial serial below reached in rw other refl
-
--- serials that ascend don't fall
-is-later : (i j : ℕ) → nat_lt i j ≡ true → i < j
-is-later i j t = grind (arith, nat_tests)
 
 is-same : (i j : ℕ) → i ≤ j → nat_lt i j ≡ false → i ≡ j
 is-same i j low t = grind (arith, nat_tests)
@@ -36,14 +34,11 @@ is-same i j low t = grind (arith, nat_tests)
 at-most : (m n : ℕ) → m ≡ n → m ≤ n
 at-most m n e = omega (arith, e)
 
-less : (m n : ℕ) → m < n → m ≤ n
-less m n below = omega arith
-
 pub serials-parted : (frames : List KeptFrame) (serial : ℕ) → AllPairs (λ a b. a.serial < b.serial) frames → IsPartitionedBy (λ (frame : KeptFrame). nat_lt frame.serial serial) frames
 serials-parted frames serial ascend =
     IsPartitionedBy-ltb (λ (frame : KeptFrame). frame.serial) frames serial
     (λ i j d low within. by_bool (nat_lt i j)
-    (λ t. less (get_or frames i d).serial (get_or frames j d).serial (ascend i j d (is-later i j t) within))
+    (λ t. weaker (get_or frames i d).serial (get_or frames j d).serial (ascend i j d (is_below i j t) within))
     (λ t. at-most (get_or frames i d).serial (get_or frames j d).serial (ap (λ n. (get_or frames n d).serial) (is-same i j low t))))
 
 found-either : (at : Table) (serial : ℕ) (frame : KeptFrame) (frames : List AwaitedFrame) (rest : Option KeptFrame) (alive same : Bool)
@@ -72,15 +67,12 @@ found-at at serial frames place reached ascend parts is =
 
 -- whether it is the one that is sought
 
-same-is : (a b : ℕ) → a ≡ b → (a == b) ≡ true
-same-is a b e = grind (arith, nat_tests)
-
 other-is : (a b : ℕ) → (a ≡ b → ⊥) → (a == b) ≡ false
 other-is a b e = grind (arith, nat_tests)
 
 pub sought-is : (at : Table) (serial : ℕ) (frame : KeptFrame) → frame.serial ≡ serial → is_alive (told_at at frame) ≡ true
     → option_map (told_at at) (option_and_then (kept (is_sought at serial)) (Some frame)) ≡ Some (told_at at frame)
-sought-is at serial frame is alive = let same = same-is frame.serial serial is in rw (same, alive) refl
+sought-is at serial frame is alive = let same = same-test frame.serial serial is in rw (same, alive) refl
 
 pub sought-not : (at : Table) (serial : ℕ) (frame : KeptFrame) → is_alive (told_at at frame) ≡ false
     → option_map (told_at at) (option_and_then (kept (is_sought at serial)) (Some frame)) ≡ None

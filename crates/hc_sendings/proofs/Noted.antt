@@ -6,13 +6,11 @@ use Rattle.std.proofs.lemmas.Bool.Decides.{nat_tests}
 use Rattle.std.proofs.lemmas.Grind.{get_or-set_at}
 use Rattle.std.proofs.lemmas.List.{get_or-set_other}
 use Rattle.std.proofs.lemmas.List.Folds.{list_any_more}
+use Rattle.hc_records.proofs.lemmas.Choices.{by_bool}
+use Rattle.hc_frames.proofs.lemmas.Spelling.{same_number}
 use Rattle.hc_events.specs.Sendings.{Named}
-use Rattle.hc_events.proofs.lemmas.Awaited.{by_bool}
 use Rattle.hc_sendings.specs.Waiting.{IsNamed, is_named}
 use Rattle.hc_sendings.specs.Kept.{Newest, datagram_number, newest_of}
-
-same_number : (m n : ℕ) → (m == n) ≡ true → m ≡ n
-same_number m n e = grind (arith, nat_tests)
 
 same_place : (a b : Named) → is_named a b ≡ true → datagram_number a ≡ datagram_number b
 same_place a b e =

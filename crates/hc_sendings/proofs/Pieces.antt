@@ -18,6 +18,7 @@ use Rattle.hc_frames.specs.Sizes.{text_size}
 use Rattle.hc_frames.proofs.lemmas.Texts.{length-carried_texts}
 use Rattle.hc_events.specs.Sendings.{Frame, Named, sendings_of, task_datagrams}
 use Rattle.hc_events.proofs.lemmas.Frames.{in_row, row-of}
+use Rattle.hc_events.proofs.lemmas.OneWrite.{at_least}
 use Rattle.hc_sendings.specs.PartTexts.{own_texts, part_text, share_text, text_if}
 use Rattle.hc_sendings.specs.Texts.{Data, carried_by, carried_bytes, text_of}
 use Rattle.hc_sendings.proofs.Sums.{is_one_of}
@@ -46,7 +47,7 @@ abbrev Ascend : (ℕ → ℕ) → Piece → Piece → Type 0
 Ascend place a b = place a.0 ≤ place b.0
 
 not_it : (place : ℕ → ℕ) (task own : ℕ) → place task < place own → (own == task) ≡ false
-not_it place task own less = ne_eqb own task (λ same. let even : place own ≡ place task = ap place same in absurd (omega arith))
+not_it place task own less = ne_eqb own task (λ same. let at_least : place own ≡ place task = ap place same in absurd (omega arith))
 
 -- of pieces of later tasks a task has none
 none_later : (place : ℕ → ℕ) (task : ℕ) (pieces : List Piece) → All (λ p. place task < place p.0) pieces → texts_if task pieces ≡ []
@@ -126,7 +127,7 @@ pieces_join place (task ∷ tasks) pieces ranked ascend all =
     (All-weaker (λ (p : Piece). is_one_of (task ∷ tasks) p.0 ≡ true) (IsFirstOr place task) (λ p one. first_by place task p.0 tasks (p.0 == task) refl one later) pieces all) in
     let alike = flat_alike (λ other. texts_if other pieces) (λ other. texts_if other (others task pieces)) tasks
     (All-weaker (λ other. place task < place other) (λ other. texts_if other pieces ≡ texts_if other (others task pieces))
-    (λ other less. same_others task other pieces (ne_eqb task other (λ same. let even : place task ≡ place other = ap place same in absurd (omega arith)))) tasks later) in
+    (λ other less. same_others task other pieces (ne_eqb task other (λ same. let at_least : place task ≡ place other = ap place same in absurd (omega arith)))) tasks later) in
     let behind = pieces_join place tasks (others task pieces) (AllPairs-tail (λ a b. place a < place b) task tasks ranked) (AllPairs-filter (Ascend place) (is_other task) pieces ascend)
     (All-passing (λ (p : Piece). is_one_of tasks p.0 ≡ true) (is_other task) pieces
     (All-weaker (λ (p : Piece). is_one_of (task ∷ tasks) p.0 ≡ true) (λ p. is_other task p ≡ true → is_one_of tasks p.0 ≡ true)
@@ -277,14 +278,11 @@ frames_all P bytes (frame ∷ frames) all =
 abbrev AscendNamed : (ℕ → ℕ) → Named → Named → Type 0
 AscendNamed place a b = place a.0 ≤ place b.0
 
-even : (n : ℕ) → n ≤ n
-even n = omega arith
-
 chained : (a b c : ℕ) → a ≤ b → b ≤ c → a ≤ c
 chained a b c low high = omega arith
 
 up_to_last : (place : ℕ → ℕ) (named : Named) (rest : List Named) → AllPairs (AscendNamed place) (named ∷ rest) → All (λ n. place n.0 ≤ place (last_of named rest).0) (named ∷ rest)
-up_to_last place named [] ascend = All-cons (λ (n : Named). place n.0 ≤ place named.0) named [] (even (place named.0)) (All-nil (λ (n : Named). place n.0 ≤ place named.0))
+up_to_last place named [] ascend = All-cons (λ (n : Named). place n.0 ≤ place named.0) named [] (at_least (place named.0)) (All-nil (λ (n : Named). place n.0 ≤ place named.0))
 up_to_last place named (next ∷ rest) ascend =
     let behind = up_to_last place next rest (AllPairs-tail (AscendNamed place) named (next ∷ rest) ascend) in
     let last = (last_of next rest).0 in
@@ -309,7 +307,7 @@ pieces_ascend place bytes serial size (named ∷ rest) ascend =
     let own = own_pieces bytes serial names in
     AllPairs-cons (Ascend place) (named.0, frame_head serial size) (own ++ last ∷ [])
     (behind_all (λ k. place named.0 ≤ place k) bytes serial size named rest
-    (All-cons (AscendNamed place named) named rest (even (place named.0)) (AllPairs-head (AscendNamed place) named rest ascend)))
+    (All-cons (AscendNamed place named) named rest (at_least (place named.0)) (AllPairs-head (AscendNamed place) named rest ascend)))
     (AllPairs-append (Ascend place) own (last ∷ []) (own_ascend place bytes serial names ascend)
     (AllPairs-cons (Ascend place) last [] (All-nil (Ascend place last)) (AllPairs-nil (Ascend place)))
     (own_all (λ k. All (λ (q : Piece). place k ≤ place q.0) (last ∷ [])) bytes serial names
@@ -338,7 +336,7 @@ place_among (task ∷ tasks) own = cond (own == task) 0 (place_among tasks own +
 inside : (i j n : ℕ) → i < j → j < n → i < n
 inside i j n low high = omega arith
 
-weaker : (a b : ℕ) → a < b → a ≤ b
+pub weaker : (a b : ℕ) → a < b → a ≤ b
 weaker a b less = omega arith
 
 places_ascend : (tasks : List ℕ) → has_repeat tasks ≡ false → AllPairs (λ a b. place_among tasks a < place_among tasks b) tasks
@@ -363,7 +361,7 @@ places_ascend (task ∷ tasks) distinct =
 named_ascend : (line : List Member) (place : ℕ → ℕ) (tasks : List ℕ) → AllPairs (λ a b. place a < place b) tasks → AllPairs (AscendNamed place) (flat_map (task_datagrams line) tasks)
 named_ascend line place tasks ranked =
     AllPairs-flat_map (AscendNamed place) (λ a b. place a < place b) (task_datagrams line)
-    (λ task. AllPairs-map (AscendNamed place) (λ d. (task, d)) (range_with_len 0 (datagram_count (task_places task line))) (λ i j d lower within. even (place task)))
+    (λ task. AllPairs-map (AscendNamed place) (λ d. (task, d)) (range_with_len 0 (datagram_count (task_places task line))) (λ i j d lower within. at_least (place task)))
     (λ a b less.
     All-map (λ (n : Named). All (AscendNamed place n) (task_datagrams line b)) (λ d. (a, d)) (range_with_len 0 (datagram_count (task_places a line)))
     (λ i d within. All-map (AscendNamed place (a, get_or (range_with_len 0 (datagram_count (task_places a line))) i d)) (λ e. (b, e)) (range_with_len 0 (datagram_count (task_places b line))) (λ j e below. weaker (place a) (place b) less)))

@@ -1,5 +1,5 @@
 -- There are at most as many awaited frames as datagrams: each is the newest of one.
-use Rattle.std.proofs.Common.{◌≡◌, ◌≢◌, ℕ, ◌*◌, ◌<◌, ◌≤◌, ◌==◌, Bool, true, false, ◌||◌, nat_eq, List, [], ◌∷◌, length, map, filter, get_or, refl, ap, ◌∙◌, arith, Option, Some, None, zero, suc}
+use Rattle.std.proofs.Common.{◌≡◌, ◌≢◌, ℕ, ◌*◌, ◌<◌, ◌≤◌, ◌==◌, true, ◌||◌, nat_eq, List, [], ◌∷◌, length, map, filter, get_or, ap, ◌∙◌, arith, Option, Some, None, zero, suc}
 use Rattle.std.specs.Prelude.{All, AllPairs, unwrap_or}
 use Rattle.std.specs.List.{list_any, IsDistinct}
 use Rattle.std.specs.Set.{is_member}
@@ -11,33 +11,22 @@ use Rattle.std.proofs.lemmas.List.Kept.{AllPairs-filter}
 use Rattle.std.proofs.lemmas.Map.Made.{IsDistinct-from_AllPairs, length-le_from_is_member}
 use Rattle.hc_records.proofs.lemmas.Lists.{AllPairs-map, AllPairs-weaker}
 use Rattle.hc_events.specs.Sendings.{Named}
-use Rattle.hc_events.proofs.lemmas.Awaited.{by_bool}
 use Rattle.hc_records.specs.declared.limits.TheConstants.{MOST_DATAGRAMS, TASKS}
+use Rattle.hc_records.proofs.lemmas.Choices.{by_bool, less_differs, or_left, or_right}
 use Rattle.hc_sendings.specs.Waiting.{Carried, is_alive}
 use Rattle.hc_sendings.specs.Kept.{AreKept, KeptFrame, Newest, datagram_number, is_serial, newest_of}
 use Rattle.hc_sendings.proofs.Alive.{alive_at, filter-map_is, stays_at, told_at}
-
-below-apart : (a b : ℕ) → a < b → a ≢ b
-below-apart a b below same = omega (arith, below, same)
 
 -- serials that ascend are distinct
 distinct : (frames : List KeptFrame) → AllPairs (λ a b. a.serial < b.serial) frames → IsDistinct nat_eq (map (λ (frame : KeptFrame). frame.serial) frames)
 distinct frames ascend =
     IsDistinct-from_AllPairs Decides-eqb (map (λ (frame : KeptFrame). frame.serial) frames)
     (AllPairs-map (λ a b. a ≢ b) (λ (frame : KeptFrame). frame.serial) frames
-    (AllPairs-weaker (λ (a b : KeptFrame). a.serial < b.serial) (λ (a b : KeptFrame). a.serial ≢ b.serial) (λ a b below. below-apart a.serial b.serial below) frames ascend))
+    (AllPairs-weaker (λ (a b : KeptFrame). a.serial < b.serial) (λ (a b : KeptFrame). a.serial ≢ b.serial) (λ a b below. less_differs a.serial b.serial below) frames ascend))
 
 -- the serials of a table
 abbrev serials : Newest → List ℕ
 serials newest = map (λ (found : Option ℕ). unwrap_or found 0) newest
-
-or-left : (a b : Bool) → a ≡ true → (a || b) ≡ true
-or-left true b e = refl
-or-left false b e = cc
-
-or-right : (a b : Bool) → b ≡ true → (a || b) ≡ true
-or-right true b e = refl
-or-right false b e = e
 
 turned : (m n : ℕ) → (m == n) ≡ true → nat_eq n m ≡ true
 turned m n e = grind (arith, nat_tests)
@@ -51,8 +40,8 @@ is-found serial (Some n) e = turned n serial e
 
 in-table : (serial : ℕ) (newest : Newest) (place : ℕ) → is_serial serial (get_or newest place None) ≡ true → list_any (nat_eq serial) (serials newest) ≡ true
 in-table serial [] place e = cc
-in-table serial (found ∷ newest) zero e = or-left (nat_eq serial (unwrap_or found 0)) (list_any (nat_eq serial) (serials newest)) (is-found serial found e)
-in-table serial (found ∷ newest) (suc place) e = or-right (nat_eq serial (unwrap_or found 0)) (list_any (nat_eq serial) (serials newest)) (in-table serial newest place e)
+in-table serial (found ∷ newest) zero e = or_left (nat_eq serial (unwrap_or found 0)) (list_any (nat_eq serial) (serials newest)) (is-found serial found e)
+in-table serial (found ∷ newest) (suc place) e = or_right (nat_eq serial (unwrap_or found 0)) (list_any (nat_eq serial) (serials newest)) (in-table serial newest place e)
 
 -- the serial of a frame that is the newest of a datagram stands in the table
 carried-in : (newest : Newest) (serial : ℕ) (datagrams : List Named)

@@ -8,9 +8,10 @@ use Rattle.std.proofs.lemmas.List.{get_or_default, length-map, map-append}
 use Rattle.std.proofs.lemmas.List.Sums.{count_by-le-length, length-filter}
 use Rattle.std.proofs.lemmas.List.Elements.{All-append, All-cons, All-filter, All-head, All-map, All-nil, All-tail, All-weaker, filter-append}
 use Rattle.std.proofs.lemmas.List.Kept.{AllPairs-filter}
+use Rattle.hc_frames.proofs.lemmas.Spelling.{or_false}
 use Rattle.hc_records.proofs.lemmas.Lists.{All-unmap, AllPairs-append, AllPairs-head, AllPairs-map, AllPairs-tail}
+use Rattle.hc_records.proofs.lemmas.Choices.{by_bool, itself}
 use Rattle.hc_events.specs.Sendings.{Frame, Named}
-use Rattle.hc_events.proofs.lemmas.Awaited.{by_bool}
 use Rattle.hc_sendings.specs.Waiting.{AwaitedFrame, AwaitedWrite, Carried, IsNamed, all_sent, as_sent, is_alive, is_named, just_sent, sent_again, with_again}
 use Rattle.hc_sendings.specs.Kept.{AreKept, KeptFrame, Newest, is_serial, kept_of, newest_after, newest_of}
 use Rattle.hc_sendings.proofs.Room.{few-stay}
@@ -21,9 +22,6 @@ abbrev noted_at : Frame → Table → Table
 noted_at frame at = λ named. cond (list_any (is_named named) frame.datagrams) (Some frame.serial) (at named)
 
 -- the frame itself
-
-itself : (n : ℕ) → (n == n) ≡ true
-itself n = grind (arith, nat_tests)
 
 named-itself : (named : Named) → is_named named named ≡ true
 named-itself named = rw (itself named.0, itself named.1) refl
@@ -74,15 +72,11 @@ older-frames at frame (kept ∷ frames) below =
 
 -- one that is the newest of no datagram stays so
 
-parts_false : (a b : Bool) → (a || b) ≡ false → (a ≡ false) × (b ≡ false)
-parts_false true b e = cc
-parts_false false b e = (refl, e)
-
 none-again : (again : List Named) (datagrams : List Carried) → list_any (λ carried. carried.newest) datagrams ≡ false
     → list_any (λ carried. carried.newest) (map (sent_again again) datagrams) ≡ false
 none-again again [] e = refl
 none-again again (d ∷ ds) e =
-    let parts = parts_false d.newest (list_any (λ (carried : Carried). carried.newest) ds) e in
+    let parts = or_false d.newest (list_any (λ (carried : Carried). carried.newest) ds) e in
     rw parts.0 (none-again again ds parts.1)
 
 again-either : (again : List Named) (frame : AwaitedFrame) (before all : List AwaitedFrame) (b : Bool) → is_alive frame ≡ b

@@ -7,13 +7,13 @@ use Rattle.std.proofs.lemmas.Bool.{and_parts}
 use Rattle.std.proofs.lemmas.List.Elements.{All-head, All-tail}
 use Rattle.hc_records.specs.Line.{Member}
 use Rattle.hc_records.proofs.lemmas.Lists.{All-unmap}
+use Rattle.hc_records.proofs.lemmas.Choices.{by_bool}
 use Rattle.hc_events.specs.declared.answer.Answer.TheVariants as answer
 use Rattle.hc_events.specs.declared.answer.Outcome.{Outcome}
 use Rattle.hc_events.specs.Accepted.{StandsIn}
 use Rattle.hc_events.specs.Answering.{Judged, has_head, has_heads, is_news, only_if}
 use Rattle.hc_events.specs.Arrivals.{Arrival, Part}
 use Rattle.hc_events.specs.Steps.{outcome_for, told_of}
-use Rattle.hc_events.proofs.lemmas.Awaited.{by_bool}
 use Rattle.hc_sendings.specs.Judging.{Due, due_of, found_frame, frame_due, judge_due, judged_due, judged_in, write_due}
 use Rattle.hc_sendings.specs.Kept.{KeptFrame, Newest, carried_by, frame_by}
 use Rattle.hc_sendings.specs.Waiting.{AwaitedFrame, AwaitedWrite, Carried, Waiting, is_alive}

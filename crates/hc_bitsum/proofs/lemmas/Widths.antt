@@ -10,36 +10,24 @@ use Rattle.hc_records.specs.TaskList.{Keyed}
 use Rattle.hc_records.specs.Boundaries.{width_in}
 use Rattle.hc_records.specs.Laws.{IsPackable}
 use Rattle.hc_records.specs.SpanLaws.{IsTaskList}
-use Rattle.hc_records.proofs.lemmas.KeyOrder.{before-other, before-trans, key-order, other-sym, same_key-refl, same_key-same, within-apart, within-from_before, within-refl}
+use Rattle.hc_records.proofs.lemmas.KeyOrder.{before-other, before-trans, key-order, other-sym, same_key-refl, within-apart, within-from_before, within-refl}
 use Rattle.hc_records.proofs.lemmas.SpanCuts.{task-list-from}
-use Rattle.hc_records.proofs.lemmas.Spans.{IsListFrom, list-behind, list-tail, width-absent, width-here, width-skip}
+use Rattle.hc_records.proofs.lemmas.Spans.{IsListFrom, list-behind, list-tail, width-here, agree-by, width-before}
 use Rattle.hc_bitsum.specs.Tree.{with_width}
 
 -- a list of areas with a width in which no key is another's is told by its widths
-
--- a key before all of a list has no width in it
-lower-none : (list : List Keyed) (key : Key) → All (λ area. is_before key area.0 ≡ true) list → width_in list key ≡ 0
-lower-none list key all =
-    width-absent list key (All-weaker (λ area. is_before key area.0 ≡ true) (λ area. same_key area.0 key ≡ false) (λ area before. before-other key area.0 before) list all)
 
 -- the first area of one list isn't before all of the other
 first-later : (first : Key) (x : Keyed) (xs ys : List Keyed) → IsListFrom first (x ∷ xs) → All (λ area. is_before x.0 area.0 ≡ true) ys
     → width_in (x ∷ xs) x.0 ≡ width_in ys x.0 → ⊥
 first-later first x xs ys is behind same =
-    grind (arith, lower-none, width-here, same_key-refl, All-head)
+    grind (arith, width-before, width-here, same_key-refl, All-head)
 
 -- a key before the first area of a list is before all of it
 all-later : (first : Key) (key : Key) (y : Keyed) (ys : List Keyed) → IsListFrom first (y ∷ ys) → is_before key y.0 ≡ true → All (λ area. is_before key area.0 ≡ true) (y ∷ ys)
 all-later first key y ys is before =
     All-cons (λ area. is_before key area.0 ≡ true) y ys before
     (All-weaker (λ area. is_before y.0 area.0 ≡ true) (λ area. is_before key area.0 ≡ true) (λ area behind. before-trans key y.0 area.0 before behind) ys (list-behind first y ys is))
-
-rest-by : (same : Bool) (first : Key) (x : Keyed) (xs ys : List Keyed) (key : Key) → same_key x.0 key ≡ same → IsListFrom first (x ∷ xs) → IsListFrom first (x ∷ ys)
-    → width_in (x ∷ xs) key ≡ width_in (x ∷ ys) key → width_in xs key ≡ width_in ys key
-rest-by true first x xs ys key test is is' same =
-    let here = same_key-same x.0 key test in
-    subst (λ (k : Key). width_in xs k ≡ width_in ys k) here (lower-none xs x.0 (list-behind first x xs is) ∙ sym (lower-none ys x.0 (list-behind first x ys is')))
-rest-by false first x xs ys key test is is' same = sym (width-skip x xs key test) ∙ same ∙ width-skip x ys key test
 
 -- lists of one first area
 heads-by : (x y : Keyed) → x.0 ≡ y.0 → x.1 ≡ y.1 → x ≡ y
@@ -50,7 +38,7 @@ rest-told : (first : Key) (x y : Keyed) (xs ys : List Keyed) → x ≡ y → IsL
     → ((key : Key) → width_in (x ∷ xs) key ≡ width_in (y ∷ ys) key) → (key : Key) → width_in xs key ≡ width_in ys key
 rest-told first x y xs ys head is is' same key =
     let also : IsListFrom first (x ∷ ys) = subst (λ (area : Keyed). IsListFrom first (area ∷ ys)) (sym head) is' in
-    rest-by (same_key x.0 key) first x xs ys key refl is also (same key ∙ ap (λ (area : Keyed). width_in (area ∷ ys) key) (sym head))
+    agree-by (same_key x.0 key) first x xs ys key refl is also (same key ∙ ap (λ (area : Keyed). width_in (area ∷ ys) key) (sym head))
 
 head-told : (first : Key) (x y : Keyed) (xs ys : List Keyed) → IsListFrom first (x ∷ xs) → IsListFrom first (y ∷ ys)
     → ((key : Key) → width_in (x ∷ xs) key ≡ width_in (y ∷ ys) key) → (is_before x.0 y.0 ≡ true) ⊎ ((is_before y.0 x.0 ≡ true) ⊎ (x.0 ≡ y.0)) → x ≡ y

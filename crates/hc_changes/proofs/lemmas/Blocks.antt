@@ -5,10 +5,11 @@ use Rattle.std.proofs.lemmas.List.Folds.{flat_map-map}
 use Rattle.hc_records.specs.declared.records.Area.{Area}
 use Rattle.hc_records.specs.declared.keys.Key.{Key}
 use Rattle.hc_records.specs.Line.{Member}
+use Rattle.hc_records.proofs.lemmas.Choices.{flat_map-flat_map}
 use Rattle.hc_registers.specs.Blocks.{LineBlock, RegisterBlock, fmmu_block, line_blocks, mapping_of, member_blocks, numbered, sync_manager_block}
 use Rattle.hc_registers.specs.Ranked.{RankedBlock, member_ranked, ranked, ranked_blocks}
 use Rattle.hc_changes.specs.Candidates.{LineArea, areas_of, blocks_of, line_areas}
-use Rattle.hc_changes.proofs.lemmas.Lists.{flat_map-flat_map, map-flat_map}
+use Rattle.hc_changes.proofs.lemmas.Lists.{map-flat_map}
 
 -- of a slave whose areas from an index on give two blocks each
 pairs-numbered : (station index : ℕ) (first second : ℕ × Area → RegisterBlock) (areas : List Area)

@@ -4,7 +4,6 @@ use Rattle.std.specs.Prelude.{All, filter, map, slice_index_or}
 use Rattle.std.specs.List.{flat_map}
 use Rattle.std.specs.Option.{option_map_or}
 use Rattle.std.proofs.lemmas.Bool.{eq-eqb}
-use Rattle.std.proofs.lemmas.Bool.Decides.{nat_tests}
 use Rattle.std.proofs.lemmas.List.Elements.{All-head, All-tail}
 use Rattle.hc_records.specs.declared.records.Area.{Area}
 use Rattle.hc_records.specs.declared.records.Declared.{Declared}
@@ -14,6 +13,7 @@ use Rattle.hc_records.specs.Packing.{Placed}
 use Rattle.hc_records.specs.Project.{area_names, lowest_fault, slave_names}
 use Rattle.hc_records.proofs.lemmas.Lines.{declared_slaves}
 use Rattle.hc_records.proofs.lemmas.Projects.{project-names}
+use Rattle.hc_records.proofs.lemmas.Choices.{own-swap}
 use Rattle.hc_cuts.specs.Areas.{areas_by_rank}
 use Rattle.hc_places.specs.Found.{area_rows}
 use Rattle.hc_places.proofs.lemmas.Once.{declared-once, entry-names, line-declared, of_areas, of_row, once, own, rows-total, weight}
@@ -22,9 +22,6 @@ use Rattle.hc_changes.specs.Candidates.{LineArea, candidate_of, line_areas}
 use Rattle.hc_changes.specs.Rows.{assigned_variables, rows_of, variables_by_rank}
 
 -- how often a number stands
-
-own-swap : (a b : ℕ) → (a == b) ≡ (b == a)
-own-swap a b = grind (arith, nat_tests)
 
 counted-by : {X : Type 0} (passes : Bool) (x : X) (kept : List X) → length (cond passes (x ∷ kept) kept) ≡ cond passes 1 0 + length kept
 counted-by passes x kept = search rules

@@ -7,13 +7,13 @@ use Rattle.hc_records.specs.declared.keys.TheConstants.Key.{END}
 use Rattle.hc_records.specs.Keys.{is_before, same_key}
 use Rattle.hc_records.proofs.lemmas.TaskLists.{project-list}
 use Rattle.hc_records.specs.declared.records.Area.{Area}
-use Rattle.hc_records.specs.declared.records.Declared.{Declared}
 use Rattle.hc_records.specs.Boundaries.{is_touched_task}
-use Rattle.hc_records.specs.Line.{State, groups_of, line_from}
+use Rattle.hc_records.specs.Line.{groups_of, line_from}
 use Rattle.hc_records.specs.Image.{task_places}
 use Rattle.hc_records.specs.Project.{lowest_fault}
 use Rattle.hc_records.specs.Packing.{Placed}
 use Rattle.hc_records.specs.TaskList.{task_list}
+use Rattle.hc_records.proofs.lemmas.Choices.{or_left}
 use Rattle.hc_cuts.specs.Keeping.{is_kept_up_to}
 use Rattle.hc_cuts.specs.Starts.{Kept}
 use Rattle.hc_cuts.specs.Place.{place_of as place_in}
@@ -28,7 +28,7 @@ use Rattle.hc_changes.specs.EditedLine.{EditedLine, changes}
 use Rattle.hc_changes.proofs.lemmas.Lists.{found-among}
 use Rattle.hc_changes.proofs.lemmas.Recut.{untouched-areas}
 use Rattle.hc_changes.proofs.lemmas.Standing.{placed-below}
-use Rattle.hc_changes.proofs.lemmas.Tables.{touched-told}
+use Rattle.hc_changes.proofs.lemmas.Tables.{touched-told, state_of}
 
 -- one area that is a candidate, and one that is none
 
@@ -43,14 +43,8 @@ found-no : (it : EditedLine) (found : LineArea) → judged it found ≡ false �
 unfolding found_among
 found-no it found is = ap (λ (b : Bool). map (candidate_of (line_from 1 it.new)) (cond b (found ∷ []) [])) is
 
-either-true : (a b : Bool) → a ≡ true → (a || b) ≡ true
-either-true a b is = search rules
-
 other-one : (a b : Bool) → a ≡ false → (a || b) ≡ b
 other-one a b is = search rules
-
-abbrev of_groups : List Declared → State
-of_groups groups = record { groups = groups; epoch = 0 }
 
 -- its place, and whether it stands in a datagram that isn't kept up to it
 
@@ -67,7 +61,7 @@ pub place-below : (it : EditedLine) (station rank index : ℕ) (area : Area) (pl
 place-below it station rank index area None project is = tt
 place-below it station rank index area (Some placed) project is =
     let here = found-among (λ (p : Placed). same_key p.key (key_of (area_by station rank index area))) (task_places area.task (line_from 1 it.new)) placed (sym is) in
-    placed-below (task_list area.task (line_from 1 it.new)) placed (project-list (of_groups it.new) area.task project) here.among
+    placed-below (task_list area.task (line_from 1 it.new)) placed (project-list (state_of it.new) area.task project) here.among
 
 pub kept-is : (it : EditedLine) (before : Before) (cuts : List Kept) → IsCandidateTest it before cuts → (task number : ℕ) (until : Key)
     → ((old new : List (List Area)) → IsLine new → StandsBefore old new before → cuts ≡ line_kept new
@@ -86,7 +80,7 @@ touched-is it before cuts test task some tells = touched-told it.old it.new befo
 pub untouched-kept : (it : EditedLine) (before : Before) (cuts : List Kept) → IsCandidateTest it before cuts → (found : LineArea) (some : Bool) → some ≡ false
     → ((old new : List (List Area)) → StandsBefore old new before → some ≡ is_touched_by found.area.task old new) → is_recut (line_from 1 it.old) (line_from 1 it.new) found ≡ false
 untouched-kept it before cuts test found some none tells =
-    untouched-areas (of_groups it.old) (of_groups it.new) found test.is.was_project test.is.is_project (sym (touched-is it before cuts test found.area.task some tells) ∙ none)
+    untouched-areas (state_of it.old) (state_of it.new) found test.is.was_project test.is.is_project (sym (touched-is it before cuts test found.area.task some tells) ∙ none)
 
 pub unrecut-none : (it : EditedLine) (station rank index : ℕ) (area : Area) → changes it rank ≡ false → is_recut (line_from 1 it.old) (line_from 1 it.new) (area_by station rank index area) ≡ false
     → area_found it station rank index area ≡ []
@@ -113,4 +107,4 @@ recut-area it station rank index area place is unchanged recut = search (rules, 
 pub changed-area : (it : EditedLine) (station rank index : ℕ) (area : Area) (place : Option Placed) → place ≡ place_of (line_from 1 it.new) (area_by station rank index area)
     → changes it rank ≡ true
     → area_found it station rank index area ≡ record { station = station; rank = rank; index = index; area = area; place = place } ∷ []
-changed-area it station rank index area place is changed = search (rules, found-yes, either-true)
+changed-area it station rank index area place is changed = search (rules, found-yes, or_left)

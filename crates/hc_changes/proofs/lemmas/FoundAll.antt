@@ -10,6 +10,7 @@ use Rattle.hc_records.specs.declared.records.Declared.{Declared}
 use Rattle.hc_records.specs.declared.records.Slave.{Slave}
 use Rattle.hc_records.specs.Line.{Member, line_from, members_from, present_slaves}
 use Rattle.hc_records.proofs.lemmas.Lines.{declared_slaves}
+use Rattle.hc_records.proofs.lemmas.Stations.{slave_stations}
 use Rattle.hc_cuts.specs.Areas.{areas_by_rank}
 use Rattle.hc_cuts.proofs.lemmas.Told.{length-present}
 use Rattle.hc_changes.specs.Candidates.{Candidate, LineArea, areas_of, candidate_of, candidates, line_areas}
@@ -92,25 +93,22 @@ slave-among it member index (area ∷ areas) =
 
 -- slave by slave, and group by group
 
-abbrev named_by : List Slave → List ℕ
-named_by slaves = map (λ slave. slave.station) slaves
-
 present-among : (it : EditedLine) (first : ℕ) (slaves : List Slave)
-    → row_found it first (named_by slaves) (map (λ slave. slave.areas) slaves) ≡ found_among it (flat_map areas_of (members_from first slaves))
+    → row_found it first (slave_stations slaves) (map (λ slave. slave.areas) slaves) ≡ found_among it (flat_map areas_of (members_from first slaves))
 present-among it first [] = sym (among-none it)
 present-among it first (slave ∷ slaves) =
     let member : Member = record { rank = first; slave = slave } in
-    ap (λ (own : List Candidate). own ++ row_found it (first + 1) (named_by slaves) (map (λ s. s.areas) slaves)) (slave-among it member 0 slave.areas)
+    ap (λ (own : List Candidate). own ++ row_found it (first + 1) (slave_stations slaves) (map (λ s. s.areas) slaves)) (slave-among it member 0 slave.areas)
     ∙ ap (λ (rest : List Candidate). found_among it (areas_of member) ++ rest) (present-among it (first + 1) slaves)
     ∙ sym (among-append it (areas_of member) (flat_map areas_of (members_from (first + 1) slaves)))
 
-absent-among : (it : EditedLine) (first : ℕ) (slaves : List Slave) → row_found it first (named_by slaves) (map (λ slave. []) slaves) ≡ []
+absent-among : (it : EditedLine) (first : ℕ) (slaves : List Slave) → row_found it first (slave_stations slaves) (map (λ slave. []) slaves) ≡ []
 unfolding areas_found
 absent-among it first [] = refl
 absent-among it first (slave ∷ slaves) = absent-among it (first + 1) slaves
 
 group-among : (it : EditedLine) (present : Bool) (first : ℕ) (slaves : List Slave)
-    → row_found it first (named_by slaves) (map (λ slave. if present then slave.areas else []) slaves) ≡ found_among it (flat_map areas_of (members_from first (if present then slaves else [])))
+    → row_found it first (slave_stations slaves) (map (λ slave. if present then slave.areas else []) slaves) ≡ found_among it (flat_map areas_of (members_from first (if present then slaves else [])))
 group-among it true first slaves = present-among it first slaves
 group-among it false first slaves = absent-among it first slaves ∙ sym (among-none it)
 
@@ -140,10 +138,10 @@ map-twice g f (x ∷ xs) = ap (λ (ys : List _). g (f x) ∷ ys) (map-twice g f 
 stations-bare : (groups : List Declared) → stations groups ≡ map (λ (bare : ℕ × List Area). bare.0) (map bare_slave (declared_slaves groups))
 stations-bare groups = named groups ∙ sym (map-twice (λ (bare : ℕ × List Area). bare.0) bare_slave (declared_slaves groups))
   where
-    named : (groups : List Declared) → stations groups ≡ named_by (declared_slaves groups)
+    named : (groups : List Declared) → stations groups ≡ slave_stations (declared_slaves groups)
     named [] = refl
     named (declared ∷ groups) =
-        ap (λ (rest : List ℕ). named_by declared.group.slaves ++ rest) (named groups) ∙ sym (map-append (λ (s : Slave). s.station) declared.group.slaves (declared_slaves groups))
+        ap (λ (rest : List ℕ). slave_stations declared.group.slaves ++ rest) (named groups) ∙ sym (map-append (λ (s : Slave). s.station) declared.group.slaves (declared_slaves groups))
 
 same-stations : (old new : List Declared) → HasEdit old new → stations new ≡ stations old
 same-stations old new edited = search (rules, stations-bare, edit-keeps)

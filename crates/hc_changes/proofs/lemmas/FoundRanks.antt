@@ -7,7 +7,7 @@ use Rattle.hc_records.specs.declared.limits.TheConstants.{MOST_SLAVES, TASKS}
 use Rattle.hc_records.specs.declared.records.Area.{Area}
 use Rattle.hc_records.specs.declared.records.Declared.{Declared}
 use Rattle.hc_records.specs.declared.records.Slave.{Slave}
-use Rattle.hc_records.specs.Line.{State, groups_of}
+use Rattle.hc_records.specs.Line.{groups_of}
 use Rattle.hc_records.specs.Project.{lowest_fault}
 use Rattle.hc_cuts.specs.Areas.{areas_at, areas_by_rank, present_areas}
 use Rattle.hc_cuts.proofs.lemmas.Told.{length-present}
@@ -17,6 +17,7 @@ use Rattle.hc_changes.specs.EditedLine.{EditedLine, IsEditedLine}
 use Rattle.hc_changes.proofs.lemmas.ByRank.{area-of-rank}
 use Rattle.hc_changes.proofs.lemmas.InARow.{areas-in-row, index-front}
 use Rattle.hc_changes.proofs.lemmas.Places.{area-inside}
+use Rattle.hc_changes.proofs.lemmas.Tables.{state_of}
 
 -- the areas of a slave, one by one
 
@@ -46,15 +47,11 @@ pub rank-is : (it : EditedLine) (rank station : ℕ) (areas : List Area) → sta
 unfolding rank_found
 rank-is it rank station areas named stand = search rules
 
--- an area of a project's line is of one of the eight tasks
-abbrev of_groups : List Declared → State
-of_groups groups = record { groups = groups; epoch = 0 }
-
 pub task-below : (groups : List Declared) (rank i : ℕ) (areas : List Area) (area : Area) → lowest_fault (groups_of groups) ≡ None → areas ≡ areas_at (areas_by_rank groups) rank → i < length areas
     → area ≡ slice_index_or areas i area → area.task < TASKS
 task-below groups rank i areas area project stand within is =
     let ranked = area-of-rank groups rank area (subst (λ (own : List Area). Contains own area) stand (i, within, sym is)) in
-    let inside = area-inside (of_groups groups) project ranked.found ranked.of in
+    let inside = area-inside (state_of groups) project ranked.found ranked.of in
     subst (λ (a : Area). a.task < TASKS) ranked.is inside.task
 
 -- slaves without candidates are passed over

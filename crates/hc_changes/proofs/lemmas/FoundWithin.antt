@@ -4,23 +4,23 @@ use Rattle.std.specs.Prelude.{All, slice_index_or}
 use Rattle.std.proofs.Math.Nat.{eq-or-lt_of_le}
 use Rattle.std.proofs.lemmas.Bool.{cases_lt, or_parts}
 use Rattle.std.proofs.lemmas.List.Elements.{All-cons, All-contains, All-nil}
+use Rattle.hc_places.proofs.lemmas.Loads.{dir-out}
 use Rattle.hc_records.specs.declared.keys.Key.{Key}
 use Rattle.hc_records.specs.declared.keys.TheConstants.Key.{START, END}
 use Rattle.hc_records.specs.declared.limits.TheConstants.{TASKS}
-use Rattle.hc_records.specs.declared.records.Dir.{Dir}
 use Rattle.hc_records.specs.declared.records.Dir.TheVariants.{Out, In}
 use Rattle.hc_records.specs.declared.records.Area.{Area}
-use Rattle.hc_records.specs.declared.records.Declared.{Declared}
 use Rattle.hc_records.specs.Boundaries.{later_keys}
 use Rattle.hc_records.specs.Image.{task_places}
 use Rattle.hc_records.specs.Keys.{is_before, is_within, same_dir}
-use Rattle.hc_records.specs.Line.{State, line_from}
+use Rattle.hc_records.specs.Line.{line_from}
 use Rattle.hc_records.specs.Packing.{Placed, opening, packed}
 use Rattle.hc_records.specs.TaskList.{Keyed, task_list}
 use Rattle.hc_records.proofs.lemmas.KeyOrder.{before-apart, before-else, within-else, within-trans}
 use Rattle.hc_records.proofs.lemmas.Lists.{All-unmap}
 use Rattle.hc_records.proofs.lemmas.Packed.{area_of, packed-areas}
 use Rattle.hc_records.proofs.lemmas.TaskLists.{project-list}
+use Rattle.hc_records.proofs.lemmas.Choices.{off}
 use Rattle.hc_cuts.specs.Inputs.{has_inputs}
 use Rattle.hc_cuts.specs.Keeping.{is_kept_up_to}
 use Rattle.hc_cuts.specs.Starts.{Kept}
@@ -37,11 +37,9 @@ use Rattle.hc_changes.proofs.lemmas.FoundRanks.{above-none, task-below}
 use Rattle.hc_changes.proofs.lemmas.Recut.{recut-unkept}
 use Rattle.hc_changes.proofs.lemmas.Standing.{placed-below, placed-between}
 use Rattle.hc_changes.proofs.lemmas.Lists.{contains-behind, contains-first}
+use Rattle.hc_changes.proofs.lemmas.Tables.{state_of}
 
 -- where the task has no inputs, each of its areas is an output
-
-dir-out : (dir : Dir) → same_dir dir In ≡ false → dir ≡ Out
-dir-out dir no_input = search rules
 
 no-input : (list : List Keyed) → has_inputs list ≡ false → All (λ (area : Keyed). same_dir area.0.dir In ≡ false) list
 no-input [] none = All-nil (λ (area : Keyed). same_dir area.0.dir In ≡ false)
@@ -57,9 +55,6 @@ placed-out list placed none among =
     dir-out placed.key.dir (All-contains (λ (p : Placed). same_dir p.key.dir In ≡ false) places placed outputs among)
 
 -- the ranks of areas up to which their datagrams aren't kept, among the first datagrams of a task
-
-abbrev of_groups : List Declared → State
-of_groups groups = record { groups = groups; epoch = 0 }
 
 abbrev kept_in : EditedLine → ℕ → ℕ → Key → Bool
 kept_in it task datagram key = is_kept_up_to (task_list task (line_from 1 it.old)) (task_list task (line_from 1 it.new)) datagram key
@@ -92,13 +87,13 @@ pub held-next : (it : EditedLine) (task count low high wide_low wide_high : ℕ)
 held-next it task count low high wide_low wide_high starts inputs is stand told wider own hold placed among below narrow unkept =
     let list = task_list task (line_from 1 it.new) in
     let keys : START ∷ later_keys list ≡ starts = ap (λ (l : List Keyed). START ∷ later_keys l) (task-listed task it.new) ∙ sym stand in
-    let lies = placed-between list placed (project-list (of_groups it.new) task is.is_project) among in
+    let lies = placed-between list placed (project-list (state_of it.new) task is.is_project) among in
     ⊎_elim
     (λ same. own placed.key narrow
     (record {
       from = subst (λ (n : ℕ). is_within (slice_index_or starts n END) placed.key ≡ true) same (subst (λ (all : List Key). is_within (slice_index_or all placed.datagram END) placed.key ≡ true) keys lies.1);
       next = search rules;
-      below = placed-below list placed (project-list (of_groups it.new) task is.is_project) among;
+      below = placed-below list placed (project-list (state_of it.new) task is.is_project) among;
       output = λ none. placed-out list placed (ap has_inputs (task-listed task it.new) ∙ sym told ∙ none) among;
       unkept = subst (λ (n : ℕ). kept_in it task n placed.key ≡ false) same unkept;
     }))
@@ -133,7 +128,7 @@ recut-held it task count low high starts is stand all hold found of narrow recut
     let among : Contains (task_places task (line_from 1 it.new)) placed = subst (λ (t : ℕ). Contains (task_places t (line_from 1 it.new)) placed) of own.stands in
     let unkept : kept_in it task placed.datagram placed.key ≡ false = subst (λ (t : ℕ). kept_in it t placed.datagram placed.key ≡ false) of own.unkept in
     let keys : START ∷ later_keys list ≡ starts = ap (λ (l : List Keyed). START ∷ later_keys l) (task-listed task it.new) ∙ sym stand in
-    let lies = placed-between list placed (project-list (of_groups it.new) task is.is_project) among in
+    let lies = placed-between list placed (project-list (state_of it.new) task is.is_project) among in
     let many = ap length keys in
     let below : placed.datagram < count = let low = lies.0 in omega (arith, low, many, all) in
     let rank : placed.key.rank ≡ found.member.rank = ap (λ (key : Key). key.rank) own.key in
@@ -156,9 +151,6 @@ changed-wider it low high wide_low wide_high wider hold rank changed = search ru
 
 -- so all candidates stand between the ranks that hold those of all tasks
 
-never-true : (b : Bool) → (b ≡ true → ⊥) → b ≡ false
-never-true b never = search rules
-
 none-found : (it : EditedLine) (station rank index : ℕ) (areas : List Area) → changes it rank ≡ false
     → ((i : ℕ) (area : Area) → Contains areas area → is_recut (line_from 1 it.old) (line_from 1 it.new) (area_by station rank i area) ≡ false) → areas_found it station rank index areas ≡ []
 unfolding areas_found
@@ -172,10 +164,10 @@ unfolding rank_found
 rank-none it rank low high is changed recut out narrow =
     let areas = areas_at (areas_by_rank it.new) rank in
     let station = station_at it.old rank in
-    none-found it station rank 0 areas (never-true (changes it rank) (λ among. let own = changed rank among in out own.0 own.1))
+    none-found it station rank 0 areas (off (changes it rank) (λ among. let own = changed rank among in out own.0 own.1))
     (λ i area (k, within, at).
     let task : area.task < TASKS = task-below it.new rank k areas area is.is_project refl within (sym at) in
-    never-true (is_recut (line_from 1 it.old) (line_from 1 it.new) (area_by station rank i area))
+    off (is_recut (line_from 1 it.old) (line_from 1 it.new) (area_by station rank i area))
     (λ among. let own = recut area.task task (area_by station rank i area) refl narrow among in out own.0 own.1))
 
 pub all-within : (it : EditedLine) (low high : ℕ) → IsEditedLine it → HoldChanged it low high → ((task : ℕ) → task < TASKS → HoldRecut it task low high) → LieWithin it low high

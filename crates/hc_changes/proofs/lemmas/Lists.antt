@@ -2,10 +2,10 @@
 use Rattle.std.proofs.Common.{◌≡◌, zero, suc, Bool, true, false, cond, List, [], ◌∷◌, ◌++◌, Contains, refl, sym, ap, subst, ◌∙◌, ⊎_elim, arith, rules}
 use Rattle.std.specs.Prelude.{All, AllPairs, Option, Some, filter, find, map}
 use Rattle.std.specs.List.{flat_map}
-use Rattle.std.proofs.lemmas.Grind.{flat_map-append}
 use Rattle.std.proofs.lemmas.List.{map-append}
 use Rattle.std.proofs.lemmas.List.Elements.{All-contains, All-head, All-tail, Contains-append_cases, Contains-append_left, Contains-append_right, filter-append}
 use Rattle.hc_records.proofs.lemmas.Lists.{AllPairs-head, AllPairs-tail}
+use Rattle.hc_records.proofs.lemmas.Choices.{flat_map-flat_map}
 
 -- elements that give nothing may be left out
 
@@ -21,10 +21,6 @@ flat_map-kept f test (x ∷ xs) all =
 pub filter-flat_map : {X Y : Type 0} (test : Y → Bool) (f : X → List Y) (xs : List X) → filter test (flat_map f xs) ≡ flat_map (λ x. filter test (f x)) xs
 filter-flat_map test f [] = refl
 filter-flat_map test f (x ∷ xs) = search (rules, filter-append, filter-flat_map test f xs)
-
-pub flat_map-flat_map : {X Y Z : Type 0} (g : Y → List Z) (f : X → List Y) (xs : List X) → flat_map g (flat_map f xs) ≡ flat_map (λ x. flat_map g (f x)) xs
-flat_map-flat_map g f [] = refl
-flat_map-flat_map g f (x ∷ xs) = search (rules, flat_map-append, flat_map-flat_map g f xs)
 
 pub map-flat_map : {X Y Z : Type 0} (g : Y → Z) (f : X → List Y) (xs : List X) → map g (flat_map f xs) ≡ flat_map (λ x. map g (f x)) xs
 map-flat_map g f [] = refl

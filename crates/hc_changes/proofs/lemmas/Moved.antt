@@ -4,7 +4,7 @@ use Rattle.std.specs.Prelude.{All, AllPairs, filter, map, not, option_map}
 use Rattle.std.specs.Option.{option_map_or}
 use Rattle.std.specs.List.{flat_map, list_any}
 use Rattle.std.proofs.lemmas.Bool.{and_from, eq-eqb, not-false, not_from_true, or_parts}
-use Rattle.std.proofs.lemmas.List.Elements.{All-contains, All-head, All-tail, All-weaker, All-contains_itself}
+use Rattle.std.proofs.lemmas.List.Elements.{All-contains, All-weaker, All-contains_itself}
 use Rattle.std.proofs.lemmas.List.Folds.{list_any_at}
 use Rattle.std.proofs.lemmas.Slice.Eq.{bytes_eq-Decides}
 use Rattle.hc_records.specs.declared.keys.Key.{Key}
@@ -29,6 +29,7 @@ use Rattle.hc_changes.proofs.lemmas.Others.{IsAreaOf, area-stands, contains-mapp
 use Rattle.hc_changes.proofs.lemmas.Standing.{kept-place}
 use Rattle.hc_changes.proofs.lemmas.Widths.{listed-wide, wide-listed}
 use Rattle.hc_records.specs.Area.{width}
+use Rattle.hc_records.proofs.lemmas.Spans.{filter-drops}
 
 -- an area that stands nowhere stood nowhere
 
@@ -85,10 +86,6 @@ same_block-refl found = search (rules, and_from, eq-eqb, same_bytes-refl)
 pub had : (blocks : List LineBlock) (block : LineBlock) → Contains blocks block → list_any (same_block block) blocks ≡ true
 had blocks block at = search (rules, list_any_at, same_block-refl)
 
-pub none-kept : {X : Type 0} (test : X → Bool) (xs : List X) → All (λ x. test x ≡ false) xs → filter test xs ≡ []
-none-kept test [] all = refl
-none-kept test (x ∷ xs) all = rw (All-head (λ x. test x ≡ false) x xs all) (none-kept test xs (All-tail (λ x. test x ≡ false) x xs all))
-
 stood-all : (found : LineArea) (old : List Member) → Contains (line_areas old) found
     → All (λ block. not (list_any (same_block block) (line_blocks old)) ≡ false) (blocks_of old found)
 stood-all found old at = search (rules, All-weaker, not_from_true, had, blocks-of-areas, contains-flat_map, All-contains_itself)
@@ -105,7 +102,7 @@ unmoved : (changed : ℕ → Bool) (old new : State) → lowest_fault (groups_of
     → (found : LineArea) → Contains (line_areas (line new)) found → is_candidate changed (line old) (line new) found ≡ false → moved_of (line old) (line new) found ≡ []
 unmoved changed old new was is differ found at other =
     let stood = unchanged-stand changed old new was is differ found at other in
-    none-kept (λ block. not (list_any (same_block block) (line_blocks (line old)))) (blocks_of (line new) found)
+    filter-drops (λ block. not (list_any (same_block block) (line_blocks (line old)))) (blocks_of (line new) found)
     (subst (λ (blocks : List LineBlock). All (λ block. not (list_any (same_block block) (line_blocks (line old))) ≡ false) blocks)
     (same-blocks found (line old) (line new) stood.1) (stood-all found (line old) (area-stands (line old) found stood.0)))
 

@@ -15,6 +15,7 @@ use Rattle.hc_records.specs.Packing.{Placed}
 use Rattle.hc_records.proofs.lemmas.Finds.{mapped-some}
 use Rattle.hc_records.proofs.lemmas.KeyOrder.{same_key-same}
 use Rattle.hc_records.proofs.lemmas.Lines.{line-ascends}
+use Rattle.hc_records.proofs.lemmas.Spans.{filter-drops}
 use Rattle.hc_registers.specs.Blocks.{RegisterBlock}
 use Rattle.hc_registers.specs.Ranked.{moved_ranked}
 use Rattle.hc_places.specs.Swap.{same_found}
@@ -29,7 +30,7 @@ use Rattle.hc_changes.specs.Rows.{StandsInside, is_new_row, moved_rows, rows_of,
 use Rattle.hc_changes.proofs.lemmas.ByRank.{area-named}
 use Rattle.hc_changes.proofs.lemmas.Inside.{candidates-inside}
 use Rattle.hc_changes.proofs.lemmas.Lists.{contains-unfiltered, filter-flat_map, flat_map-kept, found-among, map-flat_map}
-use Rattle.hc_changes.proofs.lemmas.Moved.{none-kept, same_bytes-refl}
+use Rattle.hc_changes.proofs.lemmas.Moved.{same_bytes-refl}
 use Rattle.hc_changes.proofs.lemmas.MovedBlocks.{area-writable, before-writable, moved-told, place-by}
 use Rattle.hc_changes.proofs.lemmas.Others.{IsAreaOf, area-stands, line-area, others-stand}
 use Rattle.hc_changes.proofs.lemmas.EditedLines.{other-at}
@@ -127,7 +128,7 @@ module _ (it : EditedLine) (is : IsEditedLine it) where
 
   unmoved-rows : (found : LineArea) → IsAreaOf new found → moves it (moved_area_of it (own found)) ≡ false → moved_rows (table_of old) (rows_of (own found)) ≡ []
   unmoved-rows found of still =
-      ap (map moved_row) (none-kept (is_new_row (table_of old)) (rows_of (own found)) (stood-rows found of still))
+      ap (map moved_row) (filter-drops (is_new_row (table_of old)) (rows_of (own found)) (stood-rows found of still))
 
   -- so the moved areas tell the blocks and the variables that the candidates do
 

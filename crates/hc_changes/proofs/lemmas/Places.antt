@@ -26,13 +26,13 @@ use Rattle.hc_records.proofs.lemmas.Slaves.{line-inside}
 use Rattle.hc_records.proofs.lemmas.TaskLists.{project-list}
 use Rattle.hc_records.proofs.lemmas.Tasks.{listed}
 use Rattle.hc_records.proofs.lemmas.Variables.{IsPlaced, pairs-placed, task_pairs, zip-left, zip-right}
+use Rattle.hc_records.proofs.lemmas.VariablePlaces.{same_dir-same}
 use Rattle.hc_cuts.specs.Areas.{area_in, areas_by_rank}
 use Rattle.hc_places.specs.Found.{area_rows, found_variables}
 use Rattle.hc_places.specs.Table.{Row, by_number, place_in, table_of}
 use Rattle.hc_places.proofs.lemmas.Ascends.{table-ascends}
 use Rattle.hc_places.proofs.lemmas.Rows.{task-rows}
 use Rattle.hc_places.proofs.lemmas.Sorted.{filter-by_number, find-by_number}
-use Rattle.hc_places.proofs.lemmas.Same.{same-dirs}
 use Rattle.hc_changes.specs.Candidates.{LineArea, candidate_of, key_of, place_of}
 use Rattle.hc_changes.specs.Rows.{area_variables_of, rows_of}
 use Rattle.hc_changes.proofs.lemmas.ByRank.{area-named}
@@ -93,7 +93,7 @@ listed-in state task dir listing at =
     let passes : belongs task dir e.1 ≡ true = (found-passing test own e made.1) in
     let two = (and_parts ((e.1.task == task) && same_dir e.1.dir dir) (nat_lt 0 (width e.1)) passes).0 in
     let parts = and_parts (e.1.task == task) (same_dir e.1.dir dir) two in
-    let direction : dir ≡ e.1.dir = sym (same-dirs e.1.dir dir parts.1) in
+    let direction : dir ≡ e.1.dir = sym (same_dir-same e.1.dir dir parts.1) in
     record {
       found = record { member = member; index = e.0; area = e.1 };
       of = record { member = piece.among; own = number };

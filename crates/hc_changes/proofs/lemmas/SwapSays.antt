@@ -2,8 +2,7 @@
 use Rattle.std.proofs.Common.{◌≡◌, ℕ, ◌==◌, ◌++◌, List, sym, ap, subst, ◌∙◌, rules}
 use Rattle.std.specs.Prelude.{find, option_map, slice_get}
 use Rattle.std.proofs.lemmas.Bool.{and_parts, ltb-false, ltb-true, not-true}
-use Rattle.hc_records.specs.declared.records.Declared.{Declared}
-use Rattle.hc_records.specs.Line.{State, line_from}
+use Rattle.hc_records.specs.Line.{line_from}
 use Rattle.hc_places.specs.Swap.{AreOnce, ChangedRow, ChangedTask, IsNewTask, SaysWhatDiffers}
 use Rattle.hc_places.specs.Table.{Table, table_of}
 use Rattle.hc_changes.specs.MovedAreas.{MovedArea, moved_areas_of}
@@ -12,9 +11,7 @@ use Rattle.hc_changes.specs.Rows.{TellPlaces, changed_rows, gone_rows}
 use Rattle.hc_changes.proofs.lemmas.Keeping.{edit-keeps}
 use Rattle.hc_changes.proofs.lemmas.MovedAreas.{moved_areas-rows}
 use Rattle.hc_changes.proofs.lemmas.Rows.{IsChange, rows-told}
-
-abbrev state_of : List Declared → State
-state_of groups = record { groups = groups; epoch = 0 }
+use Rattle.hc_changes.proofs.lemmas.Tables.{state_of}
 
 -- what an edit makes of a line is a change of a project
 edited_line-change : (edited_line : EditedLine) → IsEditedLine edited_line

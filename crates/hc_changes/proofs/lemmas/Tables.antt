@@ -33,7 +33,7 @@ use Rattle.hc_changes.specs.Tables.{IsEdited}
 use Rattle.hc_changes.proofs.lemmas.KeptSpans.{kept-inside}
 use Rattle.hc_changes.proofs.lemmas.Lists.{found-among}
 
-abbrev state_of : List Declared → State
+abbrev pub state_of : List Declared → State
 state_of groups = record { groups = groups; epoch = 0 }
 
 pub task-list : (groups : List Declared) (task : ℕ) → lowest_fault (groups_of groups) ≡ None → IsTaskList (task_list task (line_from 1 groups))

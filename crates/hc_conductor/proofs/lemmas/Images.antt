@@ -1,5 +1,5 @@
 -- The outputs of a task have at most as many bytes as the buffer of a post has room for.
-use Rattle.std.proofs.Common.{◌≡◌, ℕ, zero, suc, ◌<◌, ◌≤◌, Bool, true, false, List, [], ◌∷◌, ◌++◌, refl, sym, ap, ◌∙◌, subst, arith, Option, Some, None}
+use Rattle.std.proofs.Common.{◌≡◌, ℕ, zero, suc, ◌<◌, ◌≤◌, Bool, false, List, [], ◌∷◌, ◌++◌, refl, sym, ap, ◌∙◌, subst, arith, Option, Some, None}
 use Rattle.std.specs.Prelude.{IsOk, is_some, unwrap_or, ◌==◌}
 use Rattle.hc_records.specs.declared.edit.Edit.{Edit}
 use Rattle.hc_records.specs.declared.faults.EditFault.{EditFault}
@@ -23,6 +23,7 @@ use Rattle.hc_events.specs.Changes.{AreLegalFrom}
 use Rattle.hc_events.specs.NewsLaws.{state_behind}
 use Rattle.hc_events.proofs.lemmas.Accepted.{passed}
 use Rattle.hc_events.proofs.lemmas.Changes.{changes-decide, one-epoch}
+use Rattle.hc_events.proofs.lemmas.Views.{no_fault, none_behind}
 use Rattle.hc_publish.specs.Told.{IsLegal, Told, table_shown}
 use Rattle.hc_publish.proofs.lemmas.Openings.{opened-groups}
 use Rattle.hc_rings.specs.declared.post_buffer.TheConstants.{LARGEST_IMAGE}
@@ -34,15 +35,6 @@ record IsFit (state : State) : Type 0 where
   pub uncrowded : crowded_task (line state) ≡ None
 
 -- ---- each state to which legal changes lead has such a line
-
-no_fault : (fault : Option EditFault) (next : State) → IsOk (refused_by fault next) → fault ≡ None
-no_fault None next ok = refl
-no_fault (Some fault) next ok = cc
-
-none_behind : (first second : List (Bool × EditFault)) → lowest (first ++ second) ≡ None → lowest second ≡ None
-none_behind [] second e = e
-none_behind ((true, fault) ∷ first) second e = cc
-none_behind ((false, fault) ∷ first) second e = none_behind first second e
 
 none : (task : Option ℕ) → is_some task ≡ false → task ≡ None
 none None e = refl

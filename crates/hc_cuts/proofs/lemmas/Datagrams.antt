@@ -46,7 +46,7 @@ inside-none number areas few =
 
 -- what is carried has the number of the datagram that is being filled, and is seen alike whatever that number
 
-abbrev front_of : ℕ → ℕ → Dir → Front
+abbrev pub front_of : ℕ → ℕ → Dir → Front
 front_of datagram bit last = record { datagram = datagram; bit = bit; last = last }
 
 numbered-by : (fitting : Bool) (n bit : ℕ) (last : Dir) (area : Keyed) (areas : List Keyed)

@@ -16,6 +16,7 @@ use Rattle.hc_records.specs.TaskList.{Keyed}
 use Rattle.hc_records.specs.Boundaries.{Interval, hull, is_touched, touched, widened, width_in}
 use Rattle.hc_records.proofs.lemmas.KeyOrder.{same_dir-refl, same_key-refl, same_key-same, within-else, within-from_before, within-trans}
 use Rattle.hc_records.proofs.lemmas.Spans.{width-skip}
+use Rattle.hc_records.proofs.lemmas.VariablePlaces.{same_dir-same}
 use Rattle.hc_cuts.specs.declared.hulls.Hulls.{Hulls}
 use Rattle.hc_cuts.specs.Hulls.{AreHulls, IsHull, IsOf, Reaches, TakeIn, are_none, no_hulls}
 
@@ -84,11 +85,8 @@ hull-more test dir (Some i) key here is = record {
 or-none : (b : Bool) → b ≡ (b || false)
 or-none b = grind arith
 
-or-assoc : (a b c : Bool) → ((a || b) || c) ≡ (a || (b || c))
+pub or-assoc : (a b c : Bool) → ((a || b) || c) ≡ (a || (b || c))
 or-assoc a b c = grind arith
-
-same_dir-same : (d e : Dir) → same_dir d e ≡ true → d ≡ e
-same_dir-same d e same = grind arith
 
 hull-fold : (keys : List Key) (test : Key → Bool) (dir : Dir) (begun : Option Interval) → All (λ key. same_dir key.dir dir ≡ true) keys → IsHull test dir begun
     → IsHull (λ key. test key || list_any (λ other. same_key other key) keys) dir (fold widened begun keys)
@@ -164,7 +162,7 @@ pub none-passes : (test : Key → Bool) (key : Key) → AreHulls test no_hulls �
 none-passes test key are = grind arith
 
 -- a key of the other direction widens nothing
-or-other : (a b : Bool) → b ≡ false → a ≡ (a || b)
+pub or-other : (a b : Bool) → b ≡ false → a ≡ (a || b)
 or-other a b none = grind arith
 
 apart : (d e : Dir) (key other : Key) → same_dir d e ≡ false → key.dir ≡ d → other.dir ≡ e → same_key key other ≡ false

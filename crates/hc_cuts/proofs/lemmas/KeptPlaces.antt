@@ -8,15 +8,15 @@ use Rattle.std.proofs.lemmas.List.Elements.{All-cons, All-filter, All-weaker}
 use Rattle.std.proofs.lemmas.List.Kept.{AllPairs-filter}
 use Rattle.hc_records.specs.declared.keys.Key.{Key}
 use Rattle.hc_records.specs.declared.keys.TheConstants.Key.{START, END}
-use Rattle.hc_records.specs.declared.records.Dir.TheVariants.{Out, In}
-use Rattle.hc_records.specs.Boundaries.{Interval, boundaries, hull, is_settled, later_keys, meets_hull, spans, touched, width_in}
+use Rattle.hc_records.specs.declared.records.Dir.TheVariants.{In}
+use Rattle.hc_records.specs.Boundaries.{Interval, boundaries, is_settled, later_keys, spans, width_in}
 use Rattle.hc_records.specs.Keys.{is_before, is_within, same_key}
 use Rattle.hc_records.specs.Laws.{IsPackable}
 use Rattle.hc_records.specs.Packing.{Front, packed}
 use Rattle.hc_records.specs.SpanLaws.{IsTaskList, areas_from}
 use Rattle.hc_records.specs.TaskList.{Keyed}
 use Rattle.hc_records.proofs.lemmas.KeyOrder.{before-apart, before-else, before-other, before-trans, other-sym, same_key-same}
-use Rattle.hc_records.proofs.lemmas.SettledSpans.{clear-agrees}
+use Rattle.hc_records.proofs.lemmas.SettledSpans.{clear-agrees, meets_some}
 use Rattle.hc_records.proofs.lemmas.SpanCuts.{areas-from, span-begins}
 use Rattle.hc_records.proofs.lemmas.Spans.{Agree, IsListFrom, filter-drops, list-behind, list-tail, width-absent}
 use Rattle.hc_bitsum.proofs.lemmas.Widths.{told-from, width-filter}
@@ -110,9 +110,6 @@ not-last [] zero key is other = cc
 not-last [] (suc at) key is other = cc
 not-last (first ∷ starts) zero key is other = let many = length-end starts in (omega (arith, many), sym (same_key-same key first is))
 not-last (first ∷ starts) (suc at) key is other = let rest = not-last starts at key is other in (omega (arith, rest), rest.1)
-
-abbrev meets_some : List Keyed → List Keyed → Interval → Bool
-meets_some old new span = meets_hull (hull Out (touched old new)) span || meets_hull (hull In (touched old new)) span
 
 kept-by : (old new : List Keyed) (datagram : ℕ) (key : Key) → IsTaskList old → IsTaskList new → (span : Option Interval) → slice_get (spans (boundaries new)) datagram ≡ span
     → option_map_or (λ s. is_settled old new (s.0, key) && begins_at old datagram s.0) span false ≡ true

@@ -77,7 +77,7 @@ areas-stand before (area ∷ areas) =
     (subst (λ (all : List Area). All (λ (e : ℕ × Area). slice_get all e.0 ≡ Some e.1) (enumerate_from (length longer) areas)) same (areas-stand longer areas)))
 
 -- so a key names its area
-abbrev NamesIn : List (List Area) → Listed → Type 0
+abbrev pub NamesIn : List (List Area) → Listed → Type 0
 NamesIn slaves found = area_in slaves found.key ≡ Some found.area
 
 member-names : (slaves : List (List Area)) (task : ℕ) (dir : Dir) (member : Member) → StandsAt slaves member → All (NamesIn slaves) (slave_areas task dir member)

@@ -11,8 +11,10 @@ use Rattle.hc_records.specs.Lists.{lowest}
 use Rattle.hc_records.specs.Line.{Member}
 use Rattle.hc_records.specs.Image.{datagram_count, output_length, task_places}
 use Rattle.hc_records.specs.Edits.{edit_faults}
+use Rattle.hc_records.proofs.lemmas.Choices.{not_false}
 use Rattle.hc_registers.specs.Blocks.{LineBlock}
 use Rattle.hc_frames.specs.declared.reading.faults.FrameFault.{FrameFault}
+use Rattle.hc_frames.proofs.lemmas.Spelling.{more_of, same_number}
 use Rattle.hc_events.specs.declared.faults.CoreFault.{CoreFault}
 use Rattle.hc_events.specs.declared.faults.CoreFault.TheVariants.{NoSuchTask, PostLength, SerialsSpent, StalePost, Unprogrammed}
 use Rattle.hc_events.specs.Faults.{edit_refusal}
@@ -76,19 +78,9 @@ pub passed : {F : Type 0} (judged : Bool) (fault : F) (rest : List (Bool × F)) 
 passed true fault rest e = cc
 passed false fault rest e = (refl, e)
 
-none_owed : (blocks : List LineBlock) → nat_lt 0 (length blocks) ≡ false → blocks ≡ []
+pub none_owed : (blocks : List LineBlock) → nat_lt 0 (length blocks) ≡ false → blocks ≡ []
 none_owed [] e = refl
 none_owed (block ∷ blocks) e = let some : nat_lt 0 (suc (length blocks)) ≡ true = grind (arith, nat_tests) in let never : true ≡ false = sym some ∙ e in cc
-
-not_false : (b : Bool) → not b ≡ false → b ≡ true
-not_false true e = refl
-not_false false e = cc
-
-is_number : (m n : ℕ) → (m == n) ≡ true → m ≡ n
-is_number m n e = grind (arith, nat_tests)
-
-is_below : (m n : ℕ) → nat_lt m n ≡ true → m < n
-is_below m n e = grind (arith, nat_tests)
 
 no_refusal : (fault : Option EditFault) → option_map edit_refusal fault ≡ None → fault ≡ None
 no_refusal None e = refl
@@ -100,7 +92,7 @@ accepted_post past task epoch bytes e =
     let first = passed (is_no_task task) NoSuchTask ((not (epoch == epoch_of past), StalePost) ∷ lengths) e in
     let second = passed (not (epoch == epoch_of past)) StalePost lengths first.1 in
     let third = passed (not (length bytes == output_length (task_places task (line_of past)))) PostLength [] second.1 in
-    record { stands = is_below task TASKS (not_false _ first.0); fits = is_number _ _ (not_false _ third.0) }
+    record { stands = more_of task TASKS (not_false _ first.0); fits = same_number _ _ (not_false _ third.0) }
 
 nothing_owed : (past : Record) (tasks : List ℕ) → lowest (task_faults past tasks) ≡ None → owed_blocks past ≡ []
 nothing_owed past tasks e =

@@ -8,6 +8,7 @@ use Rattle.std.proofs.lemmas.List.Elements.{All-nil, All-cons, All-head, All-tai
 use Rattle.hc_records.specs.Line.{Member}
 use Rattle.hc_registers.specs.Blocks.{LineBlock, line_blocks}
 use Rattle.hc_records.proofs.lemmas.Lists.{All-passing}
+use Rattle.hc_records.proofs.lemmas.Choices.{by_bool}
 use Rattle.hc_events.specs.Arrivals.{Arrival}
 use Rattle.hc_events.specs.Entries.{Entry, Record, Opened, Edited, Posted, Sent, Wrote, Came}
 use Rattle.hc_events.specs.Points.{line_of}
@@ -19,9 +20,10 @@ use Rattle.hc_events.specs.Owed.{is_owed, owed_blocks}
 use Rattle.hc_events.specs.Accepted.{AreAccepted, IsAccepted, StandsIn}
 use Rattle.hc_events.specs.SendingLaws.{heads_of, is_opening, is_sending}
 use Rattle.hc_events.specs.AnswerLaws.{AnswersTheAwaited, IsAnsweredAs, IsAwaited, IsFirstAnswer, IsHeadOf, LeavesOpen}
-use Rattle.hc_events.proofs.lemmas.Awaited.{by_bool, judged-filter, news-is, same_is}
+use Rattle.hc_events.proofs.lemmas.Awaited.{judged-filter, news-is, same_is}
 use Rattle.hc_events.proofs.lemmas.Once.{only-if_some}
 use Rattle.hc_events.proofs.lemmas.Standing.{standing-found, stands-at}
+use Rattle.hc_events.proofs.lemmas.OneWrite.{same_sending}
 
 -- entries that leave a sending open are those that don't end it
 
@@ -165,9 +167,6 @@ answered-of_line past arrival sending all e = of-line past arrival sending all (
 
 -- what is awaited is what is answered
 
-same_sending : (a b : Sending) → Some a ≡ Some b → a ≡ b
-same_sending a b e = cc
-
 -- an awaited sending, as it was made
 record IsAlive (serial : ℕ) (found : Option Sending) (sending : Sending) : Type 0 where
   made : Sending
@@ -211,7 +210,7 @@ is_fresh past arrival a =
     ap (λ answer. not (list_any is_news (option_map_or (judged arrival) answer []))) found
     ∙ ap not (news-is live.made.since live.made.heads arrival.parts fit ∙ ap not live.news)
 
-twice : (b : Bool) → not (not b) ≡ false → b ≡ false
+pub twice : (b : Bool) → not (not b) ≡ false → b ≡ false
 twice true e = cc
 twice false e = refl
 

@@ -4,7 +4,10 @@ use Rattle.std.specs.Prelude.{map, option_map, option_and_then}
 use Rattle.std.specs.Option.{option_map_or}
 use Rattle.std.specs.List.{list_any, zip}
 use Rattle.std.proofs.lemmas.Bool.Decides.{nat_tests}
+use Rattle.hc_frames.proofs.lemmas.Datagrams.{and_true}
+use Rattle.hc_frames.proofs.lemmas.Spelling.{same_number}
 use Rattle.hc_records.specs.declared.edit.Edit.{Edit}
+use Rattle.hc_records.proofs.lemmas.Choices.{both, by_bool, or_right}
 use Rattle.hc_events.specs.Arrivals.{Arrival, Part}
 use Rattle.hc_events.specs.Entries.{Entry, Record, Opened, Edited, Posted, Sent, Wrote, Came}
 use Rattle.hc_events.specs.Points.{line_of, next_serial}
@@ -12,30 +15,12 @@ use Rattle.hc_events.specs.Heads.{Head, Item, data_heads, write_head}
 use Rattle.hc_events.specs.Answering.{Sending, Judged, Good, Wrong, Stale, just_sent, followed_by, sending_of, has_heads, fits, ends, is_answer, only_if, sends, is_stale, judge, judged, judged_by, is_news}
 use Rattle.hc_events.specs.Awaited.{is_ended, all_sent_again, is_no_arrival, alive, awaited}
 
-pub by_bool : {P : Type 0} (b : Bool) → (b ≡ true → P) → (b ≡ false → P) → P
-by_bool true f g = f refl
-by_bool false f g = g refl
-
-and_true : (a b : Bool) → (a && b) ≡ true → (a ≡ true) × (b ≡ true)
-and_true true b e = (refl, e)
-and_true false b e = cc
-
-or_right : (a b : Bool) → b ≡ true → (a || b) ≡ true
-or_right true b e = refl
-or_right false b e = e
-
-both : (a b : Bool) → a ≡ true → b ≡ true → (a && b) ≡ true
-both a b s t = rw s t
-
-not_both : (a b : Bool) → (not a || not b) ≡ not (a && b)
+pub not_both : (a b : Bool) → (not a || not b) ≡ not (a && b)
 not_both true b = refl
 not_both false b = refl
 
 pub same_is : (n : ℕ) → (n == n) ≡ true
 same_is n = grind (arith, nat_tests)
-
-same_number : (m n : ℕ) → (m == n) ≡ true → m ≡ n
-same_number m n e = grind (arith, nat_tests)
 
 -- judgements where one is news, else none
 abbrev pub news : List Judged → List Judged

@@ -3,6 +3,7 @@ use Rattle.std.proofs.Common.{◌≡◌, ℕ, ◌+◌, ◌<◌, ◌==◌, Bool, 
 use Rattle.std.specs.Prelude.{is_some, nat_lt, option_map, option_and_then}
 use Rattle.std.specs.List.{list_any}
 use Rattle.std.proofs.lemmas.Bool.Decides.{nat_tests}
+use Rattle.hc_records.proofs.lemmas.Choices.{and_right, by_bool, is_other, or_right}
 use Rattle.hc_events.specs.Arrivals.{Arrival}
 use Rattle.hc_events.specs.Entries.{Entry, Record, Opened, Edited, Posted, Sent, Wrote, Came}
 use Rattle.hc_events.specs.Points.{line_of, next_serial}
@@ -10,9 +11,8 @@ use Rattle.hc_events.specs.Heads.{data_heads, write_head}
 use Rattle.hc_events.specs.Answering.{Sending, just_sent, followed_by, sending_of, fits, ends, is_answer, only_if, answered_by}
 use Rattle.hc_events.specs.Steps.{Step, entries_after_all}
 use Rattle.hc_events.proofs.lemmas.Accepted.{Keeps, kept-after_all}
-use Rattle.hc_events.proofs.lemmas.Awaited.{by_bool}
 
-is_below : (m n : ℕ) → nat_lt m n ≡ true → m < n
+pub is_below : (m n : ℕ) → nat_lt m n ≡ true → m < n
 is_below m n e = grind (arith, nat_tests)
 
 below_is : (m n : ℕ) → m < n → nat_lt m n ≡ true
@@ -84,18 +84,11 @@ record HasEnded (serial : ℕ) (past : Record) : Type 0 where
   pub made : serial < next_serial past
   pub over : ended serial (sending_of past serial)
 
-or_right : (a b : Bool) → b ≡ true → (a || b) ≡ true
-or_right true b e = refl
-or_right false b e = e
-
 ended_still : (serial : ℕ) (entry : Entry) (found : Option Sending) → ended serial found → ended serial (option_map (followed_by entry) found)
 ended_still serial entry None over = over
 ended_still serial entry (Some sending) over = or_right (ends serial sending.heads entry) _ over
 
-is_other : (serial next : ℕ) → serial < next → (next == serial) ≡ false
-is_other serial next h = grind (arith, nat_tests)
-
-below_more : (serial next : ℕ) → serial < next → serial < next + 1
+pub below_more : (serial next : ℕ) → serial < next → serial < next + 1
 below_more serial next below = omega arith
 
 ended_older : (serial next : ℕ) (first : Option Sending) (rest : Option Sending) → serial < next → ended serial rest → ended serial (cond (next == serial) first rest)
@@ -119,16 +112,12 @@ not_true : (b : Bool) → b ≡ true → not b ≡ false
 not_true true e = refl
 not_true false e = cc
 
-and_right : (a b : Bool) → b ≡ false → (a && b) ≡ false
-and_right true b e = e
-and_right false b e = refl
-
 nothing_answers : (arrival : Arrival) (found : Option Sending) → ended arrival.serial found → option_and_then (only_if (is_answer arrival)) found ≡ None
 nothing_answers arrival None over = refl
 nothing_answers arrival (Some sending) over =
     ap (λ b. cond b (Some sending) None) (and_right (fits arrival.serial sending.heads arrival) _ (not_true _ over))
 
-and_left : (a b : Bool) → (a && b) ≡ true → a ≡ true
+pub and_left : (a b : Bool) → (a && b) ≡ true → a ≡ true
 and_left true b e = refl
 and_left false b e = cc
 

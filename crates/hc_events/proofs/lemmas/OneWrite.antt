@@ -5,8 +5,10 @@ use Rattle.std.specs.Option.{option_map_or}
 use Rattle.std.specs.List.{list_any}
 use Rattle.std.specs.Str.{bytes_eq}
 use Rattle.std.proofs.lemmas.Bool.Decides.{nat_tests}
+use Rattle.hc_frames.proofs.lemmas.Spelling.{same_number}
 use Rattle.hc_records.specs.declared.records.Group.{Group}
 use Rattle.hc_records.specs.Line.{Member}
+use Rattle.hc_records.proofs.lemmas.Choices.{by_bool, not_false, or_left, or_right}
 use Rattle.hc_registers.specs.Blocks.{LineBlock, line_blocks}
 use Rattle.hc_events.specs.Arrivals.{Arrival}
 use Rattle.hc_events.specs.Entries.{Entry, Record, Opened, Edited, Posted, Sent, Wrote, Came}
@@ -18,12 +20,8 @@ use Rattle.hc_events.specs.Awaited.{all_sent_again, alive, awaited, is_ended, is
 use Rattle.hc_events.specs.Owed.{if_confirmed, is_owed, last_write, owed_blocks, was_confirmed}
 use Rattle.hc_events.specs.Accepted.{AreAccepted, just_opened}
 use Rattle.hc_events.proofs.lemmas.Accepted.{Keeps, held-of_accepted}
-use Rattle.hc_events.proofs.lemmas.Awaited.{by_bool, news_from, same_is, awaited-any, unless_fits, unless_again, alive_edited, alive_came, alive_other}
+use Rattle.hc_events.proofs.lemmas.Awaited.{news_from, same_is, awaited-any, unless_fits, unless_again, alive_edited, alive_came, alive_other}
 use Rattle.hc_events.proofs.lemmas.Once.{serial-made}
-
-or_right : (a b : Bool) → b ≡ true → (a || b) ≡ true
-or_right true b e = refl
-or_right false b e = e
 
 -- what is awaited behind an entry was awaited before it
 
@@ -32,7 +30,7 @@ record Was (past : Record) (serial : ℕ) (now : Sending) : Type 0 where
   there : awaited past serial ≡ Some before
   heads : now.heads ≡ before.heads
 
-same_sending : (a b : Sending) → Some a ≡ Some b → a ≡ b
+pub same_sending : (a b : Sending) → Some a ≡ Some b → a ≡ b
 same_sending a b e = cc
 
 -- an arrival
@@ -92,13 +90,9 @@ known_stays past arrival bytes (Some write) e =
     rw confirmed same)
     (λ t. let never : false ≡ true = rw t at e in cc)
 
-true_of : (b : Bool) → not b ≡ false → b ≡ true
-true_of true e = refl
-true_of false e = cc
-
 not_owed_stays : (past : Record) (arrival : Arrival) (block : LineBlock) → is_owed past block ≡ false → is_owed (Came arrival ∷ past) block ≡ false
 not_owed_stays past arrival block e =
-    ap not (known_stays past arrival block.block.bytes (last_write past block.station block.number) (true_of _ e))
+    ap not (known_stays past arrival block.block.bytes (last_write past block.station block.number) (not_false _ e))
 
 filter_none : (p q : LineBlock → Bool) → ((x : LineBlock) → p x ≡ false → q x ≡ false) → (xs : List LineBlock) → filter p xs ≡ [] → filter q xs ≡ []
 filter_none p q k [] e = refl
@@ -137,10 +131,6 @@ good_news : (verdict : Verdict) → is_good verdict ≡ true → not (is_stale v
 good_news Good e = refl
 good_news Wrong e = refl
 good_news Stale e = cc
-
-or_left : (a b : Bool) → a ≡ true → (a || b) ≡ true
-or_left true b e = refl
-or_left false b e = cc
 
 any_news : (datagrams : List Judged) → list_any has_good datagrams ≡ true → list_any is_news datagrams ≡ true
 any_news [] e = cc
@@ -188,7 +178,7 @@ unconfirmed (Came arrival ∷ past) serial above =
     rw (t, nothing) (unconfirmed past serial above))
     (λ t. rw t (unconfirmed past serial above))
 
-at_least : (n : ℕ) → n ≤ n
+pub at_least : (n : ℕ) → n ≤ n
 at_least n = omega arith
 
 pub written-is_owed : (past : Record) (block other : LineBlock) → same_item (block_item other) (block_item block) ≡ true → is_owed (Wrote block ∷ past) other ≡ true
@@ -210,7 +200,7 @@ record FirstBehind (past : Record) (block : LineBlock) (blocks : List LineBlock)
   owed : filter (is_owed (Wrote block ∷ past)) blocks ≡ first ∷ rest
   same : same_item (block_item block) (block_item first) ≡ true
 
-heads_same : (a b : LineBlock) (xs ys : List LineBlock) → a ∷ xs ≡ b ∷ ys → a ≡ b
+pub heads_same : (a b : LineBlock) (xs ys : List LineBlock) → a ∷ xs ≡ b ∷ ys → a ≡ b
 heads_same a b xs ys e = cc
 
 first_behind : (past : Record) (block : LineBlock) (blocks rest : List LineBlock) → filter (is_owed past) blocks ≡ block ∷ rest → FirstBehind past block blocks
@@ -260,7 +250,7 @@ write_was now before same = ap (list_any (λ head. is_block head.item)) (sym sam
 none_some : (now : Sending) → None ≡ Some now → ⊥
 none_some now e = let never : false ≡ true = ap is_some e in cc
 
-some_of_none : (block : LineBlock) (blocks : List LineBlock) → [] ≡ block ∷ blocks → ⊥
+pub some_of_none : (block : LineBlock) (blocks : List LineBlock) → [] ≡ block ∷ blocks → ⊥
 some_of_none block blocks e = cc
 
 -- what an arrival leaves awaited
@@ -324,7 +314,7 @@ alive_heads serial sending now false e = ap (λ s. s.heads) (sym (same_sending _
 pub awaited-heads : (serial : ℕ) (sending now : Sending) → alive serial sending ≡ Some now → now.heads ≡ sending.heads
 awaited-heads serial sending now e = alive_heads serial sending now (is_ended serial sending || all_sent_again sending.since sending.heads) e
 
-no_blocks : (line : List Member) (frame : List Named) → list_any (λ head. is_block head.item) (data_heads line frame) ≡ false
+pub no_blocks : (line : List Member) (frame : List Named) → list_any (λ head. is_block head.item) (data_heads line frame) ≡ false
 no_blocks line [] = refl
 no_blocks line (named ∷ frame) = no_blocks line frame
 
@@ -380,9 +370,6 @@ nothing_older past block rest serial now all owed still =
     let again : same_item one.head.item (block_item block) ≡ true = ap (λ b. same_item one.head.item (block_item b)) (sym same) ∙ one.same in
     let never : true ≡ false = sym (again_alone (Wrote block) still.since one.head now.heads (still.was.heads ∙ one.heads) again) ∙ still.other in cc)
     (λ t. some_of_none block rest (sym (all.frames serial still.was.before still.was.there t) ∙ owed))
-
-same_number : (m n : ℕ) → (m == n) ≡ true → m ≡ n
-same_number m n e = grind (arith, nat_tests)
 
 wrote_write : (past : Record) (block : LineBlock) (rest : List LineBlock) (serial : ℕ) (now : Sending) → WritesAlone past → owed_blocks past ≡ block ∷ rest → awaited (Wrote block ∷ past) serial ≡ Some now → IsAlone (Wrote block ∷ past) serial now
 wrote_write past block rest serial now all owed e =

@@ -7,22 +7,12 @@ use Rattle.std.specs.Str.{bytes_eq}
 use Rattle.std.proofs.lemmas.Bool.Decides.{nat_tests}
 use Rattle.hc_records.specs.declared.edit.Edit.{Edit}
 use Rattle.hc_records.specs.Line.{Member, is_at}
+use Rattle.hc_records.proofs.lemmas.Choices.{by_bool, member-by}
 use Rattle.hc_registers.specs.Blocks.{LineBlock, RegisterBlock, line_blocks, member_blocks, numbered, same_block, same_bytes, slave_blocks}
 use Rattle.hc_events.specs.Entries.{Record, Edited}
 use Rattle.hc_events.specs.Points.{line_of}
 use Rattle.hc_events.specs.Owed.{if_confirmed, is_in_line, is_owed, last_write}
-
-by_bool : {P : Type 0} (b : Bool) → (b ≡ true → P) → (b ≡ false → P) → P
-by_bool true f g = f refl
-by_bool false f g = g refl
-
-either : (a b : Bool) → (a || b) ≡ true → a ≡ false → b ≡ true
-either true b e none = cc
-either false b e none = e
-
-and_left : (a b : Bool) → (a && b) ≡ true → a ≡ true
-and_left true b e = refl
-and_left false b e = cc
+use Rattle.hc_events.proofs.lemmas.Once.{and_left}
 
 same_number : (m n : ℕ) → (m == n) ≡ true → (n == m) ≡ true
 same_number m n e = grind (arith, nat_tests)
@@ -34,13 +24,13 @@ of_slave block station first [] e = cc
 of_slave block station first (one ∷ blocks) e =
     by_bool ((block.station == station) && same_bytes block.block one)
     (λ t. same_number block.station station (and_left _ _ t))
-    (λ t. of_slave block station (first + 1) blocks (either _ _ e t))
+    (λ t. of_slave block station (first + 1) blocks (member-by _ _ e t))
 
 any_joined : {X : Type 0} (test : X → Bool) (xs ys : List X) → list_any test (xs ++ ys) ≡ true → list_any test xs ≡ false → list_any test ys ≡ true
 any_joined test [] ys e none = e
 any_joined test (x ∷ xs) ys e none =
     by_bool (test x) (λ t. let never : true ≡ false = sym (ap (λ b. b || list_any test xs) t) ∙ none in cc)
-    (λ t. any_joined test xs ys (either _ _ e t) (sym (ap (λ b. b || list_any test xs) t) ∙ none))
+    (λ t. any_joined test xs ys (member-by _ _ e t) (sym (ap (λ b. b || list_any test xs) t) ∙ none))
 
 found_either : (c : Bool) (member : Member) (rest : Option Member) → (c ≡ false → is_some rest ≡ true) → is_some (cond c (Some member) rest) ≡ true
 found_either true member rest k = refl

@@ -9,9 +9,11 @@ use Rattle.hc_records.specs.Line.{line}
 use Rattle.hc_records.specs.Lists.{lowest}
 use Rattle.hc_records.specs.Image.{VariablePlace, datagram_count, datagram_length, logical_address, output_length, task_places}
 use Rattle.hc_records.specs.Edits.{edit_faults, state_after}
+use Rattle.hc_records.proofs.lemmas.Choices.{by_bool}
 use Rattle.hc_registers.specs.Blocks.{LineBlock, line_blocks}
 use Rattle.hc_frames.specs.FrameText.{frame_text, lrw}
 use Rattle.hc_frames.specs.declared.reading.faults.FrameFault.{FrameFault}
+use Rattle.hc_frames.proofs.lemmas.Spelling.{or_false}
 use Rattle.hc_events.specs.declared.answer.Answer.TheVariants as answer
 use Rattle.hc_events.specs.declared.faults.CoreFault.{CoreFault}
 use Rattle.hc_events.specs.declared.faults.CoreFault.TheVariants.{NoSuchTask, NothingOwed, PostLength, SerialsSpent, StalePost, Unprogrammed}
@@ -28,7 +30,7 @@ use Rattle.hc_events.specs.Steps.{Step, Edits, Posts, SendsTasks, SendsWrite, Ar
 use Rattle.hc_events.specs.Heads.{is_block}
 use Rattle.hc_events.specs.Changes.{news_of}
 use Rattle.hc_events.specs.Stale.{SameBehind, SaysTheSame, without_stale}
-use Rattle.hc_events.proofs.lemmas.Awaited.{by_bool, news}
+use Rattle.hc_events.proofs.lemmas.Awaited.{news}
 use Rattle.hc_events.proofs.lemmas.WithoutStale.{without-epoch, without-known, without-news, without-serial, without-slot, without-stale, without-state, without-told, without-value}
 
 abbrev pub SameWithout : Record → Record → Type 0
@@ -146,14 +148,10 @@ block_told Good e = cc
 block_told Wrong e = cc
 block_told Stale e = refl
 
-or_none : (x y : Bool) → (x || y) ≡ false → (x ≡ false) × (y ≡ false)
-or_none true y e = cc
-or_none false y e = (refl, e)
-
 stale_told : (datagrams : List Judged) → list_any is_news datagrams ≡ false → told_of datagrams ≡ answer.Stale
 stale_told [] e = refl
 stale_told (datagram ∷ datagrams) e =
-    let first = (or_none (is_news datagram) (list_any is_news datagrams) e).0 in
+    let first = (or_false (is_news datagram) (list_any is_news datagrams) e).0 in
     by_bool (is_block datagram.head.item)
     (λ t. rw t (block_told datagram.verdict first))
     (λ t. rw (t, e) refl)

@@ -16,7 +16,7 @@ use Rattle.hc_events.specs.Outputs.{byte_of, bytes_of, has_bit, image_bit, is_po
 
 -- each bit is 0 or 1
 
-bit_small : (bytes : List ℕ) (k : ℕ) → bit_of bytes k < 2
+pub bit_small : (bytes : List ℕ) (k : ℕ) → bit_of bytes k < 2
 unfolding bit_of
 bit_small bytes k = bit_at-lt (get_or bytes (k / 8) 0) (k % 8)
 

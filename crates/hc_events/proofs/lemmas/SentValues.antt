@@ -6,6 +6,7 @@ use Rattle.std.specs.List.{flat_map}
 use Rattle.std.proofs.lemmas.Bool.{and_from, and_parts, eq-eqb, eqb-true}
 use Rattle.std.proofs.lemmas.Bool.Decides.{nat_tests}
 use Rattle.std.proofs.lemmas.List.Elements.{All-nil, All-cons, All-map, All-weaker}
+use Rattle.hc_frames.proofs.lemmas.Spelling.{more_of}
 use Rattle.hc_records.specs.declared.limits.TheConstants.{TASKS}
 use Rattle.hc_records.specs.declared.records.Dir.TheVariants.{Out}
 use Rattle.hc_records.specs.Keys.{same_dir}
@@ -16,27 +17,21 @@ use Rattle.hc_records.specs.Project.{lowest_fault}
 use Rattle.hc_records.proofs.lemmas.Finds.{all-tasks, each-task, found-none, mapped-some}
 use Rattle.hc_records.proofs.lemmas.Lists.{All-append_left, All-append_right, All-flat_map, All-from_filter, All-passing, AllPairs-head, AllPairs-tail}
 use Rattle.hc_records.proofs.lemmas.VariableBits.{variables-apart}
-use Rattle.hc_records.proofs.lemmas.VariablePlaces.{variables-lie}
+use Rattle.hc_records.proofs.lemmas.VariablePlaces.{variables-lie, same_dir-same}
 use Rattle.hc_records.proofs.lemmas.Variables.{place_of, task_pairs}
+use Rattle.hc_records.proofs.lemmas.Choices.{by_bool, lower-other}
 use Rattle.hc_places.specs.Table.{Row, RowsAscend, by_number}
 use Rattle.hc_places.proofs.lemmas.Ascends.{table-ascends}
 use Rattle.hc_places.proofs.lemmas.Found.{find-holds}
-use Rattle.hc_places.proofs.lemmas.Same.{same-dirs}
-use Rattle.hc_places.proofs.lemmas.Sorted.{filter-by_number, find-by_number}
+use Rattle.hc_places.proofs.lemmas.Sorted.{filter-by_number, find-by_number, numbered}
 use Rattle.hc_events.specs.Entries.{Record}
 use Rattle.hc_events.specs.Points.{line_of, state_of}
 use Rattle.hc_events.specs.Outputs.{has_bit, is_output_in, outputs_in, sent_bit, sent_data, value_bit}
 use Rattle.hc_events.specs.DataLaws.{IsOutputOf, IsSentData, LiesIn}
 use Rattle.hc_events.proofs.lemmas.SentBits.{sent-data}
-use Rattle.hc_events.proofs.lemmas.Awaited.{by_bool, same_is}
-
-below_number : (low high : ℕ) → low < high → (low == high) ≡ false
-below_number low high less = grind (arith, nat_tests)
+use Rattle.hc_events.proofs.lemmas.Awaited.{same_is}
 
 -- in rows that ascend each row is found by its number
-
-abbrev numbered : ℕ → Row → Bool
-numbered number row = row.0 == number
 
 abbrev IsFoundIn : List Row → Row → Type 0
 IsFoundIn rows row = find (numbered row.0) rows ≡ Some row
@@ -51,7 +46,7 @@ found_in (row ∷ rows) ascend =
     All-cons (IsFoundIn (row ∷ rows)) row rows
     (ap (λ b. cond b (Some row) (find (numbered row.0) rows)) (same_is row.0))
     (λ k d within. first_found (row.0 == (get_or rows k d).0) row (find (numbered (get_or rows k d).0) rows) (get_or rows k d)
-    (below_number row.0 (get_or rows k d).0 (AllPairs-head (λ (a b : Row). a.0 < b.0) row rows ascend k d within))
+    (lower-other row.0 (get_or rows k d).0 (AllPairs-head (λ (a b : Row). a.0 < b.0) row rows ascend k d within))
     (found_in rows (AllPairs-tail (λ (a b : Row). a.0 < b.0) row rows ascend) k d within))
 
 -- so it is in rows that ascend once they are put in order
@@ -107,15 +102,12 @@ datagram_of d row output = eqb-true row.1.datagram d (and_parts (same_dir row.1.
 is_least : (m n : ℕ) → nat_le m n ≡ true → m ≤ n
 is_least m n e = grind (arith, nat_tests)
 
-is_below : (m n : ℕ) → nat_lt m n ≡ true → m < n
-is_below m n e = grind (arith, nat_tests)
-
 from_bit : (k : ℕ) (row : Row) → has_bit k row ≡ true → LiesIn row.1 k
 from_bit k row has =
     let parts = and_parts (nat_le row.1.bit k) (nat_lt k (row.1.bit + row.1.bits)) has in
     let low = parts.0 in
     let high = parts.1 in
-    record { from = is_least row.1.bit k low; below = is_below k (row.1.bit + row.1.bits) high }
+    record { from = is_least row.1.bit k low; below = more_of k (row.1.bit + row.1.bits) high }
 
 two_apart : (a b : VariablePlace) (k : ℕ) → LiesIn a k → LiesIn b k → (a.bit + a.bits ≤ b.bit) ⊎ (b.bit + b.bits ≤ a.bit) → ⊥
 two_apart a b k in_a in_b (inl less) = let below = in_a.below in let from = in_b.from in omega arith
@@ -207,7 +199,7 @@ no_variable past task d k all none (Some row) e =
     let holds = find-holds (IsRow (line_of past) task d) (has_bit k) (outputs_in (line_of past) task d) row e all in
     let is = holds.0 in
     absurd (none row.0 row.1
-    (record { there = is.there; task_is = is.task_is; datagram = datagram_of d row is.output; output = same-dirs row.1.dir Out (and_parts (same_dir row.1.dir Out) (row.1.datagram == d) is.output).0 })
+    (record { there = is.there; task_is = is.task_is; datagram = datagram_of d row is.output; output = same_dir-same row.1.dir Out (and_parts (same_dir row.1.dir Out) (row.1.datagram == d) is.output).0 })
     (from_bit k row holds.1))
 
 inside : (end size bit bits j : ℕ) → bit + bits ≤ end → end ≡ size → j < bits → bit + j < size

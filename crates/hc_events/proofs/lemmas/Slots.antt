@@ -1,13 +1,15 @@
 -- What is read of a datagram has its length, and whatever its sending had of the line, since no edit came between.
-use Rattle.std.proofs.Common.{◌≡◌, ℕ, ◌==◌, Bool, true, false, cond, not, ◌&&◌, ◌||◌, List, [], ◌∷◌, length, map, refl, sym, ap, ◌∙◌, subst, arith, Option, Some, None}
+use Rattle.std.proofs.Common.{◌≡◌, ℕ, ◌==◌, Bool, true, false, cond, ◌&&◌, ◌||◌, List, [], ◌∷◌, length, map, refl, sym, ap, ◌∙◌, subst, Option, Some, None}
 use Rattle.std.specs.Prelude.{All, fold, option_map, option_and_then}
 use Rattle.std.specs.Option.{option_map_or}
 use Rattle.std.specs.List.{flat_map, list_any, zip}
-use Rattle.std.proofs.lemmas.Bool.Decides.{nat_tests}
 use Rattle.std.proofs.lemmas.List.Elements.{All-nil, All-cons, All-head, All-tail}
 use Rattle.hc_records.specs.Line.{Member}
 use Rattle.hc_records.proofs.lemmas.Lists.{All-flat_map}
+use Rattle.hc_records.proofs.lemmas.Choices.{by_bool, none_of}
 use Rattle.hc_frames.specs.Commands.{code_of}
+use Rattle.hc_frames.proofs.lemmas.Datagrams.{and_true}
+use Rattle.hc_frames.proofs.lemmas.Spelling.{or_false, same_number}
 use Rattle.hc_events.specs.Arrivals.{Arrival, Part}
 use Rattle.hc_events.specs.Entries.{Entry, Record, Opened, Edited, Posted, Sent, Wrote, Came}
 use Rattle.hc_events.specs.Points.{line_of, next_serial}
@@ -15,22 +17,6 @@ use Rattle.hc_events.specs.Sendings.{Named, length_of}
 use Rattle.hc_events.specs.Heads.{Head, Item, Datagram, Block, data_head, data_heads, write_head}
 use Rattle.hc_events.specs.Answering.{Sending, just_sent, followed_by, sending_of, has_head, has_heads, fits, ends, is_answer, only_if, has_good, judge, judged}
 use Rattle.hc_events.specs.Images.{Fresh, fresh, fresh_by, fresh_item, is_for, renewed, slot_of}
-use Rattle.hc_events.proofs.lemmas.Awaited.{by_bool}
-
-or_none : (a b : Bool) → (a || b) ≡ false → (a ≡ false) × (b ≡ false)
-or_none true b e = cc
-or_none false b e = (refl, e)
-
-and_true : (a b : Bool) → (a && b) ≡ true → (a ≡ true) × (b ≡ true)
-and_true true b e = (refl, e)
-and_true false b e = cc
-
-not_false : (b : Bool) → not b ≡ true → b ≡ false
-not_false true e = cc
-not_false false e = refl
-
-is_number : (m n : ℕ) → (m == n) ≡ true → m ≡ n
-is_number m n e = grind (arith, nat_tests)
 
 -- something that holds of each datagram that was sent, in the line at that time
 
@@ -78,12 +64,12 @@ FitsLine P line serial (Some sending) = list_any (ends serial sending.heads) sen
 
 fits_more : (P : List Member → Named → Type 0) (line : List Member) (serial : ℕ) (entry : Entry) (found : Option Sending) → FitsLine P line serial found → FitsLine P line serial (option_map (followed_by entry) found)
 fits_more P line serial entry None fit = fit
-fits_more P line serial entry (Some sending) fit = λ none. fit (or_none (ends serial sending.heads entry) _ none).1
+fits_more P line serial entry (Some sending) fit = λ none. fit (or_false (ends serial sending.heads entry) _ none).1
 
 fits_edited : (P : List Member → Named → Type 0) (line : List Member) (serial : ℕ) (entry : Entry) → ((heads : List Head) → ends serial heads entry ≡ true) → (found : Option Sending) → FitsLine P line serial (option_map (followed_by entry) found)
 fits_edited P line serial entry over None = tt
 fits_edited P line serial entry over (Some sending) =
-    λ none. let never : true ≡ false = sym (over sending.heads) ∙ (or_none (ends serial sending.heads entry) _ none).0 in cc
+    λ none. let never : true ≡ false = sym (over sending.heads) ∙ (or_false (ends serial sending.heads entry) _ none).0 in cc
 
 fits_either : (P : List Member → Named → Type 0) (line : List Member) (serial : ℕ) (c : Bool) (first rest : Option Sending) → FitsLine P line serial first → FitsLine P line serial rest → FitsLine P line serial (cond c first rest)
 fits_either P line serial true first rest a b = a
@@ -116,7 +102,7 @@ fresh_fits P line true (Datagram task d) size bytes fit same =
 
 same_size : (head : Head) (part : Part) → has_head head part ≡ true → head.length ≡ length part.bytes
 same_size head part e =
-    is_number head.length (length part.bytes)
+    same_number head.length (length part.bytes)
     (and_true ((code_of head.command == code_of part.command) && (head.address == part.address)) (head.length == length part.bytes) e).1
 
 judged_fit : (P : List Member → Named → Type 0) (line : List Member) (since : List Entry) (heads : List Head) (parts : List Part) → All (FitsHead P line) heads → has_heads heads parts ≡ true → All (λ datagram. All (FitsFresh P line) (fresh datagram)) (map (judge since) (zip heads parts))
@@ -134,7 +120,7 @@ answer_fits P line arrival (Some sending) fit =
     by_bool (is_answer arrival sending)
     (λ t. let both = and_true (fits arrival.serial sending.heads arrival) _ t in
     let all = All-flat_map (FitsFresh P line) fresh (judged arrival sending)
-    (judged_fit P line sending.since sending.heads arrival.parts (fit (not_false _ both.1)) (and_true (arrival.serial == arrival.serial) _ both.0).1) in
+    (judged_fit P line sending.since sending.heads arrival.parts (fit (none_of _ both.1)) (and_true (arrival.serial == arrival.serial) _ both.0).1) in
     rw t all)
     (λ t. let none = All-nil (FitsFresh P line) in rw t none)
 
@@ -152,7 +138,7 @@ renewed_fits line task d good slot fit sized =
     by_bool (is_for task d good)
     (λ t. let both = and_true (good.task == task) _ t in
     let same : length good.bytes ≡ length_of line (task, d) =
-    fit.0 ∙ ap (λ n. length_of line (n, good.datagram)) (is_number good.task task both.0) ∙ ap (λ n. length_of line (task, n)) (is_number good.datagram d both.1) in
+    fit.0 ∙ ap (λ n. length_of line (n, good.datagram)) (same_number good.task task both.0) ∙ ap (λ n. length_of line (task, n)) (same_number good.datagram d both.1) in
     rw t same)
     (λ t. rw t sized)
 

@@ -1,8 +1,8 @@
 -- What is over stays over: an arrival that is stale once its sending was made is stale for good.
-use Rattle.std.proofs.Common.{◌≡◌, ℕ, ◌+◌, ◌<◌, ◌==◌, Bool, true, false, cond, not, List, [], ◌∷◌, refl, sym, ap, ◌∙◌, subst, arith, Option, Some, None}
+use Rattle.std.proofs.Common.{◌≡◌, ℕ, ◌+◌, ◌<◌, ◌==◌, true, false, cond, not, List, [], ◌∷◌, refl, sym, ap, ◌∙◌, subst, Option, Some, None}
 use Rattle.std.specs.Prelude.{option_map, option_and_then}
 use Rattle.std.specs.List.{list_any}
-use Rattle.std.proofs.lemmas.Bool.Decides.{nat_tests}
+use Rattle.hc_records.proofs.lemmas.Choices.{by_bool, is_other, none_of, not_false}
 use Rattle.hc_events.specs.Arrivals.{Arrival}
 use Rattle.hc_events.specs.Entries.{Entry, Record, Opened, Edited, Posted, Sent, Wrote, Came}
 use Rattle.hc_events.specs.Points.{line_of, next_serial}
@@ -11,7 +11,8 @@ use Rattle.hc_events.specs.Answering.{Sending, just_sent, followed_by, sending_o
 use Rattle.hc_events.specs.Awaited.{all_sent_again, alive, awaited}
 use Rattle.hc_events.specs.Steps.{Step, entries_after_all}
 use Rattle.hc_events.proofs.lemmas.Accepted.{Keeps, kept-after_all}
-use Rattle.hc_events.proofs.lemmas.Awaited.{by_bool, news_from, news-is, awaited-any, again-more, unless_fits, unless_again, alive_edited, alive_came, alive_other}
+use Rattle.hc_events.proofs.lemmas.Awaited.{news_from, news-is, awaited-any, again-more, unless_fits, unless_again, alive_edited, alive_came, alive_other}
+use Rattle.hc_events.proofs.lemmas.Once.{below_more}
 
 -- an arrival is no news for what is awaited
 abbrev quiet : Arrival → Option Sending → Type 0
@@ -21,20 +22,13 @@ quiet_came : (serial : ℕ) (other arrival : Arrival) (found : Option Sending) �
 quiet_came serial other arrival None q = q
 quiet_came serial other arrival (Some s) q = by_bool (fits serial s.heads other) (λ t. rw t refl) (λ t. rw t q)
 
-again_if : (b : Bool) → not b ≡ false → b ≡ true
-again_if true e = refl
-again_if false e = cc
-
 quiet_other : (entry : Entry) (arrival : Arrival) (found : Option Sending) → quiet arrival found → quiet arrival (option_and_then (unless_again entry) found)
 quiet_other entry arrival None q = q
 quiet_other entry arrival (Some s) q =
     by_bool (has_heads s.heads arrival.parts)
-    (λ h. let all : all_sent_again s.since s.heads ≡ true = again_if _ (sym (news-is s.since s.heads arrival.parts h) ∙ rw h at q) in
+    (λ h. let all : all_sent_again s.since s.heads ≡ true = not_false _ (sym (news-is s.since s.heads arrival.parts h) ∙ rw h at q) in
     rw (again-more entry s.since s.heads all) refl)
     (λ h. by_bool (all_sent_again (entry ∷ s.since) s.heads) (λ t. rw t refl) (λ t. rw t (rw h refl)))
-
-is_other : (serial next : ℕ) → serial < next → (next == serial) ≡ false
-is_other serial next h = grind (arith, nat_tests)
 
 -- one more entry
 quiet_grows : (past : Record) (entry : Entry) (arrival : Arrival) → arrival.serial < next_serial past → quiet arrival (awaited past arrival.serial) → quiet arrival (awaited (entry ∷ past) arrival.serial)
@@ -56,22 +50,15 @@ record IsOver (arrival : Arrival) (past : Record) : Type 0 where
   pub made : arrival.serial < next_serial past
   pub quiet_now : quiet arrival (awaited past arrival.serial)
 
-one_more : (serial next : ℕ) → serial < next → serial < next + 1
-one_more serial next below = omega arith
-
 over_grows : (arrival : Arrival) → Keeps (IsOver arrival)
 over_grows arrival past (Opened groups) accepted over = absurd accepted
 over_grows arrival past (Edited edit) accepted over = record { made = over.made; quiet_now = quiet_grows past (Edited edit) arrival over.made over.quiet_now }
 over_grows arrival past (Posted task bytes) accepted over = record { made = over.made; quiet_now = quiet_grows past (Posted task bytes) arrival over.made over.quiet_now }
 over_grows arrival past (Sent frame) accepted over =
-    record { made = one_more arrival.serial (next_serial past) over.made; quiet_now = quiet_grows past (Sent frame) arrival over.made over.quiet_now }
+    record { made = below_more arrival.serial (next_serial past) over.made; quiet_now = quiet_grows past (Sent frame) arrival over.made over.quiet_now }
 over_grows arrival past (Wrote block) accepted over =
-    record { made = one_more arrival.serial (next_serial past) over.made; quiet_now = quiet_grows past (Wrote block) arrival over.made over.quiet_now }
+    record { made = below_more arrival.serial (next_serial past) over.made; quiet_now = quiet_grows past (Wrote block) arrival over.made over.quiet_now }
 over_grows arrival past (Came other) accepted over = record { made = over.made; quiet_now = quiet_grows past (Came other) arrival over.made over.quiet_now }
-
-none_of : (b : Bool) → not b ≡ true → b ≡ false
-none_of true e = cc
-none_of false e = refl
 
 pub stale-stays : (past : Record) (steps : List Step) (arrival : Arrival) → arrival.serial < next_serial past → is_stale_to past arrival ≡ true → is_stale_to (entries_after_all past steps) arrival ≡ true
 stale-stays past steps arrival below stale =

@@ -3,13 +3,14 @@ use Rattle.std.proofs.Common.{◌≡◌, ℕ, ◌+◌, ◌<◌, ◌==◌, Bool, 
 use Rattle.std.specs.Prelude.{option_map}
 use Rattle.std.specs.List.{list_any}
 use Rattle.std.proofs.lemmas.Bool.{eqb-true}
-use Rattle.std.proofs.lemmas.Bool.Decides.{nat_tests}
+use Rattle.hc_records.proofs.lemmas.Choices.{is_other}
 use Rattle.hc_events.specs.Entries.{Entry, Record, Opened, Edited, Posted, Sent, Wrote, Came}
 use Rattle.hc_events.specs.Points.{line_of, next_serial}
 use Rattle.hc_events.specs.Heads.{data_heads, write_head}
 use Rattle.hc_events.specs.Answering.{Sending, just_sent, followed_by, sending_of}
 use Rattle.hc_events.specs.SendingLaws.{StandsAt, heads_of, is_opening, is_sending}
 use Rattle.hc_events.proofs.lemmas.Awaited.{same_is}
+use Rattle.hc_events.proofs.lemmas.Once.{below_more}
 
 -- from what is found to where it stands
 
@@ -60,9 +61,6 @@ stands-at (Wrote block ∷ past) serial =
 one_more : (n : ℕ) → n < n + 1
 one_more n = omega arith
 
-still_more : (m n : ℕ) → m < n → m < n + 1
-still_more m n less = omega arith
-
 sent_counts : (before : Record) (entry : Entry) → is_sending entry ≡ true → next_serial before < next_serial (entry ∷ before)
 sent_counts before (Opened groups) sends = cc
 sent_counts before (Edited edit) sends = cc
@@ -78,11 +76,8 @@ serial-above (Opened groups ∷ since) before entry sends running = cc
 serial-above (Edited edit ∷ since) before entry sends running = serial-above since before entry sends running
 serial-above (Posted task bytes ∷ since) before entry sends running = serial-above since before entry sends running
 serial-above (Came arrival ∷ since) before entry sends running = serial-above since before entry sends running
-serial-above (Sent frame ∷ since) before entry sends running = still_more _ _ (serial-above since before entry sends running)
-serial-above (Wrote block ∷ since) before entry sends running = still_more _ _ (serial-above since before entry sends running)
-
-is_other : (serial next : ℕ) → serial < next → (next == serial) ≡ false
-is_other serial next less = grind (arith, nat_tests)
+serial-above (Sent frame ∷ since) before entry sends running = below_more _ _ (serial-above since before entry sends running)
+serial-above (Wrote block ∷ since) before entry sends running = below_more _ _ (serial-above since before entry sends running)
 
 found_now : (before : Record) (entry : Entry) → is_sending entry ≡ true → sending_of (entry ∷ before) (next_serial before) ≡ Some (just_sent (heads_of before entry))
 found_now before (Opened groups) sends = cc

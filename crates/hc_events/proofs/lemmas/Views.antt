@@ -78,12 +78,12 @@ legal-joined state (change.Good good ∷ first) second a b = (a.0, legal-joined 
 
 -- ---- epochs
 
-none_behind : (first second : List (Bool × EditFault)) → lowest (first ++ second) ≡ None → lowest second ≡ None
+pub none_behind : (first second : List (Bool × EditFault)) → lowest (first ++ second) ≡ None → lowest second ≡ None
 none_behind [] second e = e
 none_behind ((true, fault) ∷ first) second e = cc
 none_behind ((false, fault) ∷ first) second e = none_behind first second e
 
-no_fault : (fault : Option EditFault) (next : State) → IsOk (refused_by fault next) → fault ≡ None
+pub no_fault : (fault : Option EditFault) (next : State) → IsOk (refused_by fault next) → fault ≡ None
 no_fault None next ok = refl
 no_fault (Some fault) next ok = cc
 
@@ -131,7 +131,7 @@ all_listed line (suc (suc (suc (suc (suc (suc zero)))))) low = listed line 6
 all_listed line (suc (suc (suc (suc (suc (suc (suc zero))))))) low = listed line 7
 all_listed line (suc (suc (suc (suc (suc (suc (suc (suc task)))))))) low = absurd (omega arith)
 
-is_task : (task : ℕ) → task < TASKS → is_no_task task ≡ false
+pub is_task : (task : ℕ) → task < TASKS → is_no_task task ≡ false
 is_task task low = grind (arith, nat_tests)
 
 answered_as : (past : Record) (task : ℕ) → is_no_task task ≡ false → answer_to past (Reads task) ≡ image_of past task

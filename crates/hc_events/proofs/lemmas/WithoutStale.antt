@@ -3,12 +3,14 @@ use Rattle.std.proofs.Common.{◌≡◌, ℕ, ◌+◌, ◌==◌, Bool, true, fal
 use Rattle.std.specs.Prelude.{fold, is_some, option_and_then}
 use Rattle.std.specs.List.{flat_map, list_any}
 use Rattle.std.proofs.lemmas.List.{append-nil}
+use Rattle.hc_frames.proofs.lemmas.Spelling.{or_false}
 use Rattle.hc_records.specs.Image.{variable_place}
 use Rattle.hc_records.specs.Edits.{state_after, slave_at}
 use Rattle.hc_events.specs.Arrivals.{Arrival}
 use Rattle.hc_events.specs.Entries.{Record, Opened, Edited, Posted, Sent, Wrote, Came}
 use Rattle.hc_events.specs.Points.{epoch_of, line_of, next_serial, state_of}
 use Rattle.hc_records.specs.Line.{line}
+use Rattle.hc_records.proofs.lemmas.Choices.{and_right, by_bool, none_of}
 use Rattle.hc_events.specs.Heads.{Block, block_item, same_item}
 use Rattle.hc_events.specs.Answering.{Judged, Verdict, Good, Wrong, Stale, is_good, is_stale, is_news, has_good, judged_by, is_stale_to}
 use Rattle.hc_events.specs.Awaited.{awaited}
@@ -17,7 +19,7 @@ use Rattle.hc_events.specs.Outputs.{posted_bit, value_bit}
 use Rattle.hc_events.specs.Owed.{if_confirmed, is_in_line, known_bytes, last_write, was_confirmed}
 use Rattle.hc_events.specs.Changes.{Answered, Swapped, news_of}
 use Rattle.hc_events.specs.Stale.{without_stale}
-use Rattle.hc_events.proofs.lemmas.Awaited.{by_bool, news, news_from, awaited-any, awaited-grows, awaited-news, awaited-stale}
+use Rattle.hc_events.proofs.lemmas.Awaited.{news, news_from, awaited-any, awaited-grows, awaited-news, awaited-stale}
 
 -- definitions that skip arrivals
 
@@ -85,10 +87,6 @@ without-write (Came arrival ∷ past) station number =
 
 -- definitions that ask what an arrival answers
 
-none_of : (b : Bool) → not b ≡ true → b ≡ false
-none_of true e = cc
-none_of false e = refl
-
 abbrev no_news : Record → Arrival → Type 0
 no_news past arrival = list_any is_news (judged_by past arrival) ≡ false
 
@@ -129,23 +127,19 @@ good_news Good e = cc
 good_news Wrong e = cc
 good_news Stale e = refl
 
-or_none : (a b : Bool) → (a || b) ≡ false → (a ≡ false) × (b ≡ false)
-or_none true b e = cc
-or_none false b e = (refl, e)
-
 not_fresh : (datagram : Judged) → has_good datagram ≡ false → fresh datagram ≡ []
 not_fresh datagram e = rw e refl
 
 goods_none : (datagrams : List Judged) → list_any is_news datagrams ≡ false → flat_map fresh datagrams ≡ []
 goods_none [] e = refl
 goods_none (datagram ∷ datagrams) e =
-    let parts = or_none (is_news datagram) (list_any is_news datagrams) e in
+    let parts = or_false (is_news datagram) (list_any is_news datagrams) e in
     ap (λ goods. goods ++ flat_map fresh datagrams) (not_fresh datagram (good_news datagram.verdict parts.0)) ∙ goods_none datagrams parts.1
 
 any_none : (datagrams : List Judged) → list_any is_news datagrams ≡ false → list_any has_good datagrams ≡ false
 any_none [] e = refl
 any_none (datagram ∷ datagrams) e =
-    let parts = or_none (is_news datagram) (list_any is_news datagrams) e in
+    let parts = or_false (is_news datagram) (list_any is_news datagrams) e in
     let bad : has_good datagram ≡ false = good_news datagram.verdict parts.0 in
     rw bad (any_none datagrams parts.1)
 
@@ -198,10 +192,6 @@ without-told (Came arrival ∷ past) =
     (ap (λ told. told ++ map Answered (fresh_by (without_stale past) arrival)) (without-told past)
     ∙ ap (λ goods. news_of past ++ map Answered goods) (without-fresh past arrival))
 
-and_none : (a b : Bool) → b ≡ false → (a && b) ≡ false
-and_none true b e = e
-and_none false b e = refl
-
 without-confirmed : (past : Record) (serial : ℕ) → was_confirmed (without_stale past) serial ≡ was_confirmed past serial
 without-confirmed [] serial = refl
 without-confirmed (Opened groups ∷ past) serial = refl
@@ -211,7 +201,7 @@ without-confirmed (Sent frame ∷ past) serial = without-confirmed past serial
 without-confirmed (Wrote block ∷ past) serial = without-confirmed past serial
 without-confirmed (Came arrival ∷ past) serial =
     came_either (λ record'. was_confirmed record' serial) past (without_stale past) arrival (is_stale_to past arrival) refl
-    (λ none. without-confirmed past serial ∙ sym (ap (λ b. b || was_confirmed past serial) (and_none (arrival.serial == serial) _ (any_none (judged_by past arrival) none))))
+    (λ none. without-confirmed past serial ∙ sym (ap (λ b. b || was_confirmed past serial) (and_right (arrival.serial == serial) _ (any_none (judged_by past arrival) none))))
     (ap (λ b. ((arrival.serial == serial) && b) || was_confirmed (without_stale past) serial) (without-good past arrival)
     ∙ ap (λ b. ((arrival.serial == serial) && list_any has_good (judged_by past arrival)) || b) (without-confirmed past serial))
 

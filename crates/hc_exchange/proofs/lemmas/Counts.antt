@@ -3,9 +3,9 @@ use Rattle.std.proofs.Common.{◌≡◌, ℕ, zero, suc, ◌+◌, ◌-◌, ◌*�
 use Rattle.std.specs.Prelude.{All, AllPairs, Contains, IsTrue, Some, filter, map, nat_lt, slice_get, slice_index_or, sum_by, ◌==◌, ◌&&◌, ◌||◌, if◌then◌else◌}
 use Rattle.std.specs.List.{AllZip, enumerate_from, list_any}
 use Rattle.std.proofs.lemmas.Bool.{eqb-true}
-use Rattle.std.proofs.lemmas.Bool.Decides.{nat_tests}
 use Rattle.std.proofs.lemmas.List.Elements.{All-contains, All-contains_itself, All-filter, Contains-get_or, filter_passes}
 use Rattle.std.proofs.lemmas.List.Sums.{sum_by-cons}
+use Rattle.hc_frames.proofs.lemmas.Datagrams.{and_true}
 use Rattle.hc_records.specs.AddressLaws.{IsDatagram}
 use Rattle.hc_records.specs.declared.keys.Key.{Key}
 use Rattle.hc_records.specs.declared.limits.TheConstants.{TASKS}
@@ -27,6 +27,8 @@ use Rattle.hc_records.proofs.lemmas.Packable.{project-packable}
 use Rattle.hc_records.proofs.lemmas.Packed.{area_of, packed-areas}
 use Rattle.hc_records.proofs.lemmas.Parts.{EndsInDatagram, ends-in-datagram}
 use Rattle.hc_records.proofs.lemmas.Tasks.{task-list-all}
+use Rattle.hc_records.proofs.lemmas.Choices.{both, contains-first, contains-later, same-test}
+use Rattle.hc_records.proofs.lemmas.VariablePlaces.{same_dir-same}
 use Rattle.hc_registers.specs.declared.fmmu.Mapping.{Mapping}
 use Rattle.hc_registers.specs.Blocks.{mapping_at}
 use Rattle.hc_machine.specs.Laws.{IsRead, IsWritten}
@@ -35,7 +37,7 @@ use Rattle.hc_machine.proofs.lemmas.Logical.{counts-tell}
 use Rattle.hc_exchange.specs.PairLaws.{IsConfigurable}
 use Rattle.hc_exchange.specs.Pairs.{key_of}
 use Rattle.hc_exchange.specs.Writing.{IsProgrammed}
-use Rattle.hc_exchange.proofs.lemmas.Elements.{contains-first, contains-kept, contains-later, contains-mapped, contains-order, contains-unmapped, numbered-at}
+use Rattle.hc_exchange.proofs.lemmas.Elements.{contains-kept, contains-mapped, contains-order, contains-unmapped, numbered-at}
 use Rattle.hc_exchange.proofs.lemmas.Listed.{areas-mapped}
 use Rattle.hc_exchange.proofs.lemmas.Members.{IsGoodPlace, area-inside, keeps-line, one-rank, one-station}
 use Rattle.hc_exchange.proofs.lemmas.Places.{logical-told, mapped-place, place-widths}
@@ -69,23 +71,6 @@ which-passes test (z ∷ xs) is = elim (true-any (test z) (list_any test xs) is)
   | inl here ↦ (z, contains-first z xs, here)
   | inr there ↦ let later = which-passes test xs there in (later.0, contains-later z later.0 xs later.1, later.2)
 ]
-
-both : (a b : Bool) → a ≡ true → b ≡ true → (a && b) ≡ true
-both true b is is' = is'
-both false b is is' = is
-
-parts : (a b : Bool) → (a && b) ≡ true → (a ≡ true) × (b ≡ true)
-parts true b is = (refl, is)
-parts false b is = cc
-
-same-test : (a b : ℕ) → a ≡ b → (a == b) ≡ true
-same-test a b e = grind (arith, nat_tests)
-
-pub dir-same : (a b : Dir) → same_dir a b ≡ true → a ≡ b
-dir-same Out Out is = refl
-dir-same Out In is = cc
-dir-same In Out is = cc
-dir-same In In is = refl
 
 -- an area of the line that has a bit in the datagram tells that its slave counts there
 
@@ -142,8 +127,8 @@ named-areas line task =
     let numbered = numbered-at 0 member.slave.areas i e within in
     let none : element.0 ≡ element.0 - 0 = omega arith in
     let area = element.1 in
-    let first = parts ((area.task == task) && same_dir area.dir dir) (nat_lt 0 (width area)) belonging in
-    let tests = parts (area.task == task) (same_dir area.dir dir) first.0 in
+    let first = and_true ((area.task == task) && same_dir area.dir dir) (nat_lt 0 (width area)) belonging in
+    let tests = and_true (area.task == task) (same_dir area.dir dir) first.0 in
     record {
       member = member;
       index = element.0;
@@ -151,7 +136,7 @@ named-areas line task =
       in_line = Contains-get_or line j d low;
       found = ap (slice_get member.slave.areas) none ∙ numbered.1;
       task_is = eqb-true area.task task tests.0;
-      key = ap (λ (way : Dir). key-with way member.rank element.0) (sym (dir-same area.dir dir tests.1));
+      key = ap (λ (way : Dir). key-with way member.rank element.0) (sym (same_dir-same area.dir dir tests.1));
     })
   where
     key-with : Dir → ℕ → ℕ → Key
@@ -200,13 +185,13 @@ has-bit state task datagram member dir can has some =
     let placed = contains-unmapped (λ (area : Placed). area.key) (inside datagram places) key.0 key.1 in
     let p = placed.0 in
     let kept = unkept-at (λ (area : Placed). area.datagram == datagram) places p placed.1 in
-    let tests = parts (key.0.rank == member.rank) (same_dir key.0.dir dir) key.2 in
+    let tests = and_true (key.0.rank == member.rank) (same_dir key.0.dir dir) key.2 in
     let named = All-unmap (HasArea members task) area_of places (subst (All (HasArea members task)) (sym (packed-areas opening (task_list task members))) (named-areas members task)) in
     let source : HasArea members task (area_of p) = All-contains (λ (x : Placed). HasArea members task (area_of x)) places p named kept.0 in
     let area = source.area in
     let own_key : key_of source.member source.index area ≡ key.0 = sym source.key ∙ placed.2 in
     let one : source.member ≡ member = one-rank members source.member member keeps source.in_line has (ap (λ (k : Key). k.rank) own_key ∙ eqb-true key.0.rank member.rank tests.0) in
-    let way : area.dir ≡ dir = ap (λ (k : Key). k.dir) own_key ∙ dir-same key.0.dir dir tests.1 in
+    let way : area.dir ≡ dir = ap (λ (k : Key). k.dir) own_key ∙ same_dir-same key.0.dir dir tests.1 in
     elim (areas-mapped state source.member source.index area can source.in_line source.found) [
       | inl mapped ↦
           let in_place = mapped.1 in

@@ -29,7 +29,7 @@ behind-logical : (memory : List ℕ) (address : ℕ) (bytes : List ℕ) (counter
 unfolding memory_behind_datagram
 behind-logical memory address bytes counter = refl
 
-behind-read : (memory frame : List ℕ) (serial : ℕ) (parts : List Carried) → fault_in frame ≡ None → reading_of frame ≡ record { serial = serial; parts = parts }
+pub behind-read : (memory frame : List ℕ) (serial : ℕ) (parts : List Carried) → fault_in frame ≡ None → reading_of frame ≡ record { serial = serial; parts = parts }
     → memory_behind memory frame ≡ memory_behind_datagrams memory parts
 unfolding memory_behind
 behind-read memory frame serial parts none told =

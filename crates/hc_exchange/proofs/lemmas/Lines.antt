@@ -8,8 +8,8 @@ use Rattle.hc_bits.specs.Bits.{bit_of}
 use Rattle.hc_records.specs.declared.records.Dir.TheVariants.{Out, In}
 use Rattle.hc_records.specs.Line.{Member, line}
 use Rattle.hc_records.proofs.lemmas.Lists.{AllPairs-head, AllPairs-tail}
+use Rattle.hc_records.proofs.lemmas.Choices.{contains-first, contains-later}
 use Rattle.hc_machine.specs.Logical.{logical_data, logical_memory}
-use Rattle.hc_exchange.proofs.lemmas.Elements.{contains-first, contains-later}
 use Rattle.hc_exchange.proofs.lemmas.Members.{KeepsLine, keeps-line, one-station}
 use Rattle.hc_exchange.specs.Carrying.{AreProgrammed, CarriesPair, IsReady, data_through, memories_behind}
 use Rattle.hc_exchange.specs.CarryingLaws.{InputsAreBroughtBack, LinesStayProgrammed, OtherBitsComeBack, OtherMemoryStays, OutputsArrive}

@@ -1,5 +1,5 @@
 -- An area that has a bit stands in its task's list, and so it is mapped.
-use Rattle.std.proofs.Common.{◌≡◌, ℕ, ◌+◌, ◌<◌, ◌⊎◌, ◌∙◌, inl, inr, Bool, true, false, List, refl, sym, ap, subst, arith}
+use Rattle.std.proofs.Common.{◌≡◌, ℕ, ◌+◌, ◌<◌, ◌⊎◌, ◌∙◌, inl, inr, true, false, List, refl, sym, ap, subst, arith}
 use Rattle.std.specs.Prelude.{Contains, None, Option, Some, filter, find, map, option_map, slice_get, nat_lt, ◌==◌, ◌&&◌}
 use Rattle.std.specs.List.{enumerate_from, flat_map}
 use Rattle.std.proofs.lemmas.Bool.{cases_lt}
@@ -19,6 +19,7 @@ use Rattle.hc_records.proofs.lemmas.Finds.{found-none}
 use Rattle.hc_records.proofs.lemmas.KeyOrder.{same_dir-refl, same_key-refl}
 use Rattle.hc_records.proofs.lemmas.Packed.{area_of, packed-areas}
 use Rattle.hc_records.proofs.lemmas.Tasks.{listed}
+use Rattle.hc_records.proofs.lemmas.Choices.{both}
 use Rattle.hc_registers.specs.declared.fmmu.Mapping.{Mapping}
 use Rattle.hc_registers.specs.Blocks.{mapping_at, mapping_of}
 use Rattle.hc_exchange.specs.PairLaws.{AreasWithBitsAreMapped, IsMappedInPlace}
@@ -26,10 +27,6 @@ use Rattle.hc_exchange.specs.Pairs.{key_of}
 use Rattle.hc_exchange.proofs.lemmas.Elements.{contains-joined, contains-kept, contains-mapped, contains-numbered, contains-unmapped}
 use Rattle.hc_exchange.proofs.lemmas.Members.{KeepsLine, keeps-line}
 use Rattle.hc_exchange.proofs.lemmas.Places.{mapped-place}
-
-both : (a b : Bool) → a ≡ true → b ≡ true → (a && b) ≡ true
-both true b is is' = is'
-both false b is is' = is
 
 own-task : (task bits : ℕ) → 0 < bits → ((task == task) ≡ true) × (nat_lt 0 bits ≡ true)
 own-task task bits some = (grind (arith, nat_tests), grind (arith, nat_tests))

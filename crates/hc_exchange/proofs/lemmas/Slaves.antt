@@ -1,6 +1,7 @@
 -- What a programmed slave makes of a logical datagram.
 use Rattle.std.proofs.Common.{◌≡◌, ℕ, ◌+◌, ◌*◌, ◌<◌, ◌≤◌, ◌∙◌, inr, Bool, true, List, length, refl, sym, ap, ap₂, subst, arith}
 use Rattle.std.specs.Prelude.{Contains, Some, slice_get}
+use Rattle.hc_places.proofs.lemmas.Loads.{dir-in}
 use Rattle.hc_bits.specs.Bits.{bit_of}
 use Rattle.hc_records.specs.declared.records.Area.{Area}
 use Rattle.hc_records.specs.declared.records.Dir.{Dir}
@@ -53,10 +54,6 @@ no-two-ways line station other x m n keeps output input =
 
 -- FMMUs of a slave by their areas
 
-in-way : (dir : Dir) → same_dir dir In ≡ true → dir ≡ In
-in-way Out is = cc
-in-way In is = refl
-
 out-way : (dir : Dir) → same_dir dir Out ≡ true → dir ≡ Out
 out-way Out is = refl
 out-way In is = cc
@@ -70,7 +67,7 @@ reads-carried line member memory i x m keeps has programmed low reads =
     let fmmu = slave-fmmu line member memory i x m keeps has programmed low reads.1 in
     record {
       areas = areas-of line member memory i x m fmmu;
-      direction = in-way fmmu.area.dir (sym (block-way fmmu.area fmmu.mapping).0 ∙ ap is_read (sym fmmu.stands) ∙ reads.0);
+      direction = dir-in fmmu.area.dir (sym (block-way fmmu.area fmmu.mapping).0 ∙ ap is_read (sym fmmu.stands) ∙ reads.0);
     }
 
 pub writes-carried : (line : List Member) (member : Member) (memory : List ℕ) (i x m : ℕ) → KeepsLine line → Contains line member → IsProgrammed line member memory → i < 16 → Writes memory i x m

@@ -7,13 +7,14 @@ use Rattle.std.proofs.lemmas.List.Elements.{All-cons, All-contains, All-map, All
 use Rattle.hc_records.specs.declared.records.Area.{Area}
 use Rattle.hc_records.specs.Line.{Member, line}
 use Rattle.hc_records.proofs.lemmas.Lists.{All-enumerate_from, All-flat_map}
+use Rattle.hc_records.proofs.lemmas.Choices.{contains-first, contains-later}
 use Rattle.hc_registers.specs.declared.fmmu.Mapping.{Mapping}
 use Rattle.hc_registers.specs.Blocks.{IsMappable, LineBlock, RegisterBlock, area_blocks, fmmu_block, fmmu_bytes, line_blocks, mapped_bytes, mapping_of, member_blocks, slave_blocks, sync_manager_block}
 use Rattle.hc_machine.specs.Laws.{IsPair}
 use Rattle.hc_exchange.specs.PairLaws.{LinesPairTheirAreas}
 use Rattle.hc_exchange.specs.Pairs.{AreasPair, BlocksPair, IsAreaPair, IsBlockPair, IsMapped, LiesInMemory, key_of}
 use Rattle.hc_exchange.proofs.lemmas.Decoded.{block-pairs, block-unmapped}
-use Rattle.hc_exchange.proofs.lemmas.Elements.{contains-first, contains-joined, contains-later, contains-mapped, contains-numbered, numbered-at}
+use Rattle.hc_exchange.proofs.lemmas.Elements.{contains-joined, contains-mapped, contains-numbered, numbered-at}
 use Rattle.hc_exchange.proofs.lemmas.Members.{KeepsLine, area-in-memory, area-inside, area-width, keeps-line, slave-of}
 use Rattle.hc_exchange.proofs.lemmas.Places.{mapped-place, place-mappable}
 

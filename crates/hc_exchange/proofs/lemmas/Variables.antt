@@ -18,6 +18,7 @@ use Rattle.hc_records.proofs.lemmas.Entries.{task-areas-all}
 use Rattle.hc_records.proofs.lemmas.Finds.{all-tasks, found-all, mapped-some}
 use Rattle.hc_records.proofs.lemmas.Lists.{All-flat_map}
 use Rattle.hc_records.proofs.lemmas.Variables.{IsEntryVariable, IsPlaced, entry-variables, pairs-placed, place_of, task_pairs, zip-left, zip-right}
+use Rattle.hc_records.proofs.lemmas.VariablePlaces.{same_dir-same}
 use Rattle.hc_registers.specs.Blocks.{mapping_at}
 use Rattle.hc_exchange.specs.PairLaws.{IsConfigurable}
 use Rattle.hc_exchange.specs.Pairs.{key_of}
@@ -25,11 +26,11 @@ use Rattle.hc_exchange.proofs.lemmas.Elements.{contains-unmapped, numbered-at}
 use Rattle.hc_exchange.proofs.lemmas.Listed.{areas-mapped}
 use Rattle.hc_exchange.proofs.lemmas.Places.{found-passes}
 use Rattle.hc_exchange.specs.Variables.{IsCarried, VariablesAreCarried}
-use Rattle.hc_exchange.proofs.lemmas.Counts.{dir-same, one-key}
+use Rattle.hc_exchange.proofs.lemmas.Counts.{one-key}
 
 -- entries that begin later begin their variables as much later
 
-abbrev Found : Type 0
+abbrev pub Found : Type 0
 Found = ℕ × (ℕ × ℕ)
 
 later : ℕ → Found → Found
@@ -75,7 +76,7 @@ all-listed line task =
       in_line = Contains-get_or line j d low;
       found = ap (slice_get member.slave.areas) none ∙ numbered.1;
       task_is = eqb-true area.task task tests.0;
-      key = ap (λ (way : Dir). key-with way member.rank element.0) (sym (dir-same area.dir dir tests.1));
+      key = ap (λ (way : Dir). key-with way member.rank element.0) (sym (same_dir-same area.dir dir tests.1));
     })
   where
     key-with : Dir → ℕ → ℕ → Key

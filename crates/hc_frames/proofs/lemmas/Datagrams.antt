@@ -40,7 +40,7 @@ whole-long bytes whole = grind (arith, nat_tests)
 pub carried-length : (bytes : List ℕ) → is_whole bytes ≡ true → length (carried bytes).bytes ≡ data_size bytes
 carried-length bytes whole = let long : 12 + data_size bytes ≤ length bytes = whole-long bytes whole in grind (arith, common_steps)
 
-and_true : (a b : Bool) → (a && b) ≡ true → (a ≡ true) × (b ≡ true)
+pub and_true : (a b : Bool) → (a && b) ≡ true → (a ≡ true) × (b ≡ true)
 and_true true b e = (refl, e)
 and_true false b e = cc
 

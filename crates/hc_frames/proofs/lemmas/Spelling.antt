@@ -6,22 +6,18 @@ use Rattle.std.specs.Int.{w16, to_le_bytes}
 use Rattle.std.proofs.lemmas.List.{get_or-drop, get_or-take, length-map, length-take, take-append-drop}
 use Rattle.hc_frames.specs.Sizes.{text_size}
 use Rattle.hc_frames.proofs.Faults.{Clear, clear_of}
-use Rattle.hc_frames.proofs.Surveys.{not_false}
 use Rattle.std.proofs.lemmas.List.Elements.{All-cons}
 use Rattle.std.proofs.lemmas.Bool.Decides.{nat_tests}
+use Rattle.hc_records.proofs.lemmas.Choices.{by_bool, not_false}
 use Rattle.hc_frames.specs.declared.commands.Command.TheVariants.{Lrw}
 use Rattle.hc_frames.specs.Commands.{code_of, command_of}
 use Rattle.hc_frames.specs.FrameText.{Carried, head_to, carried_text, carried_texts, length_field}
 use Rattle.hc_frames.specs.Arrived.{carried, circulates, data_size, datagram_bytes, datagrams_in, is_not_ethercat, region, serial_in, has_other_index, is_unknown, is_whole, more_at_end, more_between, says_more, word_at}
 use Rattle.hc_frames.specs.Laws.{ReadableFramesAreCarried}
 use Rattle.hc_frames.specs.Returned.{FitsLine}
-use Rattle.hc_frames.proofs.lemmas.Datagrams.{carried-length, datagrams-none, datagrams-some, whole-long}
+use Rattle.hc_frames.proofs.lemmas.Datagrams.{carried-length, datagrams-none, datagrams-some, whole-long, and_true}
 use Rattle.hc_frames.proofs.lemmas.Opening.{drop_twice}
 use Rattle.hc_frames.proofs.lemmas.Texts.{carried-cut, length-carried_texts}
-
-by_bool : {P : Type 0} (b : Bool) → (b ≡ true → P) → (b ≡ false → P) → P
-by_bool true f g = f refl
-by_bool false f g = g refl
 
 -- a list of ten and more
 by_ten : (P : List ℕ → Type 0) → ((a b c d e f g h i j : ℕ) (xs : List ℕ) → P (a ∷ b ∷ c ∷ d ∷ e ∷ f ∷ g ∷ h ∷ i ∷ j ∷ xs)) → (xs : List ℕ) → 10 ≤ length xs → P xs
@@ -37,10 +33,10 @@ by_ten P each (a ∷ b ∷ c ∷ d ∷ e ∷ f ∷ g ∷ h ∷ []) long = absurd
 by_ten P each (a ∷ b ∷ c ∷ d ∷ e ∷ f ∷ g ∷ h ∷ i ∷ []) long = absurd (omega arith)
 by_ten P each (a ∷ b ∷ c ∷ d ∷ e ∷ f ∷ g ∷ h ∷ i ∷ j ∷ xs) long = each a b c d e f g h i j xs
 
-same_number : (m n : ℕ) → (m == n) ≡ true → m ≡ n
+pub same_number : (m n : ℕ) → (m == n) ≡ true → m ≡ n
 same_number m n e = grind (arith, nat_tests)
 
-unequal_not : (m n : ℕ) → not (m == n) ≡ false → m ≡ n
+pub unequal_not : (m n : ℕ) → not (m == n) ≡ false → m ≡ n
 unequal_not m n e = by_bool (m == n) (λ t. same_number m n t) (λ f. let wrong : true ≡ false = rw f at e in absurd (cc))
 
 code_back : (n : ℕ) → is_none (command_of n) ≡ false → code_of (unwrap_or (command_of n) Lrw) ≡ n
@@ -116,11 +112,7 @@ tail_spelled bytes all whole =
     ∙ ap (λ (xs : List ℕ). take n (drop 10 bytes) ++ xs) (two_spelled t two low_t high_t ∙ sym (drop_twice 10 n bytes))
     ∙ take-append-drop n (drop 10 bytes)
 
-and_true : (a b : Bool) → (a && b) ≡ true → (a ≡ true) × (b ≡ true)
-and_true true b e = (refl, e)
-and_true false b e = cc
-
-or_false : (a b : Bool) → (a || b) ≡ false → (a ≡ false) × (b ≡ false)
+pub or_false : (a b : Bool) → (a || b) ≡ false → (a ≡ false) × (b ≡ false)
 or_false true b e = cc
 or_false false b e = (refl, e)
 
@@ -335,7 +327,7 @@ frame_round bytes long =
 least_of : (m n : ℕ) → nat_lt m n ≡ false → n ≤ m
 least_of m n e = grind (arith, nat_tests)
 
-more_of : (m n : ℕ) → nat_lt m n ≡ true → m < n
+pub more_of : (m n : ℕ) → nat_lt m n ≡ true → m < n
 more_of m n e = grind (arith, nat_tests)
 
 some_bytes : (bytes : List ℕ) → 0 < length (datagrams_in bytes) → 0 < length bytes

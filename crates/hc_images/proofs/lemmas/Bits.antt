@@ -9,9 +9,9 @@ use Rattle.hc_records.specs.declared.records.Dir.TheVariants.{Out}
 use Rattle.hc_records.specs.Image.{VariablePlace}
 use Rattle.hc_records.specs.Keys.{same_dir}
 use Rattle.hc_records.proofs.lemmas.Finds.{found-none, mapped-some}
+use Rattle.hc_records.proofs.lemmas.VariablePlaces.{same_dir-same}
 use Rattle.hc_places.specs.Table.{Row, RowsAscend, Table, place_in, stands_in_datagram}
 use Rattle.hc_places.proofs.lemmas.Found.{find-holds}
-use Rattle.hc_places.proofs.lemmas.Same.{same-dirs}
 use Rattle.hc_images.specs.Packed.{Bytes, Carries, Holds, IsOutput, LiesIn, Packed, sent_bytes, slot_bytes}
 use Rattle.hc_images.proofs.Standing.{rows-placed}
 
@@ -28,7 +28,7 @@ within_is : (bit bits k : ℕ) → bit ≤ k → k < bit + bits → (nat_le bit 
 within_is bit bits k from below = grind (arith, nat_tests)
 
 lies_there : (task d k : ℕ) (row : Row) → bit_lies task d k row ≡ true → (row.1.dir ≡ Out) × LiesIn row.1 task d k
-lies_there task d k row e = search (rules, and_parts, is_within, same-dirs, eqb-true)
+lies_there task d k row e = search (rules, and_parts, is_within, same_dir-same, eqb-true)
 
 there_lies : (task d k : ℕ) (row : Row) → row.1.dir ≡ Out → LiesIn row.1 task d k → bit_lies task d k row ≡ true
 there_lies task d k row out lies = search (rules, and_from, eq-eqb, within_is)

@@ -1,16 +1,15 @@
 -- The bytes of a memory behind a logical datagram.
-use Rattle.std.proofs.Common.{◌≡◌, ℕ, ◌+◌, ◌-◌, ◌*◌, ◌/◌, ◌%◌, ◌<◌, ◌≤◌, ◌∙◌, inl, inr, Bool, true, false, List, [], ◌∷◌, length, get_or, set, sym, ap, subst, arith, length-set, get_or-set_other, get_or-set_same, lit<}
+use Rattle.std.proofs.Common.{◌≡◌, ℕ, ◌+◌, ◌-◌, ◌*◌, ◌/◌, ◌%◌, ◌<◌, ◌≤◌, ◌∙◌, inl, inr, List, [], ◌∷◌, length, get_or, set, sym, ap, subst, arith, length-set, get_or-set_other, get_or-set_same, lit<}
 use Rattle.std.specs.Prelude.{◌&&◌, if◌then◌else◌}
 use Rattle.std.specs.Int.{bit_at}
 use Rattle.std.proofs.lemmas.Bool.{cases_eq}
 use Rattle.std.proofs.lemmas.List.FromFn.{get_or-map-range_with_len}
 use Rattle.hc_bits.specs.Bits.{AreBytes, bit_of}
-use Rattle.hc_machine.specs.declared.fmmu.Fmmu.{Fmmu}
-use Rattle.hc_machine.specs.Fmmus.{fmmus_of, is_within}
-use Rattle.hc_machine.specs.Logical.{bit_written, logical_bit, logical_data, logical_memory}
+use Rattle.hc_machine.specs.Fmmus.{fmmus_of}
+use Rattle.hc_machine.specs.Logical.{bit_written, logical_data, logical_memory}
 use Rattle.hc_machine.specs.Memory.{byte_with, bytes_with, with_alias_of}
-use Rattle.hc_machine.proofs.Bytes.{bit_of-byte}
-use Rattle.hc_machine.proofs.Lowest.{bit_of-small, length-bytes_with}
+use Rattle.hc_machine.proofs.Bytes.{bit_of-byte, byte-bits}
+use Rattle.hc_machine.proofs.Lowest.{bit_of-small, length-bytes_with, chosen-small, write-small}
 
 pub length-data : (memory bytes : List ℕ) (from : ℕ) → length (logical_data memory from bytes) ≡ length bytes
 unfolding logical_data
@@ -21,17 +20,6 @@ unfolding logical_memory with_alias_of
 length-memory memory bytes from =
     length-set (set (bytes_with (length memory) _) 18 (get_or memory 18 0)) 19 (get_or memory 19 0) ∙ length-set (bytes_with (length memory) _) 18 (get_or memory 18 0)
     ∙ length-bytes_with (length memory) _
-
-small-if : (b : Bool) (x y : ℕ) → x < 2 → y < 2 → (if b then x else y) < 2
-small-if true x y low low' = low
-small-if false x y low low' = low'
-
-written-small : (fs : List Fmmu) (came : ℕ → ℕ) (from n m was : ℕ) → ((k : ℕ) → came k < 2) → was < 2 → bit_written fs came from n m was < 2
-unfolding bit_written
-written-small [] came from n m was low low' = low'
-written-small (f ∷ fs) came from n m was low low' =
-    small-if (f.writes && is_within f.memory f.width m && is_within from n (logical_bit f m)) (came (logical_bit f m - from)) (bit_written fs came from n m was) (low (logical_bit f m - from))
-    (written-small fs came from n m was low low')
 
 byte-small : (bit : ℕ → ℕ) (at : ℕ) → ((k : ℕ) → bit k < 2) → byte_with bit at < 256
 byte-small bit at low =
@@ -69,15 +57,12 @@ pub memory-bytes : (memory bytes : List ℕ) (from : ℕ) → length memory ≡ 
 unfolding logical_memory
 memory-bytes memory bytes from long small i within =
     let bit : ℕ → ℕ = λ m. bit_written (fmmus_of memory) (bit_of bytes) from (8 * length bytes) m (bit_of memory m) in
-    let low : (k : ℕ) → bit k < 2 = λ k. written-small (fmmus_of memory) (bit_of bytes) from (8 * length bytes) k (bit_of memory k) (λ j. bit_of-small bytes j) (bit_of-small memory k) in
+    let low : (k : ℕ) → bit k < 2 = λ k. write-small (fmmus_of memory) (bit_of bytes) from (8 * length bytes) k (bit_of memory k) (λ j. bit_of-small bytes j) (bit_of-small memory k) in
     let count = length-bytes_with (length memory) bit in
     let inside : i < length memory = omega (arith, within, length-memory memory bytes from) in
     alias-small memory (bytes_with (length memory) bit) i (omega arith) (small 18 (omega arith)) (small 19 (omega arith)) (spelled-small (length memory) bit i inside low)
 
 -- bytes are the same where their bits are
-
-byte-bits : (x : ℕ) → x < 256 → x ≡ x % 2 + 2 * (x / 2 % 2) + 4 * (x / 4 % 2) + 8 * (x / 8 % 2) + 16 * (x / 16 % 2) + 32 * (x / 32 % 2) + 64 * (x / 64 % 2) + 128 * (x / 128 % 2)
-byte-bits x small = omega arith
 
 same-bits : (x y : ℕ) → x < 256 → y < 256 → ((j : ℕ) → j < 8 → bit_at x j ≡ bit_at y j) → x ≡ y
 same-bits x y small small' same =

@@ -44,10 +44,10 @@ starts-low : (fitting : Bool) (bytes datagram : ℕ) (front : Front) (area : Key
     → (front.datagram ≡ datagram → (front.last ≡ Out) × (front.bit ≤ 8 * bytes)) → (place fitting front area).bit ≤ 8 * bytes
 starts-low fitting bytes datagram front area input at filled = grind arith
 
-dir-in : (dir : Dir) → same_dir dir In ≡ true → dir ≡ In
+pub dir-in : (dir : Dir) → same_dir dir In ≡ true → dir ≡ In
 dir-in dir test = grind arith
 
-dir-out : (dir : Dir) → same_dir dir In ≡ false → dir ≡ Out
+pub dir-out : (dir : Dir) → same_dir dir In ≡ false → dir ≡ Out
 dir-out dir test = grind arith
 
 abbrev FillsTo : ℕ → Placed → Type 0

@@ -20,7 +20,7 @@ use Rattle.hc_records.specs.TaskList.{Listed, belongs, slave_areas, task_areas}
 use Rattle.hc_records.specs.Packing.{Placed}
 use Rattle.hc_records.specs.Image.{area_variables, task_places, task_variables, tasks, variables_from}
 use Rattle.hc_records.specs.Project.{area_names, entry_names, has_unknown_pdo, lowest_fault, pdo_names, slave_names, slaves_of, some_area}
-use Rattle.hc_records.proofs.lemmas.Lines.{declared_slaves}
+use Rattle.hc_records.proofs.lemmas.Lines.{declared_slaves, ranked}
 use Rattle.hc_records.proofs.lemmas.Lists.{All-flat_map, All-from_none}
 use Rattle.hc_records.proofs.lemmas.Projects.{project-assigned, project-names}
 use Rattle.hc_records.proofs.lemmas.Tasks.{listed}
@@ -177,9 +177,6 @@ tasks-line variable line =
     omega arith
 
 -- the slaves of the line are declared
-
-abbrev ranked : ℕ × Slave → Member
-ranked e = record { rank = e.0; slave = e.1 }
 
 members-total : (f : Slave → ℕ) (rank : ℕ) (slaves : List Slave) → total (λ (m : Member). f m.slave) (members_from rank slaves) ≡ total f slaves
 members-total f rank slaves = total-map (λ (m : Member). f m.slave) ranked (enumerate_from rank slaves) ∙ total-enumerate f rank slaves

@@ -2,19 +2,11 @@
 use Rattle.std.proofs.Common.{◌≡◌, true, refl}
 use Rattle.std.specs.Prelude.{Option, Some, None, ◌==◌, ◌&&◌}
 use Rattle.std.proofs.lemmas.Bool.{and_from, eq-eqb}
-use Rattle.hc_records.specs.declared.records.Dir.{Dir}
-use Rattle.hc_records.specs.declared.records.Dir.TheVariants.{Out, In}
 use Rattle.hc_records.specs.Keys.{same_dir}
 use Rattle.hc_records.specs.Image.{VariablePlace}
 use Rattle.hc_records.proofs.lemmas.KeyOrder.{same_dir-refl}
+use Rattle.hc_records.proofs.lemmas.VariablePlaces.{same_dir-same}
 use Rattle.hc_places.specs.Swap.{same_found, same_place}
-
--- places that are the same are equal
-pub same-dirs : (a b : Dir) → same_dir a b ≡ true → a ≡ b
-same-dirs Out Out same = refl
-same-dirs Out In same = cc
-same-dirs In Out same = cc
-same-dirs In In same = refl
 
 place-same : (a : VariablePlace) → same_place a a ≡ true
 place-same a =

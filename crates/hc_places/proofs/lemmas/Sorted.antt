@@ -4,7 +4,7 @@ use Rattle.std.specs.Prelude.{Option, Some, None, find, nat_lt, ◌==◌}
 use Rattle.hc_places.specs.Table.{Row, by_number, put}
 
 -- rows of a number
-abbrev numbered : ℕ → Row → Bool
+abbrev pub numbered : ℕ → Row → Bool
 numbered number row = row.0 == number
 
 -- a row that is put among others keeps the rows of each number, in their order

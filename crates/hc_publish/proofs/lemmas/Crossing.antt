@@ -17,7 +17,7 @@ copy_sync = search (sendable, crosses, shown_sync, front.the_sync, good_answer_s
 pub seat_field_send : IsSend (Seat.the_field).row
 seat_field_send = struct_send (shape Seat.the_type) (search sendable, (search (sendable, crosses, reader.the_field_send, copy_sync) depth 24, (search (sendable, front.the_send), tt)))
 
-seat_send : IsSend Seat.the_row
+pub seat_send : IsSend Seat.the_row
 seat_send = recorded_send (Seat.the_field).row _ _ (Seat.the_type).to_one seat_field_send
 
 -- and a note may go to that thread

@@ -17,7 +17,7 @@ use Rattle.hc_records.proofs.lemmas.Lines.{RankWithin, RanksBelow, declared_slav
 use Rattle.hc_records.proofs.lemmas.Tasks.{listed, slave-areas-all, task-list-all}
 
 -- what holds wherever an area is
-every : {X : Type 0} (P : X → Type 0) (xs : List X) → ((x : X) → P x) → All P xs
+pub every : {X : Type 0} (P : X → Type 0) (xs : List X) → ((x : X) → P x) → All P xs
 every P xs holds k d within = holds _
 
 start-before : (dir : Dir) (rank area : ℕ) → 0 < rank → IsTrue (is_before START (record { dir = dir; rank = rank; area = area }))
@@ -32,7 +32,7 @@ keys-above-start state task =
     (λ e belonging. start-before dir member.rank e.0 (omega arith)))
     (line state) (line-within 1 state.groups))
 
-before-end : (dir : Dir) (rank area : ℕ) → rank < 65535 → IsTrue (is_before (record { dir = dir; rank = rank; area = area }) END)
+pub before-end : (dir : Dir) (rank area : ℕ) → rank < 65535 → IsTrue (is_before (record { dir = dir; rank = rank; area = area }) END)
 before-end Out rank area low = refl
 before-end In rank area low = or_left (nat_lt rank 65535) ((rank == 65535) && nat_lt area 255) (lt-ltb rank 65535 low)
 

@@ -62,7 +62,7 @@ pub any-flat : {X Y : Type 0} (test : Y → Bool) (pieces : X → List Y) (xs : 
 any-flat test pieces [] = refl
 any-flat test pieces (x ∷ xs) = list_any-append test (pieces x) (flat_map pieces xs) ∙ ap (λ (b : Bool). list_any test (pieces x) || b) (any-flat test pieces xs)
 
-any-same : {X : Type 0} (test other : X → Bool) → ((x : X) → test x ≡ other x) → (xs : List X) → list_any test xs ≡ list_any other xs
+pub any-same : {X : Type 0} (test other : X → Bool) → ((x : X) → test x ≡ other x) → (xs : List X) → list_any test xs ≡ list_any other xs
 any-same test other same [] = refl
 any-same test other same (x ∷ xs) = rw (same x, any-same test other same xs) refl
 
@@ -158,7 +158,7 @@ variables-joined groups group once own free =
 
 -- all of them
 
-abbrev faults_of : Bool → Bool → Bool → Bool → Bool → Bool → Bool → Bool → List (Bool × ProjectFault)
+abbrev pub faults_of : Bool → Bool → Bool → Bool → Bool → Bool → Bool → Bool → List (Bool × ProjectFault)
 faults_of a b c d e f g h =
     (a, OutOfRange) ∷ (b, RepeatedAlias) ∷ (c, RepeatedStation) ∷ (d, RepeatedSyncManager) ∷ (e, OverlappingAreas) ∷ (f, RepeatedVariable) ∷ (g, UnknownPdo) ∷ (h, AreaTooBig) ∷ []
 

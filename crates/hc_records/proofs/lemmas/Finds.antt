@@ -20,7 +20,7 @@ found-all P test (x ∷ xs) found all is =
     found-by P (test x) x (find test xs) found (All-head P x xs all) (λ rest. found-all P test xs found (All-tail P x xs all) rest) is
 
 -- where nothing is found, no element passes
-none-by : {X : Type 0} (passes : Bool) (x : X) (rest : Option X) → (if passes then Some x else rest) ≡ None → (passes ≡ false) × (rest ≡ None)
+pub none-by : {X : Type 0} (passes : Bool) (x : X) (rest : Option X) → (if passes then Some x else rest) ≡ None → (passes ≡ false) × (rest ≡ None)
 none-by true x rest none = cc
 none-by false x rest none = (refl, none)
 

@@ -18,7 +18,7 @@ abbrev pub RanksBelow : Member → Member → Type 0
 RanksBelow a b = a.rank < b.rank
 
 -- a slave with its rank
-abbrev ranked : ℕ × Slave → Member
+abbrev pub ranked : ℕ × Slave → Member
 ranked e = record { rank = e.0; slave = e.1 }
 
 members-within : (rank : ℕ) (slaves : List Slave) → All (RankWithin rank (rank + length slaves)) (members_from rank slaves)

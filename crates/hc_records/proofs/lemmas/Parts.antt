@@ -17,6 +17,7 @@ use Rattle.hc_records.proofs.lemmas.Greatest.{greatest-all}
 use Rattle.hc_records.proofs.lemmas.Packed.{place, area_of, packed-areas}
 use Rattle.hc_records.proofs.Apart.{packed-apart}
 use Rattle.hc_records.proofs.lemmas.Lengths.{bit_behind}
+use Rattle.hc_records.proofs.lemmas.Spans.{place-key}
 
 -- a later datagram begins behind an earlier one
 offset-rises : (areas : List Placed) (more datagram : ℕ) → datagram_offset areas datagram ≤ datagram_offset areas (more + datagram)
@@ -106,10 +107,6 @@ split-area In area rest is input output =
     let here = input refl in
     let split : IsSplit (area ∷ rest) [] rest area = record { whole = refl; out = All-nil IsOutput; input = is; more = here.1; byte = here.0 } in
     rw test ([], rest, split)
-
-place-key : (fitting : Bool) (front : Front) (area : Keyed) → (place fitting front area).key ≡ area.0
-place-key true front area = refl
-place-key false front area = refl
 
 -- what holds of each area's key and width holds of its place's
 packed-all : (P : Keyed → Type 0) (front : Front) (list : List Keyed) → All P list → All (λ placed. P (area_of placed)) (packed front list)

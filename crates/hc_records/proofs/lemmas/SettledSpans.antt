@@ -79,7 +79,7 @@ touched-held old new key =
     (width-or (IsHeld old new key.dir) new key (All-append_right (λ area. IsHeld old new key.dir area.0) old new all))
 
 -- where a span meets no hull, both lists give each key in it, both ends included, the same width
-abbrev meets_some : List Keyed → List Keyed → Interval → Bool
+abbrev pub meets_some : List Keyed → List Keyed → Interval → Bool
 meets_some old new span = meets_hull (hull Out (touched old new)) span || meets_hull (hull In (touched old new)) span
 
 agree-by : (same : Bool) (old new : List Keyed) (span : Interval) (key : Key) → (width_in old key == width_in new key) ≡ same → meets_some old new span ≡ false → IsIn key span →

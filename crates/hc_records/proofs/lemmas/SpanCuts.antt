@@ -90,7 +90,7 @@ areas-from first list is = record {
 }
 
 -- from START on they are all of them
-all-from : (list : List Keyed) → IsTaskList list → areas_from START list ≡ list
+pub all-from : (list : List Keyed) → IsTaskList list → areas_from START list ≡ list
 all-from list is =
     filter-keeps (λ area. is_within START area.0) list
     (All-weaker (λ area. is_before START area.0 ≡ true) (λ area. is_within START area.0 ≡ true) (λ area above. within-from_before START area.0 above) list is.between.above)

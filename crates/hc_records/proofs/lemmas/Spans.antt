@@ -77,14 +77,14 @@ width-absent (area ∷ areas) key all =
     width-skip area areas key (All-head (λ a. same_key a.0 key ≡ false) area areas all) ∙ width-absent areas key (All-tail (λ a. same_key a.0 key ≡ false) area areas all)
 
 -- a key before all of a list isn't in it
-width-before : (list : List Keyed) (key : Key) → All (λ area. is_before key area.0 ≡ true) list → width_in list key ≡ 0
+pub width-before : (list : List Keyed) (key : Key) → All (λ area. is_before key area.0 ≡ true) list → width_in list key ≡ 0
 width-before list key all = width-absent list key (All-weaker (λ area. is_before key area.0 ≡ true) (λ area. same_key area.0 key ≡ false) (λ area before. before-other key area.0 before) list all)
 
 -- two lists give each key from one to another the same width
 pub record Agree (first last : Key) (xs ys : List Keyed) : Type 0 where
   pub at : (key : Key) → is_within first key ≡ true → is_within key last ≡ true → width_in xs key ≡ width_in ys key
 
-agree-by : (same : Bool) (first : Key) (x : Keyed) (xs ys : List Keyed) (key : Key) → same_key x.0 key ≡ same → IsListFrom first (x ∷ xs) → IsListFrom first (x ∷ ys) →
+pub agree-by : (same : Bool) (first : Key) (x : Keyed) (xs ys : List Keyed) (key : Key) → same_key x.0 key ≡ same → IsListFrom first (x ∷ xs) → IsListFrom first (x ∷ ys) →
     width_in (x ∷ xs) key ≡ width_in (x ∷ ys) key → width_in xs key ≡ width_in ys key
 agree-by true first x xs ys key test is is' agree =
     let here = same_key-same x.0 key test in

@@ -43,7 +43,7 @@ distinct-fewer (x ∷ xs) ys kept distinct fewer own =
 abbrev pub stations : List Member → List ℕ
 stations members = map (λ member. member.slave.station) members
 
-abbrev slave_stations : List Slave → List ℕ
+abbrev pub slave_stations : List Slave → List ℕ
 slave_stations slaves = map (λ slave. slave.station) slaves
 
 abbrev all_stations : List Declared → List ℕ

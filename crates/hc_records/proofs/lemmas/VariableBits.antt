@@ -12,7 +12,7 @@ use Rattle.hc_records.specs.Laws.{StandsBefore}
 use Rattle.hc_records.specs.ImageLaws.{SharesNoBit}
 use Rattle.hc_records.proofs.lemmas.Finds.{found-all, found-two, mapped-some, tasks-ascend}
 use Rattle.hc_records.proofs.lemmas.Lists.{All-flat_map, AllPairs-flat_map, AllPairs-map, AllPairs-weaker}
-use Rattle.hc_records.proofs.lemmas.Variables.{EndsFirst, IsPlaced, area-variables-all, entry-variables-apart, pairs-placed, place_of, task_pairs, zip-pairs}
+use Rattle.hc_records.proofs.lemmas.Variables.{EndsFirst, IsPlaced, area-variables-all, entry-variables-apart, pairs-placed, place_of, task_pairs, zip-pairs, IsAnything}
 use Rattle.hc_records.proofs.Apart.{packed-apart}
 
 -- the variable that is found at a place is one of the line's
@@ -40,12 +40,9 @@ record IsAreaVariable (task : ℕ) (pair : Listed × Placed) (place : VariablePl
   pub from : pair.1.bit ≤ place.bit
   pub to : place.bit + place.bits ≤ pair.1.bit + pair.1.bits
 
-abbrev IsNumber : ℕ → Type 0
-IsNumber n = n ≡ n
-
 area-inside : (task : ℕ) (pair : Listed × Placed) → IsPlaced pair → All (λ variable. IsAreaVariable task pair variable.1) (area_variables task pair)
 area-inside task pair placed =
-    area-variables-all IsNumber (IsAreaVariable task pair) task pair placed (λ k d within. refl)
+    area-variables-all IsAnything (IsAreaVariable task pair) task pair placed (λ k d within. refl)
     (λ found within. record { in_task = refl; in_datagram = refl; from = within.from; to = within.to })
 
 -- an area that stands before another
@@ -82,7 +79,7 @@ task-apart line task =
 of-task : (line : List Member) (task : ℕ) → All (λ variable. variable.1.task ≡ task) (task_variables line task)
 of-task line task =
     All-flat_map (λ variable. variable.1.task ≡ task) (area_variables task) (task_pairs line task)
-    (λ k d within. area-variables-all IsNumber (λ place. place.task ≡ task) task (get_or (task_pairs line task) k d) (pairs-placed line task k d within) (λ i e inside. refl) (λ found is. refl))
+    (λ k d within. area-variables-all IsAnything (λ place. place.task ≡ task) task (get_or (task_pairs line task) k d) (pairs-placed line task k d within) (λ i e inside. refl) (λ found is. refl))
 
 tasks-apart : (line : List Member) (low high : ℕ) → low < high → All (λ x. All (IsFirst x) (task_variables line high)) (task_variables line low)
 tasks-apart line low high less =

@@ -17,13 +17,13 @@ use Rattle.hc_records.specs.Project.{lowest_fault}
 use Rattle.hc_records.specs.Laws.{KeepsToItsPart}
 use Rattle.hc_records.specs.ImageLaws.{LiesInDatagram, StandsInItsPart}
 use Rattle.hc_records.specs.Limits.{IsEntryWidth}
-use Rattle.hc_records.proofs.lemmas.Ascending.{keys-ascend}
+use Rattle.hc_records.proofs.lemmas.Ascending.{keys-ascend, every}
 use Rattle.hc_records.proofs.lemmas.Entries.{HasEntryWidths, task-areas-all, task-widths}
 use Rattle.hc_records.proofs.lemmas.Greatest.{greatest-all}
 use Rattle.hc_records.proofs.lemmas.Parts.{EndsInDatagram, ends-in-datagram, outputs-first}
 use Rattle.hc_records.proofs.lemmas.Tasks.{listed}
 use Rattle.hc_records.proofs.lemmas.VariableBits.{found-place}
-use Rattle.hc_records.proofs.lemmas.Variables.{IsPlaced, area-variables-all, line-variables-all, pairs-placed, task_pairs, zip-left, zip-right}
+use Rattle.hc_records.proofs.lemmas.Variables.{IsPlaced, area-variables-all, line-variables-all, pairs-placed, task_pairs, zip-left, zip-right, IsAnything}
 
 pub variables-lie : (state : State) (variable : ℕ) (place : VariablePlace) → lowest_fault (groups_of state.groups) ≡ None → variable_place variable (line state) ≡ Some place →
     LiesInDatagram (line state) place
@@ -48,7 +48,7 @@ variables-lie state variable place none =
     })))
 
 -- an area of a task has the direction of its key
-same_dir-same : (a b : Dir) → same_dir a b ≡ true → a ≡ b
+pub same_dir-same : (a b : Dir) → same_dir a b ≡ true → a ≡ b
 same_dir-same Out Out same = refl
 same_dir-same Out In same = cc
 same_dir-same In Out same = cc
@@ -59,18 +59,12 @@ belongs-dir task dir area belonging =
     let direction = and_parts (area.task == task) (same_dir area.dir dir) (and_parts ((area.task == task) && same_dir area.dir dir) (nat_lt 0 (width area)) belonging).0 in
     sym (same_dir-same area.dir dir direction.1)
 
-every : {X : Type 0} (P : X → Type 0) (xs : List X) → ((x : X) → P x) → All P xs
-every P xs holds k d within = holds _
-
 task-dirs : (line : List Member) (task : ℕ) → All (λ area. area.key.dir ≡ area.area.dir) (task_areas task line)
 task-dirs line task =
     task-areas-all (λ area. area.key.dir ≡ area.area.dir) task line
     (λ dir. every (λ member. All (λ e. belongs task dir e.1 ≡ true → (listed dir member.rank e).key.dir ≡ e.1.dir) (enumerate_from 0 member.slave.areas)) line
     (λ member. every (λ e. belongs task dir e.1 ≡ true → (listed dir member.rank e).key.dir ≡ e.1.dir) (enumerate_from 0 member.slave.areas)
     (λ e belonging. belongs-dir task dir e.1 belonging)))
-
-abbrev IsNumber : ℕ → Type 0
-IsNumber n = n ≡ n
 
 pub variables-stand : (state : State) (variable : ℕ) (place : VariablePlace) → variable_place variable (line state) ≡ Some place → StandsInItsPart (line state) place
 variables-stand state variable place =
@@ -84,7 +78,7 @@ variables-stand state variable place =
     let keeps : KeepsToItsPart places pair.1 = zip-right (KeepsToItsPart places) areas places (outputs-first (task_list task (line state)) (keys-ascend state task)) k d within in
     let own : pair.0.key.dir ≡ pair.0.area.dir = zip-left (λ area. area.key.dir ≡ area.area.dir) areas places (task-dirs (line state) task) k d within in
     let dir : pair.1.key.dir ≡ pair.0.area.dir = ap (λ (key : Key). key.dir) placed.key ∙ own in
-    area-variables-all IsNumber (StandsInItsPart (line state)) task pair placed (λ i e inside. refl)
+    area-variables-all IsAnything (StandsInItsPart (line state)) task pair placed (λ i e inside. refl)
     (λ found inside. record {
       output = λ is. (let end = keeps.output (dir ∙ is) in let to = inside.to in omega arith);
       input = λ is. (let start = keeps.input (dir ∙ is) in let from = inside.from in omega arith);

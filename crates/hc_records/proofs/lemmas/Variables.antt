@@ -51,7 +51,7 @@ entry-variables P bit (entry ∷ entries) all =
 abbrev pub EndsFirst : ℕ × (ℕ × ℕ) → ℕ × (ℕ × ℕ) → Type 0
 EndsFirst a b = a.1.0 + a.1.1 ≤ b.1.0
 
-abbrev IsAnything : ℕ → Type 0
+abbrev pub IsAnything : ℕ → Type 0
 IsAnything n = n ≡ n
 
 pub entry-variables-apart : (bit : ℕ) (entries : List Entry) → AllPairs EndsFirst (variables_from bit entries)

@@ -1,5 +1,5 @@
 -- What is kept as awaited stays what the record awaits: at the opening, behind edits, stale arrivals and register writes.
-use Rattle.std.proofs.Common.{◌≡◌, ℕ, ◌+◌, ◌==◌, ◌<◌, Bool, true, false, cond, ◌||◌, List, [], ◌∷◌, filter, refl, sym, ap, ◌∙◌, arith, Option, Some, None}
+use Rattle.std.proofs.Common.{◌≡◌, ℕ, ◌+◌, ◌==◌, ◌<◌, Bool, true, false, cond, ◌||◌, List, [], ◌∷◌, filter, refl, sym, ap, ◌∙◌, Option, Some, None}
 use Rattle.std.specs.Prelude.{All, is_some, option_and_then, option_map}
 use Rattle.std.specs.Option.{option_or}
 use Rattle.std.specs.List.{list_any}
@@ -9,6 +9,7 @@ use Rattle.hc_records.specs.declared.edit.Edit.{Edit}
 use Rattle.hc_records.specs.declared.records.Group.{Group}
 use Rattle.hc_records.specs.Line.{Member}
 use Rattle.hc_records.proofs.lemmas.Lists.{AllPairs-nil}
+use Rattle.hc_records.proofs.lemmas.Choices.{by_bool}
 use Rattle.hc_registers.specs.Blocks.{LineBlock}
 use Rattle.hc_events.specs.Arrivals.{Arrival}
 use Rattle.hc_events.specs.Accepted.{AreAccepted, StandsIn, just_opened}
@@ -18,14 +19,15 @@ use Rattle.hc_events.specs.Heads.{write_head}
 use Rattle.hc_events.specs.Answering.{Sending, followed_by, is_news, is_stale_to, judged_by, just_sent, sending_of}
 use Rattle.hc_events.specs.Awaited.{alive, all_sent_again, awaited, is_ended, is_no_arrival}
 use Rattle.hc_events.specs.Owed.{owed_blocks}
-use Rattle.hc_events.proofs.lemmas.Awaited.{alive_edited, awaited-stale, by_bool, same_is}
+use Rattle.hc_events.proofs.lemmas.Awaited.{alive_edited, awaited-stale, same_is}
 use Rattle.hc_events.proofs.lemmas.OneWrite.{all-alone}
+use Rattle.hc_events.proofs.lemmas.Once.{below_more}
 use Rattle.hc_sendings.specs.Waiting.{AwaitedFrame, AwaitedWrite, Waiting, awaited_write, nothing, wrote}
 use Rattle.hc_sendings.specs.Judging.{due_with, found_frame, frame_due, write_due}
 use Rattle.hc_sendings.proofs.lemmas.Sorts.{none-framed}
 use Rattle.hc_sendings.specs.Record.{KeepsAwaited, due_by, dues_of}
 
-none_some : (write : AwaitedWrite) → None ≡ Some write → ⊥
+pub none_some : (write : AwaitedWrite) → None ≡ Some write → ⊥
 none_some write e = let never : false ≡ true = ap is_some e in cc
 
 -- nothing is awaited at the opening, and behind an accepted edit
@@ -115,9 +117,6 @@ due_written past block rest serial all first =
     (λ t. ap (option_map dues_of) (none_else past block rest serial (awaited (Wrote block ∷ past) serial) all first t refl)
     ∙ sym (ap (λ b. cond b (Some (write_due (awaited_write (next_serial past) block))) None) t))
 
-one_more : (m n : ℕ) → m < n → m < n + 1
-one_more m n below = omega arith
-
 pub waits-wrote : (past : Record) (kept : Waiting) (block : LineBlock) (rest : List LineBlock) → AreAccepted past
     → owed_blocks past ≡ block ∷ rest → KeepsAwaited past kept → KeepsAwaited (Wrote block ∷ past) (wrote (next_serial past) block kept)
 waits-wrote past kept block rest all first waits =
@@ -125,7 +124,7 @@ waits-wrote past kept block rest all first waits =
     record {
       due = λ serial. due_wrote (line_of past) serial (next_serial past) block kept none ∙ sym (due_written past block rest serial all first);
       ascend = waits.ascend;
-      below = All-weaker (λ (frame : AwaitedFrame). frame.serial < next_serial past) (λ (frame : AwaitedFrame). frame.serial < next_serial past + 1) (λ frame below. one_more frame.serial (next_serial past) below) kept.frames waits.below;
+      below = All-weaker (λ (frame : AwaitedFrame). frame.serial < next_serial past) (λ (frame : AwaitedFrame). frame.serial < next_serial past + 1) (λ frame below. below_more frame.serial (next_serial past) below) kept.frames waits.below;
       stands = waits.stands;
       apart = λ write e. none;
     }

@@ -6,6 +6,7 @@ use Rattle.std.proofs.lemmas.Bool.{eqb-true, not-true}
 use Rattle.std.proofs.lemmas.List.Elements.{All-filter}
 use Rattle.std.proofs.lemmas.List.Kept.{AllPairs-filter}
 use Rattle.hc_records.specs.Line.{Member}
+use Rattle.hc_records.proofs.lemmas.Choices.{by_bool}
 use Rattle.hc_events.specs.Arrivals.{Arrival}
 use Rattle.hc_events.specs.Accepted.{AreAccepted, StandsIn}
 use Rattle.hc_events.specs.AnswerLaws.{IsAwaited}
@@ -14,7 +15,7 @@ use Rattle.hc_events.specs.Points.{line_of, next_serial}
 use Rattle.hc_events.specs.Answering.{Sending, has_heads, is_stale_to, only_if, sending_of}
 use Rattle.hc_events.specs.Awaited.{awaited}
 use Rattle.hc_events.proofs.lemmas.Answers.{awaited-answered}
-use Rattle.hc_events.proofs.lemmas.Awaited.{alive_came, by_bool, same_is, unless_fits, unless-other}
+use Rattle.hc_events.proofs.lemmas.Awaited.{alive_came, same_is, unless_fits, unless-other}
 use Rattle.hc_events.proofs.lemmas.Once.{only-if_some}
 use Rattle.hc_events.proofs.lemmas.OneWrite.{all-alone}
 use Rattle.hc_sendings.specs.Waiting.{AwaitedFrame, AwaitedWrite, Waiting, ended}

@@ -7,13 +7,14 @@ use Rattle.std.proofs.lemmas.Bool.Decides.{nat_tests}
 use Rattle.std.proofs.lemmas.List.Elements.{All-head, All-tail, filter-append}
 use Rattle.hc_records.specs.Line.{Member}
 use Rattle.hc_records.proofs.lemmas.Lists.{AllPairs-head, AllPairs-tail}
+use Rattle.hc_records.proofs.lemmas.Choices.{by_bool}
 use Rattle.hc_events.specs.Entries.{Entry, Record, Sent}
 use Rattle.hc_events.specs.Points.{line_of, next_serial}
 use Rattle.hc_events.specs.Sendings.{Frame, Named}
 use Rattle.hc_events.specs.Heads.{Head, data_heads}
 use Rattle.hc_events.specs.Answering.{Sending, followed_by, just_sent, only_if, sending_of, sends}
 use Rattle.hc_events.specs.Awaited.{alive, all_sent_again, awaited}
-use Rattle.hc_events.proofs.lemmas.Awaited.{alive_other, by_bool, unless_again}
+use Rattle.hc_events.proofs.lemmas.Awaited.{alive_other, unless_again, not_both}
 use Rattle.hc_sendings.specs.Waiting as waiting
 use Rattle.hc_sendings.specs.Waiting.{AwaitedFrame, Carried, Waiting, as_sent, is_alive, sent, sent_again, with_again}
 use Rattle.hc_sendings.specs.Judging.{Due, due_of, due_with, found_frame, frame_due, write_due}
@@ -38,10 +39,6 @@ not_or true false = refl
 not_or false true = refl
 not_or false false = refl
 
-not_and : (a b : Bool) → (not a || not b) ≡ not (a && b)
-not_and true b = refl
-not_and false b = refl
-
 dues_again : (frame : List Named) (since : List Entry) (heads : List Head) → map (again frame) (map (due_in since) heads) ≡ map (due_in (Sent frame ∷ since)) heads
 dues_again frame since [] = refl
 dues_again frame since (head ∷ heads) =
@@ -53,7 +50,7 @@ some_newest : (since : List Entry) (heads : List Head) → list_any is_newest (m
 some_newest since [] = refl
 some_newest since (head ∷ heads) =
     ap (λ b. not (list_any (sends head.item) since) || b) (some_newest since heads)
-    ∙ not_and (list_any (sends head.item) since) (all_sent_again since heads)
+    ∙ not_both (list_any (sends head.item) since) (all_sent_again since heads)
 
 dues_unless : (over : Bool) (sending : Sending) → option_map dues_of (cond over None (Some sending)) ≡ cond (not over) (Some (dues_of sending)) None
 dues_unless true sending = refl

@@ -1,6 +1,6 @@
 -- What is kept as awaited stays what the record awaits behind frames of tasks.
-use Rattle.std.proofs.Common.{◌≡◌, ℕ, ◌+◌, ◌<◌, Bool, true, false, cond, List, [], ◌∷◌, ◌++◌, filter, map, refl, sym, ap, ◌∙◌, subst, arith, Some, None}
-use Rattle.std.specs.Prelude.{All, AllPairs, is_some}
+use Rattle.std.proofs.Common.{◌≡◌, ℕ, ◌+◌, ◌<◌, Bool, true, false, cond, List, [], ◌∷◌, ◌++◌, filter, map, refl, sym, ap, ◌∙◌, subst, arith}
+use Rattle.std.specs.Prelude.{All, AllPairs}
 use Rattle.std.specs.List.{list_any}
 use Rattle.std.proofs.lemmas.List.Elements.{All-nil, All-cons, All-append, All-filter, All-map, All-weaker}
 use Rattle.std.proofs.lemmas.List.Kept.{AllPairs-cons, AllPairs-filter}
@@ -11,11 +11,13 @@ use Rattle.hc_events.specs.Entries.{Record, Sent}
 use Rattle.hc_events.specs.Points.{line_of, next_serial}
 use Rattle.hc_events.specs.Sendings.{Frame, Named, alone, framed, framed_behind, has_room, joined, length_of}
 use Rattle.hc_events.specs.Owed.{owed_blocks}
+use Rattle.hc_events.proofs.lemmas.Once.{below_more}
 use Rattle.hc_sendings.specs.Waiting as waiting
-use Rattle.hc_sendings.specs.Waiting.{AwaitedFrame, AwaitedWrite, Carried, Waiting, as_sent, is_alive, sent, with_again}
+use Rattle.hc_sendings.specs.Waiting.{AwaitedFrame, Carried, Waiting, as_sent, is_alive, sent, with_again}
 use Rattle.hc_sendings.proofs.lemmas.Resent.{due-both, sent-frames}
 use Rattle.hc_sendings.proofs.lemmas.Sorts.{none-written}
 use Rattle.hc_sendings.specs.Record.{KeepsAwaited}
+use Rattle.hc_sendings.proofs.lemmas.Awaits.{none_some}
 
 -- a frame that carries something
 
@@ -37,12 +39,6 @@ again_stands line frame carried all = All-map (λ (one : Carried). StandsIn line
 
 new_stands : (line : List Member) (frame : List Named) → All (StandsIn line) frame → All (λ one. StandsIn line one.datagram) (map waiting.just_sent frame)
 new_stands line frame all = All-map (λ (one : Carried). StandsIn line one.datagram) waiting.just_sent frame all
-
-none_some : (write : AwaitedWrite) → None ≡ Some write → ⊥
-none_some write e = let never : false ≡ true = ap is_some e in cc
-
-one_more : (m n : ℕ) → m < n → m < n + 1
-one_more m n below = omega arith
 
 last_below : (m n : ℕ) → m ≡ n → m < n + 1
 last_below m n same = omega arith
@@ -75,7 +71,7 @@ waits-sent past kept frame accepted none number some stand waits =
           (All-weaker (λ (f : AwaitedFrame). f.serial < frame.serial) (λ (f : AwaitedFrame). All (ascends (with_again frame.datagrams f)) (as_sent frame ∷ []))
           (λ f less. All-cons (ascends (with_again frame.datagrams f)) (as_sent frame) [] less (All-nil (ascends (with_again frame.datagrams f)))) kept.frames below))));
       below = back (All (λ (f : AwaitedFrame). f.serial < next_serial past + 1)) (kept_frames (λ f. f.serial < next_serial past + 1) frame.datagrams kept.frames (as_sent frame)
-          (All-weaker (λ (f : AwaitedFrame). f.serial < next_serial past) (λ (f : AwaitedFrame). f.serial < next_serial past + 1) (λ f less. one_more f.serial (next_serial past) less) kept.frames waits.below)
+          (All-weaker (λ (f : AwaitedFrame). f.serial < next_serial past) (λ (f : AwaitedFrame). f.serial < next_serial past + 1) (λ f less. below_more f.serial (next_serial past) less) kept.frames waits.below)
           (last_below frame.serial (next_serial past) number));
       stands = back (All (Stands (line_of past))) (kept_frames (Stands (line_of past)) frame.datagrams kept.frames (as_sent frame)
           (All-weaker (Stands (line_of past)) (λ (f : AwaitedFrame). Stands (line_of past) (with_again frame.datagrams f)) (λ f all. again_stands (line_of past) frame.datagrams f.datagrams all) kept.frames waits.stands)

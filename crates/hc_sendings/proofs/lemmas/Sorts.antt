@@ -5,6 +5,7 @@ use Rattle.std.proofs.lemmas.Bool.{eqb-true}
 use Rattle.std.specs.Option.{option_or}
 use Rattle.std.specs.List.{list_any}
 use Rattle.hc_records.specs.Line.{Member}
+use Rattle.hc_records.proofs.lemmas.Choices.{by_bool}
 use Rattle.hc_registers.specs.Blocks.{LineBlock}
 use Rattle.hc_events.specs.Accepted.{AreAccepted}
 use Rattle.hc_events.specs.Entries.{Record}
@@ -13,8 +14,8 @@ use Rattle.hc_events.specs.Heads.{is_block}
 use Rattle.hc_events.specs.Answering.{Sending, only_if}
 use Rattle.hc_events.specs.Awaited.{awaited, is_write}
 use Rattle.hc_events.specs.Owed.{owed_blocks}
-use Rattle.hc_events.proofs.lemmas.Awaited.{by_bool, same_is}
-use Rattle.hc_events.proofs.lemmas.OneWrite.{all-alone}
+use Rattle.hc_events.proofs.lemmas.Awaited.{same_is}
+use Rattle.hc_events.proofs.lemmas.OneWrite.{all-alone, some_of_none}
 use Rattle.hc_sendings.specs.Waiting.{AwaitedFrame, AwaitedWrite, Carried, Waiting}
 use Rattle.hc_sendings.specs.Judging.{Due, due_of, due_with, found_frame, frame_due, write_due, written_head}
 use Rattle.hc_sendings.proofs.lemmas.Dues.{heads-back}
@@ -53,9 +54,6 @@ pub write-awaited : (past : Record) (waiting : Waiting) (write : AwaitedWrite) �
 write-awaited past waiting write waits e =
     let due = is_due past write.serial (write_due write) (sym (waits.due write.serial) ∙ write_found (line_of past) write waiting e) in
     record { sending = due.sending; there = due.there; heads = due.heads; writes = ap (list_any (λ one. is_block one.item)) due.heads }
-
-some_of_none : (block : LineBlock) (blocks : List LineBlock) → [] ≡ block ∷ blocks → ⊥
-some_of_none block blocks e = cc
 
 no_write : (past : Record) (waiting : Waiting) (write : Option AwaitedWrite) → AreAccepted past → KeepsAwaited past waiting → waiting.write ≡ write → owed_blocks past ≡ [] → write ≡ None
 no_write past waiting None all waits e none = refl

@@ -1,8 +1,9 @@
 use Rattle.std.proofs.Common.{◌-◌, ◌++◌, ◌∷◌, length, map, ap, ◌∙◌, sym, arith, List, ℕ}
 use Rattle.hc_segment.specs.Line.{all_machines}
 use Rattle.hc_segment.specs.Machines.{poked}
-use Rattle.hc_segment.proofs.Written.{poked-back, poked-front, poked-length}
+use Rattle.hc_segment.proofs.Written.{poked-back, poked-front}
 use Rattle.hc_segment.proofs.line.+write_in.Goals as goal
+use Rattle.hc_segment.proofs.lemmas.Counts.{poked-count}
 
 pub returns-then-number-count : goal.returns-then-number-count
 returns-then-number-count t c =
@@ -16,7 +17,7 @@ returns-then-number-count t c =
           ∙ ap (λ (ss : List (List (List ℕ))). poked c.args.number c.args.at c.args.bytes.now (all_machines ss)) (sym c.in-Some.ensures.cases.0);
       sizes =
           ap (λ (ms : List (List ℕ)). length ms ∷ map (length {A = List ℕ}) c.in-Some.others.now) c.write_one.ensures
-          ∙ ap (λ (n : ℕ). n ∷ map (length {A = List ℕ}) c.in-Some.others.now) (poked-length first c.args.number c.args.at c.args.bytes.now)
+          ∙ ap (λ (n : ℕ). n ∷ map (length {A = List ℕ}) c.in-Some.others.now) (poked-count first c.args.number c.args.at c.args.bytes.now)
           ∙ ap (λ (ss : List (List (List ℕ))). map (length {A = List ℕ}) ss) (sym c.in-Some.ensures.cases.0);
     }
 

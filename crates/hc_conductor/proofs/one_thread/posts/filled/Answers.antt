@@ -9,8 +9,8 @@ use Rattle.hc_conductor.specs.Views as views
 use Rattle.hc_conductor.specs.Posting.{HoldsOutputs, IsFilled, posted_bit, set_bit}
 use Rattle.hc_conductor.proofs.Held.{outputs-hold}
 use Rattle.hc_conductor.proofs.Made.{told-by-bits}
-use Rattle.hc_conductor.proofs.Seated.{written}
 use Rattle.hc_conductor.proofs.one_thread.posts.filled.Goals as goal
+use Rattle.hc_conductor.proofs.Takings.{whole-list}
 
 pub put_settings-requires-clause-holds : goal.put_settings-requires-clause-holds
 put_settings-requires-clause-holds c =
@@ -36,7 +36,7 @@ returns-clause-filled c =
     let size : length news ≡ outputs = told.size ∙ (long ∙ (c.from.ensures ∙ ap (λ (part : ℕ × ℕ). part.0) (c.part-size.ensures ∙ ap (part_in table) (sym c.requires.task)))) in
     let bits : (k : ℕ) → bit_of news k ≡ posted_bit table settings k =
     λ k. told.bits k ∙ ap (λ (before : ℕ). fold (set_bit table k) before settings) (ap (λ (bytes : List ℕ). bit_of bytes k) zeros ∙ bit_of-zeros count k) in
-    subst (IsFilled table task settings) (sym (written news _ c.in_ok-bytes.bytes.len own))
+    subst (IsFilled table task settings) (sym (whole-list news _ c.in_ok-bytes.bytes.len own))
     (record {
       accepted = told.judged;
       bytes_are = told-by-bits news outputs (posted_bit table settings) told.all_bytes size bits;

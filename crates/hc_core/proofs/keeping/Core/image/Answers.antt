@@ -10,10 +10,11 @@ use Rattle.hc_events.specs.Points.{epoch_of}
 use Rattle.hc_events.specs.Images.{slot_of}
 use Rattle.hc_events.specs.Steps.{image_of, is_no_task, unless}
 use Rattle.hc_events.proofs.lemmas.Epochs.{epochs-counted}
+use Rattle.hc_events.proofs.lemmas.Views.{is_task}
 use Rattle.hc_sendings.proofs.lemmas.Listed.{listed-count}
 use Rattle.hc_images.specs.Image.{data_of_first}
 use Rattle.hc_core.specs.Records.{record_of}
-use Rattle.hc_core.proofs.Shown.{is-task, slots-shown}
+use Rattle.hc_core.proofs.Shown.{slots-shown}
 use Rattle.hc_core.specs.State.{CoreState}
 use Rattle.hc_core.proofs.keeping.Core.image.Goals as goal
 
@@ -31,5 +32,5 @@ returns-clause-answer c =
     let epoch = c.epoch-epoch.ensures ∙ ap (λ (state : State). state.epoch) kept.state ∙ epochs-counted past kept.accepted in
     ap (λ n. Image n c.in_ok-slots.slots) epoch
     ∙ ap (Image (epoch_of past)) slots
-    ∙ sym (ap (λ b. unless (cond b (Some NoSuchTask) None) (image_of past task)) (is-task task c.if-task-ge-TASKS.false))
+    ∙ sym (ap (λ b. unless (cond b (Some NoSuchTask) None) (image_of past task)) (is_task task c.if-task-ge-TASKS.false))
     ∙ ap (λ (state : CoreState). unless (cond (is_no_task task) (Some NoSuchTask) None) (image_of state.past task)) c.self.view_is

@@ -5,6 +5,7 @@ use Rattle.hc_events.specs.Entries.{Record, Came}
 use Rattle.hc_events.specs.Owed.{known_bytes}
 use Rattle.hc_events.specs.Points.{state_of}
 use Rattle.hc_events.specs.Steps.{told_of, with_arrival}
+use Rattle.hc_events.proofs.lemmas.OneWrite.{heads_same}
 use Rattle.hc_sendings.specs.Waiting.{Waiting, ended}
 use Rattle.hc_sendings.proofs.lemmas.Sorts.{write-kept}
 use Rattle.hc_registers.specs.Blocks.{LineBlock, RegisterBlock}
@@ -12,7 +13,7 @@ use Rattle.hc_plan.specs.Reports.{name_of}
 use Rattle.hc_owed.specs.Board.{kept_of}
 use Rattle.hc_owed.specs.Laws.{known_with}
 use Rattle.hc_core.specs.Records.{record_of}
-use Rattle.hc_core.proofs.Arrivals.{agree-done, heads_same, kept-block}
+use Rattle.hc_core.proofs.Arrivals.{agree-done, kept-block}
 use Rattle.hc_core.proofs.Firsts.{first-kept, first-within}
 use Rattle.hc_core.proofs.Told.{told-done, written-owes}
 use Rattle.hc_core.specs.Agreement.{Agree, kept_in}

@@ -1,9 +1,10 @@
 use Rattle.std.proofs.Common.{◌≡◌, ◌<◌, ◌≤◌, ◌+◌, ◌-◌, ℕ, List, true, length, drop, length-drop, ap, sym, ◌∙◌, arith}
 use Rattle.std.proofs.lemmas.Bool.Decides.{nat_tests}
+use Rattle.hc_records.proofs.lemmas.Choices.{none_of, not_false}
 use Rattle.hc_frames.specs.Arrived.{data_size, datagrams_in, is_whole}
 use Rattle.hc_frames.specs.Survey.{noted, surveyed}
 use Rattle.hc_frames.proofs.lemmas.Datagrams.{datagrams-none, whole-long}
-use Rattle.hc_frames.proofs.Surveys.{not_false, not_true, survey_goes, survey_unpromised, survey_unwhole}
+use Rattle.hc_frames.proofs.Surveys.{survey_goes, survey_unpromised, survey_unwhole}
 use Rattle.hc_frames.proofs.reading.datagrams.survey_of.Goals as goal
 use Rattle.hc_frames.proofs.reading.datagrams.survey_of.Goals.{then-not-seen-via-then-not-seen, then-not-seen-via-else-not-seen+then-not-is_whole}
 
@@ -12,7 +13,7 @@ returns-then-not-seen c =
     let bytes : List ℕ = c.loop-rest.rest.now in
     let some : 0 < length bytes = grind (arith, nat_tests) in
     let old = c.loop-rest.invariant.0 in
-    elim c.then-not-seen.branch [ then-not-seen-via-then-not-seen w ↦ sym (survey_unpromised c.args.index c.loop-rest.seen bytes some (not_true c.loop-rest.seen.more w.if-not-seen.true)) ∙ old | then-not-seen-via-else-not-seen+then-not-is_whole w ↦ sym (survey_unwhole c.args.index c.loop-rest.seen bytes some (not_false c.loop-rest.seen.more w.if-not-seen.false) (sym w.is_whole.ensures ∙ w.if-not-is_whole.true)) ∙ old ]
+    elim c.then-not-seen.branch [ then-not-seen-via-then-not-seen w ↦ sym (survey_unpromised c.args.index c.loop-rest.seen bytes some (none_of c.loop-rest.seen.more w.if-not-seen.true)) ∙ old | then-not-seen-via-else-not-seen+then-not-is_whole w ↦ sym (survey_unwhole c.args.index c.loop-rest.seen bytes some (not_false c.loop-rest.seen.more w.if-not-seen.false) (sym w.is_whole.ensures ∙ w.if-not-is_whole.true)) ∙ old ]
 
 pub loop-rest-preserved : goal.loop-rest-preserved
 loop-rest-preserved c =

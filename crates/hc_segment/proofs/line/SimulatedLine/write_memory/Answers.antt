@@ -1,7 +1,8 @@
 use Rattle.std.proofs.Common.{length, map, ap, ◌∙◌, List, ℕ}
 use Rattle.hc_segment.specs.Line.{all_machines}
-use Rattle.hc_segment.proofs.Written.{kept-count, kept-cut, poked-length}
+use Rattle.hc_segment.proofs.Written.{kept-count, kept-cut}
 use Rattle.hc_segment.proofs.line.SimulatedLine.write_memory.Goals as goal
+use Rattle.hc_segment.proofs.lemmas.Counts.{poked-count}
 
 pub invariant_of-self : goal.invariant_of-self
 invariant_of-self c =
@@ -11,7 +12,7 @@ invariant_of-self c =
     let many = c.write_in.auto.segments ∙ ap (λ (ss : List (List (List ℕ))). length ss) value in
     record {
       counted = kept-count items new c.self.inside.count c.self.inside.segments.len c.self.invariant.counted c.self.inside.segments.ok.0 many
-          (ap (λ (ms : List (List ℕ)). length ms) c.write_in.ensures.memory ∙ poked-length (all_machines c.deref_mut.result.now) c.args.position c.args.at c.args.bytes.now ∙ ap (λ (ss : List (List (List ℕ))). length (all_machines ss)) value);
+          (ap (λ (ms : List (List ℕ)). length ms) c.write_in.ensures.memory ∙ poked-count (all_machines c.deref_mut.result.now) c.args.position c.args.at c.args.bytes.now ∙ ap (λ (ss : List (List (List ℕ))). length (all_machines ss)) value);
       cut = kept-cut items new c.self.inside.count c.self.inside.segments.len c.self.invariant.cut c.self.inside.segments.ok.0 many
           (c.write_in.ensures.sizes ∙ ap (λ (ss : List (List (List ℕ))). map (length {A = List ℕ}) ss) value);
     }

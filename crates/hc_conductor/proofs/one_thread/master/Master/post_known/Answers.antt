@@ -7,8 +7,8 @@ use Rattle.hc_conductor.proofs.lemmas.Joined.{whole-joined}
 use Rattle.hc_conductor.specs.Mastering.{IsMastering, Mastering, waiting}
 use Rattle.hc_conductor.specs.Posting.{with_post}
 use Rattle.hc_conductor.proofs.Looked.{as-many, has-looked, has-room, looked-stands, makes-post}
-use Rattle.hc_conductor.proofs.Seated.{written}
 use Rattle.hc_conductor.proofs.one_thread.master.Master.post_known.Goals as goal
+use Rattle.hc_conductor.proofs.Takings.{whole-list}
 
 pub posts_waiting-waiting-requires : goal.posts_waiting-waiting-requires
 posts_waiting-waiting-requires c =
@@ -22,7 +22,7 @@ invariant_of-self c =
     let new = c.posts_waiting-waiting.new.self in
     let seats = c.posts_waiting-waiting.new.seats in
     let looked = has-looked m new c.deref_mut.result.now seats c.self.invariant c.deref_mut.ensures.value told.known told.whole told.viewers told.held told.waiting told.changes.1 in
-    let whole = written seats _ _ (as-many m new seats looked ∙ sym c.self.inside.seats.ok.0) in
+    let whole = whole-list seats _ _ (as-many m new seats looked ∙ sym c.self.inside.seats.ok.0) in
     subst (λ (ss : List TaskSeat). IsMastering (record { conductor = new; seats = ss })) (sym whole) (looked-stands m new seats c.self.invariant looked)
 
 pub post_bytes-requires : goal.post_bytes-requires
@@ -34,7 +34,7 @@ post_bytes-requires c =
     let new = c.posts_waiting-waiting.new.self in
     let seats = c.posts_waiting-waiting.new.seats in
     let looked = has-looked m new c.deref_mut.result.now seats c.self.invariant c.deref_mut.ensures.value told.known told.whole told.viewers told.held told.waiting told.changes.1 in
-    let whole = written seats _ _ (as-many m new seats looked ∙ sym c.self.inside.seats.ok.0) in
+    let whole = whole-list seats _ _ (as-many m new seats looked ∙ sym c.self.inside.seats.ok.0) in
     let s = c.index_mut.result.now in
     let there : s ≡ get_or seats n s = c.index_mut.ensures.value ∙ ap (λ (ss : List TaskSeat). get_or ss n s) whole in
     let few = subst (λ (k : ℕ). get_or c.posts_waiting-waiting.result k 0 < 4) (c.from.ensures ∙ sym c.from-2.ensures) c.if-waiting-from.false in
@@ -53,7 +53,7 @@ invariant_of-self-2 c =
     let new = c.posts_waiting-waiting.new.self in
     let seats = c.posts_waiting-waiting.new.seats in
     let looked = has-looked m new c.deref_mut.result.now seats c.self.invariant c.deref_mut.ensures.value told.known told.whole told.viewers told.held told.waiting told.changes.1 in
-    let whole = written seats _ _ (as-many m new seats looked ∙ sym c.self.inside.seats.ok.0) in
+    let whole = whole-list seats _ _ (as-many m new seats looked ∙ sym c.self.inside.seats.ok.0) in
     let s = c.index_mut.result.now in
     let there : s ≡ get_or seats n s = c.index_mut.ensures.value ∙ ap (λ (ss : List TaskSeat). get_or ss n s) whole in
     let few = subst (λ (k : ℕ). get_or c.posts_waiting-waiting.result k 0 < 4) (c.from.ensures ∙ sym c.from-2.ensures) c.if-waiting-from.false in
@@ -72,7 +72,7 @@ returns-clause-posted c =
     let new = c.posts_waiting-waiting.new.self in
     let seats = c.posts_waiting-waiting.new.seats in
     let looked = has-looked m new c.deref_mut.result.now seats c.self.invariant c.deref_mut.ensures.value told.known told.whole told.viewers told.held told.waiting told.changes.1 in
-    let whole = written seats _ _ (as-many m new seats looked ∙ sym c.self.inside.seats.ok.0) in
+    let whole = whole-list seats _ _ (as-many m new seats looked ∙ sym c.self.inside.seats.ok.0) in
     let s = c.index_mut.result.now in
     let there : s ≡ get_or seats n s = c.index_mut.ensures.value ∙ ap (λ (ss : List TaskSeat). get_or ss n s) whole in
     let few = subst (λ (k : ℕ). get_or c.posts_waiting-waiting.result k 0 < 4) (c.from.ensures ∙ sym c.from-2.ensures) c.if-waiting-from.false in

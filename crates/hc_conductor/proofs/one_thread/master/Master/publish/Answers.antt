@@ -14,8 +14,9 @@ use Rattle.hc_conductor.specs.Together.{EachRing, IsWhole}
 use Rattle.hc_conductor.specs.Learning.{CanLearn}
 use Rattle.hc_conductor.specs.Mastering.{IsMastering}
 use Rattle.hc_conductor.proofs.Learnt.{can-learn, prefix-behind}
-use Rattle.hc_conductor.proofs.Seated.{seen-alike, written}
+use Rattle.hc_conductor.proofs.Seated.{seen-alike}
 use Rattle.hc_conductor.proofs.one_thread.master.Master.publish.Goals as goal
+use Rattle.hc_conductor.proofs.Takings.{whole-list}
 
 pub learn_all-requires : goal.learn_all-requires
 learn_all-requires g c =
@@ -42,7 +43,7 @@ invariant_of-self-2 g c =
     let many : length news ≡ length items = sym (length-map news task_of) ∙ (ap length (tasks ∙ sym i.tasks) ∙ length-map items task_of) in
     let whole = subst (λ (ss : List PostSender). EachRing IsWhole ss new.rings) (sym (told.senders ∙ ap (λ (ss : List TaskSeat). map sender ss) value))
     (subst (λ (rs : List PostReceiver). EachRing IsWhole (map sender items) rs) (sym c.publish.ensures.rings) i.whole) in
-    subst (λ (ss : List TaskSeat). IsMastering (record { conductor = new; seats = ss })) (sym (written news _ _ (many ∙ sym c.self.inside.seats.ok.0)))
+    subst (λ (ss : List TaskSeat). IsMastering (record { conductor = new; seats = ss })) (sym (whole-list news _ _ (many ∙ sym c.self.inside.seats.ok.0)))
     (record {
       tasks = tasks;
       known = told.known ∙ ap (λ (n : ℕ). replicate n (published new)) eight;

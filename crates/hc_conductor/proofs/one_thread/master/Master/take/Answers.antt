@@ -11,8 +11,9 @@ use Rattle.hc_conductor.specs.Seats.{sender, task_of, viewer_of}
 use Rattle.hc_conductor.specs.Together.{AreJoined, EachRing, IsWhole, posts_waiting}
 use Rattle.hc_conductor.proofs.lemmas.Joined.{whole-joined}
 use Rattle.hc_conductor.specs.Mastering.{IsMastering}
-use Rattle.hc_conductor.proofs.Seated.{all-empty, as-many-waiting, map-twice, seen-alike, written}
+use Rattle.hc_conductor.proofs.Seated.{all-empty, as-many-waiting, map-twice, seen-alike}
 use Rattle.hc_conductor.proofs.one_thread.master.Master.take.Goals as goal
+use Rattle.hc_conductor.proofs.Takings.{whole-list}
 
 pub take_all_posts-requires : goal.take_all_posts-requires
 take_all_posts-requires c =
@@ -31,7 +32,7 @@ invariant_of-self c =
     let viewers = told.viewers ∙ ap (λ (ss : List TaskSeat). map viewer_of ss) value in
     let held = told.held ∙ ap (λ (ss : List TaskSeat). map ring.held (map sender ss)) value in
     let many : length news ≡ length items = sym (length-map news viewer_of) ∙ (ap length viewers ∙ length-map items viewer_of) in
-    subst (λ (ss : List TaskSeat). IsMastering (record { conductor = new; seats = ss })) (sym (written news _ _ (many ∙ sym c.self.inside.seats.ok.0)))
+    subst (λ (ss : List TaskSeat). IsMastering (record { conductor = new; seats = ss })) (sym (whole-list news _ _ (many ∙ sym c.self.inside.seats.ok.0)))
     (record {
       tasks = seen-alike (λ (v : Viewer). inner.task_of v.seat) viewer_of items news viewers ∙ i.tasks;
       known = seen-alike (λ (v : Viewer). inner.known v.seat) viewer_of items news viewers ∙ (i.known ∙ ap (λ (b : Board). replicate 8 (board.published b)) (sym boards));
@@ -51,5 +52,5 @@ returns-clause-none c =
     let many : length news ≡ length items = sym (length-map news viewer_of) ∙ (ap length viewers ∙ length-map items viewer_of) in
     let eight : length news ≡ 8 = many ∙ (sym (length-map items task_of) ∙ (ap length i.tasks ∙ length-range_with_len 0 8)) in
     let long = as-many-waiting AreJoined (map sender news) new.rings told.joined ∙ (length-map news sender ∙ eight) in
-    ap (λ (ss : List TaskSeat). posts_waiting (map sender ss) new.rings) (written news _ _ (many ∙ sym c.self.inside.seats.ok.0))
+    ap (λ (ss : List TaskSeat). posts_waiting (map sender ss) new.rings) (whole-list news _ _ (many ∙ sym c.self.inside.seats.ok.0))
     ∙ (all-empty (posts_waiting (map sender news) new.rings) told.none ∙ ap (λ (n : ℕ). replicate n []) long)
