@@ -34,6 +34,8 @@ mod posting;
 #[cfg(test)]
 mod posts;
 #[cfg(test)]
+mod projects;
+#[cfg(test)]
 mod views;
 #[cfg(test)]
 mod workers;

@@ -6,36 +6,14 @@ ghost use Rattle.hc_conductor.specs.Seats.{seat_of, sender};
 ghost use Rattle.hc_conductor.specs.Together.{EachRing, IsWhole};
 ghost use Rattle.hc_conductor.specs.declared.seat.TaskSeat.{TaskSeat};
 
+use crate::projects::{AXIS, project_of};
 use hc_conductor::conductor::Conductor;
 use hc_conductor::open;
 use hc_conductor::seat::TaskSeat;
 use hc_events::answer::{Answer, Outcome};
-use hc_project::read_project;
 use hc_publish::faults::OpenFault;
 use std::alloc::Global;
 use std::sync::Wait;
-
-/// An axis that is always there, with 2 output bits and 12 input bits in task 0.
-const LINE: &str = r#"
-[[slave]]
-station = 1001
-
-[[slave.area]]
-sm = 2
-dir = "out"
-phys = 0x1100
-task = 0
-assigned = [0x1600]
-pdo = [{ index = 0x1600, entries = [[1, 2]] }]
-
-[[slave.area]]
-sm = 3
-dir = "in"
-phys = 0x1180
-task = 0
-assigned = [0x1a00]
-pdo = [{ index = 0x1a00, entries = [[2, 12]] }]
-"#;
 
 /// The bytes of each frame of this line: no datagram fills more than the shortest frame.
 pub const FRAME: usize = 60;
@@ -44,25 +22,24 @@ pub const FRAME: usize = 60;
 pub fn opening<R: Wait>(rt: &R, alloc: Global) -> Result<(Conductor, Vec<TaskSeat>), OpenFault>
     ensures { IfOk result (λ opened. EachRing IsWhole (map sender opened.1.items) opened.0.rings) }
 {
-    let Ok(project) = read_project(alloc, LINE.as_bytes()) else {
-        return Err(OpenFault::Memory);
-    };
-    open(rt, alloc, project)
+    match project_of(alloc, &[AXIS]) {
+        Some(project) => open(rt, alloc, project),
+        None => Err(OpenFault::Memory),
+    }
 }
 
 /// The line at its opening.
 pub fn opened<R: Wait>(rt: &R, alloc: Global) -> Option<(Conductor, Vec<TaskSeat>)>
     ensures { IfSome result (λ opened. All (IsFresh (origin_of opened.0)) (map seat_of opened.1.items)) }
 {
-    opened_line(rt, alloc, LINE)
+    opened_line(rt, alloc, AXIS)
 }
 
 /// A line at its opening.
 pub fn opened_line<R: Wait>(rt: &R, alloc: Global, line: &str) -> Option<(Conductor, Vec<TaskSeat>)>
     ensures { IfSome result (λ opened. All (IsFresh (origin_of opened.0)) (map seat_of opened.1.items)) }
 {
-    let project = read_project(alloc, line.as_bytes()).ok()?;
-    match open(rt, alloc, project) {
+    match open(rt, alloc, project_of(alloc, &[line])?) {
         Ok(opened) => Some(opened),
         Err(_) => None,
     }

@@ -1,8 +1,9 @@
 //! Two thousand cycles beside eight tasks in threads of their own.
 
-use crate::conductor::fates::{EIGHT, Master, play_all, play_last};
+use crate::conductor::fates::{Master, play_all, play_last};
 use crate::conductor::lines::{are_written, opened_line};
 use crate::conductor::working::{eight_of, work_eight};
+use crate::projects::EIGHT;
 use hc_conductor::conductor::Conductor;
 use hc_conductor::seat::TaskSeat;
 use std::alloc::Global;

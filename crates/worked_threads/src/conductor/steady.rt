@@ -1,10 +1,11 @@
 //! Cycles of eight tasks with the lists and the memory of answers used again: posts, sendings, arrivals and a publishing, all
 //! in one thread. Behind the first ones no growth is met any more, which is counted from outside (`tools/sweep.sh`).
 
-use crate::conductor::fates::{EIGHT, answer};
+use crate::conductor::fates::answer;
 use crate::conductor::lines::{FRAME, are_written, opened_line};
 use crate::conductor::posting::is_posted;
 use crate::conductor::working::byte_of;
+use crate::projects::EIGHT;
 use hc_conductor::conductor::Conductor;
 use hc_conductor::seat::TaskSeat;
 use hc_events::answer::{Arrived, Outcome};

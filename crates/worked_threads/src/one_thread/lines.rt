@@ -1,43 +1,21 @@
 //! One axis, and its master.
+use crate::projects::{AXIS, project_of};
 use hc_conductor::one_thread::master::Master;
 use hc_conductor::one_thread::open;
 use hc_events::answer::{Answer, Outcome};
-use hc_project::read_project;
 use hc_publish::faults::OpenFault;
 use std::alloc::Global;
 use std::sync::Wait;
-
-/// An axis that is always there, with 2 output bits and 12 input bits in task 0.
-const LINE: &str = r#"
-[[slave]]
-station = 1001
-
-[[slave.area]]
-sm = 2
-dir = "out"
-phys = 0x1100
-task = 0
-assigned = [0x1600]
-pdo = [{ index = 0x1600, entries = [[1, 2]] }]
-
-[[slave.area]]
-sm = 3
-dir = "in"
-phys = 0x1180
-task = 0
-assigned = [0x1a00]
-pdo = [{ index = 0x1a00, entries = [[2, 12]] }]
-"#;
 
 /// The bytes of each frame of this line: no datagram fills more than the shortest frame.
 pub const FRAME: usize = 60;
 
 /// The line at its opening, or why it isn't opened.
 pub fn opening<R: Wait>(rt: &R, alloc: Global) -> Result<Master, OpenFault> {
-    let Ok(project) = read_project(alloc, LINE.as_bytes()) else {
-        return Err(OpenFault::Memory);
-    };
-    open(rt, alloc, project)
+    match project_of(alloc, &[AXIS]) {
+        Some(project) => open(rt, alloc, project),
+        None => Err(OpenFault::Memory),
+    }
 }
 
 /// The line at its opening.

@@ -7,9 +7,9 @@ ghost use Rattle.hc_publish.specs.Seats.{IsFresh, carried, note_origin};
 ghost use Rattle.hc_publish.specs.declared.seat.Seat.{Seat};
 ghost use Rattle.worked_threads.specs.Lines.{LeadsTo};
 
+use crate::projects::{AXIS, FEEDER, project_of};
 use hc_events::change::{Change, GoodAnswer};
 use hc_plan::plan::Plan;
-use hc_project::read_project;
 use hc_publish::open;
 use hc_publish::publisher::{Kept, Note, Publisher};
 use hc_publish::seat::Seat;
@@ -19,54 +19,16 @@ use hc_records::limits::TASKS;
 use std::alloc::{AllocError, Global};
 use std::sync::Wait;
 
-/// An axis that is always there, with 2 output bits and 12 input bits in task 0, and a feeder, alias 200, that can be
-/// docked, with 8 input bits in task 1.
-const LINE: &str = r#"
-[[slave]]
-station = 1001
-
-[[slave.area]]
-sm = 2
-dir = "out"
-phys = 0x1100
-task = 0
-assigned = [0x1600]
-pdo = [{ index = 0x1600, entries = [[1, 2]] }]
-
-[[slave.area]]
-sm = 3
-dir = "in"
-phys = 0x1180
-task = 0
-assigned = [0x1a00]
-pdo = [{ index = 0x1a00, entries = [[2, 12]] }]
-
-[[group]]
-alias = 200
-
-[[group.slave]]
-station = 1101
-
-[[group.slave.area]]
-sm = 3
-dir = "in"
-phys = 0x1180
-task = 1
-assigned = [0x1a00]
-pdo = [{ index = 0x1a00, entries = [[3, 8]] }]
-"#;
-
 /// The feeder joins the line.
 pub const DOCK: Edit = Edit::Connect(200);
 
 /// The feeder leaves it.
 pub const UNDOCK: Edit = Edit::Disconnect(200);
 
-fn plan_of_line(alloc: Global, line: &str) -> Option<Plan>
+fn plan_of_line(alloc: Global, texts: &[&str]) -> Option<Plan>
     ensures { IfSome result IsOpening }
 {
-    let project = read_project(alloc, line.as_bytes()).ok()?;
-    match Plan::new(alloc, project) {
+    match Plan::new(alloc, project_of(alloc, texts)?) {
         Ok(plan) => Some(plan),
         Err(_) => None,
     }
@@ -77,19 +39,19 @@ pub fn opened<R: Wait>(rt: &R, alloc: Global) -> Option<(Plan, Publisher, Vec<Se
     ensures leads { IfSome result (λ opened. LeadsTo opened.1 opened.0) }
     ensures seats { IfSome result (λ opened. All (IsFresh (origin_of opened.1)) opened.2.items) }
 {
-    opened_line(rt, alloc, LINE)
+    opened_line(rt, alloc, &[AXIS, FEEDER])
 }
 
-/// A line at its opening, with its publisher and eight seats.
+/// The line of these texts at its opening, with its publisher and eight seats.
 pub fn opened_line<R: Wait>(
     rt: &R,
     alloc: Global,
-    line: &str,
+    texts: &[&str],
 ) -> Option<(Plan, Publisher, Vec<Seat>)>
     ensures leads { IfSome result (λ opened. LeadsTo opened.1 opened.0) }
     ensures seats { IfSome result (λ opened. All (IsFresh (origin_of opened.1)) opened.2.items) }
 {
-    let plan = plan_of_line(alloc, line)?;
+    let plan = plan_of_line(alloc, texts)?;
     match open(rt, alloc, &plan) {
         Ok((publisher, seats)) => Some((plan, publisher, seats)),
         Err(_) => None,

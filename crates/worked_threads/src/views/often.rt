@@ -1,9 +1,10 @@
 //! Two thousand publishings beside eight seats that view in threads of their own.
 ghost use Rattle.worked_threads.specs.Lines.{LeadsTo};
 
+use crate::projects::EIGHT;
 use crate::views::eight::{eight_of, watch_eight};
 use crate::views::lines::opened_line;
-use crate::views::turns::{EIGHT, publish_turns};
+use crate::views::turns::publish_turns;
 use hc_plan::plan::Plan;
 use hc_publish::publisher::Publisher;
 use hc_publish::seat::Seat;
@@ -46,7 +47,7 @@ fn are_views_whole<R: Threads + Wait>(
 
 /// Opens the line, and whether all was published and seen.
 fn is_watched<R: Threads + Wait>(rt: &R, alloc: Global) -> bool {
-    let Some((mut plan, mut publisher, seats)) = opened_line(rt, alloc, EIGHT) else {
+    let Some((mut plan, mut publisher, seats)) = opened_line(rt, alloc, &[EIGHT]) else {
         return false;
     };
     let seen = are_views_whole(rt, alloc, &mut plan, &mut publisher, seats);

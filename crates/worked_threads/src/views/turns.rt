@@ -10,33 +10,6 @@ use hc_records::limits::TASKS;
 use std::alloc::Global;
 use std::sync::Wait;
 
-/// A terminal with 16 input bits in each of the eight tasks, and a feeder, alias 200, that can be docked, with 8 input
-/// bits in each of two tasks.
-pub const EIGHT: &str = r#"
-[[slave]]
-station = 1001
-area = [
-    { sm = 0, dir = "in", phys = 0x1000, task = 0, assigned = [0x1a00], pdo = [{ index = 0x1a00, entries = [[1, 16]] }] },
-    { sm = 1, dir = "in", phys = 0x1100, task = 1, assigned = [0x1a00], pdo = [{ index = 0x1a00, entries = [[2, 16]] }] },
-    { sm = 2, dir = "in", phys = 0x1200, task = 2, assigned = [0x1a00], pdo = [{ index = 0x1a00, entries = [[3, 16]] }] },
-    { sm = 3, dir = "in", phys = 0x1300, task = 3, assigned = [0x1a00], pdo = [{ index = 0x1a00, entries = [[4, 16]] }] },
-    { sm = 4, dir = "in", phys = 0x1400, task = 4, assigned = [0x1a00], pdo = [{ index = 0x1a00, entries = [[5, 16]] }] },
-    { sm = 5, dir = "in", phys = 0x1500, task = 5, assigned = [0x1a00], pdo = [{ index = 0x1a00, entries = [[6, 16]] }] },
-    { sm = 6, dir = "in", phys = 0x1600, task = 6, assigned = [0x1a00], pdo = [{ index = 0x1a00, entries = [[7, 16]] }] },
-    { sm = 7, dir = "in", phys = 0x1700, task = 7, assigned = [0x1a00], pdo = [{ index = 0x1a00, entries = [[8, 16]] }] },
-]
-
-[[group]]
-alias = 200
-
-[[group.slave]]
-station = 1101
-area = [
-    { sm = 2, dir = "in", phys = 0x1180, task = 1, assigned = [0x1a00], pdo = [{ index = 0x1a00, entries = [[9, 8]] }] },
-    { sm = 3, dir = "in", phys = 0x1280, task = 6, assigned = [0x1a00], pdo = [{ index = 0x1a00, entries = [[10, 8]] }] },
-]
-"#;
-
 /// An answer of each task is appended. None where memory was refused.
 fn append_answers(alloc: Global, plan: &Plan, publisher: &mut Publisher) -> Option<()>
     requires { LeadsTo publisher.old plan.now }
