@@ -69,7 +69,7 @@ masked-cleared : (byte mask k : ℕ) → mask < 2 ^ 8 → k < 8 → bit_at mask 
 masked-cleared byte mask k m low one = bit_at-and_zero byte (bit_not w8 mask) k (bit_at_not w8 mask k m low ∙ ap (λ x. 1 - x) one)
 
 -- a byte with n bits from `at` on replaced, as masks compute it
-abbrev replaced_in : ℕ → ℕ → ℕ → ℕ → ℕ
+abbrev pub replaced_in : ℕ → ℕ → ℕ → ℕ → ℕ
 replaced_in byte at n part = bit_or (bit_and byte (bit_not w8 ((2 ^ n - 1) * 2 ^ at % 2 ^ 8))) (part * 2 ^ at % 2 ^ 8)
 
 moved_whole : (at n part : ℕ) → at + n ≤ 8 → part < 2 ^ n → part * 2 ^ at % 2 ^ 8 ≡ part * 2 ^ at

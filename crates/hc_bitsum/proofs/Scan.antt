@@ -74,7 +74,7 @@ through-left xs ys skip room filled end answer h f g =
     rw (drop-left xs ys skip h) (g ∙ sym (scan-append-through room filled (drop skip xs) ys end (sym f)))
 
 -- an area was found for which there is no room
-abbrev IsFound : Fit → Type 0
+abbrev pub IsFound : Fit → Type 0
 IsFound (Found key) = Unit {0}
 IsFound (Through end) = ⊥
 

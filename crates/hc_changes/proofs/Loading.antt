@@ -31,7 +31,7 @@ use Rattle.hc_changes.specs.Tables.{IsEdited}
 use Rattle.hc_changes.proofs.lemmas.Tables.{task-list}
 
 -- so many datagrams of a task, or all where it has fewer
-abbrev loaded_up_to : ℕ → List Placed → ℕ → TaskTable
+abbrev pub loaded_up_to : ℕ → List Placed → ℕ → TaskTable
 loaded_up_to task areas number = loaded task areas (min number (datagram_count areas))
 
 -- a datagram that has some bytes is one of the task's
@@ -87,7 +87,7 @@ pub record AreLoaded (old : Table) (known : Before) (trees : List Kept) (task nu
   pub short : table.outputs + table.inputs ≤ length table.datagrams * MOST_DATAGRAM_BYTES
 
 -- and of what the next one holds
-abbrev IsNext : Table → Before → List Kept → ℕ → ℕ → Load → Type 0
+abbrev pub IsNext : Table → Before → List Kept → ℕ → ℕ → Load → Type 0
 IsNext old known trees task number load =
     (before after : List Declared) → IsEdited before after old known trees → load ≡ load_in (task_places task (line_from 1 after)) number
 

@@ -22,7 +22,7 @@ use Rattle.hc_conductor.proofs.Posted.{PostsOne, known-at, posted-at}
 use Rattle.hc_conductor.proofs.Seated.{as-many-waiting, each-at, map-twice, seen-alike}
 
 -- the ends of its rings looked at each other, and nothing else happened
-record HasLooked (m : Mastering) (c : Conducting) (seats : List TaskSeat) : Type 0 where
+pub record HasLooked (m : Mastering) (c : Conducting) (seats : List TaskSeat) : Type 0 where
   pub known : EachRing KnowAll (map sender seats) c.rings
   pub whole : EachRing IsWhole (map sender seats) c.rings
   pub viewers : map viewer_of seats ≡ map viewer_of m.seats
@@ -73,7 +73,7 @@ few-wait m counts task d is told low few =
     omega (arith, at, few)
 
 -- what a task's seat has for a post where fewer than four of its posts wait
-record HasRoom (m : Mastering) (task : ℕ) (s : TaskSeat) : Type 0 where
+pub record HasRoom (m : Mastering) (task : ℕ) (s : TaskSeat) : Type 0 where
   pub spare : 0 < known_spares (sender s)
   pub place : 2 ≤ known_places (sender s)
   pub epoch : epoch_of s ≡ get_or (map epoch_of m.seats) task 0
@@ -102,7 +102,7 @@ has-room m c before seats counts task s is looked low there same told below =
     }
 
 -- one seat of its makes a post
-record MakesPost (m : Mastering) (c : Conducting) (task : ℕ) (seats : List TaskSeat) (post : Post) : Type 0 where
+pub record MakesPost (m : Mastering) (c : Conducting) (task : ℕ) (seats : List TaskSeat) (post : Post) : Type 0 where
   pub stands : IsMastering (record { conductor = c; seats = seats })
   pub waits : waiting (record { conductor = c; seats = seats }) ≡ with_post task post (waiting m)
 

@@ -17,7 +17,7 @@ use Rattle.hc_conductor.proofs.Seated.{each-at, number-at}
 use Rattle.hc_conductor.proofs.lemmas.Told.{told-same}
 
 -- a task's seat
-record IsSeatOf (m : Mastering) (task : ℕ) (s : TaskSeat) : Type 0 where
+pub record IsSeatOf (m : Mastering) (task : ℕ) (s : TaskSeat) : Type 0 where
   pub inside : task < length m.seats
   pub task_is : task_of s ≡ task
   pub knows : known s ≡ published m
@@ -39,7 +39,7 @@ seat-of m task n s d is at low there =
     }
 
 -- another seat that differs in what it viewed last alone
-record SeesAnother (s t : TaskSeat) : Type 0 where
+pub record SeesAnother (s t : TaskSeat) : Type 0 where
   pub task : task_of t ≡ task_of s
   pub knows : known t ≡ known s
   pub origin : seat_origin t ≡ seat_origin s

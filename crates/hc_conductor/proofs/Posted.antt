@@ -10,7 +10,7 @@ use Rattle.hc_conductor.specs.Together.{EachRing, IsWhole, KnowAll, posts_waitin
 use Rattle.hc_conductor.specs.Posting.{with_post}
 
 -- the ring of a task, of which all is known and no buffer was lost
-record KnownAt (ss : List PostSender) (rs : List PostReceiver) (i : ℕ) (d : PostSender) : Type 0 where
+pub record KnownAt (ss : List PostSender) (rs : List PostReceiver) (i : ℕ) (d : PostSender) : Type 0 where
   pub ring : PostReceiver
   pub know : KnowAll (get_or ss i d) ring
   pub whole : IsWhole (get_or ss i d) ring
@@ -44,7 +44,7 @@ ring-waits s t r post is one =
     ap (drop (length (taken r))) one.one ∙ drop-append-le (length (taken r)) (posted s) (post ∷ []) long
 
 -- the rings behind a post of a task
-record PostedAt (ss : List PostSender) (rs : List PostReceiver) (i : ℕ) (t : PostSender) (post : Post) : Type 0 where
+pub record PostedAt (ss : List PostSender) (rs : List PostReceiver) (i : ℕ) (t : PostSender) (post : Post) : Type 0 where
   pub whole : EachRing IsWhole (set ss i t) rs
   pub waiting : posts_waiting (set ss i t) rs ≡ with_post i post (posts_waiting ss rs)
 

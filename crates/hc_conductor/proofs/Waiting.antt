@@ -83,7 +83,7 @@ ring-taken n most s r r' posts all count takes came =
     }
 
 -- so it is of each ring
-record EachTaken (ss : List PostSender) (rs rs' : List PostReceiver) (posts : List (List Post)) : Type 0 where
+pub record EachTaken (ss : List PostSender) (rs rs' : List PostReceiver) (posts : List (List Post)) : Type 0 where
   pub posts_are : posts ≡ posts_waiting ss rs
   pub joined : EachRing AreJoined ss rs'
   pub whole : EachRing IsWhole ss rs → EachRing IsWhole ss rs'

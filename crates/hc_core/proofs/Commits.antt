@@ -82,7 +82,7 @@ proposal-behind kept past taken frames is agree =
 
 -- nothing is owed, and the serials suffice
 
-record Allowed (past : Record) (tasks : List ℕ) : Type 0 where
+pub record Allowed (past : Record) (tasks : List ℕ) : Type 0 where
   pub owed : owed_blocks past ≡ []
   pub left : next_serial past + length (proposal past tasks) ≤ SETUP_SERIAL
 

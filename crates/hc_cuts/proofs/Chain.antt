@@ -103,7 +103,7 @@ pub end-is : (test : Bool) (key : Key) (is : Bool) → test ≡ same_key key END
 end-is test key is ensured tested = sym ensured ∙ tested
 
 -- what a search from a key tells of the boundaries behind it
-record Follows (tree : Tree) (from next : Key) : Type 0 where
+pub record Follows (tree : Tree) (from next : Key) : Type 0 where
   pub last : same_key next END ≡ true → later_keys (areas_from from tree.list) ≡ []
   pub more : same_key next END ≡ false → later_keys (areas_from from tree.list) ≡ next ∷ later_keys (areas_from next tree.list)
   pub place : same_key next END ≡ false → HasPlace tree.slaves next

@@ -39,7 +39,7 @@ length-first_keys-rest [] d some all = absurd (omega arith)
 length-first_keys-rest (area ∷ areas) d some all = grind (arith, count-later_keys, first_keys-cuts)
 
 -- what stands of a list once its first area's key, and the cuts behind it, were added to no keys
-record AddsAll (list : List Keyed) (d : Keyed) (added pushed new : List Key) (begun front : Front) (place : Placed) : Type 0 where
+pub record AddsAll (list : List Keyed) (d : Keyed) (added pushed new : List Key) (begun front : Front) (place : Placed) : Type 0 where
   pub some : 0 < length list
   pub packable : All IsPackable list
   pub empty : new ≡ []

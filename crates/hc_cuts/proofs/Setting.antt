@@ -25,7 +25,7 @@ key-set old new key bits was set starts holds = grind (arith, width-set)
 
 -- both keys of a place in a slave's record
 
-abbrev with_area : ℕ → ℕ → ℕ → List Area → Kept → Key → ℕ
+abbrev pub with_area : ℕ → ℕ → ℕ → List Area → Kept → Key → ℕ
 with_area task rank area new kept key = if (rank == key.rank) && (area == key.area) then slave_width task new key else width_in kept.tree.list key
 
 -- the areas of a slave, up to a place in its record

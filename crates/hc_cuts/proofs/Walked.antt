@@ -23,7 +23,7 @@ use Rattle.hc_cuts.proofs.Searched.{boundary-cut}
 use Rattle.hc_cuts.proofs.lemmas.Datagrams.{front_of}
 
 -- the key of the first area of a list, or END
-abbrev head_key : List Keyed → Key
+abbrev pub head_key : List Keyed → Key
 head_key [] = END
 head_key (area ∷ areas) = area.0
 
@@ -101,7 +101,7 @@ carried-cut first cut front (area ∷ areas) is next =
     (λ later. carried-cut first cut (behind (placed_at front area)) areas (list-tail first area areas is) later)
 
 -- so of the areas of a span
-record IsSpan (datagram : ℕ) (from : Key) (list areas : List Keyed) : Type 0 where
+pub record IsSpan (datagram : ℕ) (from : Key) (list areas : List Keyed) : Type 0 where
   pub packable : All IsPackable areas
   pub below : All (λ area. is_before area.0 END ≡ true) areas
   pub room : next_cut (blank_datagram datagram) areas ≡ END

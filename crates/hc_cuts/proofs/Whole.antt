@@ -136,7 +136,7 @@ boundary-last [] = refl
 boundary-last (key ∷ keys) = boundary-last keys
 
 -- a start with a number, and the boundary behind it
-record IsSpanAt (tree : Tree) (starts : List Key) (at : ℕ) (from next : Key) : Type 0 where
+pub record IsSpanAt (tree : Tree) (starts : List Key) (at : ℕ) (from next : Key) : Type 0 where
   pub begins : CanBegin tree.slaves from
   pub ends : next ≡ next_boundary from tree.list
   pub numbered : slice_get (spans (boundaries tree.list)) at ≡ Some (from, next)

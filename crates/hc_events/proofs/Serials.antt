@@ -25,7 +25,7 @@ use Rattle.hc_events.proofs.lemmas.Once.{serial-below}
 
 -- of two sendings the newer has the greater serial
 
-abbrev Ascends : ℕ → ℕ → Option Sending → Option Sending → Type 0
+abbrev pub Ascends : ℕ → ℕ → Option Sending → Option Sending → Type 0
 Ascends low high first second = (older newer : Sending) → first ≡ Some older → second ≡ Some newer → low < high → length newer.since < length older.since
 
 both_more : (a b : ℕ) → a < b → suc a < suc b
@@ -85,7 +85,7 @@ serials-ascend (Wrote block ∷ past) low high =
 
 -- no event leads past the setup serial
 
-abbrev Left : Record → Type 0
+abbrev pub Left : Record → Type 0
 Left past = next_serial past ≤ SETUP_SERIAL
 
 left_if : (refused : Option CoreFault) (past next : Record) → (refused ≡ None → Left next) → Left past → Left (kept_if refused past next)

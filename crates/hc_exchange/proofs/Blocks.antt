@@ -67,7 +67,7 @@ block-stays memory station block long is plain = elim (cases_eq block.station st
 
 -- behind all of them
 
-record AllStay (memory memory' : List ℕ) (station : ℕ) (blocks : List LineBlock) : Type 0 where
+pub record AllStay (memory memory' : List ℕ) (station : ℕ) (blocks : List LineBlock) : Type 0 where
   pub size : length memory' ≡ 12288
   pub station_is : word_at memory' 16 ≡ station
   pub outside : (r : ℕ) → All (Leaves station r) blocks → get_or memory' r 0 ≡ get_or memory r 0

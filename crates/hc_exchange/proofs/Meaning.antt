@@ -42,7 +42,7 @@ use Rattle.hc_exchange.proofs.Passing.{IsSendable, Returned, frame_with, logical
 use Rattle.hc_exchange.proofs.Standing.{InDatagram, gap-free, has-pair, in-datagram, task-told}
 
 -- an exchange, and what is known of it
-record Given (state : State) (task : ℕ) (image : List ℕ) (machines frames machines' : List (List ℕ)) : Type 0 where
+pub record Given (state : State) (task : ℕ) (image : List ℕ) (machines frames machines' : List (List ℕ)) : Type 0 where
   pub can : IsConfigurable state
   pub small : All AreBytes machines
   pub few : length (line_blocks (line state)) < 2 ^ 32

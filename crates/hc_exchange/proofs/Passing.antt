@@ -63,7 +63,7 @@ pub record Returned (line : List Member) (serial task d : ℕ) (frame came : Lis
   pub told : reading_of frame ≡ record { serial = serial + d; parts = logical_part (logical_address task d) came (expected_counter task d line % 65536) ∷ [] }
   pub size : length came ≡ datagram_length (task_places task line) d
 
-record ReturnedAt (line : List Member) (serial task : ℕ) (ds : List ℕ) (cames : List (List ℕ)) (n : ℕ) (frame : List ℕ) : Type 0 where
+pub record ReturnedAt (line : List Member) (serial task : ℕ) (ds : List ℕ) (cames : List (List ℕ)) (n : ℕ) (frame : List ℕ) : Type 0 where
   pub d : ℕ
   pub came : List ℕ
   pub sent : slice_get ds n ≡ Some d

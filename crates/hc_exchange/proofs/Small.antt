@@ -18,7 +18,7 @@ use Rattle.hc_exchange.proofs.Blocks.{block-size, blocks_behind}
 use Rattle.hc_exchange.proofs.Wrote.{IsPlain, block_behind, other-behind, own-behind, written-inside, written-length, written-outside}
 use Rattle.hc_exchange.proofs.lemmas.Sources.{IsOfLine, Source, line-sources}
 
-abbrev IsByte : ℕ → Type 0
+abbrev pub IsByte : ℕ → Type 0
 IsByte n = n < 256
 
 control-small : (dir : Dir) → control_of dir < 256

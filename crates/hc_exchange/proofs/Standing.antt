@@ -100,7 +100,7 @@ task-told state task d bit station m can is low p =
 
 -- an output area's bit is carried
 
-record HasPair (line : List Member) (task : ℕ) (member : Member) (m : ℕ) : Type 0 where
+pub record HasPair (line : List Member) (task : ℕ) (member : Member) (m : ℕ) : Type 0 where
   pub x : ℕ
   pub carries : CarriesPair line Out member.slave.station x m
   pub in_task : carries.areas.area.task ≡ task

@@ -31,7 +31,7 @@ use Rattle.hc_groups.proofs.Summed.{front-at, sums-length}
 
 -- what the numbers of an index that a group can enter are
 
-record Enters (index : Index) (group : Group) : Type 0 where
+pub record Enters (index : Index) (group : Group) : Type 0 where
   pub groups : length index.fronts < 65536
   pub slaves : length index.owners + length group.slaves < 65535
   pub blocks : block_sum group.slaves < 4294967296
@@ -88,7 +88,7 @@ can-enter index group can =
     }
 
 -- there is room for what the lists of an index take of a group
-record Fits (index : Index) (group : Group) (room : IndexRoom) : Type 0 where
+pub record Fits (index : Index) (group : Group) (room : IndexRoom) : Type 0 where
   pub aliases : length index.aliases + 1 ≤ room.aliases
   pub variables : length index.variables + length room.names ≤ room.variables
   pub owners : length index.owners + length group.slaves ≤ room.owners
@@ -98,7 +98,7 @@ record Fits (index : Index) (group : Group) (room : IndexRoom) : Type 0 where
   pub blocks : length index.blocks + 1 ≤ room.blocks
 
 -- how long the lists of an index are
-record HasLengths (groups : List Declared) (index : Index) : Type 0 where
+pub record HasLengths (groups : List Declared) (index : Index) : Type 0 where
   pub aliases : length index.aliases ≡ length groups
   pub variables : length index.variables ≡ length (variables groups)
   pub owners : length index.owners ≡ sum_by declared_count groups

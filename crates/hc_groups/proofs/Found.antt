@@ -42,7 +42,7 @@ pub some-found : {X : Type 0} (test : X → Bool) (xs : List X) → list_any tes
 some-found test xs some none = search (rules, none-from, position_from-zero)
 
 -- the element that is found
-record IsThere {X : Type 0} (P : X → Type 0) (test : X → Bool) (i : ℕ) (xs : List X) : Type 0 where
+pub record IsThere {X : Type 0} (P : X → Type 0) (test : X → Bool) (i : ℕ) (xs : List X) : Type 0 where
   pub found : X
   pub at : slice_get xs i ≡ Some found
   pub passes : test found ≡ true
@@ -61,7 +61,7 @@ changed-alike (suc i) change other (first ∷ xs) x at same = ap (λ rest. first
 
 -- a change of those with a number
 
-abbrev changed_by : {X : Type 0} → (X → ℕ) → ℕ → (X → X) → X → X
+abbrev pub changed_by : {X : Type 0} → (X → ℕ) → ℕ → (X → X) → X → X
 changed_by key number change x = if key x == number then change x else x
 
 changed-here : {X : Type 0} (passes : Bool) (x y : X) → passes ≡ true → (if passes then y else x) ≡ y

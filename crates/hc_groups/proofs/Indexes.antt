@@ -145,7 +145,7 @@ pub record OwnerOf (groups : List Declared) (n group place number : ℕ) : Type 
 own-present : (present : Bool) (slaves : List Slave) (offset : ℕ) → offset < block_sum (if present then slaves else []) → present ≡ true
 own-present present slaves offset low = search rules
 
-owner : (groups : List Declared) (n group offset place number : ℕ) → lowest_fault (groups_of groups) ≡ None → (falls : FallsIn own_sum groups n group offset)
+pub owner : (groups : List Declared) (n group offset place number : ℕ) → lowest_fault (groups_of groups) ≡ None → (falls : FallsIn own_sum groups n group offset)
     → FallsIn blocks_of falls.x.group.slaves offset place number → OwnerOf groups n group place number
 owner groups n group offset place number none falls own =
     let line = line_from 1 groups in

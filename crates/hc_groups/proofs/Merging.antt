@@ -13,11 +13,11 @@ use Rattle.std.proofs.lemmas.List.Sorted.{IsPermutation-append_right, IsPermutat
 use Rattle.hc_records.proofs.lemmas.Lists.{All-append_left, All-append_right, AllPairs-append, AllPairs-append_left, AllPairs-append_right, AllPairs-between, AllPairs-nil}
 
 -- each number is no greater than the later ones
-abbrev Rises : List ℕ → Type 0
+abbrev pub Rises : List ℕ → Type 0
 Rises = AllPairs (λ a b. a ≤ b)
 
 -- each of these is no greater than any of those
-abbrev AreBelow : List ℕ → List ℕ → Type 0
+abbrev pub AreBelow : List ℕ → List ℕ → Type 0
 AreBelow xs ys = All (λ x. All (λ y. x ≤ y) ys) xs
 
 pub rises : (xs : List ℕ) → IsNonDecreasing xs → Rises xs
@@ -39,7 +39,7 @@ below-through : (x v : ℕ) (ys : List ℕ) → x ≤ v → All (λ y. v ≤ y) 
 below-through x v ys low all = All-weaker (λ y. v ≤ y) (λ y. x ≤ y) (λ y above. omega (arith, low, above)) ys all
 
 -- what is done so far: the numbers of both lists behind the places that are left are in order, and no lower than those in front of them
-record Merged (front back low high done : List ℕ) : Type 0 where
+pub record Merged (front back low high done : List ℕ) : Type 0 where
   pub same : IsPermutation (back ++ high) done
   pub order : Rises done
   pub first : AreBelow front done
@@ -221,7 +221,7 @@ copied-parts all copied at left more low inside is =
       ap (drop to) parts ∙ drop_at (take to all) (run ++ end) to held,
     )
 
-record PutBelow (all new : List ℕ) (at left more v : ℕ) : Type 0 where
+pub record PutBelow (all new : List ℕ) (at left more v : ℕ) : Type 0 where
   pub size : length new ≡ length all
   pub front : take at new ≡ take at all
   pub behind : drop (at + more) new ≡ v ∷ (slice_range all at left ++ drop (left + more + 1) all)

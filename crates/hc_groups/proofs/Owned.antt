@@ -11,7 +11,7 @@ use Rattle.hc_groups.specs.Index.{declared_count, owners_from}
 use Rattle.hc_groups.proofs.Summed.{FallsIn}
 
 -- a declared slave and its group, of which the first has a number
-record IsOwned (first : ℕ) (groups : List Declared) (n group : ℕ) : Type 0 where
+pub record IsOwned (first : ℕ) (groups : List Declared) (n group : ℕ) : Type 0 where
   pub index : ℕ
   pub number : group ≡ first + index
   pub offset : ℕ

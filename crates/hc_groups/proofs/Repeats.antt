@@ -11,7 +11,7 @@ abbrev has_key : {X : Type 0} → (X → ℕ) → ℕ → X → Bool
 has_key key number item = key item == number
 
 -- the number is the key of none of the items
-abbrev is_foreign : {X : Type 0} → (X → ℕ) → List X → ℕ → Bool
+abbrev pub is_foreign : {X : Type 0} → (X → ℕ) → List X → ℕ → Bool
 is_foreign key items number = not (list_any (has_key key number) items)
 
 -- the items with another key

@@ -57,7 +57,7 @@ pub record Course : Type 0 where
   pub cut : Bytes
   pub last : Bytes
 
-abbrev next : Course → Table
+abbrev pub next : Course → Table
 next e = swapped e.change e.old
 
 pub record AreMoved (e : Course) : Type 0 where

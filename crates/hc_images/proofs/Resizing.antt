@@ -93,7 +93,7 @@ new_task change table task said is ascend low told =
           (swaps-replace change table ascend task ∙ ap (λ s. option_map (λ (o : TaskTable). unwrap_or s o) (slice_get table.tasks task)) told),
     )
 
-abbrev GetsLength : Change → Table → Bytes → Bytes → ℕ → ℕ → Type 0
+abbrev pub GetsLength : Change → Table → Bytes → Bytes → ℕ → ℕ → Type 0
 GetsLength change table old new task d = slot_bytes new task d ≡ resized (length_in (swapped change table) task d) (slot_bytes old task d)
 
 said_length : (change : Change) (table : Table) (old new : Bytes) (task d : ℕ) → IsTable table → ChangesAscend change.tasks → task < TASKS → d < MOST_DATAGRAMS

@@ -34,10 +34,10 @@ found-output table variable place is = ap (option_and_then output_of) is.there �
 
 -- numbered places that are those of outputs of a table, by numbered rows
 
-abbrev AreOutputs : {Y : Type 0} → Table → List (ℕ × Y) → Numbered → Type 0
+abbrev pub AreOutputs : {Y : Type 0} → Table → List (ℕ × Y) → Numbered → Type 0
 AreOutputs table rows places = (i : ℕ) (row : ℕ × _) (place : VariablePlace) → slice_get rows i ≡ Some row → places i ≡ Some place → IsOutput table row.0 place
 
-record RowAt {Y : Type 0} (rows : List (ℕ × Y)) (i : ℕ) : Type 0 where
+pub record RowAt {Y : Type 0} (rows : List (ℕ × Y)) (i : ℕ) : Type 0 where
   pub row : ℕ × Y
   pub there : slice_get rows i ≡ Some row
 
@@ -76,7 +76,7 @@ pub rows-are : (table : Table) → RowsAscend table.variables → AreOutputs tab
 rows-are table ascend i row place there is = output-found table row.0 place (sym (of_row table i row ascend there) ∙ is)
 
 -- each output has a row
-record IsAmong (n : ℕ) (places : Numbered) (place : VariablePlace) : Type 0 where
+pub record IsAmong (n : ℕ) (places : Numbered) (place : VariablePlace) : Type 0 where
   pub index : ℕ
   pub low : index < n
   pub there : places index ≡ Some place

@@ -78,7 +78,7 @@ next_unwritten n most k places run old mid place low range apart each there belo
 
 -- so what is read there is what stood there at first
 
-abbrev IsValue : Option VariablePlace → ℕ → Bytes → ℕ → Type 0
+abbrev pub IsValue : Option VariablePlace → ℕ → Bytes → ℕ → Type 0
 IsValue found lacking bytes value =
     MatchOption found (value ≡ lacking)
     (λ place. (k : ℕ) → k < place.bits → bit_at value k ≡ bit_of (slot_bytes bytes place.task place.datagram) (place.bit + k))

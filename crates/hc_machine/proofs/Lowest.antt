@@ -84,7 +84,7 @@ pub both-true : (a b : Bool) → a ≡ true → b ≡ true → (a && b) ≡ true
 both-true a b p q = rw (p, q) refl
 
 -- ---- what is read
-abbrev reads-at : Fmmu → ℕ → Bool
+abbrev pub reads-at : Fmmu → ℕ → Bool
 reads-at f x = f.reads && is_within f.logical f.width x
 
 read-lowest : (fs : List Fmmu) (i : ℕ) (memory : ℕ → ℕ) (x was : ℕ) → i < length fs → reads-at (get_or fs i idle) x ≡ true → ((j : ℕ) → j < i → reads-at (get_or fs j idle) x ≡ false)
@@ -139,7 +139,7 @@ unread-stays memory bytes from k low none =
     ∙ read-none (fmmus_of memory) (bit_of memory) (from + k) (bit_of bytes k) (λ j h. let number : j < 16 = omega (arith, fmmu-count memory) in not-read memory j (from + k) number (λ n. none j n number))
 
 -- ---- what is written
-abbrev writes-at : ℕ → ℕ → Fmmu → ℕ → Bool
+abbrev pub writes-at : ℕ → ℕ → Fmmu → ℕ → Bool
 writes-at from n f m = f.writes && is_within f.memory f.width m && is_within from n (logical_bit f m)
 
 write-lowest : (fs : List Fmmu) (i : ℕ) (came : ℕ → ℕ) (from n m was : ℕ) → i < length fs → writes-at from n (get_or fs i idle) m ≡ true → ((j : ℕ) → j < i → writes-at from n (get_or fs j idle) m ≡ false)

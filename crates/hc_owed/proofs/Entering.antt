@@ -68,7 +68,7 @@ entered known old group added is =
 
 -- the room serves what is kept, and the slaves are few
 
-record Fits (board : Board) (room : OwedRoom) : Type 0 where
+pub record Fits (board : Board) (room : OwedRoom) : Type 0 where
   pub few : length board.stations + length room.added < 65536
   pub known : 16 * (length board.stations + length room.added) ≤ room.known
   pub owed : 16 * (length board.stations + length room.added) ≤ 64 * room.owed

@@ -93,7 +93,7 @@ position-first words first (suc count) (suc n) at low here none =
     search (rules, none-here, position-first words (first + 1) count n (at + 1) (omega arith) (ap (flag words) (omega arith) ∙ here) (λ i low high. none i (omega arith) (omega arith)))
 
 -- the lowest bit that is set in the first word that isn't 0
-record IsLowest (words : List ℕ) (at place : ℕ) : Type 0 where
+pub record IsLowest (words : List ℕ) (at place : ℕ) : Type 0 where
   pub before : (k : ℕ) → k < at → slice_index words k ≡ 0
   pub inside : place < 64
   pub set : bit_at (slice_index words at) place ≡ 1
@@ -134,7 +134,7 @@ first-none words count none fits =
     ∙ position-none words 0 count 0 (λ i above below. clear-word words i (none (i / 64) (omega (arith, fits, below))))
 
 -- what flags say of their fields
-record AreFlags (words : List ℕ) (len capacity : ℕ) (flags : Flags) : Type 0 where
+pub record AreFlags (words : List ℕ) (len capacity : ℕ) (flags : Flags) : Type 0 where
   pub list : flags.list ≡ flags_from words len 0
   pub length : length flags.list ≡ len
   pub room : flags.room ≡ 64 * capacity

@@ -55,7 +55,7 @@ firsts known (None ∷ all) at = later known None all at (position_from (λ (fla
 firsts known (Some block ∷ all) at = search (rules, by-test, firsts known all (at + 1))
 
 -- the block at the first set place is the first owed one
-record IsFirstAt (known : Knowledge) (state : State) (n : ℕ) : Type 0 where
+pub record IsFirstAt (known : Knowledge) (state : State) (n : ℕ) : Type 0 where
   pub block : LineBlock
   pub rest : List LineBlock
   pub stands : slice_get (places state) n ≡ Some (Some block)

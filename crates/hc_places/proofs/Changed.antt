@@ -33,7 +33,7 @@ numbers rows = map (λ row. row.0) rows
 abbrev of_both : List Row → List Row → List ℕ
 of_both old new = numbers old ++ filter (appears old) (numbers new)
 
-abbrev different : List Row → List Row → List ℕ
+abbrev pub different : List Row → List Row → List ℕ
 different old new = filter (differs old new) (of_both old new)
 
 -- rows in front of a look-up

@@ -74,7 +74,7 @@ suit-all slaves (listed ∷ areas) (placed ∷ places) same names offers =
     (suit-all slaves areas places rest (All-tail (NamesIn slaves) listed areas names) (All-tail (λ (l : Listed). OffersBits l.area) listed areas offers))
 
 -- an area lies in one of the datagrams, at its place
-record MeetsPlace (listed : Listed) (placed : Placed) : Type 0 where
+pub record MeetsPlace (listed : Listed) (placed : Placed) : Type 0 where
   pub few : placed.datagram < MOST_DATAGRAMS
   pub inside : placed.bit + width listed.area ≤ MOST_AREA_BITS
   pub offers : OffersBits listed.area

@@ -134,13 +134,13 @@ says-count old new change before after ascends says =
 
 -- what is said of each task and of each variable is what a change says
 
-abbrev change_of : List ChangedTask → List ChangedRow → Change
+abbrev pub change_of : List ChangedTask → List ChangedRow → Change
 change_of tasks rows = record { tasks = tasks; rows = rows }
 
 abbrev TasksSay : Table → Table → List ChangedTask → Type 0
 TasksSay old new tasks = (task : ℕ) → IsNewTask (slice_get old.tasks task) (slice_get new.tasks task) (table_said tasks task)
 
-abbrev SamePlaces : List ChangedRow → List ChangedRow → Type 0
+abbrev pub SamePlaces : List ChangedRow → List ChangedRow → Type 0
 SamePlaces rows given = (variable : ℕ) → find (λ (c : ChangedRow). c.0 == variable) rows ≡ find (λ (c : ChangedRow). c.0 == variable) given
 
 -- so a swap leads where its rows say the same as those that were given

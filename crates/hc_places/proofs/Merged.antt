@@ -41,7 +41,7 @@ pub in-place : (changed : ChangedRow) (row : Row) (rows : List Row) → row.0 �
 in-place changed row rows same =
     cond-false _ _ _ (same-not-below row.0 changed.0 same) ∙ ap (λ (l : List Row). new_row changed ++ l) (cond-true _ _ _ (eq-eqb row.0 changed.0 same))
 
-abbrev Merges : List ChangedRow → List Row → Type 0
+abbrev pub Merges : List ChangedRow → List Row → Type 0
 Merges others rows = ChangesAscend others → RowsAscend rows → walked merges rows others ≡ merged others rows
 
 merged-above : (low : ℕ) (others : List ChangedRow) (rows : List Row) → walked merges rows others ≡ merged others rows → AreAbove low others → AreAbove low rows → AreAbove low (merged others rows)

@@ -15,14 +15,14 @@ use Rattle.hc_places.proofs.lemmas.Totals.{total}
 use Rattle.hc_places.proofs.lemmas.Sorted.{filter-by_number}
 
 -- rows of a number
-abbrev numbered : {X : Type 0} → ℕ → ℕ × X → Bool
+abbrev pub numbered : {X : Type 0} → ℕ → ℕ × X → Bool
 numbered number row = row.0 == number
 
 -- rows whose numbers are no lower than the first one's, and so on
 abbrev AreAtLeast : {X : Type 0} → ℕ → List (ℕ × X) → Type 0
 AreAtLeast number rows = All (λ row. number ≤ row.0) rows
 
-abbrev Rises : {X : Type 0} → List (ℕ × X) → Type 0
+abbrev pub Rises : {X : Type 0} → List (ℕ × X) → Type 0
 Rises [] = Unit {0}
 Rises (row ∷ rows) = AreAtLeast row.0 rows × Rises rows
 

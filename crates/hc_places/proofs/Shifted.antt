@@ -45,7 +45,7 @@ widened {X} old more new high bound is =
       behind = ap (drop at) parts ∙ drop_at (take at all) (drop high old) at (omega (arith, held, size, bound));
     }
 
-record Placed {X : Type 0} (old new : List X) (low high count : ℕ) : Type 0 where
+pub record Placed {X : Type 0} (old new : List X) (low high count : ℕ) : Type 0 where
   pub size : low + count ≤ length new
   pub front : take low new ≡ take low old
   pub behind : drop (low + count) new ≡ drop high old

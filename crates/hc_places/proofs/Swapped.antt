@@ -115,10 +115,10 @@ place-merged (changed ∷ others) rows variable ascends =
 
 -- rows in order are told by the places that they give
 
-abbrev SamePlaces : List Row → List Row → Type 0
+abbrev pub SamePlaces : List Row → List Row → Type 0
 SamePlaces xs ys = (variable : ℕ) → place_of xs variable ≡ place_of ys variable
 
-abbrev Told : List Row → List Row → Type 0
+abbrev pub Told : List Row → List Row → Type 0
 Told xs ys = RowsAscend xs → RowsAscend ys → SamePlaces xs ys → xs ≡ ys
 
 row-stands : {P : Type 0} (row : Row) (rows others : List Row) → AreAbove row.0 others → place_of (row ∷ rows) row.0 ≡ place_of others row.0 → P

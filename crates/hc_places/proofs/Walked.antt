@@ -92,7 +92,7 @@ ascends-rest {X} x xs ascends = AllPairs-tail (λ (a b : ℕ × X). a.0 < b.0) x
 
 -- a walk of what lies above a number lies above it
 
-abbrev WalksAbove : {X Y Z : Type 0} → Gives X Y (ℕ × Z) → ℕ → List (ℕ × X) → List (ℕ × Y) → Type 0
+abbrev pub WalksAbove : {X Y Z : Type 0} → Gives X Y (ℕ × Z) → ℕ → List (ℕ × X) → List (ℕ × Y) → Type 0
 WalksAbove gives low xs ys = AreAbove low xs → AreAbove low ys → AreAbove low (walked gives ys xs)
 
 above-both : {X Y Z : Type 0} (gives : Gives X Y (ℕ × Z)) → Keeps gives → (low : ℕ) (x : ℕ × X) (xs : List (ℕ × X)) (y : ℕ × Y) (ys : List (ℕ × Y))

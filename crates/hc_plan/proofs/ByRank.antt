@@ -80,7 +80,7 @@ pub at-rank : (line : List Member) (groups : List Declared) (i number : ℕ) (sl
 at-rank line groups i number slave at low = ap (λ (all : List (Option LineBlock)). slice_get all (16 * i + number)) (groups-all line 1 groups) ∙ at-index line 1 (by_rank groups) i number slave at low
 
 -- the declared slaves by rank are all of them
-abbrev slaves_by_rank : List Ranked → List Slave
+abbrev pub slaves_by_rank : List Ranked → List Slave
 slaves_by_rank slaves = map (λ one. one.slave) slaves
 
 one-group : (present : Bool) (slaves : List Slave) → slaves_by_rank (ranked present slaves) ≡ slaves
@@ -96,7 +96,7 @@ all-slaves (d ∷ groups) = search (rules, map-append, one-group, all-slaves gro
 abbrev pub InRow : Prepared → ℕ → Type 0
 InRow change i = (first_of change ≤ i + 1) × (i + 1 < first_of change + count_of change)
 
-abbrev BesideRow : Prepared → ℕ → Type 0
+abbrev pub BesideRow : Prepared → ℕ → Type 0
 BesideRow change i = (i + 1 < first_of change) ⊎ (first_of change + count_of change ≤ i + 1)
 
 around-before : {X : Type 0} (front own behind : List X) (i : ℕ) → i < length front → slice_get (front ++ (own ++ behind)) i ≡ slice_get front i

@@ -89,7 +89,7 @@ found-names test [] = refl
 found-names test ((None, bits) ∷ entries) = found-names test entries
 found-names test ((Some name, bits) ∷ entries) = ap (λ (b : Bool). test name || b) (found-names test entries)
 
-abbrev pdos_take : (ℕ → Bool) → List Pdo → Bool
+abbrev pub pdos_take : (ℕ → Bool) → List Pdo → Bool
 pdos_take test pdos = list_any (λ pdo. list_any (λ entry. option_map_or test entry.0 false) pdo.entries) pdos
 
 pdos-taken : (test : ℕ → Bool) (pdos : List Pdo) → list_any test (pdo_names pdos) ≡ pdos_take test pdos

@@ -100,7 +100,7 @@ pub nothing-named : (old : State) (edit : Edit) (report : Report) → TellsNothi
 nothing-named old edit report nothing = (nothing (record { groups = old.groups; epoch = old.epoch + 1 }) refl refl).named
 
 -- the groups with the declared one, and their line
-record IsDeclared (groups : List Declared) (table : Table) : Type 0 where
+pub record IsDeclared (groups : List Declared) (table : Table) : Type 0 where
   pub project : lowest_fault (groups_of groups) ≡ None
   pub fits : crowded_task (line_from 1 groups) ≡ None
   pub stands : table ≡ table_of (line_from 1 groups)

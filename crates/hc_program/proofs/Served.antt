@@ -123,7 +123,7 @@ pub bytes_stay : (past : Record) (bytes : List ℕ) (fault : CoreFault) → answ
 bytes_stay past bytes fault e = arrival_stays past (arrival_in bytes) fault e
 
 -- the answers to an edit, and to an arrival
-abbrev IsOfEdit : Answer → Type 0
+abbrev pub IsOfEdit : Answer → Type 0
 IsOfEdit (answer.Edited epoch recut moved) = Unit {0}
 IsOfEdit (answer.Refused fault) = Unit {0}
 IsOfEdit _ = ⊥
@@ -150,7 +150,7 @@ one_of_edit answer.Stale is edited refused = is
 one_of_edit (answer.Image epoch slots) is edited refused = is
 
 -- the answers to an arrival that can be read: refused only in want of memory
-abbrev IsOfArrival : Answer → Type 0
+abbrev pub IsOfArrival : Answer → Type 0
 IsOfArrival (answer.Answered outcomes) = Unit {0}
 IsOfArrival answer.WriteDone = Unit {0}
 IsOfArrival answer.WriteMissed = Unit {0}

@@ -85,10 +85,10 @@ rises_more log e rises on a b ne p q =
 rises_shorter : (log a b : List Told) → Rises log → 0 < length a → IsPrefix a log → IsPrefix b log → length a ≤ length b → Extends (top a) (top b)
 rises_shorter log a b rises ne p q le = rises a b ne (prefix_shorter a b log p q le) q
 
-abbrev shown : List Told → List Told
+abbrev pub shown : List Told → List Told
 shown log = []
 
-abbrev moved : Told → List Told → List Told → ℕ → Type 0
+abbrev pub moved : Told → List Told → List Told → ℕ → Type 0
 moved ask xs ys n = Unit {0}
 
 adds_goes : (log v : List Told) (e : Told) (old : ℕ) → length v ≡ old → (0 < length v → Extends (top v) e) → Rises log → IsPrefix v log

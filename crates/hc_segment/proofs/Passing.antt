@@ -28,7 +28,7 @@ pub more-machines : (s t t' : Machines) (fs fs' : List (List ℕ)) (f : List ℕ
 more-machines s t t' fs fs' f a b e = b ∙ ap (λ (z : Machines). machines_behind z f) a ∙ sym (machines_after-append s fs (f ∷ [])) ∙ sym (ap (machines_after s) e)
 
 -- the machines when the frame has met the first i of them
-abbrev met : ℕ → Machines → List ℕ → Machines
+abbrev pub met : ℕ → Machines → List ℕ → Machines
 met i ms f = machines_behind (take i ms) f ++ drop i ms
 
 meets-next : (i : ℕ) (ms : Machines) (f x : List ℕ) → i < length ms → x ≡ get_or ms i x → set (met i ms f) i (memory_behind x (frame_through (take i ms) f)) ≡ met (suc i) ms f

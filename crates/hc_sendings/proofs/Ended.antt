@@ -117,7 +117,7 @@ no-number a b t = grind (arith, nat_tests)
 is-behind : (a b : ℕ) → nat_lt a b ≡ false → a ≢ b → b < a
 is-behind a b t e = grind (arith, nat_tests)
 
-abbrev Ascend : List KeptFrame → Type 0
+abbrev pub Ascend : List KeptFrame → Type 0
 Ascend frames = AllPairs (λ a b. a.serial < b.serial) frames
 
 abbrev pub Reaches : List KeptFrame → ℕ → ℕ → Type 0

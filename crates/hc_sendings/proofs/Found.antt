@@ -13,7 +13,7 @@ use Rattle.hc_sendings.proofs.Alive.{Table, alive_at, stays_at, told_at}
 use Rattle.hc_sendings.proofs.Pieces.{weaker}
 
 -- a frame with the serial that is awaited
-abbrev is_sought : Table → ℕ → KeptFrame → Bool
+abbrev pub is_sought : Table → ℕ → KeptFrame → Bool
 is_sought at serial frame = (frame.serial == serial) && stays_at at frame
 
 apart : (a b c : ℕ) → nat_lt a b ≡ true → (a == b) ≡ false

@@ -130,7 +130,7 @@ sent-all (frame ∷ frames) at kept write ascend behind =
 
 -- what is kept of frames that are sent, behind those that were awaited before: serials ascend and datagrams have their places
 
-abbrev Ascend : KeptFrame → KeptFrame → Type 0
+abbrev pub Ascend : KeptFrame → KeptFrame → Type 0
 Ascend a b = a.serial < b.serial
 
 kept-behind : (at : Table) (kept : List KeptFrame) (frames : List Frame) → All (λ old. All (λ next. old.serial < next.serial) frames) (alive_at at kept)
@@ -214,7 +214,7 @@ alive-append : (at : Table) (one other : List KeptFrame) → alive_at at (one ++
 alive-append at one other = ap (filter is_alive) (map-append (told_at at) one other) ∙ filter-append is_alive (map (told_at at) one) (map (told_at at) other)
 
 -- the whole of it: frames that are awaited no longer may go, the frames are noted, others may go, and those of the new frames that are the newest of a datagram come behind
-abbrev joined : Newest → List KeptFrame → List Frame → List KeptFrame
+abbrev pub joined : Newest → List KeptFrame → List Frame → List KeptFrame
 joined now second frames = second ++ filter (stays_at (newest_of now)) (map kept_of frames)
 
 pub joined-kept : (before now : Newest) (kept first second : List KeptFrame) (frames : List Frame) → AreKept before kept → length now ≡ length before

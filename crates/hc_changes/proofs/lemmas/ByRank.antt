@@ -21,7 +21,7 @@ use Rattle.hc_changes.proofs.lemmas.Others.{IsAreaOf, member-found}
 use Rattle.hc_changes.proofs.lemmas.Ranks.{line-slots, none-below, slot, slots}
 
 -- the areas of a slave that is present, if it is
-abbrev carried : Option Slave → List Area
+abbrev pub carried : Option Slave → List Area
 carried slave = option_map_or (λ s. s.areas) slave []
 
 present-areas : (present : Bool) (slave : Slave) → (if present then slave.areas else []) ≡ carried (slot present slave)
@@ -76,7 +76,7 @@ pub area-named : (groups : List Declared) (found : LineArea) → IsAreaOf (line_
 area-named groups found of = search (rules, All-contains, numbered-get, area-ranked)
 
 -- and an area that stands at a rank is one of the line
-record IsRanked (groups : List Declared) (rank : ℕ) (area : Area) : Type 0 where
+pub record IsRanked (groups : List Declared) (rank : ℕ) (area : Area) : Type 0 where
   pub found : LineArea
   pub of : IsAreaOf (line_from 1 groups) found
   pub is : found.area ≡ area
@@ -101,7 +101,7 @@ area-of-rank groups rank area at = search (rules, ranked-by, areas-of-rank)
 
 -- a variable that an area carries is offered at its slave's rank
 
-abbrev Offers : List Area → List ℕ → Type 0
+abbrev pub Offers : List Area → List ℕ → Type 0
 Offers areas names = (area : Area) (variable : ℕ) → Contains areas area → Contains (area_variables_of area) variable → Contains names variable
 
 present-offers : (present : Bool) (slave : Slave) → Offers (if present then slave.areas else []) (area_names slave.areas)

@@ -103,7 +103,7 @@ ranks-once groups none variable =
 
 -- a variable is offered at one rank
 
-abbrev of_names : ℕ → List ℕ → ℕ
+abbrev pub of_names : ℕ → List ℕ → ℕ
 of_names variable names = total (own variable) names
 
 offered-total : (variable : ℕ) (groups : List Declared)

@@ -91,7 +91,7 @@ pub untouched-area : (it : EditedLine) (before : Before) (cuts : List Kept) → 
     → area_found it station rank index area ≡ []
 untouched-area it before cuts test station rank index area unchanged some none tells = search (rules, unrecut-none, untouched-kept)
 
-abbrev recut_by : EditedLine → ℕ → Option Placed → Bool
+abbrev pub recut_by : EditedLine → ℕ → Option Placed → Bool
 recut_by it task place =
     option_map_or (λ (placed : Placed). not (is_kept_up_to (task_list task (line_from 1 it.old)) (task_list task (line_from 1 it.new)) placed.datagram placed.key)) place false
 

@@ -56,7 +56,7 @@ placed-out list placed none among =
 
 -- the ranks of areas up to which their datagrams aren't kept, among the first datagrams of a task
 
-abbrev kept_in : EditedLine → ℕ → ℕ → Key → Bool
+abbrev pub kept_in : EditedLine → ℕ → ℕ → Key → Bool
 kept_in it task datagram key = is_kept_up_to (task_list task (line_from 1 it.old)) (task_list task (line_from 1 it.new)) datagram key
 
 abbrev pub HoldFirst : EditedLine → ℕ → ℕ → ℕ → ℕ → Type 0

@@ -7,7 +7,7 @@ use Rattle.hc_cuts.specs.Areas.{areas_at}
 use Rattle.hc_changes.proofs.lemmas.Lists.{contains-behind, contains-first}
 
 -- pairs of two lists as long as one another
-record IsPairOf {X : Type 0} (none : X) (xs ys : List X) (pair : X × X) : Type 0 where
+pub record IsPairOf {X : Type 0} (none : X) (xs ys : List X) (pair : X × X) : Type 0 where
   pub at : ℕ
   pub within : at < length xs
   pub first : slice_index_or xs at none ≡ pair.0

@@ -59,7 +59,7 @@ contains-flat_map f (z ∷ zs) x y (zero, within, is) own = Contains-append_left
 contains-flat_map f (z ∷ zs) x y (suc k, within, is) own = Contains-append_right (f z) (flat_map f zs) y (contains-flat_map f zs x y (k, omega arith, is) own)
 
 -- the element whose piece contains another
-record IsPieceOf {X Y : Type 0} (f : X → List Y) (xs : List X) (y : Y) : Type 0 where
+pub record IsPieceOf {X Y : Type 0} (f : X → List Y) (xs : List X) (y : Y) : Type 0 where
   pub element : X
   pub among : Contains xs element
   pub own : Contains (f element) y
@@ -73,7 +73,7 @@ flat_map-piece f (x ∷ xs) y at =
     (Contains-append_cases (f x) (flat_map f xs) y at)
 
 -- what is found is contained, and passes the test
-record IsFound {X : Type 0} (test : X → Bool) (xs : List X) (x : X) : Type 0 where
+pub record IsFound {X : Type 0} (test : X → Bool) (xs : List X) (x : X) : Type 0 where
   pub among : Contains xs x
   pub passes : test x ≡ true
 

@@ -60,7 +60,7 @@ at-own xs i x is =
     subst (λ (n : ℕ). Contains (enumerate_from 0 xs) (n, x)) number (at-numbered 0 xs i x is)
 
 -- a slave of a line is the declared one with its rank
-record IsDeclaredAt (first : ℕ) (slaves : List Slave) (member : Member) : Type 0 where
+pub record IsDeclaredAt (first : ℕ) (slaves : List Slave) (member : Member) : Type 0 where
   pub index : ℕ
   pub rank : member.rank ≡ first + index
   pub stands : slice_get slaves index ≡ Some member.slave

@@ -79,7 +79,7 @@ untouched-areas old new found was is none =
     ∙ own-kept after placed.datagram placed.key (project-list new task is) nothing (omega arith))
 
 -- a recut area of a line stands in a datagram that wasn't kept up to it
-record IsUnkeptAt (old new : List Member) (found : LineArea) : Type 0 where
+pub record IsUnkeptAt (old new : List Member) (found : LineArea) : Type 0 where
   pub placed : Placed
   pub stands : Contains (task_places found.area.task new) placed
   pub key : placed.key ≡ key_of found

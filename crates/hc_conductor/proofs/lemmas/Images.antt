@@ -30,7 +30,7 @@ use Rattle.hc_rings.specs.declared.post_buffer.TheConstants.{LARGEST_IMAGE}
 use Rattle.hc_conductor.specs.Openings.{IsOpenable, output_bytes}
 
 -- a line of a project that crowds no task
-record IsFit (state : State) : Type 0 where
+pub record IsFit (state : State) : Type 0 where
   pub project : lowest_fault (groups_of state.groups) ≡ None
   pub uncrowded : crowded_task (line state) ≡ None
 

@@ -19,7 +19,7 @@ use Rattle.hc_cuts.proofs.lemmas.HullKeys.{hulls-none}
 use Rattle.hc_cuts.proofs.lemmas.Repairs.{differ-inside}
 
 -- a test that the keys pass at which the lists differ
-record Inside (before present : List Keyed) (hulls : Hulls) : Type 0 where
+pub record Inside (before present : List Keyed) (hulls : Hulls) : Type 0 where
   pub test : Key → Bool
   pub are : AreHulls test hulls
   pub same : (key : Key) → test key ≡ false → width_in before key ≡ width_in present key
@@ -47,7 +47,7 @@ inside-differs before present hulls inside = differ-inside inside.test hulls bef
 -- a task without areas holds a task's list, and is cut
 
 -- a task of so many slaves whose boundaries are those of its areas
-record IsCutTask (slaves : ℕ) (kept : Kept) : Type 0 where
+pub record IsCutTask (slaves : ℕ) (kept : Kept) : Type 0 where
   pub many : kept.tree.slaves ≡ slaves
   pub holds : HoldsTaskList kept.tree
   pub cut : kept.starts ++ END ∷ [] ≡ boundaries kept.tree.list

@@ -7,7 +7,7 @@ use Rattle.hc_events.specs.Points.{epoch_of, state_of}
 use Rattle.hc_events.specs.Accepted.{AreAccepted}
 use Rattle.hc_events.proofs.lemmas.Accepted.{Keeps, held-of_accepted}
 
-abbrev Counted : Record → Type 0
+abbrev pub Counted : Record → Type 0
 Counted past = (state_of past).epoch ≡ epoch_of past
 
 counted-more : Keeps Counted

@@ -44,7 +44,7 @@ proposals-carry past tasks = row-of (line_of past) (next_serial past) (flat_map 
 abbrev bytes_with : List Member → List Named → ℕ
 bytes_with line names = sum_by (λ (named : Named). 12 + length_of line named) names
 
-abbrev IsCounted : List Member → Frame → Type 0
+abbrev pub IsCounted : List Member → Frame → Type 0
 IsCounted line frame = frame.bytes ≡ bytes_with line frame.datagrams
 
 pub alone-counted : (line : List Member) (serial : ℕ) (datagram : Named) → IsCounted line (alone serial datagram (length_of line datagram))
@@ -96,7 +96,7 @@ frames-sized past tasks =
 
 -- their serials are the next ones, in order
 
-abbrev Numbered : ℕ → List Frame → Type 0
+abbrev pub Numbered : ℕ → List Frame → Type 0
 Numbered serial frames = map (λ sending. sending.serial) frames ≡ range_with_len serial (length frames)
 
 numbered_either : (room : Bool) (sending : Frame) (rest other : List Frame) → Numbered sending.serial rest → Numbered (sending.serial + 1) other → Numbered sending.serial (cond room rest (sending ∷ other))

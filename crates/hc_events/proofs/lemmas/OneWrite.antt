@@ -231,7 +231,7 @@ first_behind past block (x ∷ xs) rest e =
 
 -- a write that is awaited: of the first owed block, and nothing else is awaited
 
-record IsAlone (past : Record) (serial : ℕ) (now : Sending) : Type 0 where
+pub record IsAlone (past : Record) (serial : ℕ) (now : Sending) : Type 0 where
   pub head : Head
   pub heads : now.heads ≡ head ∷ []
   pub first : LineBlock
@@ -240,7 +240,7 @@ record IsAlone (past : Record) (serial : ℕ) (now : Sending) : Type 0 where
   pub same : same_item head.item (block_item first) ≡ true
   pub alone : (other : ℕ) (sending : Sending) → awaited past other ≡ Some sending → other ≡ serial
 
-record WritesAlone (past : Record) : Type 0 where
+pub record WritesAlone (past : Record) : Type 0 where
   pub writes : (serial : ℕ) (now : Sending) → awaited past serial ≡ Some now → is_write now ≡ true → IsAlone past serial now
   pub frames : (serial : ℕ) (now : Sending) → awaited past serial ≡ Some now → is_write now ≡ false → owed_blocks past ≡ []
 

@@ -84,7 +84,7 @@ made_bit bit small size k below =
     ∙ ap bit whole
 
 -- the bytes that are made of sent bits
-record HasBits (past : Record) (task d : ℕ) (bytes : List ℕ) : Type 0 where
+pub record HasBits (past : Record) (task d : ℕ) (bytes : List ℕ) : Type 0 where
   pub size : length bytes ≡ length_of (line_of past) (task, d)
   pub bits : (k : ℕ) → k < 8 * length_of (line_of past) (task, d) → bit_of bytes k ≡ sent_bit past (outputs_in (line_of past) task d) k
 

@@ -64,7 +64,7 @@ place-widths line member index area task keeps has own =
     All-unmap named area_of (packed opening list) (subst (All named) (sym (packed-areas opening list)) (list-widths line member index area task keeps has own))
 
 -- where an area is mapped: at its place in its task's list
-record Place (line : List Member) (member : Member) (index : ℕ) (area : Area) (mapping : Mapping) : Type 0 where
+pub record Place (line : List Member) (member : Member) (index : ℕ) (area : Area) (mapping : Mapping) : Type 0 where
   pub placed : Placed
   pub in_task : Contains (task_places area.task line) placed
   pub key : placed.key ≡ key_of member index area

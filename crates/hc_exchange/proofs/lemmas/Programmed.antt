@@ -28,7 +28,7 @@ use Rattle.hc_exchange.proofs.Wrote.{IsPlain, Misses}
 
 -- each block of the line can be written
 
-record IsSized (block : RegisterBlock) : Type 0 where
+pub record IsSized (block : RegisterBlock) : Type 0 where
   pub from : 1536 ≤ block.register
   pub to : block.register + length block.bytes ≤ 4096
   pub some : 1 ≤ length block.bytes
@@ -296,7 +296,7 @@ slave-to-areas line member memory x m keeps has programmed pairs =
     record { member = member; index = pairs.fmmu; area = told.area; mapping = told.mapping; station_is = refl; is_mapped = told.is; pair = told.pair }
 
 -- and the FMMU of an area that is mapped stands in the machine of its slave
-record AreaStands (memory : List ℕ) (index : ℕ) (area : Area) (mapping : Mapping) : Type 0 where
+pub record AreaStands (memory : List ℕ) (index : ℕ) (area : Area) (mapping : Mapping) : Type 0 where
   pub below : index < 16
   pub stands : block_at memory index ≡ mapped_bytes area mapping
 

@@ -64,7 +64,7 @@ memory-apart line member other a b keeps has has' own own' differ stations x y m
 
 -- any two blocks of a line differ so
 
-abbrev Share : (LineBlock → LineBlock → Type 0) → List Member → Type 0
+abbrev pub Share : (LineBlock → LineBlock → Type 0) → List Member → Type 0
 Share R line =
     (member other : Member) (a b : LineBlock) → Contains line member → Contains line other → IsOfMember line member a → IsOfMember line other b → Differ member other a b → R a b
 

@@ -81,7 +81,7 @@ writes-carried line member memory i x m keeps has programmed low writes =
 
 -- an area's FMMU reads or writes its pairs
 
-record Serves (memory : List ℕ) (x m : ℕ) (way : List ℕ → Bool) : Type 0 where
+pub record Serves (memory : List ℕ) (x m : ℕ) (way : List ℕ → Bool) : Type 0 where
   pub fmmu : ℕ
   pub below : fmmu < 16
   pub turned : way (block_at memory fmmu) ≡ true

@@ -80,7 +80,7 @@ line-sources line =
 
 -- a pair of a block is a pair of the area whose block it is, where it is mapped
 
-record PairOf (line : List Member) (member : Member) (block : LineBlock) (x m : ℕ) : Type 0 where
+pub record PairOf (line : List Member) (member : Member) (block : LineBlock) (x m : ℕ) : Type 0 where
   pub index : ℕ
   pub area : Area
   pub mapping : Mapping

@@ -30,7 +30,7 @@ pub same-table : (old new : List Declared) (task : ℕ) → lowest_fault (groups
 same-table old new task none none' same = grind (arith, table-loaded)
 
 -- the areas of one datagram by themselves
-record IsDatagramOf (groups : List Declared) (task datagram : ℕ) (areas : List Placed) : Type 0 where
+pub record IsDatagramOf (groups : List Declared) (task datagram : ℕ) (areas : List Placed) : Type 0 where
   pub inside : All LiesInside areas
   pub counted : counted_inside datagram areas < 65536
   pub load : load_in areas datagram ≡ load_in (task_places task (line_from 1 groups)) datagram

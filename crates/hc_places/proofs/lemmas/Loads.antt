@@ -143,7 +143,7 @@ datagram_at task areas datagram = record {
   offset = datagram_offset areas datagram;
 }
 
-record IsLoaded (task : ℕ) (areas : List Placed) (count : ℕ) (table : TaskTable) : Type 0 where
+pub record IsLoaded (task : ℕ) (areas : List Placed) (count : ℕ) (table : TaskTable) : Type 0 where
   pub datagrams : table.datagrams ≡ map (datagram_at task areas) (range_with_len 0 count)
   pub bytes : table.outputs + table.inputs ≡ datagram_offset areas count
   pub outputs : table.outputs ≡ min (datagram_offset areas count) (output_length areas)

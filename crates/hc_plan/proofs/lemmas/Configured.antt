@@ -44,7 +44,7 @@ contained-own station blocks found at =
 
 -- the block that is found by its slave's station address and its number
 
-abbrev block_of : List Member → ℕ → Option Member → Option RegisterBlock
+abbrev pub block_of : List Member → ℕ → Option Member → Option RegisterBlock
 block_of whole number member = option_and_then (λ m. slice_get (slave_blocks whole m) number) member
 
 here-or-behind : (whole members : List Member) (member : Member) (station number : ℕ) (block : RegisterBlock) (same : Bool) → (member.slave.station == station) ≡ same

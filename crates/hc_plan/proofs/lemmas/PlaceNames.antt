@@ -37,7 +37,7 @@ named-by state n block at =
     search rules
 
 -- the station address stands at the rank, and the number is that of the place
-record IsNameAt (state : State) (n : ℕ) (block : LineBlock) : Type 0 where
+pub record IsNameAt (state : State) (n : ℕ) (block : LineBlock) : Type 0 where
   pub station : slice_get (stations state) (n / 16) ≡ Some block.station
   pub number : block.number ≡ n % 16
 

@@ -29,7 +29,7 @@ at_most-trans r a s b t c first second = grind (arith, nat_tests)
 at_most-total : (r a s b : ℕ) → is_at_most r a s b ≡ false → is_at_most s b r a ≡ true
 at_most-total r a s b other = grind (arith, nat_tests)
 
-abbrev key : Dir → ℕ → ℕ → Key
+abbrev pub key : Dir → ℕ → ℕ → Key
 key dir rank area = record { dir = dir; rank = rank; area = area }
 
 trans-by : (d e f : Dir) (r a s b t c : ℕ) → is_within (key d r a) (key e s b) ≡ true → is_within (key e s b) (key f t c) ≡ true → is_within (key d r a) (key f t c) ≡ true

@@ -116,7 +116,7 @@ part-cuts [] one = refl
 part-cuts (area ∷ areas) one = let count = count-cuts area areas in omega arith
 
 -- the parts one after another
-abbrev joined : List (List Keyed) → List Keyed
+abbrev pub joined : List (List Keyed) → List Keyed
 joined parts = flat_map (λ part. part) parts
 
 parts-cuts : (part : List Keyed) (parts : List (List Keyed)) → All FitsOneDatagram (part ∷ parts) → cut_count opening (joined (part ∷ parts)) ≤ length parts

@@ -98,7 +98,7 @@ agree-tail first last x xs ys is is' agree = record {
 }
 
 -- two lists that agree up to the next cut of the one have the same next cut, and carry the same up to it
-abbrev IsCutSame : Front → Key → List Keyed → List Keyed → Type 0
+abbrev pub IsCutSame : Front → Key → List Keyed → List Keyed → Type 0
 IsCutSame front last xs ys = (next_cut front ys ≡ last) × (carried front ys ≡ carried front xs)
 
 same-by : (fitting : Bool) (first cut cut' last : Key) (placed : Placed) (carry carry' : List Placed) → (if fitting then cut else first) ≡ last →

@@ -22,7 +22,7 @@ abbrev Places : Type 0
 Places = List (Option LineBlock)
 
 -- empty places
-abbrev empty_places : ℕ → List (Option LineBlock)
+abbrev pub empty_places : ℕ → List (Option LineBlock)
 empty_places count = replicate count None
 
 empty-sum : (a b : ℕ) → empty_places a ++ empty_places b ≡ empty_places (a + b)

@@ -24,7 +24,7 @@ use Rattle.hc_registers.specs.RankPlaces.{numbers, places_from, slave_places}
 abbrev pub Few : Slave → Type 0
 Few slave = length slave.areas ≤ MOST_AREAS
 
-abbrev HaveFewAreas : List Declared → Type 0
+abbrev pub HaveFewAreas : List Declared → Type 0
 HaveFewAreas groups = All (λ declared. All Few declared.group.slaves) groups
 
 pub few-areas : (groups : List Declared) → lowest_fault (groups_of groups) ≡ None → HaveFewAreas groups

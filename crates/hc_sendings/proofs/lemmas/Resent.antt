@@ -125,10 +125,10 @@ either_same : {X : Type 0} (b : Bool) (x : X) → cond b x x ≡ x
 either_same true x = refl
 either_same false x = refl
 
-abbrev Ascend : List AwaitedFrame → Type 0
+abbrev pub Ascend : List AwaitedFrame → Type 0
 Ascend frames = AllPairs (λ a b. a.serial < b.serial) frames
 
-abbrev Below : ℕ → List AwaitedFrame → Type 0
+abbrev pub Below : ℕ → List AwaitedFrame → Type 0
 Below serial frames = All (λ frame. frame.serial < serial) frames
 
 found_sent : (line : List Member) (last : Frame) (serial : ℕ) (frames : List AwaitedFrame) → Ascend frames → Below last.serial frames

@@ -81,7 +81,7 @@ waits-sent past kept frame accepted none number some stand waits =
 
 -- each frame of a proposal carries something
 
-abbrev AllFirst : List Frame → Type 0
+abbrev pub AllFirst : List Frame → Type 0
 AllFirst frames = All HasFirst frames
 
 first_either : (room : Bool) (frame : Frame) (rest other : List Frame) → AllFirst rest → HasFirst frame → AllFirst other → AllFirst (cond room rest (frame ∷ other))

@@ -39,7 +39,7 @@ is_due past serial dues e = due_found past serial dues (awaited past serial) ref
 
 -- a write
 
-record IsAwaitedWrite (past : Record) (write : AwaitedWrite) : Type 0 where
+pub record IsAwaitedWrite (past : Record) (write : AwaitedWrite) : Type 0 where
   pub sending : Sending
   pub there : awaited past write.serial ≡ Some sending
   pub heads : sending.heads ≡ written_head write ∷ []
@@ -97,7 +97,7 @@ none-framed past waiting block rest all waits owed = no_frame past waiting waiti
 
 -- a write that is awaited is kept
 
-record IsKeptWrite (past : Record) (kept : Waiting) (serial : ℕ) (sending : Sending) : Type 0 where
+pub record IsKeptWrite (past : Record) (kept : Waiting) (serial : ℕ) (sending : Sending) : Type 0 where
   pub write : AwaitedWrite
   pub there : kept.write ≡ Some write
   pub serial_is : write.serial ≡ serial
