@@ -1,7 +1,6 @@
 -- What the input image shows of a task is what the task reads.
-use Rattle.std.proofs.Common.{◌≡◌, ℕ, zero, suc, ◌+◌, ◌<◌, ◌≤◌, true, nat_lt, map, refl, ap, arith, rules}
+use Rattle.std.proofs.Common.{◌≡◌, ℕ, zero, suc, ◌+◌, ◌<◌, ◌≤◌, map, refl, ap, arith, rules}
 use Rattle.std.specs.List.{range_with_len}
-use Rattle.std.proofs.lemmas.Bool.Decides.{nat_tests}
 use Rattle.hc_records.specs.declared.limits.TheConstants.{MOST_DATAGRAMS}
 use Rattle.hc_events.specs.Entries.{Record}
 use Rattle.hc_events.specs.Images.{slot_of}
@@ -22,6 +21,3 @@ from_zero count most few = omega (arith, few)
 pub slots-shown : (past : Record) (image : Image) (task count : ℕ) → ShowsSlots past image → count ≤ MOST_DATAGRAMS
     → map (data_of image task) (range_with_len 0 count) ≡ map (slot_of past task) (range_with_len 0 count)
 slots-shown past image task count shows few = shown_from past image task 0 count shows (from_zero count MOST_DATAGRAMS few)
-
-below_is : (m n : ℕ) → m < n → nat_lt m n ≡ true
-below_is m n less = grind (arith, nat_tests)

@@ -13,11 +13,11 @@ use Rattle.hc_registers.specs.Ranked.{RankedBlock}
 use Rattle.hc_registers.specs.RankDifferences.{IsGone, StandsIn, block_place, first_gone}
 use Rattle.hc_registers.specs.RankPlaces.{places}
 use Rattle.hc_registers.proofs.lemmas.RanksStanding.{length-places}
-use Rattle.hc_plan.proofs.lemmas.PlaceNames.{stands-on}
+use Rattle.hc_plan.proofs.lemmas.PlaceNames.{came, same-name, same-stations, stands-on}
 use Rattle.hc_owed.specs.Board.{Board, Knowledge, differs, kept_of, known_in, owed_in}
 use Rattle.hc_owed.specs.Laws.{IsEdited, known_over}
 use Rattle.hc_owed.specs.Steps.{cleared, compared, compared_all, filled}
-use Rattle.hc_owed.proofs.Lists.{get-changed, get-other, is-map, length-changed, length-filled}
+use Rattle.hc_owed.proofs.Lists.{get-changed, get-filled, get-other, get-unfilled, in-or-out, is-map, length-changed, length-filled}
 
 -- the comparing of moved blocks
 

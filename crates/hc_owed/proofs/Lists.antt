@@ -1,6 +1,7 @@
 -- Lists of a fixed length, read and changed at an index.
-use Rattle.std.proofs.Common.{◌≡◌, ℕ, zero, suc, ◌+◌, ◌<◌, ◌≤◌, List, [], ◌∷◌, length, map, ◌⊎◌, refl, ap, ◌∙◌, arith}
+use Rattle.std.proofs.Common.{◌≡◌, ℕ, zero, suc, ◌+◌, ◌<◌, ◌≤◌, List, [], ◌∷◌, length, map, ◌⊎◌, inl, inr, refl, ap, ◌∙◌, arith, rules}
 use Rattle.std.specs.Prelude.{◌≢◌, Some, slice_get, slice_set}
+use Rattle.std.proofs.lemmas.Bool.{cases_lt, cases_order}
 use Rattle.std.proofs.lemmas.Option.{same_Some}
 use Rattle.hc_records.specs.Lists.{changed_at}
 use Rattle.hc_owed.specs.Steps.{filled}
@@ -45,3 +46,22 @@ changed-same (suc n) x (y ∷ xs) is = ap (λ rest. y ∷ rest) (changed-same n 
 pub length-filled : {X : Type 0} (from count : ℕ) (x : X) (xs : List X) → length (filled from count x xs) ≡ length xs
 length-filled from zero x xs = refl
 length-filled from (suc count) x xs = length-changed (from + count) (λ _. x) (filled from count x xs) ∙ length-filled from count x xs
+
+pub get-filled : {X : Type 0} (from count : ℕ) (x : X) (xs : List X) (n : ℕ) → from ≤ n → n < from + count → n < length xs → slice_get (filled from count x xs) n ≡ Some x
+get-filled from zero x xs n low high within = absurd (omega (arith, low, high))
+get-filled from (suc count) x xs n low high within = elim (cases_order n (from + count)) [
+  | inl same ↦
+      let size = length-filled from count x xs in
+      ap (slice_get (filled from (suc count) x xs)) same ∙ get-changed (from + count) x (filled from count x xs) (omega (arith, same, within, size))
+  | inr (inl less) ↦
+      get-other (from + count) n x (filled from count x xs) (λ same. absurd (omega (arith, less, same))) ∙ get-filled from count x xs n low less within
+  | inr (inr more) ↦ absurd (omega (arith, more, high))
+]
+
+pub get-unfilled : {X : Type 0} (from count : ℕ) (x : X) (xs : List X) (n : ℕ) → ((from ≤ n) × (n < from + count) → ⊥) → slice_get (filled from count x xs) n ≡ slice_get xs n
+get-unfilled from zero x xs n out = refl
+get-unfilled from (suc count) x xs n out =
+    search (rules, get-other, get-unfilled from count x xs n (λ inside. out (inside.0, let high = inside.1 in omega (arith, high))))
+
+pub in-or-out : (from count n : ℕ) → ((from ≤ n) × (n < from + count)) ⊎ ((from ≤ n) × (n < from + count) → ⊥)
+in-or-out from count n = search (rules, cases_lt)

@@ -27,7 +27,7 @@ use Rattle.hc_changes.proofs.lemmas.Blocks.{blocks-of-areas, ranked_by}
 use Rattle.hc_changes.proofs.lemmas.Lists.{contains-behind, contains-first, contains-flat_map, contains-unfiltered, flat_map-piece, found-among}
 use Rattle.hc_changes.proofs.lemmas.Moved.{moved-told}
 use Rattle.hc_changes.proofs.lemmas.OneProject.{AreOfOneProject, at-own, edit-one-project, one-index, own-at}
-use Rattle.hc_changes.proofs.lemmas.Others.{IsAreaOf, area-stands, line-area, member-found}
+use Rattle.hc_changes.proofs.lemmas.Others.{IsAreaOf, StandAlike, area-stands, line-area, member-found}
 
 -- the area of a line that stands where another does
 

@@ -43,6 +43,11 @@ pub record IsAreaOf (line : List Member) (found : LineArea) : Type 0 where
   pub member : Contains line found.member
   pub own : Contains (enumerate_from 0 found.member.slave.areas) (found.index, found.area)
 
+-- two areas, each of its own line, stand at one index of slaves with one rank
+pub record StandAlike (a b : LineArea) : Type 0 where
+  pub rank : a.member.rank ≡ b.member.rank
+  pub index : a.index ≡ b.index
+
 pub line-area : (line : List Member) (found : LineArea) → Contains (line_areas line) found → IsAreaOf line found
 line-area line found at =
     let piece = flat_map-piece areas_of line found at in

@@ -63,7 +63,7 @@ bare-at : (groups : List Declared) (i : ℕ) (one : Ranked) → slice_get (by_ra
 bare-at groups i one at = search (rules, all-slaves, slice_get-map)
 
 -- a slave has as many blocks before and after
-bare-count : (a b : Slave) → bare_slave a ≡ bare_slave b → length a.areas ≡ length b.areas
+pub bare-count : (a b : Slave) → bare_slave a ≡ bare_slave b → length a.areas ≡ length b.areas
 bare-count a b same = search (rules, length-map)
 
 -- what holds of the states before and after an accepted edit, and of what it changes
