@@ -5,6 +5,7 @@
 mod at_once;
 pub mod conductor;
 mod events;
+pub mod one_thread;
 mod opening;
 mod publishing;
 pub mod seat;
@@ -15,5 +16,3 @@ pub mod view;
 mod viewer;
 
 pub use opening::open;
-
-pub mod one_thread;

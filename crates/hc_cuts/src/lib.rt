@@ -1,6 +1,6 @@
-//! The areas of the eight tasks of a line, kept in trees of sums: an edit sets the widths that it changes,
-//! and the boundaries of each task that it touches are repaired. The plan keeps them.
-//! Where the datagrams of a task begin. The plan above asks for the boundaries of a task's list.
+//! Where the datagrams of tasks begin: the areas of each of a line's eight tasks, in a tree of sums, with their
+//! boundaries. An edit sets the widths that it changes and repairs the boundaries of the tasks that it touches. The
+//! plan keeps a `LineCuts`.
 #![tactic(auto)]
 
 pub mod areas;

@@ -1,17 +1,13 @@
-//! What a programmed line does with process data: which bits a logical datagram brings back, which it leaves in the slaves'
-//! memory. Definitions and laws; no code to run.
-//! The programmed line: what the FMMU blocks of a configured line pair, and what the slaves are once they are written.
-//! Definitions and the laws above them; no code to run.
-//! The exchange over a programmed line: the blocks of a plan written through a segment of slave machines, and a task's
-//! process data sent through them.
+//! The programmed line: the blocks of a plan are written through a segment of slave machines, and a task's process data
+//! is sent through them. The laws say what the blocks mean to the slaves, and that each variable is carried, each bit,
+//! and nothing else.
 #![tactic(auto)]
 
+pub mod carrying_laws;
 mod exchanging;
+pub mod programmed_laws;
 mod programming;
 mod sending;
 
 pub use exchanging::exchange;
 pub use programming::program;
-
-pub mod carrying_laws;
-pub mod programmed_laws;

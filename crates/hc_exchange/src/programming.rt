@@ -29,7 +29,7 @@ fn write_block(segment: &mut Segment, serial: u64, station: u16, block: &Block)
 ///
 /// Where the machines are those of the line, in its order, with their station addresses and zeros in the FMMU blocks past
 /// their slaves' areas, each has its slave's blocks then, pairs the bits of its areas and no others, and is otherwise as
-/// before: the laws of `hc_programmed`.
+/// before: the laws of `programmed_laws`.
 pub fn program(plan: &Plan, segment: &mut Segment)
     ensures { segment.new ≡ machines_written (line plan.now) segment.old }
 {

@@ -1,8 +1,6 @@
-//! Look-ups in a project's declared groups by an index, in place of a walk: a group by its alias, a slave
-//! by its station address or its position in the line, a register block by its number, a variable that a
-//! declared slave offers. The plan keeps one.
-//! What an edit makes of the declared groups: whether it is refused by itself, and the groups that it
-//! leaves. The plan above adds what concerns the whole line: datagrams and epochs.
+//! The declared groups. An index finds a group by its alias, a slave by its station address or its position, a
+//! block by its number and a variable, without a walk. An edit is judged by itself and carried out in the groups;
+//! the plan adds what concerns the whole line: datagrams and epochs.
 #![tactic(auto)]
 
 mod addresses;

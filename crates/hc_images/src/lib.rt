@@ -1,8 +1,6 @@
-//! Output values as they are sent: packed for each datagram, with a mask of the bits of output variables, so
-//! that what is posted and what is sent are copies of bytes. The core posts there, sends from there, and
-//! moves the values to their new places when the line changes.
-//! The input image: for each datagram of the tasks the data of its last good answer in the present epoch,
-//! or none. The core puts the data of good answers there and reads a task's data from there.
+//! The process data image. The inputs are each datagram's data of its last good answer in the present epoch, or none.
+//! The outputs are values packed as they are sent, so that posting and sending copy bytes; an edit moves them to
+//! their new places. The core keeps both, a published copy keeps the inputs.
 #![tactic(auto)]
 
 pub mod inputs;

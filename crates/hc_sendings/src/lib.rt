@@ -1,7 +1,5 @@
-//! What arrivals can answer: the frames of tasks and the register write that were sent, and neither
-//! answered nor wholly sent again since. The core sends, judges and ends them.
-//! The planning of frames: in which frames the datagrams of tasks are sent, by the plan of a line and the
-//! next serial, or why they aren't. The core proposes, fills and commits them.
+//! In which frames the datagrams of tasks are sent, their bytes, and which sendings an arrival can still answer.
+//! The core proposes, fills and commits frames, and judges and ends what is awaited.
 #![tactic(auto)]
 
 pub mod awaited;

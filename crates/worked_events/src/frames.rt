@@ -1,5 +1,4 @@
-//! Runs of bits and frames, in rows that were worked out by hand. There is nothing to call: these are tests. They stand
-//! in a crate of their own since a crate that has tests is proved twice.
+//! Runs of bits and frames, in rows that were worked out by hand.
 #[cfg(test)]
 mod bits;
 #[cfg(test)]

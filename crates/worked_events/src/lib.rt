@@ -1,5 +1,5 @@
-//! Events from the project's opening on, in rows that were worked out by hand. There is nothing to call: these are
-//! tests. They stand in a crate of their own since a crate that has tests is proved twice.
+//! Events from the project's opening on, and frames byte by byte, in rows that were worked out by hand. There is nothing
+//! to call: these are tests. They have a crate of their own since a crate that has tests is proved twice.
 #![tactic(auto)]
 
 #[cfg(test)]

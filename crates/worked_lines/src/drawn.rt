@@ -1,5 +1,5 @@
 //! Edits that are drawn from a fixed seed, on a plan of 16 slaves, of which 48 more are declared among them: what each makes
-//! of the line, and the edit itself. The tests of this crate and of `worked_exchange` run them.
+//! of the line, and the edit itself. The tests of this crate and the exchanges of `worked_program` run them.
 ghost use Rattle.std.specs.Prelude.{◌<◌, IsTrue};
 
 use hc_plan::plan::Plan;

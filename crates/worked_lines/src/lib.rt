@@ -1,5 +1,5 @@
-//! Worked lines, from their project text to what their plan answers: tests of the crates from project text to plan
-//! together, and the drawn edits that `worked_exchange` runs too.
+//! Lines from their project text to what their plans answer, worked out by hand, and the crates below the plan, each by
+//! itself: tests. The drawn edits are run by the exchanges of `worked_program` too.
 #![tactic(auto)]
 
 #[cfg(test)]

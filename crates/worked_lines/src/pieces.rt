@@ -1,5 +1,4 @@
-//! The crates below the plan, each by itself, in rows that were worked out by hand. There is nothing to call: these
-//! are tests. They stand in a crate of their own since a crate that has tests is proved twice.
+//! The crates below the plan, each by itself, in rows that were worked out by hand, and along drawn edits.
 #[cfg(test)]
 mod cuts;
 #[cfg(test)]

@@ -1,5 +1,4 @@
-//! Exchanges over programmed lines, in rows that were worked out by hand and behind drawn edits. There is nothing to call:
-//! these are tests.
+//! Exchanges over programmed lines: rows that were worked out by hand, and exchanges after drawn edits.
 #[cfg(test)]
 mod drawn;
 #[cfg(test)]

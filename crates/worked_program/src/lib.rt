@@ -1,6 +1,6 @@
-//! Whole runs of the program over memory, and over readers and writers that fail. Expected texts were worked out from
-//! the rules, not taken from a run. There is nothing to call: these are tests. They stand in a crate of their own since
-//! a crate that has tests is proved twice.
+//! Whole runs of the programs over memory, and over readers and writers that fail, and exchanges over programmed lines.
+//! Expected texts were worked out from the rules, not taken from a run. There is nothing to call: these are tests. They
+//! have a crate of their own since a crate that has tests is proved twice.
 #![tactic(auto)]
 
 #[cfg(test)]

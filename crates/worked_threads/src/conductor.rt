@@ -1,6 +1,5 @@
 //! A conductor with its seats: what the contracts of `hc_conductor` leave to tests, that all is opened, sent, published,
-//! posted and seen with ample memory. There is nothing to call. The tests stand in a crate of their own since a crate that
-//! has tests is proved twice.
+//! posted and seen with ample memory.
 #[cfg(test)]
 mod at_once;
 #[cfg(test)]

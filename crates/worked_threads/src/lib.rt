@@ -1,6 +1,6 @@
-//! Parts of slices, rings between threads, the slave machine and chains of segments, in rows that were worked out by hand,
-//! and what no clause says of them. There is nothing to call: these are tests. They stand in a crate of their own since a
-//! crate that has tests is proved twice.
+//! What runs in threads: parts of slices, rings, chains of segments, views beside their publisher, and a conductor with
+//! its seats. The rows were worked out by hand, and show what no clause says. There is nothing to call: these are tests.
+//! They have a crate of their own since a crate that has tests is proved twice.
 #![tactic(auto)]
 
 #[cfg(test)]

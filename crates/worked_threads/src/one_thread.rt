@@ -1,6 +1,5 @@
-//! A master in one thread: what the contracts of `hc_master` leave to tests, that all is opened, written, sent, posted,
-//! taken, published and viewed with ample memory. There is nothing to call. The tests stand in a crate of their own since
-//! a crate that has tests is proved twice.
+//! A master in one thread: what the contracts of `hc_conductor::one_thread` leave to tests, that all is opened, written,
+//! sent, posted, taken, published and viewed with ample memory.
 #[cfg(test)]
 mod crowded;
 #[cfg(test)]

@@ -1,6 +1,5 @@
-//! A publisher and its seats: what the contracts of `hc_publish` and `hc_copies` leave to tests, that all is opened,
-//! published and seen with ample memory. There is nothing to call. The tests stand in a crate of their own since a
-//! crate that has tests is proved twice.
+//! A publisher and its seats: what the contracts of `hc_publish` leave to tests, that all is opened, published and seen
+//! with ample memory.
 #[cfg(test)]
 mod dropped;
 #[cfg(test)]
