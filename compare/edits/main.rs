@@ -5,6 +5,7 @@
 #[path = "../shared/mod.rs"]
 mod shared;
 
+use shared::cases::{Case, case, compare_cases, script_of_seed};
 use shared::counts::Counts;
 use shared::documents::{FAULTS, drawn_edit, fault_line};
 use shared::draws::Draws;
@@ -12,55 +13,37 @@ use shared::edits::{Edit, Refusal};
 use shared::line::Line;
 use shared::packing::Datagram;
 use shared::printed::{edit_line, layout_lines, show_line};
-use shared::projects::Widths::{self, Brimming, Mixed};
-use shared::projects::{Shape, project};
+use shared::projects::Widths::{Brimming, Mixed};
+use shared::projects::project;
 use shared::questions::{Names, ask};
-use shared::running::{compare, main_of};
+use shared::running::main_of;
 use shared::scripts::Script;
 use std::process::ExitCode;
 
-/// A drawn project with so many edits.
-struct Case {
-    seed: u64,
-    shape: Shape,
-    edits: usize,
-    /// How many in a hundred edits are declarations.
-    declarations: usize,
-}
-
-const fn case(seed: u64, [slaves, groups, areas, tasks]: [usize; 4], widths: Widths, edits: usize) -> Case {
-    Case { seed, shape: Shape { slaves, groups, areas, tasks, widths }, edits, declarations: 10 }
-}
-
-/// Most edits of these are declarations.
-const fn at_a_limit(case: Case) -> Case {
-    Case { declarations: 70, ..case }
-}
-
 /// From one slave to hundreds; where many PDOs are wide, or many areas share a task, tasks get crowded. The last two have
-/// nearly as many groups, and as many slaves, as can be declared.
+/// nearly as many groups, and as many slaves, as can be declared, and most of their edits are declarations.
 const CASES: [Case; 21] = [
-    case(1, [1, 0, 8, 3], Mixed(30), 300),
-    case(2, [1, 1, 8, 8], Mixed(30), 400),
-    case(3, [3, 2, 4, 2], Mixed(0), 500),
-    case(4, [6, 4, 3, 1], Mixed(5), 600),
-    case(5, [12, 6, 8, 8], Mixed(10), 600),
-    case(6, [16, 8, 8, 1], Mixed(40), 900),
-    case(7, [20, 9, 6, 1], Mixed(40), 900),
-    case(8, [24, 8, 8, 3], Mixed(60), 900),
-    case(9, [40, 12, 3, 1], Mixed(40), 800),
-    case(10, [40, 39, 2, 2], Mixed(0), 500),
-    case(11, [64, 16, 8, 5], Mixed(25), 700),
-    case(12, [100, 20, 4, 1], Mixed(12), 700),
-    case(13, [160, 30, 2, 4], Mixed(15), 500),
-    case(14, [240, 40, 4, 2], Mixed(10), 500),
-    case(15, [300, 60, 8, 8], Mixed(3), 400),
-    case(16, [40, 0, 8, 1], Mixed(60), 0),
-    case(17, [350, 80, 8, 1], Mixed(2), 400),
-    case(19, [14, 5, 2, 2], Brimming, 700),
-    case(18, [500, 100, 4, 2], Mixed(6), 300),
-    at_a_limit(case(20, [680, 507, 1, 8], Mixed(0), 40)),
-    at_a_limit(case(21, [2042, 60, 1, 8], Mixed(0), 40)),
+    case(1, [1, 0, 8, 3], Mixed(30), 300, 10),
+    case(2, [1, 1, 8, 8], Mixed(30), 400, 10),
+    case(3, [3, 2, 4, 2], Mixed(0), 500, 10),
+    case(4, [6, 4, 3, 1], Mixed(5), 600, 10),
+    case(5, [12, 6, 8, 8], Mixed(10), 600, 10),
+    case(6, [16, 8, 8, 1], Mixed(40), 900, 10),
+    case(7, [20, 9, 6, 1], Mixed(40), 900, 10),
+    case(8, [24, 8, 8, 3], Mixed(60), 900, 10),
+    case(9, [40, 12, 3, 1], Mixed(40), 800, 10),
+    case(10, [40, 39, 2, 2], Mixed(0), 500, 10),
+    case(11, [64, 16, 8, 5], Mixed(25), 700, 10),
+    case(12, [100, 20, 4, 1], Mixed(12), 700, 10),
+    case(13, [160, 30, 2, 4], Mixed(15), 500, 10),
+    case(14, [240, 40, 4, 2], Mixed(10), 500, 10),
+    case(15, [300, 60, 8, 8], Mixed(3), 400, 10),
+    case(16, [40, 0, 8, 1], Mixed(60), 0, 10),
+    case(17, [350, 80, 8, 1], Mixed(2), 400, 10),
+    case(19, [14, 5, 2, 2], Brimming, 700, 10),
+    case(18, [500, 100, 4, 2], Mixed(6), 300, 10),
+    case(20, [680, 507, 1, 8], Mixed(0), 40, 70),
+    case(21, [2042, 60, 1, 8], Mixed(0), 40, 70),
 ];
 
 /// What was met in all cases.
@@ -76,8 +59,6 @@ struct Met {
     recut: usize,
     moved: usize,
     others: usize,
-    lines: usize,
-    bytes: usize,
 }
 
 fn kind_of(edit: &Edit) -> usize {
@@ -104,7 +85,7 @@ fn script_of(case: &Case, met: &mut Met) -> Script {
     };
     let mut names = Names::of(&groups);
     script.add("layout", &[], layout_lines(0, &line.layout));
-    for _ in 0..case.edits {
+    for _ in 0..case.steps {
         let drawn = drawn_edit(&mut draws, &line.state, case.shape, case.declarations);
         let edit = match drawn.edit() {
             Ok(edit) => edit,
@@ -157,12 +138,7 @@ fn meets_enough(met: &Met) -> bool {
 
 fn compare_all(program: &[String], seed: Option<u64>) -> Result<(), String> {
     let mut met = Met::default();
-    for case in CASES.iter().filter(|case| seed.is_none_or(|seed| seed == case.seed)) {
-        let script = script_of(case, &mut met);
-        compare(program, &script)?;
-        met.lines += script.wanted.len();
-        met.bytes += script.input.len();
-    }
+    let compared = compare_cases(program, &CASES, seed, |case| script_of(case, &mut met))?;
     let Met { accepted: [connected, disconnected, remapped, moved, declared], refused, .. } = &met;
     let edits = met.accepted.iter().sum::<usize>() + refused.total();
     println!("{edits} edits: {connected} connect, {disconnected} disconnect, {remapped} remap, {moved} move, {declared} declare");
@@ -170,11 +146,11 @@ fn compare_all(program: &[String], seed: Option<u64>) -> Result<(), String> {
     println!("faults of documents by number: {}", met.faults);
     let (recut, moved, others) = (met.recut, met.moved, met.others);
     println!("{recut} edits recut spans, {moved} moved blocks; {others} questions beside the layouts");
-    println!("{} bytes read, {} lines compared", met.bytes, met.lines);
+    println!("{} bytes read, {} lines compared", compared.bytes, compared.lines);
     if seed.is_none() && !meets_enough(&met) { Err("the draws meet too little".to_string()) } else { Ok(()) }
 }
 
 fn main() -> ExitCode {
-    let drawn = |seed| CASES.iter().find(|case| case.seed == seed).map(|case| script_of(case, &mut Met::default()));
+    let drawn = |seed| script_of_seed(&CASES, seed, |case| script_of(case, &mut Met::default()));
     main_of("edits", drawn, compare_all)
 }

@@ -7,20 +7,17 @@ use super::model::{Model, Reply, answer_lines, sent_lines};
 use super::posting::{drawn_settings, drawn_task, drawn_view, malformed};
 use super::posts::WAITING;
 use super::record::{Sending, owed, sent_tasks, sent_write};
+use crate::shared::cases::Case;
 use crate::shared::documents::{Drawn, drawn_edit, fault_line};
 use crate::shared::draws::Draws;
 use crate::shared::edits::Edit;
 use crate::shared::packing::TASKS;
-use crate::shared::projects::Shape;
 use crate::shared::questions::{Names, ask};
 use crate::shared::scripts::Script;
 
-/// How many in a hundred edits are declarations.
-const DECLARATIONS: usize = 25;
-
 pub struct Run<'a> {
     pub draws: Draws,
-    pub shape: Shape,
+    pub case: &'a Case,
     pub names: Names,
     pub model: Model,
     /// All bytes that arrived.
@@ -68,7 +65,7 @@ impl Run<'_> {
     }
 
     fn drawn_edit(&mut self) {
-        let drawn = drawn_edit(&mut self.draws, &self.model.line().state, self.shape, DECLARATIONS);
+        let drawn = drawn_edit(&mut self.draws, &self.model.line().state, self.case.shape, self.case.declarations);
         self.edit(&drawn);
     }
 
@@ -92,8 +89,8 @@ impl Run<'_> {
     fn drawn_tasks(&mut self) -> Vec<u8> {
         let mut tasks: Vec<u8> = (0..TASKS).collect();
         self.draws.shuffle(&mut tasks);
-        tasks.sort_by_key(|task| usize::from(*task) >= self.shape.tasks);
-        let most = self.shape.tasks.min(self.draws.between(1, TASKS.into()));
+        tasks.sort_by_key(|task| usize::from(*task) >= self.case.shape.tasks);
+        let most = self.case.shape.tasks.min(self.draws.between(1, TASKS.into()));
         tasks.truncate(most.max(if self.draws.is(10) { 3 } else { 1 }));
         if self.draws.is(2) {
             tasks.insert(0, self.draws.between(TASKS.into(), 255) as u8);
@@ -158,7 +155,7 @@ impl Run<'_> {
     }
 
     fn drawn_read(&mut self) {
-        let task = if self.draws.is(3) { self.draws.between(8, 255) } else { self.draws.below(self.shape.tasks) };
+        let task = if self.draws.is(3) { self.draws.between(8, 255) } else { self.draws.below(self.case.shape.tasks) };
         self.read(task as u8);
     }
 
@@ -190,7 +187,7 @@ impl Run<'_> {
 
     /// A frame comes before it is sent, and the same bytes again behind that.
     fn foretell(&mut self) {
-        let (past, task) = (&self.model.past, self.draws.below(self.shape.tasks) as u8);
+        let (past, task) = (&self.model.past, self.draws.below(self.case.shape.tasks) as u8);
         let sending = sent_write(past).ok().or_else(|| sent_tasks(past, &[task]).ok()?.into_iter().next());
         let Some(sending) = sending else {
             return;

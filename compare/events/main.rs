@@ -18,44 +18,34 @@ mod record;
 use drawing::Run;
 use met::Met;
 use model::Model;
+use shared::cases::{Case, case, compare_cases, script_of_seed};
 use shared::documents::Drawn;
 use shared::draws::Draws;
 use shared::edits::Edit;
 use shared::line::Line;
-use shared::projects::Widths::{self, Brimming, Mixed};
-use shared::projects::{Shape, project};
+use shared::projects::Widths::{Brimming, Mixed};
+use shared::projects::project;
 use shared::questions::Names;
-use shared::running::{compare, main_of};
+use shared::running::main_of;
 use shared::scripts::Script;
 use std::process::ExitCode;
 
-/// A drawn project with so many events.
-struct Case {
-    seed: u64,
-    shape: Shape,
-    events: usize,
-}
-
-const fn case(seed: u64, [slaves, groups, areas, tasks]: [usize; 4], widths: Widths, events: usize) -> Case {
-    Case { seed, shape: Shape { slaves, groups, areas, tasks, widths }, events }
-}
-
 const CASES: [Case; 15] = [
-    case(101, [1, 0, 2, 1], Mixed(0), 1500),
-    case(119, [1, 1, 3, 2], Mixed(10), 1500),
-    case(103, [2, 1, 3, 2], Mixed(0), 3000),
-    case(104, [3, 2, 3, 3], Mixed(10), 3000),
-    case(105, [4, 2, 2, 8], Mixed(0), 3000),
-    case(106, [5, 3, 4, 8], Mixed(0), 3000),
-    case(107, [5, 2, 3, 3], Mixed(20), 3000),
-    case(108, [6, 3, 3, 1], Mixed(30), 2500),
-    case(109, [8, 4, 2, 4], Mixed(5), 3000),
-    case(110, [10, 6, 3, 6], Mixed(5), 3000),
-    case(111, [12, 4, 2, 2], Mixed(25), 2500),
-    case(112, [16, 15, 1, 3], Mixed(5), 3000),
-    case(113, [24, 6, 3, 8], Mixed(3), 3000),
-    case(114, [40, 10, 2, 5], Mixed(2), 3000),
-    case(118, [6, 1, 1, 6], Brimming, 2000),
+    case(101, [1, 0, 2, 1], Mixed(0), 1500, 25),
+    case(119, [1, 1, 3, 2], Mixed(10), 1500, 25),
+    case(103, [2, 1, 3, 2], Mixed(0), 3000, 25),
+    case(104, [3, 2, 3, 3], Mixed(10), 3000, 25),
+    case(105, [4, 2, 2, 8], Mixed(0), 3000, 25),
+    case(106, [5, 3, 4, 8], Mixed(0), 3000, 25),
+    case(107, [5, 2, 3, 3], Mixed(20), 3000, 25),
+    case(108, [6, 3, 3, 1], Mixed(30), 2500, 25),
+    case(109, [8, 4, 2, 4], Mixed(5), 3000, 25),
+    case(110, [10, 6, 3, 6], Mixed(5), 3000, 25),
+    case(111, [12, 4, 2, 2], Mixed(25), 2500, 25),
+    case(112, [16, 15, 1, 3], Mixed(5), 3000, 25),
+    case(113, [24, 6, 3, 8], Mixed(3), 3000, 25),
+    case(114, [40, 10, 2, 5], Mixed(2), 3000, 25),
+    case(118, [6, 1, 1, 6], Brimming, 2000, 25),
 ];
 
 fn script_of(case: &Case, met: &mut Met) -> Script {
@@ -63,14 +53,14 @@ fn script_of(case: &Case, met: &mut Met) -> Script {
     let groups = project(&mut draws, case.shape);
     let script = Script::of(case.seed, &groups);
     let opened = Line::opened(&groups).ok().expect("a line that can be opened");
-    let (shape, names, model) = (case.shape, Names::of(&groups), Model::of(opened));
-    let mut run = Run { draws, shape, names, model, arrived: Vec::new(), script, met, events: 0 };
+    let (names, model) = (Names::of(&groups), Model::of(opened));
+    let mut run = Run { draws, case, names, model, arrived: Vec::new(), script, met, events: 0 };
     for group in &groups[1..] {
         if run.draws.is(70) {
             run.edit(&Drawn::Words(Edit::Connect(group.alias)));
         }
     }
-    while run.events < case.events {
+    while run.events < case.steps {
         run.step();
     }
     run.end();
@@ -79,13 +69,9 @@ fn script_of(case: &Case, met: &mut Met) -> Script {
 
 fn compare_all(program: &[String], seed: Option<u64>) -> Result<(), String> {
     let mut met = Met::default();
-    for case in CASES.iter().filter(|case| seed.is_none_or(|seed| seed == case.seed)) {
-        let script = script_of(case, &mut met);
-        compare(program, &script)?;
-        met.lines += script.wanted.len();
-        met.bytes += script.input.len();
-    }
+    let compared = compare_cases(program, &CASES, seed, |case| script_of(case, &mut met))?;
     met.tell();
+    println!("{} bytes read, {} lines compared", compared.bytes, compared.lines);
     if seed.is_none() && !met.is_enough() { Err("the draws meet too little".to_string()) } else { Ok(()) }
 }
 
@@ -96,6 +82,6 @@ fn main() -> ExitCode {
         let number = unpublished.first().map(|number| number.parse().expect("a number"));
         return ExitCode::from(player::answer(&input, number));
     }
-    let drawn = |seed| CASES.iter().find(|case| case.seed == seed).map(|case| script_of(case, &mut Met::default()));
+    let drawn = |seed| script_of_seed(&CASES, seed, |case| script_of(case, &mut Met::default()));
     main_of("events", drawn, compare_all)
 }

@@ -53,8 +53,6 @@ pub struct Met {
     pub wrong_along: usize,
     /// Scripts that end with a line of the tasks' commands that is none.
     pub malformed: usize,
-    pub lines: usize,
-    pub bytes: usize,
 }
 
 impl Met {
@@ -159,6 +157,5 @@ impl Met {
             self.together, self.full_slots, self.empty_slots
         );
         println!("{} scripts end with a malformed line of a task's command", self.malformed);
-        println!("{} bytes read, {} lines compared", self.bytes, self.lines);
     }
 }

@@ -2,6 +2,7 @@
 
 pub mod blocks;
 pub mod boundaries;
+pub mod cases;
 pub mod counts;
 pub mod documents;
 pub mod draws;
