@@ -36,7 +36,7 @@ mod ring;
 mod runs;
 
 use cases::{Case, cases, compare_all, sendings};
-use runs::{Count, Programs, figures, median};
+use runs::{Count, Programs, asked, figures, is_named, median};
 
 /// Prints a row.
 fn tell(programs: &Programs, case: &Case, turns: usize, are_counted: bool) {
@@ -70,16 +70,10 @@ fn tell_sendings(programs: &Programs, turns: usize) {
 }
 
 fn main() {
-    let words: Vec<String> = std::env::args().skip(1).collect();
-    if let [word, number] = words.as_slice()
-        && word == "plain"
-    {
-        return cases()[number.parse::<usize>().expect("a case's number")].play();
-    }
-    let [program, growths, scratch, words @ ..] = words.as_slice() else {
-        panic!("a program, a library and a folder");
+    let cases = cases();
+    let Some((programs, words)) = asked(&cases) else {
+        return;
     };
-    let programs = Programs::new(program, growths, scratch);
     let [few, times, often, workers] = ["few", "times", "often", "workers"].map(|name| words.iter().any(|word| word == name));
     let turns = if few { 1 } else { 9 };
     if often {
@@ -93,8 +87,7 @@ fn main() {
     compare_all(&programs, few);
     println!("| Cycle | Slaves | ns | To plain Rust | Growths | Of plain Rust | Instructions, of plain Rust, their ratio |");
     println!("|---|---|---|---|---|---|---|");
-    let names: Vec<&String> = words.iter().filter(|word| !["few", "times"].contains(&word.as_str())).collect();
-    for case in cases().iter().filter(|case| names.iter().all(|word| case.name.contains(word.as_str()))) {
+    for case in cases.iter().filter(|case| is_named(case, &words)) {
         tell(&programs, case, turns, are_counted);
     }
 }

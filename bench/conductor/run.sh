@@ -4,39 +4,26 @@
 # KEPT=1 the work that earlier checks kept in out/ is taken over.
 set -eu
 here=$(cd "$(dirname "$0")" && pwd)
-top="$here/../.."
-scratch=$(mktemp -d)
-trap 'rm -rf "$scratch"' EXIT
-program="$scratch/crates/conductor_bench"
-# Takes a crate over, and the crates below it.
-take() {
-    [ -d "$top/crates/$1" ] && [ ! -e "$scratch/crates/$1" ] || return 0
-    mkdir -p "$scratch/crates/$1"
-    for part in src specs proofs ${KEPT:+out}; do
-        [ ! -e "$top/crates/$1/$part" ] || cp -rp "$top/crates/$1/$part" "$scratch/crates/$1/"
-    done
-    grep -E "^$1[: ]" "$top/crates.txt" >> "$scratch/crates.txt"
-    for below in $(sed -n "s/^$1[^:]*://p" "$top/crates.txt"); do
-        take "$below"
-    done
-}
+. "$here/../shared.sh"
+program=$scratch/crates/conductor_bench
 take hc_project
 take hc_conductor
 echo 'conductor_bench: hc_records hc_project hc_places hc_plan hc_events hc_sendings hc_core hc_publish hc_rings hc_lend hc_conductor anyhow' \
     >> "$scratch/crates.txt"
-cp "$top/HANDLES" "$scratch/"
+share "$program" bytes resident told words
 for part in "$here"/program/*.sh; do
     sh "$part" "$program"
 done
-# The line that is cycled beside tasks in threads, and what stands of it in the tests.
-tests="$top/crates/worked_conductor"
-for part in src/fates.rt src/lines.rt src/posting.rt src/working.rt proofs/lines proofs/working; do
-    mkdir -p "$program/proofs"
-    cp -r "$tests/$part" "$program/$part"
+# The line that is cycled beside tasks in threads, as the tests have it.
+tests=$top/crates/worked_threads
+mkdir -p "$program/proofs"
+for name in fates lines posting working; do
+    cp "$tests/src/conductor/$name.rt" "$program/src/"
+    [ ! -e "$tests/proofs/conductor/$name" ] || cp -r "$tests/proofs/conductor/$name" "$program/proofs/"
 done
-find "$program" -type f -exec sed -i 's/Rattle\.worked_conductor/Rattle.conductor_bench/g' {} +
-(cd "$program" && rt run < /dev/null) > "$scratch/program.txt" 2>&1 || { cat "$scratch/program.txt"; exit 1; }
+find "$program" -type f -exec sed -i 's/Rattle\.worked_threads\.proofs\.conductor\./Rattle.conductor_bench.proofs./g
+    s/crate::conductor::/crate::/g' {} +
+build "$program" rt run
 rustc --edition 2024 -O --crate-type cdylib "$here/../publish/growths.rs" -o "$scratch/growths.so"
-# The program is made for x86-64-v2, so the plain Rust beside it is too.
-rustc --edition 2024 -O -C target-cpu=x86-64-v2 "$here/main.rs" -o "$scratch/bench"
+plain "$here/main.rs" -o "$scratch/bench"
 "$scratch/bench" "$program/out/conductor_bench" "$scratch/growths.so" "$scratch" "$@"

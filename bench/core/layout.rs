@@ -70,6 +70,15 @@ impl Block {
     }
 }
 
+/// A PDO of new variables with these widths; `variables` is the number of the last one.
+pub fn new_pdo(variables: &mut u32, index: u16, widths: &[u8]) -> Pdo {
+    let entries = widths.iter().map(|bits| {
+        *variables += 1;
+        (*variables, *bits)
+    });
+    Pdo { index, entries: entries.collect() }
+}
+
 impl Area {
     /// What a project's text tells of it.
     pub fn keys(&self) -> AreaKeys<'_> {

@@ -3,22 +3,12 @@
 # that static library and runs it. KIT is the toolchain's folder, if it is not /opt/rattle; with KEPT=1
 # the work that earlier checks kept in out/ is taken over.
 set -eu
-kit=${KIT:-/opt/rattle}
 here=$(cd "$(dirname "$0")" && pwd)
-scratch=$(mktemp -d)
-trap 'rm -rf "$scratch"' EXIT
-for crate in hc_records hc_bitsum hc_cuts; do
-    mkdir -p "$scratch/crates/$crate"
-    for part in src specs proofs ${KEPT:+out}; do
-        cp -r "$here/../../crates/$crate/$part" "$scratch/crates/$crate/"
-    done
-done
-{
-    grep -E '^(hc_records|hc_bitsum|hc_cuts):' "$here/../../crates.txt"
-    echo 'cuts_bench staticlib: hc_records hc_bitsum hc_cuts libc'
-} > "$scratch/crates.txt"
-bench="$scratch/crates/cuts_bench"
-mkdir -p "$bench/src"
+. "$here/../shared.sh"
+bench=$scratch/crates/cuts_bench
+take hc_cuts
+echo 'cuts_bench staticlib: hc_records hc_bitsum hc_cuts libc' >> "$scratch/crates.txt"
+share "$bench" clock
 # What the prover is told of a function: one name and its value a call.
 told() {
     file="$bench/proofs/$1/Invariants.antt"
@@ -43,11 +33,14 @@ cat > "$bench/src/lib.rt" <<'END_OF_CODE'
 //! calls in it, in as many rounds as `times` has places, which get the nanoseconds of each round.
 #![tactic(auto)]
 
+mod clock;
+
 ghost use Rattle.std.specs.Prelude.{◌≡◌, ◌≤◌, ◌<◌, IfOk, IsTrue, All};
 ghost use Rattle.hc_records.specs.Laws.{IsPackable};
 ghost use Rattle.hc_records.specs.declared.limits.TheConstants.{MOST_SLAVES};
 ghost use Rattle.hc_bitsum.specs.Tree.{HasPlace};
 
+use crate::clock::nanoseconds;
 use hc_bitsum::steps::Steps;
 use hc_bitsum::tree::SumTree;
 use hc_cuts::fold::fold_cuts;
@@ -92,19 +85,6 @@ fn number_of(key: Key) -> u32 {
 /// A key, mixed into what was told before.
 fn told_of(told: u64, key: Key) -> u64 {
     told.wrapping_mul(0x9e37_79b9_7f4a_7c15) ^ u64::from(number_of(key))
-}
-
-/// The nanoseconds of a clock that never goes back.
-fn nanoseconds() -> u64 {
-    let mut time = libc::types::timespec {
-        tv_sec: 0,
-        tv_nsec: 0,
-    };
-    libc::clock_gettime(libc::CLOCK_MONOTONIC, &mut time);
-    time.tv_sec
-        .unsigned_abs()
-        .wrapping_mul(1_000_000_000)
-        .wrapping_add(time.tv_nsec.unsigned_abs())
 }
 
 /// Sets the widths of the areas that have a place.
@@ -294,8 +274,7 @@ pub extern "C" fn cuts_folded(alloc: Global, areas: &[Area], times: &mut [u64]) 
     told
 }
 END_OF_CODE
-(cd "$bench" && rt lib) > "$scratch/lib.txt" 2>&1 || { cat "$scratch/lib.txt"; exit 1; }
-# The library is made for x86-64-v2, so the plain Rust beside it is too.
-rustc --edition 2024 -O -C target-cpu=x86-64-v2 "$here/main.rs" -o "$scratch/bench" \
+build "$bench" rt lib
+plain "$here/main.rs" -o "$scratch/bench" \
     -L "$bench/out" -l static=cuts_bench -C link-arg="$kit/c/liblibc_c.a"
 "$scratch/bench" "$@"

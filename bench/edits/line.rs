@@ -3,7 +3,7 @@
 //! hold, and an edit near the end of the line moves few areas.
 
 use super::plain::Group;
-use super::plain::layout::{Area, Pdo, Slave};
+use super::plain::layout::{Area, Pdo, Slave, new_pdo};
 use crate::project_text::{add_area, add_group, add_slave};
 
 /// The PDO that each area has: 11 bytes in two variables.
@@ -60,11 +60,7 @@ struct Maker {
 
 impl Maker {
     fn pdo(&mut self, index: u16, widths: &[u8]) -> Pdo {
-        let entries = widths.iter().map(|bits| {
-            self.variables += 1;
-            (self.variables, *bits)
-        });
-        Pdo { index, entries: entries.collect() }
+        new_pdo(&mut self.variables, index, widths)
     }
 
     fn area(&mut self, number: u8) -> Area {

@@ -3,29 +3,14 @@
 # static library and runs it. KIT is the toolchain's folder, if it is not /opt/rattle; with KEPT=1 the work that earlier
 # checks kept in out/ is taken over.
 set -eu
-kit=${KIT:-/opt/rattle}
 here=$(cd "$(dirname "$0")" && pwd)
-top="$here/../.."
-scratch=$(mktemp -d)
-trap 'rm -rf "$scratch"' EXIT
-bench="$scratch/crates/edits_bench"
-mkdir -p "$bench/src" "$bench/proofs/configured_in"
-# Takes a crate over, and the crates below it.
-take() {
-    [ -d "$top/crates/$1" ] && [ ! -e "$scratch/crates/$1" ] || return 0
-    mkdir -p "$scratch/crates/$1"
-    for part in src specs proofs ${KEPT:+out}; do
-        [ ! -e "$top/crates/$1/$part" ] || cp -rp "$top/crates/$1/$part" "$scratch/crates/$1/"
-    done
-    grep -E "^$1[: ]" "$top/crates.txt" >> "$scratch/crates.txt"
-    for below in $(sed -n "s/^$1[^:]*://p" "$top/crates.txt"); do
-        take "$below"
-    done
-}
+. "$here/../shared.sh"
+bench=$scratch/crates/edits_bench
 take hc_project
 take hc_plan
 echo 'edits_bench staticlib: hc_records hc_project hc_registers hc_places hc_plan libc' >> "$scratch/crates.txt"
-cp "$top/HANDLES" "$scratch/"
+share "$bench" asked clock plans told
+mkdir -p "$bench/proofs/configured_in"
 # Which ledger the blank is of: `open_line` asks for it.
 cat > "$bench/proofs/configured_in/Invariants.antt" <<'END_OF_PROOF'
 use Rattle.edits_bench.proofs.configured_in.Given as goal
@@ -37,12 +22,19 @@ cat > "$bench/src/lib.rt" <<'END_OF_CODE'
 //! What the benchmark calls: each function opens a project's plan and plays what is asked of it.
 #![tactic(auto)]
 
+mod asked;
+mod clock;
+mod plans;
+mod told;
+
+use crate::asked::{EditAsked, edit_of};
+use crate::clock::nanoseconds;
+use crate::plans::{applied_in, opened_plan};
+use crate::told::{told_of, told_of_place, told_of_swap};
 use hc_places::configure::open_line;
-use hc_places::swap::Swap;
-use hc_places::table::{Datagram, Place, Places};
+use hc_places::table::{Datagram, Places};
 use hc_plan::plan::Plan;
 use hc_plan::report::Report;
-use hc_project::read_project;
 use hc_records::edit::Edit;
 use hc_records::faults::EditFault;
 use hc_records::items::Items;
@@ -52,69 +44,10 @@ use std::alloc::{AllocError, Global};
 use std::marker::Brand;
 use std::sync::ledger::Blank;
 
-/// What is asked: an edit, with its alias or station address and with up to two PDOs; that the line is configured; or
-/// all that the plan tells.
-#[repr(C)]
-pub struct Asked {
-    pub kind: u8,
-    pub area: u8,
-    pub task: u8,
-    pub count: u8,
-    pub name: u16,
-    pub first: u16,
-    pub second: u16,
-}
-
-const CONNECT: u8 = 0;
-
-const DISCONNECT: u8 = 1;
-
-const REMAP: u8 = 2;
-
+/// Kinds that are no edit: the line is configured; all that the plan tells.
 const CONFIGURE: u8 = 4;
 
 const WHOLE: u8 = 5;
-
-/// The nanoseconds of a clock that never goes back.
-fn nanoseconds() -> u64 {
-    let mut time = libc::types::timespec {
-        tv_sec: 0,
-        tv_nsec: 0,
-    };
-    libc::clock_gettime(libc::CLOCK_MONOTONIC, &mut time);
-    time.tv_sec
-        .unsigned_abs()
-        .wrapping_mul(1_000_000_000)
-        .wrapping_add(time.tv_nsec.unsigned_abs())
-}
-
-/// A number, mixed into what was told before.
-fn told_of(told: u64, number: u64) -> u64 {
-    (told ^ number)
-        .wrapping_mul(0x9e37_79b9_7f4a_7c15)
-        .rotate_left(29)
-}
-
-fn told_of_place(told: u64, place: &Place) -> u64 {
-    let told = told_of(
-        told_of(told, u64::from(place.task)),
-        u64::from(place.datagram),
-    );
-    let told = told_of(told_of(told, u64::from(place.bit)), u64::from(place.bits));
-    told_of(told, if place.dir == Dir::Out { 1 } else { 2 })
-}
-
-fn told_of_swap(told: u64, swap: &Swap) -> u64 {
-    let mut told = told_of(told, u64::from(swap.places()));
-    for (variable, place) in swap.changes() {
-        told = told_of(told, u64::from(variable.number()));
-        told = match place {
-            Some(place) => told_of_place(told, place),
-            None => told_of(told, 99),
-        };
-    }
-    told
-}
 
 fn told_of_report(report: &Report) -> u64 {
     let told = told_of(told_of(1, u64::from(report.epoch)), u64::from(report.recut));
@@ -189,47 +122,8 @@ fn told_of_plan(plan: &Plan) -> u64 {
     told
 }
 
-/// The plan of a project's text at its opening.
-fn opened(alloc: Global, text: &[u8]) -> Option<Plan> {
-    let Ok(project) = read_project(alloc, text) else {
-        return None;
-    };
-    let Ok(plan) = Plan::new(alloc, project) else {
-        return None;
-    };
-    Some(plan)
-}
-
-/// The PDOs of a remap.
-fn pdos_of(alloc: Global, asked: &Asked) -> Result<Items<u16>, AllocError> {
-    let pdos = match asked.count {
-        0 => Vec::new(alloc),
-        1 => Vec::from_slice(alloc, &[asked.first])?,
-        _ => Vec::from_slice(alloc, &[asked.first, asked.second])?,
-    };
-    Ok(Items::of(pdos))
-}
-
-/// The edit that is asked.
-fn edit_of(alloc: Global, asked: &Asked) -> Result<Edit, AllocError> {
-    Ok(match asked.kind {
-        CONNECT => Edit::Connect(asked.name),
-        DISCONNECT => Edit::Disconnect(asked.name),
-        REMAP => Edit::Remap {
-            station: asked.name,
-            area: asked.area,
-            pdos: pdos_of(alloc, asked)?,
-        },
-        _ => Edit::Move {
-            station: asked.name,
-            area: asked.area,
-            task: asked.task,
-        },
-    })
-}
-
 /// What a plan tells of what is asked.
-fn told_by(alloc: Global, plan: &mut Plan, asked: &Asked) -> u64 {
+fn told_by(alloc: Global, plan: &mut Plan, asked: &EditAsked) -> u64 {
     if asked.kind == WHOLE {
         return told_of_plan(plan);
     }
@@ -247,10 +141,10 @@ fn told_by(alloc: Global, plan: &mut Plan, asked: &Asked) -> u64 {
 pub extern "C" fn edits_told(
     alloc: Global,
     text: &[u8],
-    asked: &[Asked],
+    asked: &[EditAsked],
     told: &mut [u64],
 ) -> usize {
-    let Some(mut plan) = opened(alloc, text) else {
+    let Some(mut plan) = opened_plan(alloc, text) else {
         return 0;
     };
     let mut count = 0;
@@ -271,16 +165,8 @@ fn configured_in(alloc: Global, plan: &Plan) -> u64 {
     if configured.is_ok() { time } else { u64::MAX }
 }
 
-/// The nanoseconds of an edit; the most where it was refused.
-fn applied_in(alloc: Global, plan: &mut Plan, edit: &Edit) -> u64 {
-    let begun = nanoseconds();
-    let report = plan.apply(alloc, edit);
-    let time = nanoseconds().wrapping_sub(begun);
-    if report.is_ok() { time } else { u64::MAX }
-}
-
 /// The nanoseconds of what is asked.
-fn played_in(alloc: Global, plan: &mut Plan, asked: &Asked) -> u64 {
+fn played_in(alloc: Global, plan: &mut Plan, asked: &EditAsked) -> u64 {
     if asked.kind == CONFIGURE {
         return configured_in(alloc, plan);
     }
@@ -295,10 +181,10 @@ fn played_in(alloc: Global, plan: &mut Plan, asked: &Asked) -> u64 {
 pub extern "C" fn edits_timed(
     alloc: Global,
     text: &[u8],
-    asked: &[Asked],
+    asked: &[EditAsked],
     times: &mut [u64],
 ) -> usize {
-    let Some(mut plan) = opened(alloc, text) else {
+    let Some(mut plan) = opened_plan(alloc, text) else {
         return 0;
     };
     let mut count = 0;
@@ -369,7 +255,7 @@ pub extern "C" fn groups_declared(
     groups: &[Coming],
     times: &mut [u64],
 ) -> usize {
-    let Some(mut plan) = opened(alloc, text) else {
+    let Some(mut plan) = opened_plan(alloc, text) else {
         return 0;
     };
     let mut count = 0;
@@ -382,9 +268,8 @@ pub extern "C" fn groups_declared(
     count
 }
 END_OF_CODE
-(cd "$bench" && rt lib) > "$scratch/lib.txt" 2>&1 || { cat "$scratch/lib.txt"; exit 1; }
-# The library is made for x86-64-v2, so the plain Rust beside it is too.
-rustc --edition 2024 -O -C target-cpu=x86-64-v2 "$here/main.rs" -o "$scratch/bench" \
+build "$bench" rt lib
+plain "$here/main.rs" -o "$scratch/bench" \
     -L "$bench/out" -l static=edits_bench -C link-arg="$kit/c/liblibc_c.a" \
     -C link-arg=-Wl,--wrap=malloc,--wrap=calloc,--wrap=realloc,--wrap=clock_gettime
 "$scratch/bench" "$@"

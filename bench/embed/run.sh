@@ -4,30 +4,15 @@
 # where valgrind is, the instructions of each call are counted too: the difference of 40 calls and of 8. KIT is the toolchain's
 # folder, if it is not /opt/rattle; with KEPT=1 the work that earlier checks kept in out/ is taken over.
 set -eu
-kit=${KIT:-/opt/rattle}
 here=$(cd "$(dirname "$0")" && pwd)
-top=$here/../..
-scratch=$(mktemp -d)
-trap 'rm -rf "$scratch"' EXIT
+. "$here/../shared.sh"
 bench=$scratch/crates/embed_bench
-# Takes a crate over, and the crates below it.
-take() {
-    [ -d "$top/crates/$1" ] && [ ! -e "$scratch/crates/$1" ] || return 0
-    mkdir -p "$scratch/crates/$1"
-    for part in src specs proofs ${KEPT:+out}; do
-        [ ! -e "$top/crates/$1/$part" ] || cp -rp "$top/crates/$1/$part" "$scratch/crates/$1/"
-    done
-    grep -E "^$1[: ]" "$top/crates.txt" >> "$scratch/crates.txt"
-    for below in $(sed -n "s/^$1[^:]*://p" "$top/crates.txt"); do
-        take "$below"
-    done
-}
 take hc_core
 take hc_project
 take hc_machine
 echo 'embed_bench staticlib: hc_records hc_project hc_places hc_frames hc_plan hc_events hc_core hc_machine libc' >> "$scratch/crates.txt"
-cp "$top/HANDLES" "$scratch/"
-for part in "$here"/library/*.sh "$here/../core/library/clock.sh" "$here/../core/library/telling.sh"; do
+share "$bench" answers bytes clock cores told
+for part in "$here"/library/*.sh; do
     sh "$part" "$bench"
 done
 # frames go into a slice by the library's own code
@@ -35,7 +20,7 @@ cp "$top/crates/hc_c/src/arena.rt" "$bench/src/"
 mkdir -p "$bench/proofs"
 cp -r "$top/crates/hc_c/proofs/arena" "$bench/proofs/"
 sed -i 's/Rattle\.hc_c\./Rattle.embed_bench./' "$bench"/proofs/arena/*/*.antt
-(cd "$bench" && rt lib) > "$scratch/lib.txt" 2>&1 || { cat "$scratch/lib.txt"; exit 1; }
+build "$bench" rt lib
 "$top/tools/library.sh" > "$scratch/lib.txt" 2>&1 || { cat "$scratch/lib.txt"; exit 1; }
 # The libraries are made for x86-64-v2, so the program beside them is too.
 gcc -std=c11 -D_POSIX_C_SOURCE=200809L -O2 -march=x86-64-v2 -Wall -Wextra -Werror -I"$top/include" "$here"/*.c "$top/build/libzangjulf.a" "$bench/out/libembed_bench.a" "$kit/c/liblibc_c.a" -o "$scratch/bench"

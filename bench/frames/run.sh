@@ -2,19 +2,11 @@
 # Proves `hc_frames` and what the benchmark needs of it under C names, in a scratch folder; links the benchmark to
 # that static library and runs it. KIT is the toolchain's folder, if it is not /opt/rattle.
 set -eu
-kit=${KIT:-/opt/rattle}
 here=$(cd "$(dirname "$0")" && pwd)
-scratch=$(mktemp -d)
-trap 'rm -rf "$scratch"' EXIT
-for crate in hc_records hc_frames; do
-    mkdir -p "$scratch/crates/$crate"
-    for part in src specs proofs; do
-        cp -r "$here/../../crates/$crate/$part" "$scratch/crates/$crate/"
-    done
-done
-printf 'hc_records: thiserror\nhc_frames: hc_records thiserror\nframes_bench staticlib: hc_frames\n' \
-    > "$scratch/crates.txt"
-bench="$scratch/crates/frames_bench"
+. "$here/../shared.sh"
+bench=$scratch/crates/frames_bench
+take hc_frames
+echo 'frames_bench staticlib: hc_frames' >> "$scratch/crates.txt"
 mkdir -p "$bench/src" "$bench/proofs/+write_datagrams" "$bench/proofs/+lend_datagrams"
 for name in write_datagrams lend_datagrams; do
     cat > "$bench/proofs/+$name/Invariants.antt" <<END_OF_MEASURE
@@ -121,8 +113,7 @@ pub extern "C" fn frame_lent(out: &mut [u8], serial: u64, wanted: &[Wanted], dat
     lend_datagrams(texts, serial, wanted, data)
 }
 END_OF_CODE
-(cd "$bench" && rt lib) > "$scratch/lib.txt" 2>&1 || { cat "$scratch/lib.txt"; exit 1; }
-# The library is made for x86-64-v2, so the plain Rust beside it is too.
-rustc --edition 2024 -O -C target-cpu=x86-64-v2 "$here/main.rs" -o "$scratch/bench" \
+build "$bench" rt lib
+plain "$here/main.rs" -o "$scratch/bench" \
     -L "$bench/out" -l static=frames_bench -C link-arg="$kit/c/liblibc_c.a"
 "$scratch/bench"

@@ -3,29 +3,25 @@
 # static library and runs it. KIT is the toolchain's folder, if it is not /opt/rattle; with KEPT=1 the work that earlier
 # checks kept in out/ is taken over.
 set -eu
-kit=${KIT:-/opt/rattle}
 here=$(cd "$(dirname "$0")" && pwd)
-top="$here/../.."
-scratch=$(mktemp -d)
-trap 'rm -rf "$scratch"' EXIT
-crates="hc_records hc_project hc_registers hc_ranks hc_bitsum hc_cuts hc_tasks hc_edits hc_index hc_places hc_changes hc_plan"
-for crate in $crates; do
-    mkdir -p "$scratch/crates/$crate"
-    for part in src specs proofs ${KEPT:+out}; do
-        [ ! -e "$top/crates/$crate/$part" ] || cp -rp "$top/crates/$crate/$part" "$scratch/crates/$crate/"
-    done
-    grep -E "^$crate[: ]" "$top/crates.txt" >> "$scratch/crates.txt"
-done
-cp "$top/HANDLES" "$scratch/"
-echo "lookups_bench staticlib: hc_records hc_project hc_registers hc_places hc_plan libc" >> "$scratch/crates.txt"
-bench="$scratch/crates/lookups_bench"
-mkdir -p "$bench/src"
+. "$here/../shared.sh"
+bench=$scratch/crates/lookups_bench
+take hc_project
+take hc_plan
+echo 'lookups_bench staticlib: hc_records hc_project hc_registers hc_places hc_plan libc' >> "$scratch/crates.txt"
+share "$bench" clock plans told
 cat > "$bench/src/lib.rt" <<'END_OF_CODE'
 //! What the benchmark calls: a function that opens a project's line and looks up in its plan.
 #![tactic(auto)]
 
+mod clock;
+mod plans;
+mod told;
+
+use crate::clock::nanoseconds;
+use crate::plans::opened_plan;
+use crate::told::told_of;
 use hc_plan::plan::Plan;
-use hc_project::read_project;
 use hc_records::edit::Edit;
 use hc_records::records::VarId;
 use hc_registers::blocks::Block;
@@ -53,13 +49,6 @@ const BLOCKS: u8 = 4;
 const PLACE: u8 = 5;
 
 const KINDS: u8 = 6;
-
-/// A number, mixed into what was told before.
-fn told_of(told: u64, number: u64) -> u64 {
-    (told ^ number)
-        .wrapping_mul(0x9e37_79b9_7f4a_7c15)
-        .rotate_left(29)
-}
 
 /// What is told of no answer.
 const NONE: u64 = 0xffff_ffff;
@@ -131,27 +120,9 @@ fn asked_of(asked: &[Asked], kind: u8, calls: usize) -> &[Asked] {
     }
 }
 
-/// The nanoseconds of a clock that never goes back.
-fn nanoseconds() -> u64 {
-    let mut time = libc::types::timespec {
-        tv_sec: 0,
-        tv_nsec: 0,
-    };
-    libc::clock_gettime(libc::CLOCK_MONOTONIC, &mut time);
-    time.tv_sec
-        .unsigned_abs()
-        .wrapping_mul(1_000_000_000)
-        .wrapping_add(time.tv_nsec.unsigned_abs())
-}
-
 /// The plan of a project's line with the groups from alias 1 to a last one connected.
 fn opened(alloc: Global, text: &[u8], groups: u16) -> Option<Plan> {
-    let Ok(project) = read_project(alloc, text) else {
-        return None;
-    };
-    let Ok(mut plan) = Plan::new(alloc, project) else {
-        return None;
-    };
+    let mut plan = opened_plan(alloc, text)?;
     for alias in 1..=groups {
         if plan.apply(alloc, &Edit::Connect(alias)).is_err() {
             return None;
@@ -195,9 +166,8 @@ pub extern "C" fn lookups_timed(
     true
 }
 END_OF_CODE
-(cd "$bench" && rt lib) > "$scratch/lib.txt" 2>&1 || { cat "$scratch/lib.txt"; exit 1; }
-# The library is made for x86-64-v2, so the plain Rust beside it is too.
-rustc --edition 2024 -O -C target-cpu=x86-64-v2 "$here/main.rs" -o "$scratch/bench" \
+build "$bench" rt lib
+plain "$here/main.rs" -o "$scratch/bench" \
     -L "$bench/out" -l static=lookups_bench -C link-arg="$kit/c/liblibc_c.a"
 # The instructions of a call: callgrind ends a part of its counts where the clock is read.
 if command -v valgrind > /dev/null; then

@@ -5,16 +5,15 @@
 # taken in place of that.
 set -eu
 here=$(cd "$(dirname "$0")" && pwd)
-hotline=${HOTLINE:-$here/../../crates/hotline/out/hotline}
-scratch=$(mktemp -d)
-trap 'rm -rf "$scratch"' EXIT
+. "$here/../shared.sh"
+hotline=${HOTLINE:-$top/crates/hotline/out/hotline}
+reader=$scratch/crates/toml_bench
 if [ -z "${HOTLINE:-}" ]; then
-    (cd "$here/../../crates/hotline" && rt run < stdin) > "$scratch/hotline.txt" 2>&1 || { cat "$scratch/hotline.txt"; exit 1; }
+    (cd "$top/crates/hotline" && rt run < stdin) > "$scratch/said" 2>&1 || { cat "$scratch/said"; exit 1; }
 fi
-mkdir -p "$scratch/crates/toml_bench/src"
+mkdir -p "$reader/src"
 echo 'toml_bench: toml anyhow' > "$scratch/crates.txt"
-cp "$here/../../HANDLES" "$scratch/"
-cat > "$scratch/crates/toml_bench/src/main.rt" <<'END_OF_CODE'
+cat > "$reader/src/main.rt" <<'END_OF_CODE'
 //! Reads a TOML document on standard input, and nothing else.
 #![tactic(auto)]
 
@@ -30,8 +29,7 @@ fn main(rt: HostRuntime) -> anyhow::Result<()> {
     Ok(())
 }
 END_OF_CODE
-(cd "$scratch/crates/toml_bench" && rt run < /dev/null) > "$scratch/reader.txt" 2>&1 || { cat "$scratch/reader.txt"; exit 1; }
-# The programs are made for x86-64-v2, so the plain Rust beside them is too.
-rustc --edition 2024 -O -C target-cpu=x86-64-v2 "$here/plain.rs" -o "$scratch/plain"
+build "$reader" rt run
+plain "$here/plain.rs" -o "$scratch/plain"
 rustc --edition 2024 -O "$here/main.rs" -o "$scratch/bench"
-"$scratch/bench" "$hotline" "$scratch/plain" "$scratch/crates/toml_bench/out/toml_bench"
+"$scratch/bench" "$hotline" "$scratch/plain" "$reader/out/toml_bench"

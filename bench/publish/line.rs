@@ -5,7 +5,7 @@
 
 use crate::plan::asked::{Asked as EditAsked, CONNECT, DISCONNECT, REMAP};
 use crate::plan::plain::Group;
-use crate::plan::plain::layout::{Area, Pdo, Slave};
+use crate::plan::plain::layout::{Area, Pdo, Slave, new_pdo};
 
 const FIRST: u16 = 0x1600;
 const SECOND: u16 = 0x1601;
@@ -49,11 +49,7 @@ struct Maker {
 
 impl Maker {
     fn pdo(&mut self, index: u16, widths: &[u8]) -> Pdo {
-        let entries = widths.iter().map(|bits| {
-            self.variables += 1;
-            (self.variables, *bits)
-        });
-        Pdo { index, entries: entries.collect() }
+        new_pdo(&mut self.variables, index, widths)
     }
 
     /// One PDO for so many bits, in entries of 64 bits and the rest.

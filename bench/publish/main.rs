@@ -31,7 +31,7 @@ mod runs;
 mod told;
 
 use cases::{Case, cases, compare_all};
-use runs::{Count, Programs, figures, median};
+use runs::{Count, Programs, asked, figures, is_named, median};
 use std::hint::black_box;
 use std::time::Instant;
 
@@ -66,16 +66,10 @@ fn tell(programs: &Programs, case: &Case, turns: usize, are_counted: bool) {
 }
 
 fn main() {
-    let words: Vec<String> = std::env::args().skip(1).collect();
-    if let [word, number] = words.as_slice()
-        && word == "plain"
-    {
-        return cases()[number.parse::<usize>().expect("a case's number")].play();
-    }
-    let [program, growths, scratch, words @ ..] = words.as_slice() else {
-        panic!("a program, a library and a folder");
+    let cases = cases();
+    let Some((programs, words)) = asked(&cases) else {
+        return;
     };
-    let programs = Programs::new(program, growths, scratch);
     if words.iter().any(|word| word == "often") {
         let told = programs.often("", &["2500", "22500"]);
         return println!("resident KiB at the 10,000th publishing and at the 100,000th: {told}");
@@ -85,8 +79,7 @@ fn main() {
     compare_all(&programs, few);
     println!("| Call | Slaves | ns | To plain Rust | To a memory copy | Growths | Of plain Rust | Instructions, of plain Rust, their ratio |");
     println!("|---|---|---|---|---|---|---|---|");
-    let names: Vec<&String> = words.iter().filter(|word| !["few", "times"].contains(&word.as_str())).collect();
-    for case in cases().iter().filter(|case| names.iter().all(|word| case.name.contains(word.as_str()))) {
+    for case in cases.iter().filter(|case| is_named(case, &words)) {
         tell(&programs, case, if few { 1 } else { 9 }, are_counted);
     }
 }

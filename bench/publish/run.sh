@@ -4,38 +4,26 @@
 # KEPT=1 the work that earlier checks kept in out/ is taken over.
 set -eu
 here=$(cd "$(dirname "$0")" && pwd)
-top="$here/../.."
-scratch=$(mktemp -d)
-trap 'rm -rf "$scratch"' EXIT
-program="$scratch/crates/publish_bench"
-# Takes a crate over, and the crates below it.
-take() {
-    [ -d "$top/crates/$1" ] && [ ! -e "$scratch/crates/$1" ] || return 0
-    mkdir -p "$scratch/crates/$1"
-    for part in src specs proofs ${KEPT:+out}; do
-        [ ! -e "$top/crates/$1/$part" ] || cp -rp "$top/crates/$1/$part" "$scratch/crates/$1/"
-    done
-    grep -E "^$1[: ]" "$top/crates.txt" >> "$scratch/crates.txt"
-    for below in $(sed -n "s/^$1[^:]*://p" "$top/crates.txt"); do
-        take "$below"
-    done
-}
+. "$here/../shared.sh"
+program=$scratch/crates/publish_bench
 take hc_project
 take hc_publish
-echo 'publish_bench: hc_records hc_project hc_places hc_plan hc_events hc_copies hc_publish anyhow' >> "$scratch/crates.txt"
-cp "$top/HANDLES" "$scratch/"
+echo 'publish_bench: hc_records hc_project hc_places hc_plan hc_events hc_publish anyhow' >> "$scratch/crates.txt"
+share "$program" resident told words
 for part in "$here"/program/*.sh; do
     sh "$part" "$program"
 done
-# The line that is published in turn beside seats in threads, and what stands of it in the tests.
-tests="$top/crates/worked_views"
-for part in src/eight.rt src/lines.rt src/turns.rt src/watched.rt specs/Lines.antt proofs/Answered.antt proofs/Leading.antt \
-    proofs/lines proofs/turns; do
-    cp -r "$tests/$part" "$program/$part"
+# The line that is published in turn beside seats in threads, as the tests have it.
+tests=$top/crates/worked_threads
+for name in eight lines turns watched; do
+    cp "$tests/src/views/$name.rt" "$program/src/"
+    [ ! -e "$tests/proofs/views/$name" ] || cp -r "$tests/proofs/views/$name" "$program/proofs/"
 done
-find "$program" -type f -exec sed -i 's/Rattle\.worked_views/Rattle.publish_bench/g' {} +
-(cd "$program" && rt run < /dev/null) > "$scratch/program.txt" 2>&1 || { cat "$scratch/program.txt"; exit 1; }
+cp "$tests/specs/Lines.antt" "$program/specs/"
+cp "$tests/proofs/Answered.antt" "$tests/proofs/Leading.antt" "$program/proofs/"
+find "$program" -type f -exec sed -i 's/Rattle\.worked_threads\.proofs\.views\./Rattle.publish_bench.proofs./g
+    s/Rattle\.worked_threads\./Rattle.publish_bench./g; s/crate::views::/crate::/g' {} +
+build "$program" rt run
 rustc --edition 2024 -O --crate-type cdylib "$here/growths.rs" -o "$scratch/growths.so"
-# The program is made for x86-64-v2, so the plain Rust beside it is too.
-rustc --edition 2024 -O -C target-cpu=x86-64-v2 "$here/main.rs" -o "$scratch/bench"
+plain "$here/main.rs" -o "$scratch/bench"
 "$scratch/bench" "$program/out/publish_bench" "$scratch/growths.so" "$scratch" "$@"

@@ -33,8 +33,29 @@ fn said(command: &mut Command) -> String {
     String::from_utf8(said.stdout).expect("text")
 }
 
+/// The programs and the words after them, as this program's words have them. Where these are `plain NUMBER`, that case is played
+/// in plain Rust instead, and there are none.
+pub fn asked(cases: &[Case]) -> Option<(Programs, Vec<String>)> {
+    let words: Vec<String> = std::env::args().skip(1).collect();
+    if let [word, number] = words.as_slice()
+        && word == "plain"
+    {
+        cases[number.parse::<usize>().expect("a case's number")].play();
+        return None;
+    }
+    let [program, growths, scratch, words @ ..] = words.as_slice() else {
+        panic!("a program, a library and a folder");
+    };
+    Some((Programs::new(program, growths, scratch), words.to_vec()))
+}
+
+/// Whether a case's name has each word but `few` and `times`.
+pub fn is_named(case: &Case, words: &[String]) -> bool {
+    words.iter().filter(|word| !["few", "times"].contains(&word.as_str())).all(|word| case.name.contains(word.as_str()))
+}
+
 impl Programs {
-    pub fn new(proved: &str, growths: &str, scratch: &str) -> Programs {
+    fn new(proved: &str, growths: &str, scratch: &str) -> Programs {
         Programs { proved: proved.into(), growths: growths.into(), scratch: scratch.into() }
     }
 

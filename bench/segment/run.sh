@@ -4,21 +4,15 @@
 # Rust beside them and runs all. KIT is the toolchain's folder, if it is not /opt/rattle; with KEPT=1 the work that
 # earlier checks kept is taken over. The word `instructions` counts those of a turn, which needs valgrind, and times nothing.
 set -eu
-kit=${KIT:-/opt/rattle}
 here=$(cd "$(dirname "$0")" && pwd)
-scratch=$(mktemp -d)
-trap 'rm -rf "$scratch"' EXIT
-for crate in hc_records hc_registers hc_frames hc_bits hc_lend hc_rings hc_machine hc_segment; do
-    mkdir -p "$scratch/crates/$crate"
-    for part in src specs proofs ${KEPT:+out}; do
-        [ ! -e "$here/../../crates/$crate/$part" ] || cp -rp "$here/../../crates/$crate/$part" "$scratch/crates/$crate/"
-    done
-done
-grep -E '^hc_(records|registers|frames|bits|lend|rings|machine|segment)[: ]' "$here/../../crates.txt" > "$scratch/crates.txt"
-cp "$here/../../HANDLES" "$scratch/"
+. "$here/../shared.sh"
+library=$scratch/crates/segment_bench
+program=$scratch/crates/chain_bench
+take hc_segment
 printf 'segment_bench staticlib: hc_segment\nchain_bench: hc_segment hc_lend hc_rings anyhow\n' >> "$scratch/crates.txt"
-mkdir -p "$scratch/crates/segment_bench/src" "$scratch/crates/chain_bench/src"
-cat > "$scratch/crates/segment_bench/src/lib.rt" <<'END_OF_CODE'
+share "$program" words
+mkdir -p "$library/src"
+cat > "$library/src/lib.rt" <<'END_OF_CODE'
 #![tactic(auto)]
 
 use hc_segment::{Segment, SlaveMachine};
@@ -67,12 +61,15 @@ pub extern "C" fn segment_run(
     true
 }
 END_OF_CODE
-cat > "$scratch/crates/chain_bench/src/main.rt" <<'END_OF_CODE'
+cat > "$program/src/main.rt" <<'END_OF_CODE'
 //! `chain_bench SEGMENTS TURNS < LINE` passes 64 frames so many times through slaves in so many segments, each segment
 //! in a thread of its own, and prints a number that tells of frames and memories. LINE is the frame's 1,514 bytes, and
 //! then the slaves' memories.
 #![tactic(auto)]
 
+mod words;
+
+use crate::words::number_of;
 use hc_lend::Gate;
 use hc_rings::FrameBox;
 use hc_segment::{Segment, SlaveMachine, chain};
@@ -141,14 +138,6 @@ fn told_of_all(frames: &[FrameBox], segments: &[Segment]) -> u64 {
     told
 }
 
-/// The word with this number, counted from 0, as a number; 0 where it is none.
-fn number_of(words: &[String], place: usize) -> usize {
-    match words.get(place) {
-        Some(word) => word.parse().unwrap_or(0),
-        None => 0,
-    }
-}
-
 fn main(rt: HostRuntime) -> anyhow::Result<()> {
     let alloc = rt.alloc();
     let words: Vec<String> = env::args(&rt)?.collect(alloc)?;
@@ -157,7 +146,7 @@ fn main(rt: HostRuntime) -> anyhow::Result<()> {
     if line.len() < FRAME {
         return Ok(());
     }
-    let mut segments = segments_of(alloc, &line[FRAME..], number_of(&words, 1))?;
+    let mut segments = segments_of(alloc, &line[FRAME..], number_of(&words, 1) as usize)?;
     let mut frames = frames_of(alloc, &line)?;
     for _ in 0..number_of(&words, 2) {
         frames = chain(&rt, alloc, &mut segments, frames, &Open)?;
@@ -166,11 +155,9 @@ fn main(rt: HostRuntime) -> anyhow::Result<()> {
     Ok(())
 }
 END_OF_CODE
-(cd "$scratch/crates/segment_bench" && rt lib) > "$scratch/lib.txt" 2>&1 || { cat "$scratch/lib.txt"; exit 1; }
-(cd "$scratch/crates/chain_bench" && rt run < /dev/null) > "$scratch/program.txt" 2>&1 || { cat "$scratch/program.txt"; exit 1; }
-# The library and the program are made for x86-64-v2, so the plain Rust beside them is too.
-rustc --edition 2024 -O -C target-cpu=x86-64-v2 "$here/main.rs" -o "$scratch/bench" \
-    -L "$scratch/crates/segment_bench/out" -l static=segment_bench -C link-arg="$kit/c/liblibc_c.a"
+build "$library" rt lib
+build "$program" rt run
+plain "$here/main.rs" -o "$scratch/bench" -L "$library/out" -l static=segment_bench -C link-arg="$kit/c/liblibc_c.a"
 # What valgrind counts of so many turns.
 counted() {
     valgrind --tool=callgrind --callgrind-out-file=/dev/null "$scratch/bench" count "$@" 2>&1 | sed -n 's/.*Collected : //p'
@@ -187,5 +174,5 @@ if [ "${1:-}" = instructions ]; then
     done
     exit
 fi
-rustc --edition 2024 -O -C target-cpu=x86-64-v2 "$here/chain_plain.rs" -o "$scratch/chain_plain"
-"$scratch/bench" "$scratch/crates/chain_bench/out/chain_bench" "$scratch/chain_plain" "$scratch/line"
+plain "$here/chain_plain.rs" -o "$scratch/chain_plain"
+"$scratch/bench" "$program/out/chain_bench" "$scratch/chain_plain" "$scratch/line"

@@ -5,6 +5,7 @@ mkdir -p "$1/src"
 cat > "$1/src/master.rt" <<'END_OF_CODE'
 //! The conductor's part of a cycle, through frames that were prepared beforehand.
 
+use crate::bytes::{put, put_serial};
 use hc_conductor::conductor::Conductor;
 use hc_conductor::open;
 use hc_conductor::seat::TaskSeat;
@@ -18,6 +19,9 @@ use std::sync::Wait;
 /// Where a frame's first datagram has its data.
 const DATA: usize = 26;
 
+/// Where it has its index.
+const INDEX: u32 = 17;
+
 /// Room for the frames of eight tasks.
 pub const ARENA: usize = 8 * 1514;
 
@@ -30,13 +34,6 @@ pub struct Frames {
     returned: Vec<Vec<u8>>,
     sent: Vec<Sending>,
     outcomes: Vec<Outcome>,
-}
-
-/// Puts a byte at a place, where there is one.
-fn put(frame: &mut [u8], at: usize, byte: u8) {
-    if let Some(own) = frame.get_mut(at) {
-        *own = byte;
-    }
 }
 
 /// The conductor of a project's text, with its seats.
@@ -91,17 +88,6 @@ fn send_into(
         4 => conductor.send_into(&[0, 1, 2, 3], arena, sent),
         _ => conductor.send_into(&[0, 1, 2, 3, 4, 5, 6, 7], arena, sent),
     }
-}
-
-/// Puts a serial into a frame of one datagram.
-fn put_serial(frame: &mut [u8], serial: u64) {
-    let [_, _, _, s4, s3, s2, s1, s0] = serial.to_be_bytes();
-    put(frame, 7, s4);
-    put(frame, 8, s3);
-    put(frame, 9, s2);
-    put(frame, 10, s1);
-    put(frame, 11, s0);
-    put(frame, 17, s0);
 }
 
 /// Fills the data of a frame of one datagram, and puts the counter behind them.
@@ -196,7 +182,7 @@ impl Frames {
         let mut back = self.returned.iter_mut();
         for sent in self.sent.as_slice() {
             if let Some(frame) = back.next() {
-                put_serial(frame, sent.serial());
+                put_serial(frame, &[INDEX], sent.serial());
             }
         }
         Some(())
@@ -225,16 +211,10 @@ END_OF_CODE
 cat > "$1/src/task.rt" <<'END_OF_CODE'
 //! A task's part of a cycle.
 
+use crate::told::told_of;
 use hc_conductor::seat::TaskSeat;
 use hc_conductor::view::TaskView;
 use hc_records::records::VarId;
-
-/// A number, mixed into what was told before.
-pub fn told_of(told: u64, number: u64) -> u64 {
-    (told ^ number)
-        .wrapping_mul(0x9e37_79b9_7f4a_7c15)
-        .rotate_left(29)
-}
 
 /// What a view tells of variables, behind its epoch.
 fn told_by(view: &TaskView, variables: &[VarId]) -> u64 {
@@ -273,7 +253,8 @@ cat > "$1/src/cycle.rt" <<'END_OF_CODE'
 
 use crate::given::Given;
 use crate::master::Frames;
-use crate::task::{looked, posted, told_of};
+use crate::task::{looked, posted};
+use crate::told::told_of;
 use hc_conductor::conductor::Conductor;
 use hc_conductor::seat::TaskSeat;
 use hc_conductor::taking::Taken;

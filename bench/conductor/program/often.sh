@@ -7,11 +7,11 @@ cat > "$1/src/stress.rt" <<'END_OF_CODE'
 
 use crate::fates::{EIGHT, Master, play_all, play_last};
 use crate::lines::{are_written, opened_line};
+use crate::resident::resident;
 use crate::working::{eight_of, work_eight};
 use hc_conductor::conductor::Conductor;
 use hc_conductor::seat::TaskSeat;
 use std::alloc::Global;
-use std::fs;
 use std::rt::Files;
 use std::sync::Wait;
 use std::sync::atomic::{AtomicBool, Ordering};
@@ -22,18 +22,6 @@ struct LongRun {
     early: u64,
     late: u64,
     posts: u64,
-}
-
-/// The resident kibibytes of this process, as the system tells.
-fn resident<R: Files + AllocGlobal>(rt: &R) -> Option<u64> {
-    let text = fs::read_to_string(rt, "/proc/self/smaps_rollup").ok()?;
-    for row in text.lines() {
-        let mut words = row.split_whitespace();
-        if words.next() == Some("Rss:") {
-            return words.next()?.parse().ok();
-        }
-    }
-    None
 }
 
 /// All blocks are written, and so many cycles played, so many more, and one more: how far it is then, and what was

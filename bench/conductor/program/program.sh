@@ -8,34 +8,31 @@ cat > "$1/src/main.rt" <<'END_OF_CODE'
 //! looks at.
 #![tactic(auto)]
 
+mod bytes;
 mod cycle;
 mod fates;
 mod given;
 mod lines;
 mod master;
 mod posting;
+mod resident;
 mod rounds;
 mod sendings;
 mod stress;
 mod task;
+mod told;
+mod words;
 mod working;
 
 use crate::given::Given;
 use crate::sendings::Writers;
+use crate::words::three_of;
 use std::env;
 use std::io::Read;
 use std::process::ExitCode;
 use std::rt::{Clock, Files};
 use std::sync::Wait;
 use std::thread::Threads;
-
-/// The word with this number, counted from 0, as a number; 0 where it is none.
-fn number_of(words: &[String], place: usize) -> u32 {
-    match words.get(place) {
-        Some(word) => word.parse().unwrap_or(0),
-        None => 0,
-    }
-}
 
 /// What a word asks, with its numbers.
 fn is_done<R: Threads + Wait + Sync + Clock + Print + Files + AllocGlobal>(
@@ -47,11 +44,7 @@ fn is_done<R: Threads + Wait + Sync + Clock + Print + Files + AllocGlobal>(
     let Some(word) = words.get(1) else {
         return true;
     };
-    let (first, second, third) = (
-        number_of(words, 2),
-        number_of(words, 3),
-        number_of(words, 4),
-    );
+    let (first, second, third) = three_of(words);
     match word.as_str() {
         "told" => rounds::tell(rt, alloc, given, first, second),
         "cycle" => rounds::time_cycles(rt, alloc, given, first, second, third),

@@ -8,7 +8,7 @@ cat > "$1/src/rounds.rt" <<'END_OF_CODE'
 use crate::cycle::{Task, play, tasks_of};
 use crate::given::Given;
 use crate::master::{Frames, opened, write_all};
-use crate::task::told_of;
+use crate::told::told_of;
 use hc_conductor::conductor::Conductor;
 use hc_conductor::seat::TaskSeat;
 use std::alloc::Global;

@@ -8,7 +8,7 @@ cat > "$1/src/sendings.rt" <<'END_OF_CODE'
 
 use crate::given::Given;
 use crate::master::{ARENA, opened, send, write_all};
-use crate::task::told_of;
+use crate::told::told_of;
 use hc_conductor::conductor::Conductor;
 use hc_events::faults::CoreFault;
 use hc_events::sending::Sending;

@@ -47,24 +47,31 @@ cat > "$1/src/lib.rt" <<'END_OF_CODE'
 //! What the benchmark calls: each function opens a project's line and plays events in its core.
 #![tactic(auto)]
 
+mod answers;
+mod asked;
+mod bytes;
 mod clock;
+mod cores;
 mod edits;
-mod telling;
+mod plans;
+mod told;
 
 ghost use Rattle.std.specs.Prelude.{◌≡◌, All, OnOk, length};
 ghost use Rattle.hc_events.specs.Sendings.{size_of};
 ghost use Rattle.hc_core.specs.Filled.{CanBeFilled};
 ghost use Rattle.hc_core.specs.Proposed.{IsProposal};
 
+use crate::answers::{told_of_answer, told_of_changes};
+use crate::asked::{EditAsked, edit_of};
+use crate::bytes::{bytes_from, put_serial};
 use crate::clock::nanoseconds;
-use crate::edits::{EditAsked, edit_of};
-use crate::telling::{told_of, told_of_answer, told_of_changes};
+use crate::cores::{opened, send, write_and_take};
+use crate::told::told_of;
 use hc_core::keeping::Core;
 use hc_events::answer::{Answer, Arrived};
 use hc_events::event::Event;
 use hc_events::faults::CoreFault;
 use hc_events::sending::Sending;
-use hc_project::read_project;
 use hc_records::items::Items;
 use std::alloc::{AllocError, Global};
 
@@ -91,39 +98,6 @@ const READ: u8 = 4;
 
 const EDIT: u8 = 5;
 
-/// The core of a project's text at its opening.
-pub(crate) fn opened(alloc: Global, text: &[u8]) -> Option<Core> {
-    let Ok(project) = read_project(alloc, text) else {
-        return None;
-    };
-    let Ok(core) = Core::new(alloc, project) else {
-        return None;
-    };
-    Some(core)
-}
-
-/// The bytes of an event.
-fn bytes_of<'a>(asked: &Asked, bytes: &'a [u8]) -> &'a [u8] {
-    let Some(rest) = bytes.get(asked.from as usize..) else {
-        return &[];
-    };
-    match rest.get(..asked.size as usize) {
-        Some(own) => own,
-        None => &[],
-    }
-}
-
-/// One of the lists of tasks that the benchmark sends is sent.
-fn send(alloc: Global, core: &mut Core, list: u8) -> Answer {
-    match list {
-        0 => core.step(alloc, Event::SendTasks(&[0])),
-        1 => core.step(alloc, Event::SendTasks(&[1])),
-        2 => core.step(alloc, Event::SendTasks(&[2])),
-        3 => core.step(alloc, Event::SendTasks(&[3, 4, 5, 6, 7])),
-        _ => core.step(alloc, Event::SendTasks(&[7, 1, 0])),
-    }
-}
-
 /// An edit is carried out.
 fn edit(alloc: Global, core: &mut Core, asked: &EditAsked) -> Answer {
     match edit_of(alloc, asked) {
@@ -137,11 +111,12 @@ fn post(alloc: Global, core: &mut Core, task: u8, epoch: u32, bytes: &[u8]) -> A
 }
 
 fn serve(alloc: Global, core: &mut Core, asked: &Asked, bytes: &[u8]) -> Answer {
+    let own = bytes_from(bytes, asked.from, asked.size);
     match asked.kind {
-        POST => post(alloc, core, asked.task, asked.epoch, bytes_of(asked, bytes)),
+        POST => post(alloc, core, asked.task, asked.epoch, own),
         TASKS => send(alloc, core, asked.task),
         WRITE => core.step(alloc, Event::SendWrite),
-        ARRIVE => core.step(alloc, Event::Arrive(bytes_of(asked, bytes))),
+        ARRIVE => core.step(alloc, Event::Arrive(own)),
         EDIT => edit(alloc, core, &asked.edit),
         _ => core.step(alloc, Event::Read(asked.task)),
     }
@@ -218,26 +193,6 @@ const OWN_ARRIVE_ALONE: u8 = 11;
 
 const OWN_READ_IMAGE: u8 = 12;
 
-/// Puts a byte at a place, where there is one.
-fn put(frame: &mut [u8], at: usize, byte: u8) {
-    if let Some(own) = frame.get_mut(at) {
-        *own = byte;
-    }
-}
-
-/// Puts a serial into a frame, and its lowest byte at the index of each datagram.
-fn put_serial(frame: &mut [u8], indexes: &[u32], serial: u64) {
-    let [_, _, _, s4, s3, s2, s1, s0] = serial.to_be_bytes();
-    put(frame, 7, s4);
-    put(frame, 8, s3);
-    put(frame, 9, s2);
-    put(frame, 10, s1);
-    put(frame, 11, s0);
-    for at in indexes {
-        put(frame, *at as usize, s0);
-    }
-}
-
 /// A sending, whose serial is put into the frame that will come back.
 fn send_and_put(
     alloc: Global,
@@ -256,20 +211,6 @@ fn send_and_put(
 fn take_answer(alloc: Global, core: &mut Core, frame: &[u8]) -> u64 {
     let answered = matches!(core.step(alloc, Event::Arrive(frame)), Answer::Answered(_));
     u64::from(answered & !core.take_changes(alloc).is_empty())
-}
-
-/// A register write, and the arrival that answers it.
-pub(crate) fn write_and_take(alloc: Global, core: &mut Core) -> u64 {
-    let Answer::WriteSent(text) = core.step(alloc, Event::SendWrite) else {
-        return 0;
-    };
-    let mut frame = text.into_vec();
-    let size = frame.get(22).copied().unwrap_or(0);
-    put(&mut frame, 26 + usize::from(size), 1);
-    u64::from(matches!(
-        core.step(alloc, Event::Arrive(frame.as_slice())),
-        Answer::WriteDone
-    ))
 }
 
 /// One of the lists of tasks is proposed.
@@ -409,7 +350,7 @@ fn once(
                 Answer::Image { .. }
             ))
         }
-        WRITE_AND_ARRIVE => write_and_take(alloc, core),
+        WRITE_AND_ARRIVE => u64::from(write_and_take(alloc, core)),
         STEP_POST => {
             let epoch = core.plan().epoch();
             u64::from(matches!(

@@ -5,68 +5,22 @@ mkdir -p "$1/src" "$1/proofs"
 cat > "$1/src/edits.rt" <<'END_OF_CODE'
 //! Edits, each timed by itself: in a core, and in a plan of the same line.
 
+use crate::asked::{EditAsked, edit_of};
 use crate::clock::nanoseconds;
-use crate::{opened, write_and_take};
+use crate::cores::{opened, write_and_take};
+use crate::plans::{applied_in, opened_plan};
 use hc_core::keeping::Core;
 use hc_events::answer::Answer;
 use hc_events::event::Event;
 use hc_plan::plan::Plan;
-use hc_project::read_project;
 use hc_records::edit::Edit;
-use hc_records::items::Items;
-use std::alloc::{AllocError, Global};
-
-/// An edit, with its alias or station address and with up to two PDOs. Any other kind is none.
-#[repr(C)]
-pub struct EditAsked {
-    pub kind: u8,
-    pub area: u8,
-    pub task: u8,
-    pub count: u8,
-    pub name: u16,
-    pub first: u16,
-    pub second: u16,
-}
-
-const CONNECT: u8 = 0;
-
-const DISCONNECT: u8 = 1;
-
-const REMAP: u8 = 2;
+use std::alloc::Global;
 
 /// Nothing is done between two readings of the clock.
 const NOTHING: u8 = 6;
 
 /// All owed blocks are written and answered, and all tasks are posted; that isn't timed.
 const SETTLE: u8 = 7;
-
-/// The PDOs of a remap.
-fn pdos_of(alloc: Global, asked: &EditAsked) -> Result<Items<u16>, AllocError> {
-    let pdos = match asked.count {
-        0 => Vec::new(alloc),
-        1 => Vec::from_slice(alloc, &[asked.first])?,
-        _ => Vec::from_slice(alloc, &[asked.first, asked.second])?,
-    };
-    Ok(Items::of(pdos))
-}
-
-/// The edit that is asked.
-pub fn edit_of(alloc: Global, asked: &EditAsked) -> Result<Edit, AllocError> {
-    Ok(match asked.kind {
-        CONNECT => Edit::Connect(asked.name),
-        DISCONNECT => Edit::Disconnect(asked.name),
-        REMAP => Edit::Remap {
-            station: asked.name,
-            area: asked.area,
-            pdos: pdos_of(alloc, asked)?,
-        },
-        _ => Edit::Move {
-            station: asked.name,
-            area: asked.area,
-            task: asked.task,
-        },
-    })
-}
 
 /// Posts a task's outputs, the first of these bytes.
 fn post(core: &mut Core, task: u8, bytes: &[u8]) {
@@ -104,14 +58,6 @@ fn edited_in(alloc: Global, core: &mut Core, edit: &Edit) -> u64 {
     } else {
         u64::MAX
     }
-}
-
-/// The nanoseconds of an edit of a plan; the most where it was refused. The report is dropped behind it.
-fn applied_in(alloc: Global, plan: &mut Plan, edit: &Edit) -> u64 {
-    let begun = nanoseconds();
-    let report = plan.apply(alloc, edit);
-    let time = nanoseconds().wrapping_sub(begun);
-    if report.is_ok() { time } else { u64::MAX }
 }
 
 /// The nanoseconds of what is asked of a core.
@@ -163,17 +109,6 @@ pub extern "C" fn core_edits_timed(
         }
     }
     count
-}
-
-/// The plan of a project's text at its opening.
-fn opened_plan(alloc: Global, text: &[u8]) -> Option<Plan> {
-    let Ok(project) = read_project(alloc, text) else {
-        return None;
-    };
-    let Ok(plan) = Plan::new(alloc, project) else {
-        return None;
-    };
-    Some(plan)
 }
 
 /// Plays what is asked on the plan of a project's line, and tells the nanoseconds of each. How many were played.

@@ -7,22 +7,27 @@ cat > "$1/src/lib.rt" <<'END_OF_CODE'
 //! into a slice by the code of the library for C.
 #![tactic(auto)]
 
+mod answers;
 mod arena;
+mod bytes;
 mod clock;
+mod cores;
 mod playing;
-mod telling;
 mod timing;
+mod told;
 END_OF_CODE
 cat > "$1/src/playing.rt" <<'END_OF_CODE'
 //! Drawn events, each told as a number.
 
-use crate::telling::{told_of, told_of_answer};
+use crate::answers::told_of_answer;
+use crate::bytes::bytes_from;
+use crate::cores::{opened, send};
+use crate::told::told_of;
 use hc_core::keeping::Core;
 use hc_events::answer::Answer;
 use hc_events::change::Change;
 use hc_events::event::Event;
 use hc_events::faults::CoreFault;
-use hc_project::read_project;
 use hc_records::edit::Edit;
 use hc_records::items::Items;
 use std::alloc::Global;
@@ -58,39 +63,6 @@ const REMAP: u8 = 6;
 
 const MOVE: u8 = 7;
 
-/// The core of a project's text at its opening.
-pub fn opened(alloc: Global, text: &[u8]) -> Option<Core> {
-    let Ok(project) = read_project(alloc, text) else {
-        return None;
-    };
-    let Ok(core) = Core::new(alloc, project) else {
-        return None;
-    };
-    Some(core)
-}
-
-/// The bytes of an event.
-fn bytes_of<'a>(asked: &Asked, bytes: &'a [u8]) -> &'a [u8] {
-    let Some(rest) = bytes.get(asked.from as usize..) else {
-        return &[];
-    };
-    match rest.get(..asked.size as usize) {
-        Some(own) => own,
-        None => &[],
-    }
-}
-
-/// One of the lists of tasks that the benchmark sends is sent.
-fn send(alloc: Global, core: &mut Core, list: u8) -> Answer {
-    match list {
-        0 => core.step(alloc, Event::SendTasks(&[0])),
-        1 => core.step(alloc, Event::SendTasks(&[1])),
-        2 => core.step(alloc, Event::SendTasks(&[2])),
-        3 => core.step(alloc, Event::SendTasks(&[3, 4, 5, 6, 7])),
-        _ => core.step(alloc, Event::SendTasks(&[7, 1, 0])),
-    }
-}
-
 fn remap(alloc: Global, core: &mut Core, asked: &Asked) -> Answer {
     let pdos = [asked.first, asked.second];
     let Ok(pdos) = Vec::from_slice(alloc, &pdos[..usize::from(asked.count % 3)]) else {
@@ -105,15 +77,15 @@ fn remap(alloc: Global, core: &mut Core, asked: &Asked) -> Answer {
 }
 
 fn serve(alloc: Global, core: &mut Core, asked: &Asked, bytes: &[u8]) -> Answer {
+    let bytes = bytes_from(bytes, asked.from, asked.size);
     match asked.kind {
         POST => {
-            let bytes = bytes_of(asked, bytes);
             let (task, epoch) = (asked.task, asked.epoch);
             core.step(alloc, Event::Post { task, epoch, bytes })
         }
         TASKS => send(alloc, core, asked.task),
         WRITE => core.step(alloc, Event::SendWrite),
-        ARRIVE => core.step(alloc, Event::Arrive(bytes_of(asked, bytes))),
+        ARRIVE => core.step(alloc, Event::Arrive(bytes)),
         CONNECT => core.step(alloc, Event::Edit(&Edit::Connect(asked.name))),
         DISCONNECT => core.step(alloc, Event::Edit(&Edit::Disconnect(asked.name))),
         REMAP => remap(alloc, core, asked),

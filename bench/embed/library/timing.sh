@@ -7,8 +7,9 @@ ghost use Rattle.std.specs.Prelude.{◌≡◌, length};
 ghost use Rattle.hc_machine.specs.declared.limits.TheConstants.{MEMORY_BYTES};
 
 use crate::arena::{fill_frame, send_into};
+use crate::bytes::put;
 use crate::clock::nanoseconds;
-use crate::playing::opened;
+use crate::cores::{opened, write_and_take};
 use hc_core::keeping::Core;
 use hc_events::answer::Answer;
 use hc_events::event::Event;
@@ -86,13 +87,6 @@ const PROCESS: u8 = 21;
 const FIRST_PDO: u16 = 0x1600;
 
 const HOME_TASK: u8 = 3;
-
-/// Puts a byte at a place, where there is one.
-fn put(frame: &mut [u8], at: usize, byte: u8) {
-    if let Some(own) = frame.get_mut(at) {
-        *own = byte;
-    }
-}
 
 /// One of the lists of tasks is sent into a slice.
 fn send(alloc: Global, core: &mut Core, list: u8, out: &mut [u8]) -> bool {
@@ -277,20 +271,6 @@ fn repeat(
         count = count.wrapping_add(once(alloc, core, timed, bytes, out, counted));
     }
     count
-}
-
-/// The first owed block is written and answered.
-fn write_and_take(alloc: Global, core: &mut Core) -> bool {
-    let Answer::WriteSent(text) = core.step(alloc, Event::SendWrite) else {
-        return false;
-    };
-    let mut frame = text.into_vec();
-    let size = frame.get(22).copied().unwrap_or(0);
-    put(&mut frame, 26 + usize::from(size), 1);
-    matches!(
-        core.step(alloc, Event::Arrive(frame.as_slice())),
-        Answer::WriteDone
-    )
 }
 
 /// Opens a project's line, writes so many owed blocks and answers them, has the data of a task that is read come in, and

@@ -11,7 +11,7 @@ ghost use Rattle.hc_publish.specs.Seats.{seat_origin};
 use crate::asked::Given;
 use crate::lines::opened_line;
 use crate::rounds::{nanoseconds_since, play};
-use crate::telling::told_of;
+use crate::told::told_of;
 use hc_publish::publisher::Publisher;
 use hc_publish::seat::Seat;
 use hc_publish::view::View;
@@ -240,28 +240,16 @@ ghost use Rattle.publish_bench.specs.Lines.{LeadsTo};
 
 use crate::eight::{eight_of, watch_eight};
 use crate::lines::opened_line;
+use crate::resident::resident;
 use crate::turns::{EIGHT, publish_turns};
 use hc_plan::plan::Plan;
 use hc_publish::publisher::Publisher;
 use hc_publish::seat::Seat;
 use std::alloc::Global;
-use std::fs;
 use std::rt::Files;
 use std::sync::Wait;
 use std::sync::atomic::{AtomicBool, Ordering};
 use std::thread::Threads;
-
-/// The resident kibibytes of this process, as the system tells.
-fn resident<R: Files + AllocGlobal>(rt: &R) -> Option<u64> {
-    let text = fs::read_to_string(rt, "/proc/self/smaps_rollup").ok()?;
-    for row in text.lines() {
-        let mut words = row.split_whitespace();
-        if words.next() == Some("Rss:") {
-            return words.next()?.parse().ok();
-        }
-    }
-    None
-}
 
 /// So many turns, and so many more: what is resident behind the first ones, and behind all.
 fn resident_twice<R: Wait + Files + AllocGlobal>(

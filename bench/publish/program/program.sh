@@ -12,27 +12,23 @@ mod changes;
 mod eight;
 mod lines;
 mod looks;
+mod resident;
 mod rounds;
 mod stress;
 mod telling;
+mod told;
 mod turns;
 mod watched;
+mod words;
 
 use crate::asked::Given;
+use crate::words::three_of;
 use std::env;
 use std::io::Read;
 use std::process::ExitCode;
 use std::rt::{Clock, Files};
 use std::sync::Wait;
 use std::thread::Threads;
-
-/// The word with this number, counted from 0, as a number; 0 where it is none.
-fn number_of(words: &[String], place: usize) -> u32 {
-    match words.get(place) {
-        Some(word) => word.parse().unwrap_or(0),
-        None => 0,
-    }
-}
 
 /// What a word asks, with its numbers.
 fn is_done<R: Threads + Wait + Clock + Print + Files + AllocGlobal>(
@@ -43,11 +39,7 @@ fn is_done<R: Threads + Wait + Clock + Print + Files + AllocGlobal>(
     let Some(word) = words.get(1) else {
         return true;
     };
-    let (first, second, third) = (
-        number_of(words, 2),
-        number_of(words, 3),
-        number_of(words, 4),
-    );
+    let (first, second, third) = three_of(words);
     match word.as_str() {
         "told" => rounds::tell(rt, rt.alloc(), given, first),
         "publish" => rounds::time_publishings(rt, rt.alloc(), given, first, second, third),
@@ -195,40 +187,16 @@ END_OF_CODE
 cat > "$1/src/telling.rt" <<'END_OF_CODE'
 //! What views tell, as one number.
 
-use hc_places::table::Place;
+use crate::told::{told_of, told_of_bytes, told_of_place};
 use hc_publish::seat::Seat;
 use hc_publish::view::View;
-use hc_records::records::{Dir, VarId};
+use hc_records::records::VarId;
 use std::alloc::Global;
-
-/// A number, mixed into what was told before.
-pub fn told_of(told: u64, number: u64) -> u64 {
-    (told ^ number)
-        .wrapping_mul(0x9e37_79b9_7f4a_7c15)
-        .rotate_left(29)
-}
-
-fn told_of_bytes(told: u64, bytes: &[u8]) -> u64 {
-    let mut told = told_of(told, bytes.len() as u64);
-    for byte in bytes {
-        told = told_of(told, u64::from(*byte));
-    }
-    told
-}
-
-fn told_of_place(told: u64, place: Place) -> u64 {
-    let told = told_of(
-        told_of(told, u64::from(place.task)),
-        u64::from(place.datagram),
-    );
-    let told = told_of(told_of(told, u64::from(place.bit)), u64::from(place.bits));
-    told_of(told, if place.dir == Dir::Out { 1 } else { 2 })
-}
 
 /// Where a variable stands, and its value or the number of a fault.
 fn told_of_variable(told: u64, view: &View, variable: VarId) -> u64 {
     let told = match view.place(variable) {
-        Some(place) => told_of_place(told, place),
+        Some(place) => told_of_place(told, &place),
         None => told_of(told, 99),
     };
     match view.value(variable) {
