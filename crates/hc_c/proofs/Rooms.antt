@@ -1,8 +1,8 @@
 -- What is needed where a slice is too short.
 use Rattle.std.proofs.Common.{◌≡◌, ◌≢◌, ℕ, Bool, true, false, if◌then◌else◌, List, [], ◌∷◌, ◌++◌, Some, None, ◌==◌, nat_lt, refl}
 use Rattle.std.proofs.lemmas.Option.{same_Some}
+use Rattle.std.proofs.lemmas.Bool.{eq-eqb}
 use Rattle.hc_records.specs.Lists.{lowest}
-use Rattle.hc_records.proofs.lemmas.Choices.{same-test}
 use Rattle.hc_events.specs.declared.faults.CoreFault.{CoreFault}
 use Rattle.hc_events.specs.declared.faults.CoreFault.TheVariants.{UnknownAlias, AlreadyPresent, NotPresent, Mandatory, UnknownStation, Absent, NoSuchArea, NoSuchTask, UnknownPdo, RepeatedPdo, AreaTooBig, TooManyDatagrams, EpochsSpent, StalePost, PostLength, Unprogrammed, NothingOwed, SerialsSpent, Short, NotEtherCat, BadType, BadLength, Circulating, MoreFollows, UnknownCommand, IndexMismatch, Memory, Room, BadGroup, AliasTaken, StationTaken, VariableTaken, TooManyGroups, TooManySlaves}
 use Rattle.hc_events.specs.Calls.{frames_size, room_faults, send_into_faults, write_into_faults, write_size}
@@ -49,7 +49,7 @@ numbered_room TooManyGroups e = cc
 numbered_room TooManySlaves e = cc
 
 pub room_alone : (fault : CoreFault) → core_fault_number fault ≡ 29 → (needed : ℕ) × (fault ≡ Room needed)
-room_alone fault e = numbered_room fault (same-test (core_fault_number fault) 29 e)
+room_alone fault e = numbered_room fault (eq-eqb (core_fault_number fault) 29 e)
 
 same_needed : {one other : ℕ} → Room one ≡ Room other → other ≡ one
 same_needed e = cc

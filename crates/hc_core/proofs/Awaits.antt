@@ -1,5 +1,6 @@
 -- What is kept as awaited stays what the record awaits: at the opening, and behind each entry but frames of tasks.
 use Rattle.std.proofs.Common.{◌≡◌, ℕ, true, false, List, ◌∷◌, refl, ◌∙◌, subst, Some, None, rules}
+use Rattle.std.proofs.lemmas.Option.{none-some, same_Some}
 use Rattle.hc_records.specs.declared.edit.Edit.{Edit}
 use Rattle.hc_records.specs.declared.records.Group.{Group}
 use Rattle.hc_records.specs.Line.{groups_of}
@@ -18,17 +19,16 @@ use Rattle.hc_events.proofs.lemmas.SameBehind.{same-owed, same-says, same-stale}
 use Rattle.hc_sendings.specs.Waiting.{AwaitedWrite, Waiting, awaited_write, ended, nothing, wrote}
 use Rattle.hc_sendings.proofs.lemmas.Awaits as awaited
 use Rattle.hc_sendings.proofs.lemmas.Ended as over
-use Rattle.hc_sendings.proofs.lemmas.Awaits.{none_some}
 use Rattle.hc_core.proofs.Names.{owed-wrote}
 use Rattle.hc_core.specs.Waits.{IsUnderWay, Waits}
 
 -- nothing is awaited at the opening, and behind an accepted edit
 
 pub waits-opened : (groups : List Group) → Waits (just_opened groups) nothing
-waits-opened groups = record { kept = awaited.waits-opened groups; written = λ write e. absurd (none_some write e) }
+waits-opened groups = record { kept = awaited.waits-opened groups; written = λ write e. absurd (none-some write e) }
 
 pub waits-edited : (past : Record) (edit : Edit) → Waits (Edited edit ∷ past) nothing
-waits-edited past edit = record { kept = awaited.waits-edited past edit; written = λ write e. absurd (none_some write e) }
+waits-edited past edit = record { kept = awaited.waits-edited past edit; written = λ write e. absurd (none-some write e) }
 
 -- a stale arrival changes nothing, and a post neither
 
@@ -71,12 +71,9 @@ way_new : (past : Record) (block : LineBlock) (rest : List LineBlock) → lowest
     → IsUnderWay (Wrote block ∷ past) (awaited_write (next_serial past) block)
 way_new past block rest project first = search (rules, itself, owed-wrote)
 
-same_write : (a b : AwaitedWrite) → Some a ≡ Some b → a ≡ b
-same_write a b e = cc
-
 pub waits-wrote : (past : Record) (kept : Waiting) (block : LineBlock) (rest : List LineBlock) → AreAccepted past → lowest_fault (groups_of (state_of past).groups) ≡ None
     → owed_blocks past ≡ block ∷ rest → Waits past kept → Waits (Wrote block ∷ past) (wrote (next_serial past) block kept)
 waits-wrote past kept block rest all project first waits = record {
   kept = awaited.waits-wrote past kept block rest all first waits.kept;
-  written = λ write e. subst (IsUnderWay (Wrote block ∷ past)) (same_write (awaited_write (next_serial past) block) write e) (way_new past block rest project first);
+  written = λ write e. subst (IsUnderWay (Wrote block ∷ past)) (same_Some (awaited_write (next_serial past) block) write e) (way_new past block rest project first);
 }

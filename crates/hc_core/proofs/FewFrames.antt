@@ -3,7 +3,7 @@ use Rattle.std.proofs.Common.{◌≡◌, ℕ, ◌+◌, ◌*◌, ◌<◌, ◌≤�
 use Rattle.std.specs.List.{flat_map, list_any}
 use Rattle.std.proofs.lemmas.Bool.Decides.{nat_tests}
 use Rattle.std.proofs.lemmas.List.FromFn.{length-map-range_with_len}
-use Rattle.hc_frames.proofs.lemmas.Spelling.{or_false}
+use Rattle.std.proofs.lemmas.Bool.{or_parts}
 use Rattle.hc_records.specs.declared.limits.TheConstants.{MOST_DATAGRAMS, TASKS}
 use Rattle.hc_records.specs.Edits.{crowded_task}
 use Rattle.hc_records.specs.Line.{Member}
@@ -37,8 +37,8 @@ is_task task e = grind (arith, nat_tests)
 datagrams_few : (line : List Member) (tasks : List ℕ) → crowded_task line ≡ None → list_any is_no_task tasks ≡ false → length (flat_map (task_datagrams line) tasks) ≤ MOST_DATAGRAMS * length tasks
 datagrams_few line [] uncrowded low = omega arith
 datagrams_few line (task ∷ tasks) uncrowded low =
-    let both = or_false (is_no_task task) (list_any is_no_task tasks) low in
-    search (rules, or_false, length-map-range_with_len, uncrowded-few, is_task, length-append, datagrams_few line tasks uncrowded both.1)
+    let both = or_parts (is_no_task task) (list_any is_no_task tasks) low in
+    search (rules, or_parts, length-map-range_with_len, uncrowded-few, is_task, length-append, datagrams_few line tasks uncrowded both.1)
 
 pub proposal-few : (past : Record) (frames : List Frame) → crowded_task (line_of past) ≡ None → IsProposal past frames → length frames ≤ MOST_DATAGRAMS * TASKS
 proposal-few past frames uncrowded is = search (rules, passed, framed_few, datagrams_few)

@@ -6,6 +6,7 @@ use Rattle.std.specs.List.{flat_map, list_any, range_with_len, zip}
 use Rattle.std.proofs.lemmas.Bool.{and_parts, eq-eqb, eqb-true, or_parts}
 use Rattle.std.proofs.lemmas.Bool.Decides.{nat_tests}
 use Rattle.std.proofs.lemmas.List.Elements.{All-head, All-tail}
+use Rattle.std.proofs.lemmas.Option.{none-some, same_Some}
 use Rattle.hc_records.specs.Line.{Member}
 use Rattle.hc_records.specs.Image.{datagram_count, expected_counter, task_places}
 use Rattle.hc_registers.specs.Blocks.{LineBlock}
@@ -23,7 +24,6 @@ use Rattle.hc_events.specs.SendingLaws.{heads_of, is_sending}
 use Rattle.hc_events.specs.Steps.{image_of, unless}
 use Rattle.hc_events.proofs.lemmas.Answers.{answers-first, none-opened}
 use Rattle.hc_events.proofs.lemmas.Slots.{slots-fit}
-use Rattle.hc_events.proofs.lemmas.OneWrite.{same_sending}
 use Rattle.hc_events.proofs.lemmas.Views.{is_task}
 use Rattle.hc_core.specs.LastData.{CameBack, GoodAnswer, IsGoodIn, IsLastData, IsLater, TasksReadLastData, begins_epoch}
 
@@ -103,11 +103,8 @@ its_own task d = grind (arith, nat_tests)
 here_own : (since : List Entry) (line : List Member) (task d : ℕ) (part : Part) → list_any (sends (Datagram task d)) since ≡ false → part.counter ≡ expected_counter task d line → is_own since line task d (task, d) part ≡ true
 here_own since line task d part newest counter = search (rules, eq-eqb, its_own)
 
-some_same : (a b : Named × Part) → Some a ≡ Some b → a ≡ b
-some_same a b e = cc
-
 same_pair : (pair other : Named × Part) → Some pair ≡ Some other → (pair.0 ≡ other.0) × (pair.1 ≡ other.1)
-same_pair pair other e = search (rules, some_same)
+same_pair pair other e = search (rules, same_Some)
 
 not_here : (since : List Entry) (line : List Member) (task d : ℕ) (named : Named) (part other : Part) (pairs : List (Named × Part)) → is_own since line task d named part ≡ false → GoodAt since line task d ((named, part) ∷ pairs) 0 other → ⊥
 not_here since line task d named part other pairs none good =
@@ -195,7 +192,7 @@ record IsThatSending (past : Record) (arrival : Arrival) (back : CameBack past a
 
 that_sending : (past : Record) (arrival : Arrival) (back : CameBack past arrival) (sending : Sending) (entry : Entry) (before : Record) → answered_by past arrival ≡ Some sending → past ≡ sending.since ++ entry ∷ before
     → IsThatSending past arrival back sending.since entry before
-that_sending past arrival back sending entry before found split = search (rules, same_sending, answered_back, same_split)
+that_sending past arrival back sending entry before found split = search (rules, same_Some, answered_back, same_split)
 
 same_frame : (a b : List Named) → Sent a ≡ Sent b → a ≡ b
 same_frame a b e = cc
@@ -416,9 +413,6 @@ is_last past task d None e has = has
 is_last past task d (Some bytes) e (answer, read, last) = search (rules, epoch_here, sent_here, slots-fit)
 
 -- an image
-
-pub none-some : {X : Type 0} (x : X) → None ≡ Some x → ⊥
-none-some x e = cc
 
 listed : (f : ℕ → Option (List ℕ)) (first count d : ℕ) (slot : Option (List ℕ)) → slice_get (map f (range_with_len first count)) d ≡ Some slot → slot ≡ f (first + d)
 listed f first zero d slot e = absurd (none-some slot e)

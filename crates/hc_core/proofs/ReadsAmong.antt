@@ -1,6 +1,8 @@
 -- What tasks read among events, and what a stale arrival leaves.
 use Rattle.std.proofs.Common.{◌≡◌, ◌⊎◌, inl, inr, ℕ, zero, suc, ◌<◌, Bool, true, false, List, [], ◌∷◌, refl, sym, ◌∙◌, subst, Option, Some, rules}
-use Rattle.std.specs.Prelude.{IfOk, Result, Ok, Err}
+use Rattle.std.specs.Prelude.{Result, Ok, Err}
+use Rattle.std.proofs.lemmas.Option.{none-some, same_Some}
+use Rattle.std.proofs.lemmas.Result.{IfOk-weaker}
 use Rattle.hc_records.specs.declared.limits.TheConstants.{TASKS}
 use Rattle.hc_records.specs.Lists.{lowest}
 use Rattle.hc_registers.specs.Blocks.{LineBlock}
@@ -17,7 +19,7 @@ use Rattle.hc_events.specs.Steps.{Step, Edits, Posts, SendsTasks, SendsWrite, Ar
 use Rattle.hc_events.proofs.lemmas.SameBehind.{same-behind, same-stale, same-without}
 use Rattle.hc_core.specs.LastData.{IsAsWithoutStale, ReadsShowLastData, ShowsLastData, StaleLeavesNothing}
 use Rattle.hc_core.specs.Serving.{MayAnswerAll}
-use Rattle.hc_core.proofs.LastData.{none-some, reads-last}
+use Rattle.hc_core.proofs.LastData.{reads-last}
 use Rattle.hc_core.proofs.Told.{told-stale}
 
 -- a read among events
@@ -25,16 +27,10 @@ use Rattle.hc_core.proofs.Told.{told-stale}
 shows_one : (past next : Record) (task : ℕ) (told : Answer) → task < TASKS → MayAnswer past (Reads task) told next → ShowsLastData past task told ⊎ (told ≡ answer.Refused Memory)
 shows_one past next task told low may = search (rules, reads-last)
 
-same_step : (a b : Step) → Some a ≡ Some b → a ≡ b
-same_step a b e = cc
-
-same_told : (a b : Answer) → Some a ≡ Some b → a ≡ b
-same_told a b e = cc
-
 pub shows-among : (past next : Record) (steps : List Step) (answers : List Answer) → MayAnswerAll past steps answers next → ReadsShowLastData past steps answers
 shows-among past next [] answers all n task told low at got = absurd (none-some (Reads task) at)
 shows-among past next (step ∷ steps) [] all n task told low at got = absurd all
-shows-among past next (step ∷ steps) (first ∷ answers) all zero task told low at got = search (rules, same_step, same_told, shows_one)
+shows-among past next (step ∷ steps) (first ∷ answers) all zero task told low at got = search (rules, same_Some, same_Some, shows_one)
 shows-among past next (step ∷ steps) (first ∷ answers) all (suc n) task told low at got =
     search (rules, shows-among all.0 next steps answers all.2 n task told low at got)
 
@@ -72,9 +68,6 @@ pub without-stale : (past : Record) → IsAsWithoutStale past
 without-stale past later = same-behind past (without_stale past) later (same-without past)
 
 -- what a call's result says
-
-pub if-ok : {X E : Type 0} (P Q : X → Type 0) (result : Result X E) → ((x : X) → P x → Q x) → IfOk result P → IfOk result Q
-if-ok P Q result more is = search rules
 
 pub read-shows : (past : Record) (task : ℕ) (told : Answer) → told ≡ answer_to past (Reads task) → task < TASKS → ShowsLastData past task told
 read-shows past task told is low = subst (ShowsLastData past task) (sym is) (reads-last past task low)

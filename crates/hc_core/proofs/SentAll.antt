@@ -3,6 +3,7 @@ use Rattle.std.proofs.Common.{◌≡◌, ℕ, ◌+◌, List, [], ◌∷◌, leng
 use Rattle.std.specs.Prelude.{All}
 use Rattle.std.specs.List.{flat_map, range_with_len}
 use Rattle.std.proofs.lemmas.List.Elements.{All-head, All-tail}
+use Rattle.std.proofs.lemmas.Option.{none-some}
 use Rattle.hc_records.specs.Line.{Member}
 use Rattle.hc_events.specs.Accepted.{AreAccepted, StandsIn}
 use Rattle.hc_events.specs.Entries.{Record, Sent}
@@ -16,7 +17,6 @@ use Rattle.hc_sendings.specs.Record.{KeepsAwaited}
 use Rattle.hc_sendings.specs.Waiting.{Waiting, all_sent, sent}
 use Rattle.hc_sendings.proofs.lemmas.Sent.{HasFirst, frames-first, waits-sent}
 use Rattle.hc_sendings.proofs.lemmas.Sorts.{none-written}
-use Rattle.hc_sendings.proofs.lemmas.Awaits.{none_some}
 use Rattle.hc_core.specs.Waits.{Waits}
 
 -- frames one after another
@@ -53,5 +53,5 @@ waits-all_sent past kept tasks none all waits =
     (frames-first (line_of past) (next_serial past) (flat_map (task_datagrams (line_of past)) tasks)) (proposal-stands past tasks) all waits.kept in
     record {
       kept = keeps;
-      written = λ write e. absurd (none_some write (sym (none-written (with_sent past frames) (all_sent kept frames) all keeps (none_owed frames past none)) ∙ e));
+      written = λ write e. absurd (none-some write (sym (none-written (with_sent past frames) (all_sent kept frames) all keeps (none_owed frames past none)) ∙ e));
     }

@@ -5,6 +5,7 @@ use Rattle.std.specs.Prelude.{◌&&◌, ◌||◌, not, drop, slice_get, option_m
 use Rattle.std.specs.Option.{option_map_or}
 use Rattle.std.specs.List.{list_any, zip}
 use Rattle.std.proofs.lemmas.Option.{get_or_from_slice_get, slice_get_within}
+use Rattle.std.proofs.lemmas.Bool.{and_right}
 use Rattle.hc_records.specs.declared.keys.Key.{Key}
 use Rattle.hc_records.specs.declared.keys.TheConstants.Key.{END}
 use Rattle.hc_records.specs.declared.records.Dir.TheVariants.{Out, In}
@@ -14,7 +15,6 @@ use Rattle.hc_records.specs.Boundaries.{Interval, boundaries, hull, is_settled, 
 use Rattle.hc_records.specs.SpanLaws.{IsTaskList}
 use Rattle.hc_records.proofs.lemmas.KeyOrder.{before-apart, before-other, other-sym, within-else}
 use Rattle.hc_records.proofs.lemmas.SpanCuts.{span-begins}
-use Rattle.hc_records.proofs.lemmas.Choices.{and_right}
 use Rattle.hc_cuts.specs.declared.hulls.Hulls.{Hulls}
 use Rattle.hc_cuts.specs.Hulls.{AreHulls}
 use Rattle.hc_cuts.specs.Keeping.{begins_at, is_kept, is_kept_by, is_kept_up_to, is_kept_up_to_by, span_from}

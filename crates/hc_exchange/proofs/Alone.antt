@@ -2,11 +2,11 @@
 use Rattle.std.proofs.Common.{◌≡◌, ◌∙◌, ℕ, zero, suc, ◌+◌, ◌*◌, ◌≤◌, Bool, cond, Option, Some, None, List, [], ◌∷◌, ◌++◌, refl, sym, ap, ap₂, subst, arith}
 use Rattle.std.specs.Prelude.{Contains, slice_get, ◌==◌}
 use Rattle.std.specs.Option.{option_map_or}
+use Rattle.std.proofs.lemmas.Bool.{eq-eqb}
 use Rattle.hc_records.specs.declared.records.Area.{Area}
 use Rattle.hc_records.specs.Area.{Entry, assigned_entries}
 use Rattle.hc_records.specs.Image.{variables_from}
 use Rattle.hc_records.specs.Line.{Member, State, line}
-use Rattle.hc_records.proofs.lemmas.Choices.{same-test}
 use Rattle.hc_places.proofs.lemmas.Once.{declared-once, held, line-declared, of_areas, own, weight}
 use Rattle.hc_places.proofs.lemmas.Totals.{total}
 use Rattle.hc_exchange.specs.PairLaws.{IsConfigurable}
@@ -44,7 +44,7 @@ abbrev led : Option ℕ → ℕ → ℕ → List Found → List Found
 led name bit bits rest = option_map_or (λ (v : ℕ). (v, (bit, bits)) ∷ []) name [] ++ rest
 
 own-one : (v w : ℕ) → w ≡ v → own v w ≡ 1
-own-one v w same = ap (λ (b : Bool). cond b 1 0) (same-test v w (sym same))
+own-one v w same = ap (λ (b : Bool). cond b 1 0) (eq-eqb v w (sym same))
 
 held-by : (v : ℕ) (name : Option ℕ) (bit bits n : ℕ) (rest : List Found) (f : Found) → f.0 ≡ v → Contains (led name bit bits rest) f → (Contains rest f → 1 ≤ n)
     → 1 ≤ option_map_or (own v) name 0 + n

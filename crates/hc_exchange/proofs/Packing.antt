@@ -4,6 +4,7 @@ use Rattle.std.specs.Prelude.{Some, sum_by, ◌==◌}
 use Rattle.std.specs.Option.{option_map_or}
 use Rattle.std.proofs.lemmas.List.FromFn.{length-map-range_with_len}
 use Rattle.std.proofs.lemmas.List.Sums.{sum_by-cons}
+use Rattle.std.proofs.lemmas.Bool.{eq-eqb}
 use Rattle.hc_bits.specs.Bits.{AreBytes, bit_of}
 use Rattle.hc_records.specs.declared.limits.TheConstants.{TASKS}
 use Rattle.hc_records.specs.declared.records.Declared.{Declared}
@@ -18,7 +19,6 @@ use Rattle.hc_records.proofs.lemmas.Lengths.{length-sendable}
 use Rattle.hc_records.proofs.lemmas.Packable.{project-packable}
 use Rattle.hc_records.proofs.lemmas.Projects.{project-few}
 use Rattle.hc_records.proofs.lemmas.Walks.{length-line}
-use Rattle.hc_records.proofs.lemmas.Choices.{same-test}
 use Rattle.hc_places.specs.Table.{Table, TaskTable, datagram_of, table_of}
 use Rattle.hc_places.proofs.lemmas.Loads.{table-at}
 use Rattle.hc_places.proofs.lemmas.Ranks.{expected-low}
@@ -96,7 +96,7 @@ lengths-sent state task d image packed can holds low =
 posted-own : (table : Table) (task : ℕ) (image : List ℕ) (variable k : ℕ) (place : VariablePlace) → place.task ≡ task
     → option_map_or (λ (found : VariablePlace). cond (found.task == task) (bit_of image (image_bit table found k)) 0) (Some place) 0 ≡ bit_of image (image_bit table place k)
 posted-own table task image variable k place same =
-    let own = same-test place.task task same in
+    let own = eq-eqb place.task task same in
     ap (λ (b : Bool). cond b (bit_of image (image_bit table place k)) 0) own
 
 pub packed-data : (state : State) (task d : ℕ) (image : List ℕ) (packed : Packed) → IsConfigurable state → HoldsPost state task image packed → d < count_of (line state) task

@@ -1,10 +1,9 @@
 -- What a write of a block by FPWR leaves of a memory, byte by byte.
 use Rattle.std.proofs.Common.{◌≡◌, ◌≢◌, ℕ, ◌+◌, ◌-◌, ◌*◌, ◌/◌, ◌%◌, ◌<◌, ◌≤◌, ◌⊎◌, ◌∙◌, inl, inr, Bool, true, false, List, ◌++◌, length, get_or, take, drop, set, refl, sym, ap, arith, length-append, length-take, length-drop, length-set, get_or-set_other, get_or-set_same}
 use Rattle.std.specs.Prelude.{◌&&◌, ◌==◌, nat_le, if◌then◌else◌}
-use Rattle.std.proofs.lemmas.Bool.{cases_eq}
+use Rattle.std.proofs.lemmas.Bool.{cases_eq, and_from, and_left}
 use Rattle.std.proofs.lemmas.Bool.Decides.{nat_tests}
 use Rattle.std.proofs.lemmas.List.{get_or_append_left, get_or-append_right, get_or-drop, get_or-take}
-use Rattle.hc_records.proofs.lemmas.Choices.{both}
 use Rattle.hc_frames.specs.Arrived.{word_at}
 use Rattle.hc_frames.specs.FrameText.{station_address}
 use Rattle.hc_frames.specs.declared.commands.Command.TheVariants.{Fpwr}
@@ -96,10 +95,6 @@ block_behind memory block = memory_behind_command Fpwr memory (station_address b
 address-parts : (station register : ℕ) → station < 65536 → ((station + 65536 * register) % 65536 ≡ station) × ((station + 65536 * register) / 65536 ≡ register)
 address-parts station register low = (omega arith, omega arith)
 
-not-first : (a b : Bool) → a ≡ false → (a && b) ≡ false
-not-first true b is = cc
-not-first false b is = refl
-
 -- a slave with the station address has the block written, and another one passes it on
 
 pub own-behind : (memory : List ℕ) (block : LineBlock) → length memory ≡ 12288 → IsPlain block → word_at memory 16 ≡ block.station
@@ -110,7 +105,7 @@ own-behind memory block long plain own =
     let to = plain.to in
     let named : (word_at memory 16 == address % 65536) ≡ true = same-test (word_at memory 16) (address % 65536) (own ∙ sym parts.0) in
     let inside : lies_in_memory address (length block.block.bytes) ≡ true = below-test (register_of address + length block.block.bytes) 12288 (omega (arith, parts.1)) in
-    let test : is_at_station memory address (length block.block.bytes) ≡ true = both (word_at memory 16 == address % 65536) (lies_in_memory address (length block.block.bytes)) named inside in
+    let test : is_at_station memory address (length block.block.bytes) ≡ true = and_from (word_at memory 16 == address % 65536) (lies_in_memory address (length block.block.bytes)) named inside in
     ap (λ (b : Bool). if b then written memory (register_of address) block.block.bytes else memory) test
     ∙ ap (λ (n : ℕ). written memory n block.block.bytes) parts.1
   where
@@ -126,7 +121,7 @@ other-behind memory block plain other =
     let address = station_address block.station block.block.register in
     let named : (word_at memory 16 == address % 65536) ≡ false = other-test (word_at memory 16) (address % 65536) (λ same. other (same ∙ parts.0)) in
     ap (λ (b : Bool). if b then written memory (register_of address) block.block.bytes else memory)
-    (not-first (word_at memory 16 == address % 65536) (lies_in_memory address (length block.block.bytes)) named)
+    (and_left (word_at memory 16 == address % 65536) (lies_in_memory address (length block.block.bytes)) named)
   where
     other-test : (a b : ℕ) → a ≢ b → (a == b) ≡ false
     other-test a b e = grind (arith, nat_tests)

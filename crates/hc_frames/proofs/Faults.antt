@@ -2,7 +2,7 @@
 use Rattle.std.proofs.Common.{◌≡◌, ℕ, ◌+◌, ◌%◌, ◌<◌, ◌≤◌, Bool, true, false, cond, ◌&&◌, ◌||◌, not, nat_lt, List, length, refl, ap, ◌∙◌, sym, arith, Option, Some, None}
 use Rattle.std.specs.List.{list_all, list_any}
 use Rattle.std.proofs.lemmas.Bool.Decides.{nat_tests}
-use Rattle.hc_records.proofs.lemmas.Choices.{less, not_less}
+use Rattle.std.proofs.lemmas.Bool.{le-ltb, lt-ltb}
 use Rattle.hc_frames.specs.declared.limits.TheConstants.{LEAST_READ, MAX_DATAGRAMS}
 use Rattle.hc_frames.specs.declared.reading.datagrams.Survey.{Survey}
 use Rattle.hc_frames.specs.declared.reading.faults.FrameFault.{FrameFault}
@@ -34,26 +34,26 @@ pub unfilled : (bytes left : List ℕ) → StandsBehind bytes left → fill_regi
 unfilled bytes left there bad =
     let wrong : fill_region (datagrams_in (region bytes)) ≡ false = ap (λ (r : List ℕ). fill_region (datagrams_in r)) (sym there.found_there) ∙ bad in
     let long : has_bad_length bytes ≡ true =
-    ap (λ (b : Bool). b || (nat_lt (length bytes) (16 + datagram_bytes bytes) || not (fill_region (datagrams_in (region bytes))))) (not_less MAX_DATAGRAMS (datagram_bytes bytes) there.within)
-    ∙ ap (λ (b : Bool). b || not (fill_region (datagrams_in (region bytes)))) (not_less (length bytes) (16 + datagram_bytes bytes) there.there)
+    ap (λ (b : Bool). b || (nat_lt (length bytes) (16 + datagram_bytes bytes) || not (fill_region (datagrams_in (region bytes))))) (le-ltb MAX_DATAGRAMS (datagram_bytes bytes) there.within)
+    ∙ ap (λ (b : Bool). b || not (fill_region (datagrams_in (region bytes)))) (le-ltb (length bytes) (16 + datagram_bytes bytes) there.there)
     ∙ ap not wrong in
     fourth (is_short bytes) (is_not_ethercat bytes) (has_bad_type bytes) (has_bad_length bytes) (is_circulating bytes) (promises_more bytes) (has_unknown_command bytes) (mismatches bytes)
-    (not_less (length bytes) LEAST_READ there.long) there.ethercat there.type long
+    (le-ltb (length bytes) LEAST_READ there.long) there.ethercat there.type long
 
 -- where they do, the fault is the one that the pass over them finds
 pub filled : (bytes left : List ℕ) (seen : Survey) → StandsBehind bytes left → Found (serial_in bytes % 256) (datagrams_in left) seen → 0 < length (datagrams_in left) → fault_in bytes ≡ fault_of seen
 filled bytes left seen there found some =
     let same : datagrams_in left ≡ datagrams_in (region bytes) = ap datagrams_in there.found_there in
     let full : fill_region (datagrams_in left) ≡ true =
-    ap (λ (b : Bool). b && (list_all is_whole (datagrams_in left) && more_between (datagrams_in left))) (less 0 (length (datagrams_in left)) some)
+    ap (λ (b : Bool). b && (list_all is_whole (datagrams_in left) && more_between (datagrams_in left))) (lt-ltb 0 (length (datagrams_in left)) some)
     ∙ ap (λ (b : Bool). b && more_between (datagrams_in left)) found.whole ∙ found.between in
     let good : fill_region (datagrams_in (region bytes)) ≡ true = sym (ap fill_region same) ∙ full in
     let long : has_bad_length bytes ≡ false =
-    ap (λ (b : Bool). b || (nat_lt (length bytes) (16 + datagram_bytes bytes) || not (fill_region (datagrams_in (region bytes))))) (not_less MAX_DATAGRAMS (datagram_bytes bytes) there.within)
-    ∙ ap (λ (b : Bool). b || not (fill_region (datagrams_in (region bytes)))) (not_less (length bytes) (16 + datagram_bytes bytes) there.there)
+    ap (λ (b : Bool). b || (nat_lt (length bytes) (16 + datagram_bytes bytes) || not (fill_region (datagrams_in (region bytes))))) (le-ltb MAX_DATAGRAMS (datagram_bytes bytes) there.within)
+    ∙ ap (λ (b : Bool). b || not (fill_region (datagrams_in (region bytes)))) (le-ltb (length bytes) (16 + datagram_bytes bytes) there.there)
     ∙ ap not good in
     others (is_short bytes) (is_not_ethercat bytes) (has_bad_type bytes) (has_bad_length bytes) (is_circulating bytes) (promises_more bytes) (has_unknown_command bytes) (mismatches bytes)
-    (not_less (length bytes) LEAST_READ there.long) there.ethercat there.type long
+    (le-ltb (length bytes) LEAST_READ there.long) there.ethercat there.type long
     ∙ found_fault (is_circulating bytes) (promises_more bytes) (has_unknown_command bytes) (mismatches bytes) seen
     (found.circulates ∙ ap (λ (r : List ℕ). list_any circulates (datagrams_in r)) there.found_there) (found.more some ∙ ap (λ (r : List ℕ). more_at_end (datagrams_in r)) there.found_there)
     (found.unknown ∙ ap (λ (r : List ℕ). list_any is_unknown (datagrams_in r)) there.found_there) (found.mismatch ∙ ap (λ (r : List ℕ). list_any (has_other_index (serial_in bytes % 256)) (datagrams_in r)) there.found_there)

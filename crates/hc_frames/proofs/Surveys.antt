@@ -2,11 +2,13 @@
 use Rattle.std.proofs.Common.{◌≡◌, ℕ, ◌+◌, ◌<◌, Bool, true, false, ◌&&◌, ◌||◌, not, nat_lt, List, [], ◌∷◌, length, drop, refl, ap, ◌∙◌, sym, arith, Some, None, zero-add}
 use Rattle.std.specs.List.{list_all, list_any}
 use Rattle.std.proofs.Math.Bool.{or-false, or_assoc}
-use Rattle.hc_records.proofs.lemmas.Choices.{by_bool, none_of, not_false}
+use Rattle.std.proofs.lemmas.Bool.{and_parts, not-false, not-true}
+use Rattle.std.proofs.lemmas.Option.{same_Some}
+use Rattle.hc_records.proofs.lemmas.Choices.{by_bool}
 use Rattle.hc_frames.specs.declared.reading.datagrams.Survey.{Survey}
 use Rattle.hc_frames.specs.Arrived.{circulates, data_size, datagrams_in, fill_region, has_other_index, is_unknown, is_whole, more_at_end, more_between, says_more}
 use Rattle.hc_frames.specs.Survey.{noted, nothing_seen, surveyed}
-use Rattle.hc_frames.proofs.lemmas.Datagrams.{datagrams-some, and_true}
+use Rattle.hc_frames.proofs.lemmas.Datagrams.{datagrams-some}
 
 -- one step of the pass
 pub survey_goes : (index : ℕ) (seen : Survey) (bytes : List ℕ) → 0 < length bytes → seen.more ≡ true → is_whole bytes ≡ true
@@ -115,9 +117,6 @@ end_more : (ds : List (List ℕ)) → 0 < length ds → last_more true ds ≡ mo
 end_more [] some = absurd (omega arith)
 end_more (d ∷ ds) some = last_end d ds
 
-some_same : (seen other : Survey) → Some seen ≡ Some other → seen ≡ other
-some_same seen other e = cc
-
 and_wrong : (a : Bool) → (a && false) ≡ false
 and_wrong true = refl
 and_wrong false = refl
@@ -129,9 +128,9 @@ pub found : (index : ℕ) (ds : List (List ℕ)) (seen : Survey) → surveyed in
 found index ds seen e =
     by_bool (list_all is_whole ds && more_between ds)
     (λ good.
-    let whole : list_all is_whole ds ≡ true = (and_true _ _ good).0 in
-    let between : more_between ds ≡ true = (and_true _ _ good).1 in
-    let same : seen ≡ after index nothing_seen ds = some_same _ _ (sym e ∙ passes index nothing_seen ds whole (chain_all ds ∙ between)) in
+    let whole : list_all is_whole ds ≡ true = (and_parts _ _ good).0 in
+    let between : more_between ds ≡ true = (and_parts _ _ good).1 in
+    let same : seen ≡ after index nothing_seen ds = same_Some _ _ (sym e ∙ passes index nothing_seen ds whole (chain_all ds ∙ between)) in
     record {
       count = ap (λ (s : Survey). s.count) same ∙ zero-add (length ds);
       whole = whole;
@@ -147,5 +146,5 @@ pub not_found : (index : ℕ) (ds : List (List ℕ)) → surveyed index nothing_
 not_found index ds e =
     by_bool (list_all is_whole ds && more_between ds)
     (λ good.
-    absurd (none_some (sym e ∙ passes index nothing_seen ds (and_true _ _ good).0 (chain_all ds ∙ (and_true _ _ good).1))))
+    absurd (none_some (sym e ∙ passes index nothing_seen ds (and_parts _ _ good).0 (chain_all ds ∙ (and_parts _ _ good).1))))
     (λ bad. rw bad (and_wrong (nat_lt 0 (length ds))))

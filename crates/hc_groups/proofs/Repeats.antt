@@ -2,9 +2,9 @@
 use Rattle.std.proofs.Common.{◌≡◌, ◌≢◌, ℕ, suc, ◌<◌, ◌≤◌, Bool, true, false, not, cond, List, [], ◌∷◌, length, refl, ap, arith, rules}
 use Rattle.std.specs.Prelude.{◌==◌, ◌||◌, filter}
 use Rattle.std.specs.List.{list_any}
-use Rattle.std.proofs.lemmas.Bool.{eqb-true, eqb-false, ne_eqb, or_parts}
+use Rattle.std.proofs.lemmas.Bool.{eqb-true, eqb-false, ne_eqb, or_parts, not-false}
 use Rattle.hc_records.specs.Lists.{has_repeat}
-use Rattle.hc_records.proofs.lemmas.Choices.{member-by, not_false}
+use Rattle.hc_records.proofs.lemmas.Choices.{member-by}
 
 -- an item has the number as its key
 abbrev has_key : {X : Type 0} → (X → ℕ) → ℕ → X → Bool
@@ -62,4 +62,4 @@ no-longer key [] items once known = omega arith
 no-longer key (number ∷ numbers) items once known =
     let alone = or_parts (list_any (λ y. y == number) numbers) (has_repeat numbers) once in
     let here = or_parts (is_foreign key items number) (list_any (is_foreign key items) numbers) known in
-    search (rules, or_parts, without-fewer, not_false, none-foreign, no-longer key numbers (without key number items) alone.1 (none-foreign key number numbers items alone.0 here.1))
+    search (rules, or_parts, without-fewer, not-false, none-foreign, no-longer key numbers (without key number items) alone.1 (none-foreign key number numbers items alone.0 here.1))

@@ -1,19 +1,16 @@
 -- Numbered rows, each number once: a row is found by its number.
 use Rattle.std.proofs.Common.{◌≡◌, ◌≢◌, ◌⊎◌, inl, inr, ℕ, suc, ◌<◌, ◌==◌, Bool, false, cond, List, [], ◌∷◌, get_or, refl, sym, ap, ◌∙◌, subst, Option, Some, None, rules}
 use Rattle.std.specs.Prelude.{All, AllPairs, find, slice_get}
-use Rattle.std.proofs.lemmas.Bool.{cases_eq}
+use Rattle.std.proofs.lemmas.Bool.{cases_eq, ne_eqb}
 use Rattle.std.proofs.lemmas.List.Elements.{All-nil, All-cons}
-use Rattle.std.proofs.lemmas.Option.{get_or_from_slice_get, slice_get_within}
+use Rattle.std.proofs.lemmas.Option.{get_or_from_slice_get, slice_get_within, same_Some}
 use Rattle.hc_records.proofs.lemmas.Lists.{AllPairs-head, AllPairs-tail}
-use Rattle.hc_records.proofs.lemmas.Choices.{itself, less_differs, other-number}
+use Rattle.hc_records.proofs.lemmas.Choices.{itself, less_differs}
 
 passed : {Y : Type 0} (test : Bool) (row : ℕ × Y) (rest : Option (ℕ × Y)) (other : ℕ × Y) → test ≡ false → rest ≡ Some other → cond test (Some row) rest ≡ Some other
 passed test row rest other e there = search rules
 
 -- two that are found in one place are the same, and nothing is found where there is none
-
-pub same-some : {X : Type 0} (a b : X) → Some a ≡ Some b → a ≡ b
-same-some a b e = cc
 
 pub none-some : {X P : Type 0} (found : Option X) (x : X) → found ≡ None → found ≡ Some x → P
 none-some found x none there = let never : None ≡ Some x = sym none ∙ there in cc
@@ -28,7 +25,7 @@ each-found (row ∷ rows) once =
     (ap (λ b. cond b (Some row) (find (λ other. other.0 == row.0) rows)) (itself row.0))
     (λ i e inside. let own = get_or rows i e in
     passed (row.0 == own.0) row (find (λ other. other.0 == own.0) rows) own
-    (other-number row.0 own.0 (AllPairs-head (λ a b. a.0 ≢ b.0) row rows once i e inside))
+    (ne_eqb row.0 own.0 (AllPairs-head (λ a b. a.0 ≢ b.0) row rows once i e inside))
     (each-found rows (AllPairs-tail (λ a b. a.0 ≢ b.0) row rows once) i e inside))
 
 -- rows in the order of their numbers
@@ -60,7 +57,7 @@ abbrev pub HasNone : {Y : Type 0} → List (ℕ × Y) → ℕ → Type 0
 HasNone rows number = (i : ℕ) (row : ℕ × _) → slice_get rows i ≡ Some row → row.0 ≢ number
 
 none_behind : {Y : Type 0} (row : ℕ × Y) (rows : List (ℕ × Y)) (number : ℕ) → row.0 ≢ number → HasNone rows number → HasNone (row ∷ rows) number
-none_behind row rows number other none n own there is = search (rules, same-some)
+none_behind row rows number other none n own there is = search (rules, same_Some)
 
 behind : {Y : Type 0} (row : ℕ × Y) (rows : List (ℕ × Y)) (number : ℕ) → row.0 ≢ number → HasNumber rows number ⊎ HasNone rows number → HasNumber (row ∷ rows) number ⊎ HasNone (row ∷ rows) number
 behind row rows number other (inl has) = inl (record { index = suc has.index; row = has.row; there = has.there; is = has.is })
@@ -80,5 +77,5 @@ by-number (row ∷ rows) number = elim (cases_eq row.0 number) [
 pub none-found : {Y : Type 0} (rows : List (ℕ × Y)) (number : ℕ) → HasNone rows number → find (λ r. r.0 == number) rows ≡ None
 none-found [] number none = refl
 none-found (row ∷ rows) number none =
-    ap (λ b. cond b (Some row) (find (λ r. r.0 == number) rows)) (other-number row.0 number (none 0 row refl))
+    ap (λ b. cond b (Some row) (find (λ r. r.0 == number) rows)) (ne_eqb row.0 number (none 0 row refl))
     ∙ none-found rows number (λ i. none (suc i))

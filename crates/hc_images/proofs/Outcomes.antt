@@ -2,7 +2,7 @@
 use Rattle.std.proofs.Common.{◌≡◌, ◌≢◌, inl, inr, ℕ, ◌+◌, ◌*◌, ◌/◌, ◌%◌, ◌<◌, ◌≤◌, ◌==◌, Bool, true, false, cond, get_or, List, [], drop, length, min, sym, ap, ◌∙◌, subst, arith, Option, Some, rules}
 use Rattle.std.specs.Prelude.{slice_get}
 use Rattle.std.specs.Option.{option_and_then, option_map_or}
-use Rattle.std.proofs.lemmas.Bool.{cases_eq, cases_lt, eq-eqb}
+use Rattle.std.proofs.lemmas.Bool.{cases_eq, cases_lt, eq-eqb, ne_eqb}
 use Rattle.std.proofs.lemmas.List.{get_or_past, length-replicate}
 use Rattle.std.proofs.lemmas.Nat.Bits.{bit_at-lt}
 use Rattle.std.proofs.lemmas.Option.{slice_get_past}
@@ -10,7 +10,6 @@ use Rattle.hc_bits.specs.Bits.{AreBytes, bit_of}
 use Rattle.hc_bits.proofs.lemmas.Places.{bit_of-drop, bit_of-zeros}
 use Rattle.hc_records.specs.declared.limits.TheConstants.{MOST_DATAGRAMS, TASKS}
 use Rattle.hc_records.specs.Image.{VariablePlace}
-use Rattle.hc_records.proofs.lemmas.Choices.{other-number}
 use Rattle.hc_places.specs.Table.{Table, TaskTable, datagrams_in, place_in}
 use Rattle.hc_images.specs.Packed.{Bytes, Carries, HasSizes, IsLaidOut, IsOutput, IsWhole, length_in, offset_in, slot_bytes}
 use Rattle.hc_images.specs.Pieces.{AreBlank, Posts}
@@ -121,7 +120,7 @@ posted-carries table task bytes value sent new masks out carries ones posts = re
     | inr other ↦
         ap (λ own. bit_of own (place.bit + k)) (posts.rest place.task place.datagram (out.inside variable place is.there).datagram (inl other))
         ∙ carries.values variable k place is low
-        ∙ sym (posted_there table task bytes value variable k place false is.there (other-number place.task task other))
+        ∙ sym (posted_there table task bytes value variable k place false is.there (ne_eqb place.task task other))
   ];
   others = search (rules, cases_eq, cases_lt, under_zero);
 }

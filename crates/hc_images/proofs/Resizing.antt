@@ -6,7 +6,7 @@ use Rattle.std.specs.Option.{option_map_or}
 use Rattle.std.proofs.lemmas.Bool.{cases_lt}
 use Rattle.std.proofs.lemmas.List.{append-nil, get_or_append_left, get_or_past, get_or-take, length-append, length-replicate, length-take}
 use Rattle.std.proofs.lemmas.Nat.Bits.{bit_at-zero}
-use Rattle.std.proofs.lemmas.Option.{slice_get-get_or, slice_get_within}
+use Rattle.std.proofs.lemmas.Option.{slice_get-get_or, slice_get_within, same_Some}
 use Rattle.std.proofs.Math.Seq.{get_or-append_right, take-length}
 use Rattle.hc_bits.specs.Bits.{AreBytes, bit_of}
 use Rattle.hc_bits.proofs.lemmas.Places.{bit_of-append_left, bit_of-append_right, bit_of-take, bit_of-zeros}
@@ -17,7 +17,7 @@ use Rattle.hc_places.proofs.lemmas.Swaps.{swaps-replace}
 use Rattle.hc_images.specs.Packed.{Bytes, HasSizes, length_in, slot_bytes}
 use Rattle.hc_images.specs.Pieces.{Resizes, ResizesEach, length_of, resized}
 use Rattle.hc_images.proofs.Masks.{same-at, zero-small}
-use Rattle.hc_images.proofs.Numbered.{same-some, ascend-differ, HasNone, HasNumber, by-number, found-at, none-found}
+use Rattle.hc_images.proofs.Numbered.{ascend-differ, HasNone, HasNumber, by-number, found-at, none-found}
 
 -- the bits of bytes that are cut, or have zeros behind
 
@@ -58,7 +58,7 @@ next-resized n changed last old mid new is ascend each resizes = record {
         resizes.rest own.0 d few (ascend-differ changed i n own last ascend less there is) ∙ each.own i d own less there few
     | inr more ↦
         let index : n ≡ i = omega arith in
-        let same : last ≡ own = same-some last own (sym is ∙ ap (slice_get changed) index ∙ there) in
+        let same : last ≡ own = same_Some last own (sym is ∙ ap (slice_get changed) index ∙ there) in
         subst (λ (o : ChangedTask). slot_bytes new o.0 d ≡ resized (length_of o.1 d) (slot_bytes old o.0 d)) same
         (resizes.own d few
         ∙ ap (resized (length_of last.1 d))

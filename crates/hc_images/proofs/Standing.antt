@@ -3,7 +3,7 @@ use Rattle.std.proofs.Common.{◌≡◌, inl, inr, ℕ, ◌+◌, ◌*◌, ◌<�
 use Rattle.std.specs.Prelude.{All, option_and_then, option_map, slice_get, unwrap_or}
 use Rattle.std.proofs.lemmas.Bool.{cases_lt}
 use Rattle.std.proofs.lemmas.List.{get_or_append_left, get_or_push}
-use Rattle.std.proofs.lemmas.Option.{slice_get-get_or, slice_get_cases, slice_get_within}
+use Rattle.std.proofs.lemmas.Option.{slice_get-get_or, slice_get_cases, slice_get_within, same_Some}
 use Rattle.hc_records.specs.declared.records.Dir.TheVariants.{Out}
 use Rattle.hc_records.specs.Image.{VariablePlace}
 use Rattle.hc_records.specs.Keys.{same_dir}
@@ -13,12 +13,12 @@ use Rattle.hc_places.specs.Table.{Row, RowsAscend, Table, place_in}
 use Rattle.hc_places.proofs.lemmas.Swaps.{swaps-move}
 use Rattle.hc_images.specs.Packed.{Bytes, HasSizes, IsLaidOut, IsOutput}
 use Rattle.hc_images.specs.Pieces.{AreApart, Fit, Numbered, Stand, of_changed, of_list, of_rows, output_in, output_of}
-use Rattle.hc_images.proofs.Numbered.{same-some, none-some, Ascend, HasNone, ascend-differ, by-number, found-at, none-found}
+use Rattle.hc_images.proofs.Numbered.{none-some, Ascend, HasNone, ascend-differ, by-number, found-at, none-found}
 
 -- the place of an output variable
 
 by_dir : (test : Bool) (place other : VariablePlace) → cond test (Some place) None ≡ Some other → (test ≡ true) × (place ≡ other)
-by_dir test place other e = search (rules, same-some)
+by_dir test place other e = search (rules, same_Some)
 
 found_by : (table : Table) (variable : ℕ) (place : VariablePlace) (found : Option VariablePlace) → place_in table variable ≡ found → option_and_then output_of found ≡ Some place → IsOutput table variable place
 found_by table variable place found there is = search (rules, by_dir, same_dir-same)
@@ -116,4 +116,4 @@ old-are change table places stand i row place there is = output-found table row.
 pub next-stands : (table : Table) (changed : List ChangedRow) (places : List (Option VariablePlace)) (n : ℕ) (last : ChangedRow) → slice_get changed n ≡ Some last → length places ≡ n
     → ((i : ℕ) (row : ChangedRow) → i < n → slice_get changed i ≡ Some row → of_list places i ≡ output_in table row.0)
     → (i : ℕ) (row : ChangedRow) → i < n + 1 → slice_get changed i ≡ Some row → of_list (places ++ output_in table last.0 ∷ []) i ≡ output_in table row.0
-next-stands table changed places n last is count before i row below there = search (rules, cases_lt, get_or_append_left, same-some, get_or_push)
+next-stands table changed places n last is count before i row below there = search (rules, cases_lt, get_or_append_left, same_Some, get_or_push)

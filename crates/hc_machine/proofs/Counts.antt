@@ -4,12 +4,11 @@ use Rattle.std.specs.Prelude.{◌&&◌, ◌||◌, if◌then◌else◌}
 use Rattle.std.specs.List.{list_any}
 use Rattle.std.proofs.lemmas.Bool.Decides.{nat_tests}
 use Rattle.std.proofs.lemmas.List.Folds.{list_any_at}
-use Rattle.hc_frames.proofs.lemmas.Datagrams.{and_true}
+use Rattle.std.proofs.lemmas.Bool.{and_from, and_parts}
 use Rattle.hc_machine.specs.declared.fmmu.Fmmu.{Fmmu}
 use Rattle.hc_machine.specs.Fmmus.{fmmus_of, idle}
 use Rattle.hc_machine.specs.Laws.{IsRead, IsWritten, LogicalCountsTellPairs, Pairs}
 use Rattle.hc_machine.specs.Logical.{logical_count, meets, memory_bit, reads_any, writes_any}
-use Rattle.hc_machine.proofs.Lowest.{both-true}
 use Rattle.hc_machine.proofs.Paired.{fmmu-count, read-by, reads-back, write-by, writes-back}
 use Rattle.hc_machine.proofs.Unmapped.{meets-some}
 
@@ -46,7 +45,7 @@ module _ (memory : List ℕ) (from n : ℕ) where
   read-told some =
       let at = holds-of (λ f. f.reads && meets from size f) (fmmus_of memory) some in
       let f : Fmmu = get_or (fmmus_of memory) at.0 idle in
-      let parts = and_true f.reads (meets from size f) at.2 in
+      let parts = and_parts f.reads (meets from size f) at.2 in
       let bit = shared f from size parts.1 in
       let number : at.0 < 16 = omega (arith, at.1, fmmu-count memory) in
       (at.0, bit.0, memory_bit f (from + bit.0), number, bit.1, reads-back memory at.0 (from + bit.0) (memory_bit f (from + bit.0)) number parts.0 bit.2)
@@ -56,13 +55,13 @@ module _ (memory : List ℕ) (from n : ℕ) where
       let by = read-by memory i (from + k) m number reads in
       let f : Fmmu = get_or (fmmus_of memory) i idle in
       list_any_at (λ f. f.reads && meets from size f) (fmmus_of memory) i idle (omega (arith, fmmu-count memory))
-      (both-true f.reads (meets from size f) by.0 (meets-pair f from size k m low by.1))
+      (and_from f.reads (meets from size f) by.0 (meets-pair f from size k m low by.1))
 
   written-told : writes_any from size (fmmus_of memory) ≡ true → IsWritten memory from n
   written-told some =
       let at = holds-of (λ f. f.writes && meets from size f) (fmmus_of memory) some in
       let f : Fmmu = get_or (fmmus_of memory) at.0 idle in
-      let parts = and_true f.writes (meets from size f) at.2 in
+      let parts = and_parts f.writes (meets from size f) at.2 in
       let bit = shared f from size parts.1 in
       let number : at.0 < 16 = omega (arith, at.1, fmmu-count memory) in
       (at.0, bit.0, memory_bit f (from + bit.0), number, bit.1, writes-back memory at.0 (from + bit.0) (memory_bit f (from + bit.0)) number parts.0 bit.2)
@@ -72,7 +71,7 @@ module _ (memory : List ℕ) (from n : ℕ) where
       let by = write-by memory i (from + k) m number writes in
       let f : Fmmu = get_or (fmmus_of memory) i idle in
       list_any_at (λ f. f.writes && meets from size f) (fmmus_of memory) i idle (omega (arith, fmmu-count memory))
-      (both-true f.writes (meets from size f) by.0 (meets-pair f from size k m low by.1))
+      (and_from f.writes (meets from size f) by.0 (meets-pair f from size k m low by.1))
 
 -- a test as the number that it adds
 told : (b : Bool) (n : ℕ) (A : Type 0) → (b ≡ true → A) → (A → b ≡ true) → (((if b then n else 0) ≡ n) × A) ⊎ (((if b then n else 0) ≡ 0) × (¬ A))

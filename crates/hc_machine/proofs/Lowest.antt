@@ -2,11 +2,9 @@
 use Rattle.std.proofs.Common.{◌≡◌, ◌⊎◌, ℕ, zero, suc, ◌+◌, ◌-◌, ◌*◌, ◌/◌, ◌%◌, ◌<◌, ◌≤◌, Bool, true, false, List, [], ◌∷◌, length, get_or, set, refl, sym, ap, ◌∙◌, arith, inl, inr, length-set, get_or-set_other, get_or-set_same}
 use Rattle.std.specs.Prelude.{◌&&◌, if◌then◌else◌}
 use Rattle.std.specs.Int.{bit_at}
-use Rattle.std.proofs.lemmas.Bool.{cases_eq, cases_lt}
+use Rattle.std.proofs.lemmas.Bool.{cases_eq, cases_lt, and_from, and_parts, false_from_ne_true}
 use Rattle.std.proofs.lemmas.List.FromFn.{get_or-map-range_with_len, length-map-range_with_len}
 use Rattle.std.proofs.lemmas.Nat.Bits.{bit_at-lt}
-use Rattle.hc_records.proofs.lemmas.Choices.{off}
-use Rattle.hc_frames.proofs.lemmas.Datagrams.{and_true}
 use Rattle.hc_bits.specs.Bits.{bit_of}
 use Rattle.hc_machine.specs.declared.fmmu.Fmmu.{Fmmu}
 use Rattle.hc_machine.specs.Fmmus.{fmmus_of, idle, is_within}
@@ -79,10 +77,6 @@ pub bit_of-small : (xs : List ℕ) (k : ℕ) → bit_of xs k < 2
 unfolding bit_of
 bit_of-small xs k = bit_at-lt (get_or xs (k / 8) 0) (k % 8)
 
--- ---- tests
-pub both-true : (a b : Bool) → a ≡ true → b ≡ true → (a && b) ≡ true
-both-true a b p q = rw (p, q) refl
-
 -- ---- what is read
 abbrev pub reads-at : Fmmu → ℕ → Bool
 reads-at f x = f.reads && is_within f.logical f.width x
@@ -120,7 +114,7 @@ data-bit memory bytes from k low =
 pub not-read : (memory : List ℕ) (j x : ℕ) → j < 16 → ((n : ℕ) → ¬ Reads memory j x n) → reads-at (get_or (fmmus_of memory) j idle) x ≡ false
 not-read memory j x low none =
     let f : Fmmu = get_or (fmmus_of memory) j idle in
-    off (reads-at f x) (λ e. let parts = and_true f.reads (is_within f.logical f.width x) e in
+    false_from_ne_true (reads-at f x) (λ e. let parts = and_parts f.reads (is_within f.logical f.width x) e in
     let place = within-back f.logical f.width x parts.1 in
     none (memory_bit f x) (reads-back memory j x (memory_bit f x) low parts.0 (place.0, place.1, refl)))
 
@@ -128,7 +122,7 @@ pub read-from-memory : ReadBitsComeFromMemory
 read-from-memory memory bytes from k i m low number reads before =
     let f : Fmmu = get_or (fmmus_of memory) i idle in
     let by = read-by memory i (from + k) m number reads in
-    let here : reads-at f (from + k) ≡ true = both-true f.reads (is_within f.logical f.width (from + k)) by.0 (within_yes f.logical f.width (from + k) by.1.0 by.1.1) in
+    let here : reads-at f (from + k) ≡ true = and_from f.reads (is_within f.logical f.width (from + k)) by.0 (within_yes f.logical f.width (from + k) by.1.0 by.1.1) in
     data-bit memory bytes from k low
     ∙ read-lowest (fmmus_of memory) i (bit_of memory) (from + k) (bit_of bytes k) (omega (arith, fmmu-count memory)) here (λ j h. not-read memory j (from + k) (omega arith) (λ n. before j n h))
     ∙ ap (bit_of memory) (sym by.1.2)
@@ -183,8 +177,8 @@ memory-bit memory bytes from m low outside =
 pub not-written : (memory : List ℕ) (from size j m : ℕ) → j < 16 → ((n : ℕ) → n < size → ¬ Writes memory j (from + n) m) → writes-at from size (get_or (fmmus_of memory) j idle) m ≡ false
 not-written memory from size j m low none =
     let f : Fmmu = get_or (fmmus_of memory) j idle in
-    off (writes-at from size f m) (λ e. let outer = and_true (f.writes && is_within f.memory f.width m) (is_within from size (logical_bit f m)) e in
-    let inner = and_true f.writes (is_within f.memory f.width m) outer.0 in
+    false_from_ne_true (writes-at from size f m) (λ e. let outer = and_parts (f.writes && is_within f.memory f.width m) (is_within from size (logical_bit f m)) e in
+    let inner = and_parts f.writes (is_within f.memory f.width m) outer.0 in
     let place = within-back f.memory f.width m inner.1 in
     let logical = within-back from size (logical_bit f m) outer.1 in
     let back : f.logical + (m - f.memory) ≡ from + (logical_bit f m - from) = omega arith in
@@ -201,7 +195,7 @@ written-from-data memory bytes from k i m long outside low number writes before 
     let logical : logical_bit f m ≡ from + k = omega arith in
     let inside : m < 8 * length memory = omega (arith, writes.1.inside) in
     let here : writes-at from size f m ≡ true =
-    both-true (f.writes && is_within f.memory f.width m) (is_within from size (logical_bit f m)) (both-true f.writes (is_within f.memory f.width m) by.0 (within_yes f.memory f.width m (omega arith) (omega arith)))
+    and_from (f.writes && is_within f.memory f.width m) (is_within from size (logical_bit f m)) (and_from f.writes (is_within f.memory f.width m) by.0 (within_yes f.memory f.width m (omega arith) (omega arith)))
     (within_yes from size (logical_bit f m) (omega arith) (omega arith)) in
     let same : logical_bit f m - from ≡ k = omega arith in
     memory-bit memory bytes from m inside outside

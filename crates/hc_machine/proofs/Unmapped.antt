@@ -4,7 +4,7 @@ use Rattle.std.specs.Prelude.{◌&&◌, ◌||◌, if◌then◌else◌}
 use Rattle.std.specs.List.{list_any}
 use Rattle.std.proofs.lemmas.Bool.Decides.{nat_tests}
 use Rattle.std.proofs.lemmas.List.{set-get_or}
-use Rattle.hc_records.proofs.lemmas.Choices.{off}
+use Rattle.std.proofs.lemmas.Bool.{false_from_ne_true}
 use Rattle.hc_bits.specs.Bits.{AreBytes, bit_of}
 use Rattle.hc_machine.specs.declared.fmmu.Fmmu.{Fmmu}
 use Rattle.hc_machine.specs.Fmmus.{block_at, fmmus_of, idle}
@@ -27,7 +27,7 @@ module _ (memory : List ℕ) (from size : ℕ) (none : (j n m : ℕ) → j < 16 
   unmet : (j : ℕ) → j < 16 → meets from size (get_or (fmmus_of memory) j idle) ≡ false
   unmet j low =
       let f : Fmmu = get_or (fmmus_of memory) j idle in
-      off (meets from size f) (λ e.
+      false_from_ne_true (meets from size f) (λ e.
       let some : max f.logical from < min (f.logical + f.width) (from + size) = meets-some f from size e in
       let n : ℕ = max f.logical from - from in
       let there : Pairs f (from + n) (memory_bit f (from + n)) = (omega arith, omega arith, refl) in

@@ -5,7 +5,7 @@ use Rattle.std.specs.List.{list_any}
 use Rattle.std.proofs.lemmas.Bool.Decides.{nat_tests}
 use Rattle.std.proofs.lemmas.List.{ext_get_or}
 use Rattle.std.proofs.lemmas.List.FromFn.{length-map-range_with_len, get_or-map-range_with_len}
-use Rattle.hc_frames.proofs.lemmas.Spelling.{or_false}
+use Rattle.std.proofs.lemmas.Bool.{or_parts}
 use Rattle.hc_machine.specs.declared.fmmu.Fmmu.{Fmmu}
 use Rattle.hc_machine.specs.Fmmus.{is_within}
 use Rattle.hc_machine.specs.Logical.{bit_read, bit_written, logical_bit, meets, memory_bit, reads_any}
@@ -39,7 +39,7 @@ unread-stays : (fs : List Fmmu) (first width x : ℕ) (memory : ℕ → ℕ) (wa
 unfolding bit_read
 unread-stays [] first width x memory was none inside = refl
 unread-stays (f ∷ fs) first width x memory was none inside =
-    let two = or_false (f.reads && meets first width f) (reads_any first width fs) none in
+    let two = or_parts (f.reads && meets first width f) (reads_any first width fs) none in
     let off : (f.reads && is_within f.logical f.width x) ≡ false = apart f.reads (meets first width f) (is_within f.logical f.width x) two.0 (λ e. grind (arith, nat_tests)) in
     ap (λ (b : Bool). if b then memory (memory_bit f x) else bit_read fs memory x was) off ∙ unread-stays fs first width x memory was two.1 inside
 
@@ -49,7 +49,7 @@ pub written-unmixed : (all fs : List Fmmu) (memory came now : ℕ → ℕ) (from
 unfolding bit_written
 written-unmixed all [] memory came now from n m was none is = refl
 written-unmixed all (f ∷ fs) memory came now from n m was none is =
-    let two = or_false (f.writes && reads_any f.logical f.width all) (list_any (λ g. g.writes && reads_any g.logical g.width all) fs) none in
+    let two = or_parts (f.writes && reads_any f.logical f.width all) (list_any (λ g. g.writes && reads_any g.logical g.width all) fs) none in
     by f.writes refl two.0 (is_within f.memory f.width m) refl (is_within from n (logical_bit f m)) refl (written-unmixed all fs memory came now from n m was two.1 is)
   where
     by : (w : Bool) → f.writes ≡ w → (w && reads_any f.logical f.width all) ≡ false → (a : Bool) → is_within f.memory f.width m ≡ a → (b : Bool) → is_within from n (logical_bit f m) ≡ b

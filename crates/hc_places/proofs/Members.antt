@@ -2,10 +2,10 @@
 use Rattle.std.proofs.Common.{◌≡◌, ℕ, suc, ◌≤◌, Bool, true, false, cond, List, [], ◌∷◌, length, refl, sym, arith, zero-le}
 use Rattle.std.specs.Prelude.{All, AllPairs, filter, not, ◌==◌, ◌≢◌, ◌||◌, ◌&&◌}
 use Rattle.std.specs.List.{list_any}
-use Rattle.std.proofs.lemmas.Bool.{eq-eqb, eqb-true}
+use Rattle.std.proofs.lemmas.Bool.{eq-eqb, eqb-true, or_left, or_right}
 use Rattle.std.proofs.lemmas.List.Elements.{All-head, All-tail}
 use Rattle.hc_records.proofs.lemmas.Lists.{AllPairs-head, AllPairs-tail, filter-few}
-use Rattle.hc_records.proofs.lemmas.Choices.{member-by, or_left, or_right}
+use Rattle.hc_records.proofs.lemmas.Choices.{member-by}
 
 abbrev pub among : ℕ → List ℕ → Bool
 among variable xs = list_any (λ x. x == variable) xs

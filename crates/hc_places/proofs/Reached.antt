@@ -3,11 +3,10 @@ use Rattle.std.proofs.Common.{◌≡◌, ◌∙◌, ap, ℕ, zero, suc, ◌+◌,
 use Rattle.std.specs.Prelude.{Option, Some, None, ◌-◌, nat_lt, unwrap_or, ◌==◌, ◌≢◌}
 use Rattle.std.specs.List.{AllWithin}
 use Rattle.std.specs.List.Sorted.{IsNonDecreasingBy}
-use Rattle.std.proofs.lemmas.Bool.{cond-true, eq-eqb, ltb-false, lt-ltb}
+use Rattle.std.proofs.lemmas.Bool.{cond-true, eq-eqb, ltb-false, lt-ltb, le-ltb}
 use Rattle.std.proofs.lemmas.Bool.Decides.{nat_tests}
 use Rattle.std.proofs.lemmas.List.{get_or_default, get_or-drop, get_or-map, get_or-take, length-drop, length-take}
 use Rattle.hc_records.specs.Image.{VariablePlace}
-use Rattle.hc_records.proofs.lemmas.Choices.{not_long}
 use Rattle.hc_places.specs.inner.Overwritten.{AreBelow, row_with}
 use Rattle.hc_places.specs.Swap.{ChangedRow, ChangesAscend}
 use Rattle.hc_places.specs.Table.{Row, RowsAscend}
@@ -31,7 +30,7 @@ pub reached-row : (rows : List Row) (variable reach : ℕ) (row : Row) → RowsA
 reached-row rows variable reach row ascends is reached k d low within =
     let here = ap (λ (r : Row). r.0) (is ∙ get_or_default rows reach row d (omega arith)) in
     let up = ascends-rises rows ascends reach k d low within in
-    not_long variable (get_or rows k d).0 (omega (arith, here, up, reached))
+    le-ltb (get_or rows k d).0 variable (omega (arith, here, up, reached))
 
 -- those among the first rows are those of all, where none behind these is lower
 pub below-reached : (rows : List Row) (variable reach count : ℕ) → count ≤ length (take reach rows) → AreBelow (take reach rows) variable count

@@ -5,6 +5,7 @@ use Rattle.std.proofs.lemmas.Bool.{cond-true, eqb-true}
 use Rattle.std.proofs.lemmas.Bool.Decides.{nat_tests}
 use Rattle.std.proofs.lemmas.List.Elements.{All-cons, All-head, All-nil, All-tail}
 use Rattle.std.proofs.lemmas.List.Kept.{AllPairs-cons}
+use Rattle.std.proofs.lemmas.Option.{same_Some}
 use Rattle.hc_records.specs.Image.{VariablePlace}
 use Rattle.hc_places.specs.Table.{Row, RowsAscend, Table, TaskTable}
 use Rattle.hc_places.specs.Swap.{ChangedRow, merged, new_row, with_changed}
@@ -132,9 +133,6 @@ rest-places : (x : Row) (xs : List Row) (y : Row) (ys : List Row) → x ≡ y �
 rest-places x xs y ys heads first second same variable =
     grind (arith, rest-by, place_of, eqb-true, place-none, place-of-cons)
 
-some-same : (a b : VariablePlace) → Some a ≡ Some b → a ≡ b
-some-same a b same = cc
-
 row-same : (x y : Row) → x.0 ≡ y.0 → x.1 ≡ y.1 → x ≡ y
 row-same x y number place = rw (number, place) refl
 
@@ -146,7 +144,7 @@ told-both x xs y ys first second both up down same =
     (λ below less. row-stands x xs (y ∷ ys) (above-cons x.0 y ys less ys-above) (same x.0))
     (λ not_less above less. row-stands y ys (x ∷ xs) (above-cons y.0 x xs less xs-above) (sym (same y.0)))
     (λ not_less neither number.
-    let place : x.1 ≡ y.1 = some-same x.1 y.1 (sym (place-here x xs x.0 refl) ∙ same x.0 ∙ place-here y ys x.0 (sym number)) in
+    let place : x.1 ≡ y.1 = same_Some x.1 y.1 (sym (place-here x xs x.0 refl) ∙ same x.0 ∙ place-here y ys x.0 (sym number)) in
     let heads = row-same x y number place in
     let rest = both (ascends-rest x xs up) (ascends-rest y ys down) (rest-places x xs y ys heads xs-above (rw number ys-above) same) in
     ap (λ (row : Row). row ∷ xs) heads ∙ ap (λ (l : List Row). y ∷ l) rest)

@@ -1,8 +1,7 @@
 -- The outcome of an input, from where its project opens, and of what a reader had left.
 use Rattle.std.proofs.Common.{◌≡◌, ℕ, ◌≤◌, ◌<◌, List, length, cond, ap, subst, ◌∙◌, Ok, Err, Some, None}
 use Rattle.std.specs.Prelude.{IfSome, Option}
-use Rattle.std.proofs.lemmas.Bool.{lt-ltb}
-use Rattle.hc_records.proofs.lemmas.Choices.{not_long}
+use Rattle.std.proofs.lemmas.Bool.{lt-ltb, le-ltb}
 use Rattle.hc_events.specs.Entries.{Record}
 use Rattle.hc_text.specs.declared.input.TheConstants.{MOST_INPUT}
 use Rattle.hc_program.specs.declared.opening.Unopened.{Unopened}
@@ -16,7 +15,7 @@ use Rattle.hc_program.specs.Text.{outcome_of, outcome_of_lines, run_opened, unop
 lines_outcome : (input : List ℕ) → length input ≤ MOST_INPUT → outcome_of input ≡ outcome_of_lines (lines_of input)
 unfolding outcome_of
 lines_outcome input within =
-    ap (λ b. cond b unread (outcome_of_lines (lines_of input))) (not_long (length input) MOST_INPUT within)
+    ap (λ b. cond b unread (outcome_of_lines (lines_of input))) (le-ltb MOST_INPUT (length input) within)
 
 -- an input that is too long
 pub long_outcome : (input : List ℕ) → MOST_INPUT < length input → outcome_of input ≡ unread

@@ -4,11 +4,11 @@ use Rattle.std.specs.Prelude.{codes}
 use Rattle.std.specs.List.{list_any}
 use Rattle.std.proofs.lemmas.Bool.Decides.{nat_tests}
 use Rattle.std.proofs.lemmas.List.{length-append}
+use Rattle.std.proofs.lemmas.Bool.{le-ltb}
 use Rattle.toml.specs.Data.{Data, Items, no_items, item, as_array, get}
 use Rattle.hc_records.specs.declared.limits.TheConstants.{MOST_GROUPS, MOST_SLAVES}
 use Rattle.hc_records.specs.declared.records.Group.{Group}
 use Rattle.hc_records.specs.Project.{has_outside, is_bare, slave_outside, slaves_of, some_slave}
-use Rattle.hc_records.proofs.lemmas.Choices.{not_less}
 use Rattle.hc_project.specs.declared.flawed.Flaw.TheVariants.{Missing, Outside}
 use Rattle.hc_project.specs.declared.places.Key.TheVariants as key
 use Rattle.hc_project.specs.declared.places.Place.{Place}
@@ -140,5 +140,5 @@ document_outside d none =
     let few_slaves : length (own ++ rest) ≤ MOST_SLAVES = together MOST_SLAVES _ _ _ mandatory.2 left (length-append own rest) in
     let few : suc (length (optional_array (MOST_GROUPS - 1) group (get (codes "group") d)).value) ≤ MOST_GROUPS = omega (arith, others.few) in (
       rw (mandatory.0, others.right) refl,
-      rw (others.bare, not_less MOST_GROUPS _ few, not_less MOST_SLAVES _ few_slaves, mandatory.1, others.slaves) refl,
+      rw (others.bare, le-ltb MOST_GROUPS _ few, le-ltb MOST_SLAVES _ few_slaves, mandatory.1, others.slaves) refl,
     )

@@ -2,12 +2,11 @@
 use Rattle.std.proofs.Common.{◌≡◌, ℕ, ◌+◌, ◌-◌, ◌≤◌, ◌||◌, ◌==◌, not, nat_lt, Bool, false, length, Option, Some, None, refl, arith, option_and_then}
 use Rattle.std.specs.Prelude.{codes}
 use Rattle.std.specs.List.{list_any}
-use Rattle.std.proofs.lemmas.Bool.{or_parts}
+use Rattle.std.proofs.lemmas.Bool.{or_parts, le-ltb}
 use Rattle.std.proofs.lemmas.Bool.Decides.{nat_tests}
 use Rattle.toml.specs.Data.{Data, as_array, at, get}
 use Rattle.hc_records.specs.declared.limits.TheConstants.{LAST_SYNC_MANAGER, MEMORY_START, MEMORY_END, MOST_AREAS, MOST_ENTRIES, MOST_ENTRY_BITS, MOST_PDOS, TASKS}
 use Rattle.hc_records.specs.Project.{is_outside, entry_outside, pdo_outside, area_outside, slave_outside, reach}
-use Rattle.hc_records.proofs.lemmas.Choices.{not_less}
 use Rattle.hc_project.specs.declared.flawed.Flaw.TheVariants.{Missing, Outside}
 use Rattle.hc_project.specs.declared.places.Key.{Key}
 use Rattle.hc_project.specs.declared.places.Key.TheVariants as key
@@ -61,7 +60,7 @@ pdo_searches Missing place index d none =
 pdo_searches Outside place index d none =
     let number = flawless Outside _ _ (none_left _ _ none) in
     let entries = array_outside entry_outside entry 0 MOST_ENTRIES MOST_ENTRIES entry_place entry_flaw (in_pdo place index) key.Entries (option_and_then as_array (get (codes "entries") d)) entry_searches (omega arith) (few_enough _) (none_left _ _ (none_right _ _ none)) in
-    rw (number, entries.0, entries.1, not_less MOST_ENTRIES _ entries.2) refl
+    rw (number, entries.0, entries.1, le-ltb MOST_ENTRIES _ entries.2) refl
 
 area_searches : Searches area_outside area area_flaw
 area_searches Missing place index d none =
@@ -88,7 +87,7 @@ area_searches Outside place index d none =
     let task = judged_parts (λ n. not (nat_lt n TASKS)) (byte (get (codes "task") d)) (flawless Outside _ _ (none_left _ _ fourth)) in
     let assigned = array_outside (λ n. false) assigned_index 0 MOST_PDOS MOST_PDOS index_place index_flaw (in_area place index) key.Assigned (option_and_then as_array (get (codes "assigned") d)) index_searches (omega arith) (few_enough _) (none_left _ _ fifth) in
     let offered = optional_outside pdo_outside pdo MOST_PDOS pdo_place pdo_flaw (in_area place index) key.Pdos (get (codes "pdo") d) pdo_searches (none_left _ _ (none_right _ _ fifth)) in
-    rw (sm.0, sm.1, dir, phys.0, memory.0, memory.1, task.0, task.1, assigned.0, not_less MOST_PDOS _ assigned.2, offered.0, offered.1, not_less MOST_PDOS _ offered.2) refl
+    rw (sm.0, sm.1, dir, phys.0, memory.0, memory.1, task.0, task.1, assigned.0, le-ltb MOST_PDOS _ assigned.2, offered.0, offered.1, le-ltb MOST_PDOS _ offered.2) refl
 
 pub slave_searches : Searches slave_outside slave slave_flaw
 slave_searches Missing place index d none =
@@ -98,4 +97,4 @@ slave_searches Missing place index d none =
 slave_searches Outside place index d none =
     let station = judged_parts (λ n. n == 0) (word (get (codes "station") d)) (flawless Outside _ _ (none_left _ _ none)) in
     let areas = optional_outside area_outside area MOST_AREAS area_place area_flaw (slave_place place index d) key.Areas (get (codes "area") d) area_searches (none_left _ _ (none_right _ _ none)) in
-    rw (station.0, station.1, areas.0, areas.1, not_less MOST_AREAS _ areas.2) refl
+    rw (station.0, station.1, areas.0, areas.1, le-ltb MOST_AREAS _ areas.2) refl

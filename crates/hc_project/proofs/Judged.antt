@@ -1,12 +1,12 @@
 -- The lowest fault of what was read has a place in its document.
 use Rattle.std.proofs.Common.{◌≡◌, ◌||◌, Bool, true, false, if◌then◌else◌, List, [], ◌∷◌, Option, Some, None, Err, refl}
+use Rattle.std.proofs.lemmas.Bool.{or_left, or_right}
 use Rattle.toml.specs.Data.{Data}
 use Rattle.hc_records.specs.declared.records.Group.{Group}
 use Rattle.hc_records.specs.declared.faults.ProjectFault.{ProjectFault}
 use Rattle.hc_records.specs.declared.faults.ProjectFault.TheVariants as fault
 use Rattle.hc_records.specs.Lists.{lowest}
 use Rattle.hc_records.specs.Project.{has_outside, has_overlap, has_repeated_alias, has_repeated_station, has_repeated_variable, has_unknown_pdo, is_wide, repeats_sync_manager, some_area, some_slave}
-use Rattle.hc_records.proofs.lemmas.Choices.{or_left, or_right}
 use Rattle.hc_project.specs.declared.reading.Reading.{Reading}
 use Rattle.hc_project.specs.Levels.{declared_groups}
 use Rattle.hc_project.specs.Located.{spot_of}

@@ -4,6 +4,7 @@ use Rattle.std.proofs.Common.{◌∙◌, arith, ap}
 use Rattle.std.specs.List.{list_any}
 use Rattle.std.proofs.lemmas.List.{length-append}
 use Rattle.std.proofs.lemmas.Bool.Decides.{nat_tests}
+use Rattle.std.proofs.lemmas.Bool.{or_from}
 use Rattle.toml.specs.Data.{table}
 use Rattle.hc_records.specs.declared.limits.TheConstants.{MOST_GROUPS, MOST_SLAVES}
 use Rattle.hc_records.specs.declared.records.Group.{Group}
@@ -21,10 +22,6 @@ none-first : (holds : Bool) (fault : ProjectFault) (rest : Option ProjectFault) 
 none-first true fault rest none = cc
 none-first false fault rest none = refl
 
--- a test that neither of two meets isn't met by both
-neither : (a b : Bool) → a ≡ false → b ≡ false → (a || b) ≡ false
-neither a b p q = rw (p, q) refl
-
 -- a group has no more slaves than all groups together
 all-few : (most : ℕ) (groups : List Group) → nat_lt most (length (slaves_of groups)) ≡ false → list_any (λ g. nat_lt most (length g.slaves)) groups ≡ false
 all-few most [] few = refl
@@ -32,7 +29,7 @@ all-few most (g ∷ gs) few =
     let whole : length (g.slaves ++ slaves_of gs) ≡ length g.slaves + length (slaves_of gs) = length-append g.slaves (slaves_of gs) in
     let own : nat_lt most (length g.slaves) ≡ false = grind (arith, nat_tests) in
     let rest : nat_lt most (length (slaves_of gs)) ≡ false = grind (arith, nat_tests) in
-    neither (nat_lt most (length g.slaves)) (list_any (λ g. nat_lt most (length g.slaves)) gs) own (all-few most gs rest)
+    or_from (nat_lt most (length g.slaves)) (list_any (λ g. nat_lt most (length g.slaves)) gs) own (all-few most gs rest)
 
 all-inside : (groups : List Group) → list_any is_bare groups ≡ false → some_slave slave_outside groups ≡ false → list_any (λ g. nat_lt MOST_SLAVES (length g.slaves)) groups ≡ false → list_any group_outside groups ≡ false
 all-inside [] bare slaves many = refl
@@ -43,8 +40,8 @@ all-inside (g ∷ gs) bare slaves many =
     let bs = list_any is_bare gs in
     let ss = some_slave slave_outside gs in
     let ms = list_any (λ g. nat_lt MOST_SLAVES (length g.slaves)) gs in
-    neither (b || s || m) (list_any group_outside gs)
-    (neither (b || s) m (neither b s (or-left b bs bare) (or-left s ss slaves)) (or-left m ms many))
+    or_from (b || s || m) (list_any group_outside gs)
+    (or_from (b || s) m (or_from b s (or-left b bs bare) (or-left s ss slaves)) (or-left m ms many))
     (all-inside gs (or-right b bs bare) (or-right s ss slaves) (or-right m ms many))
 
 first-alias : (alias : ℕ) → not (alias == 0) ≡ false → alias ≡ 0

@@ -7,7 +7,8 @@ use Rattle.std.proofs.lemmas.Bool.Decides.{nat_tests}
 use Rattle.std.proofs.lemmas.Grind.{get_or-set_at}
 use Rattle.std.proofs.lemmas.List.{ext_get_or, get_or-map, get_or-set_other, length-map, length-set}
 use Rattle.std.proofs.lemmas.List.Elements.{All-cons, All-head, All-nil, All-tail}
-use Rattle.hc_records.proofs.lemmas.Choices.{below, by_bool, other-number, same-test}
+use Rattle.std.proofs.lemmas.Bool.{eq-eqb, ne_eqb}
+use Rattle.hc_records.proofs.lemmas.Choices.{below, by_bool}
 use Rattle.hc_frames.proofs.lemmas.Spelling.{same_number}
 use Rattle.hc_events.specs.Answering.{only_if}
 use Rattle.hc_events.proofs.lemmas.Once.{is_below}
@@ -143,7 +144,7 @@ set-emptied frames serial place d ascend parts inside is =
     by_bool (i == place)
     (λ t. let here = same_number i place t in
     get_or-set_at frames place i empty d here inside
-    ∙ sym (emptied-is serial (get_or frames place d) (same-test (get_or frames place d).serial serial is))
+    ∙ sym (emptied-is serial (get_or frames place d) (eq-eqb (get_or frames place d).serial serial is))
     ∙ ap (λ n. emptied serial (get_or frames n d)) (sym here)
     ∙ sym (get_or-map (emptied serial) frames i d d within))
     (λ t. let apart = no-number i place t in
@@ -160,6 +161,6 @@ none-emptied frames serial place ascend parts none =
     sym (emptied-not serial (get_or frames i d)
     (by_bool (i == place)
     (λ t. let here = same_number i place t in
-    ap (λ n. (get_or frames n d).serial == serial) here ∙ other-number (get_or frames place d).serial serial (none d (omega (arith, here, within))))
+    ap (λ n. (get_or frames n d).serial == serial) here ∙ ne_eqb (get_or frames place d).serial serial (none d (omega (arith, here, within))))
     (λ t. others frames serial place i d ascend parts within (no-number i place t))))
     ∙ sym (get_or-map (emptied serial) frames i d d within))

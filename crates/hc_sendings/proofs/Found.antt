@@ -4,7 +4,8 @@ use Rattle.std.specs.Prelude.{AllPairs, find, nat_lt, option_and_then, option_ma
 use Rattle.std.specs.List.Sorted.{IsPartitionedBy, IsPartitionPoint}
 use Rattle.std.proofs.lemmas.List.Sorted.{IsPartitionedBy-ltb}
 use Rattle.std.proofs.lemmas.Bool.Decides.{nat_tests}
-use Rattle.hc_records.proofs.lemmas.Choices.{by_bool, same-test}
+use Rattle.std.proofs.lemmas.Bool.{eq-eqb}
+use Rattle.hc_records.proofs.lemmas.Choices.{by_bool}
 use Rattle.hc_events.proofs.lemmas.Once.{is_below}
 use Rattle.hc_cuts.proofs.lemmas.Found.{find-reached, kept}
 use Rattle.hc_sendings.specs.Waiting.{AwaitedFrame, is_alive}
@@ -72,7 +73,7 @@ other-is a b e = grind (arith, nat_tests)
 
 pub sought-is : (at : Table) (serial : ℕ) (frame : KeptFrame) → frame.serial ≡ serial → is_alive (told_at at frame) ≡ true
     → option_map (told_at at) (option_and_then (kept (is_sought at serial)) (Some frame)) ≡ Some (told_at at frame)
-sought-is at serial frame is alive = let same = same-test frame.serial serial is in rw (same, alive) refl
+sought-is at serial frame is alive = let same = eq-eqb frame.serial serial is in rw (same, alive) refl
 
 pub sought-not : (at : Table) (serial : ℕ) (frame : KeptFrame) → is_alive (told_at at frame) ≡ false
     → option_map (told_at at) (option_and_then (kept (is_sought at serial)) (Some frame)) ≡ None

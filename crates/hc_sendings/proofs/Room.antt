@@ -9,10 +9,11 @@ use Rattle.std.proofs.lemmas.List.{length-map}
 use Rattle.std.proofs.lemmas.List.Elements.{All-head, All-tail, filter_passes}
 use Rattle.std.proofs.lemmas.List.Kept.{AllPairs-filter}
 use Rattle.std.proofs.lemmas.Map.Made.{IsDistinct-from_AllPairs, length-le_from_is_member}
+use Rattle.std.proofs.lemmas.Bool.{or_left, or_right}
 use Rattle.hc_records.proofs.lemmas.Lists.{AllPairs-map, AllPairs-weaker}
 use Rattle.hc_events.specs.Sendings.{Named}
 use Rattle.hc_records.specs.declared.limits.TheConstants.{MOST_DATAGRAMS, TASKS}
-use Rattle.hc_records.proofs.lemmas.Choices.{by_bool, less_differs, or_left, or_right}
+use Rattle.hc_records.proofs.lemmas.Choices.{by_bool, less_differs}
 use Rattle.hc_sendings.specs.Waiting.{Carried, is_alive}
 use Rattle.hc_sendings.specs.Kept.{AreKept, KeptFrame, Newest, datagram_number, is_serial, newest_of}
 use Rattle.hc_sendings.proofs.Alive.{alive_at, filter-map_is, stays_at, told_at}

@@ -3,7 +3,7 @@ use Rattle.std.proofs.Common.{◌≡◌, ℕ, zero, suc, ◌<◌, Bool, cond, ap
 use Rattle.std.specs.Prelude.{slice_get}
 use Rattle.std.specs.List.{range_with_len}
 use Rattle.std.proofs.lemmas.List.FromFn.{get_or-map-range_with_len, length-map-range_with_len}
-use Rattle.std.proofs.lemmas.Option.{slice_get-get_or}
+use Rattle.std.proofs.lemmas.Option.{slice_get-get_or, same_Some}
 use Rattle.hc_records.specs.declared.limits.TheConstants.{TASKS}
 use Rattle.hc_records.specs.Line.{Member}
 use Rattle.hc_records.specs.Image.{datagram_count, task_places}
@@ -40,16 +40,13 @@ row-at line (suc (suc (suc (suc (suc (suc (suc (suc task)))))))) d low stands = 
 pub row-is : (line : List Member) (named : Named) → named.0 < TASKS → StandsIn line named → datagram_in (table_of line) named.0 named.1 ≡ Some (datagram_of line named.0 named.1)
 row-is line named low stands = row-at line named.0 named.1 low stands
 
-same-row : (a b : Datagram) → Some a ≡ Some b → a ≡ b
-same-row a b e = cc
-
 -- it came back with its head, or it didn't
 
 pub row-back : (line : List Member) (named : Named) (part : Part) (row : Datagram) (back : Bool) → Some row ≡ Some (datagram_of line named.0 named.1)
     → back ≡ has_head (head_of named row) part
     → cond back (Some row) None ≡ cond (has_head (data_head line named) part) (Some (datagram_of line named.0 named.1)) None
 row-back line named part row back is e =
-    let same = same-row row (datagram_of line named.0 named.1) is in
+    let same = same_Some row (datagram_of line named.0 named.1) is in
     ap (λ (b : Bool). cond b (Some row) None) e
     ∙ ap (λ (one : Datagram). cond (has_head (head_of named one) part) (Some one) None) same
 

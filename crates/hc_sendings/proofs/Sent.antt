@@ -3,12 +3,11 @@ use Rattle.std.proofs.Common.{◌≡◌, ℕ, ◌-◌, ◌<◌, ◌==◌, nat_lt
 use Rattle.std.specs.Prelude.{All, AllPairs}
 use Rattle.std.specs.List.{list_any}
 use Rattle.std.proofs.lemmas.Bool.Decides.{nat_tests}
-use Rattle.std.proofs.lemmas.Bool.{ltb-false, ltb-true}
+use Rattle.std.proofs.lemmas.Bool.{ltb-false, ltb-true, or_parts}
 use Rattle.std.proofs.lemmas.List.{get_or_default, length-map, map-append}
 use Rattle.std.proofs.lemmas.List.Sums.{count_by-le-length, length-filter}
 use Rattle.std.proofs.lemmas.List.Elements.{All-append, All-cons, All-filter, All-head, All-map, All-nil, All-tail, All-weaker, filter-append}
 use Rattle.std.proofs.lemmas.List.Kept.{AllPairs-filter}
-use Rattle.hc_frames.proofs.lemmas.Spelling.{or_false}
 use Rattle.hc_records.proofs.lemmas.Lists.{All-unmap, AllPairs-append, AllPairs-head, AllPairs-map, AllPairs-tail}
 use Rattle.hc_records.proofs.lemmas.Choices.{by_bool, itself}
 use Rattle.hc_events.specs.Sendings.{Frame, Named}
@@ -76,7 +75,7 @@ none-again : (again : List Named) (datagrams : List Carried) → list_any (λ ca
     → list_any (λ carried. carried.newest) (map (sent_again again) datagrams) ≡ false
 none-again again [] e = refl
 none-again again (d ∷ ds) e =
-    let parts = or_false d.newest (list_any (λ (carried : Carried). carried.newest) ds) e in
+    let parts = or_parts d.newest (list_any (λ (carried : Carried). carried.newest) ds) e in
     rw parts.0 (none-again again ds parts.1)
 
 again-either : (again : List Named) (frame : AwaitedFrame) (before all : List AwaitedFrame) (b : Bool) → is_alive frame ≡ b

@@ -2,6 +2,7 @@
 use Rattle.std.proofs.Common.{◌≡◌, ℕ, Bool, true, false, cond, List, [], ◌∷◌, Option, sym, ap, ◌∙◌, rules}
 use Rattle.std.specs.Prelude.{IfSome, None, Some, map, not, ◌||◌}
 use Rattle.std.specs.Option.{option_map_or}
+use Rattle.std.proofs.lemmas.Bool.{or_left}
 use Rattle.hc_records.specs.declared.keys.Key.{Key}
 use Rattle.hc_records.specs.declared.keys.TheConstants.Key.{END}
 use Rattle.hc_records.specs.Keys.{is_before, same_key}
@@ -13,7 +14,6 @@ use Rattle.hc_records.specs.Image.{task_places}
 use Rattle.hc_records.specs.Project.{lowest_fault}
 use Rattle.hc_records.specs.Packing.{Placed}
 use Rattle.hc_records.specs.TaskList.{task_list}
-use Rattle.hc_records.proofs.lemmas.Choices.{or_left}
 use Rattle.hc_cuts.specs.Keeping.{is_kept_up_to}
 use Rattle.hc_cuts.specs.Starts.{Kept}
 use Rattle.hc_cuts.specs.Place.{place_of as place_in}

@@ -2,7 +2,7 @@
 use Rattle.std.proofs.Common.{◌≡◌, ℕ, zero, suc, ◌+◌, ◌<◌, ◌≤◌, Bool, true, false, List, [], ◌∷◌, Contains, length, refl, sym, ap, subst, ◌∙◌, ⊎_elim, arith, rules}
 use Rattle.std.specs.Prelude.{All, slice_index_or}
 use Rattle.std.proofs.Math.Nat.{eq-or-lt_of_le}
-use Rattle.std.proofs.lemmas.Bool.{cases_lt, or_parts}
+use Rattle.std.proofs.lemmas.Bool.{cases_lt, or_parts, false_from_ne_true}
 use Rattle.std.proofs.lemmas.List.Elements.{All-cons, All-contains, All-nil}
 use Rattle.hc_places.proofs.lemmas.Loads.{dir-out}
 use Rattle.hc_records.specs.declared.keys.Key.{Key}
@@ -20,7 +20,6 @@ use Rattle.hc_records.proofs.lemmas.KeyOrder.{before-apart, before-else, within-
 use Rattle.hc_records.proofs.lemmas.Lists.{All-unmap}
 use Rattle.hc_records.proofs.lemmas.Packed.{area_of, packed-areas}
 use Rattle.hc_records.proofs.lemmas.TaskLists.{project-list}
-use Rattle.hc_records.proofs.lemmas.Choices.{off}
 use Rattle.hc_cuts.specs.Inputs.{has_inputs}
 use Rattle.hc_cuts.specs.Keeping.{is_kept_up_to}
 use Rattle.hc_cuts.specs.Starts.{Kept}
@@ -164,10 +163,10 @@ unfolding rank_found
 rank-none it rank low high is changed recut out narrow =
     let areas = areas_at (areas_by_rank it.new) rank in
     let station = station_at it.old rank in
-    none-found it station rank 0 areas (off (changes it rank) (λ among. let own = changed rank among in out own.0 own.1))
+    none-found it station rank 0 areas (false_from_ne_true (changes it rank) (λ among. let own = changed rank among in out own.0 own.1))
     (λ i area (k, within, at).
     let task : area.task < TASKS = task-below it.new rank k areas area is.is_project refl within (sym at) in
-    off (is_recut (line_from 1 it.old) (line_from 1 it.new) (area_by station rank i area))
+    false_from_ne_true (is_recut (line_from 1 it.old) (line_from 1 it.new) (area_by station rank i area))
     (λ among. let own = recut area.task task (area_by station rank i area) refl narrow among in out own.0 own.1))
 
 pub all-within : (it : EditedLine) (low high : ℕ) → IsEditedLine it → HoldChanged it low high → ((task : ℕ) → task < TASKS → HoldRecut it task low high) → LieWithin it low high

@@ -1,6 +1,7 @@
 -- What is shown, by its parts; and what the record tells of it.
 use Rattle.std.proofs.Common.{◌≡◌, ℕ, List, refl, sym, ap, ap₂, ◌∙◌, Option, Some, None, Ok, Err}
-use Rattle.std.specs.Prelude.{IfErr, IfOk, Result, option_and_then}
+use Rattle.std.specs.Prelude.{IfErr, Result, option_and_then}
+use Rattle.std.proofs.lemmas.Result.{IfOk-weaker}
 use Rattle.hc_records.specs.declared.records.Group.{Group}
 use Rattle.hc_records.specs.Image.{VariablePlace}
 use Rattle.hc_records.specs.Variables.{variable_of}
@@ -18,10 +19,6 @@ use Rattle.hc_conductor.specs.Viewing.{IsViewBehind, IsViewOf, numbered_place}
 
 pub told-same : (a b : Told) → a.groups ≡ b.groups → a.changes ≡ b.changes → a ≡ b
 told-same a b groups changes = ap₂ (λ (gs : List Group) (cs : List Change). record { groups = gs; changes = cs }) groups changes
-
-pub ok-weaker : {A E : Type 0} (r : Result A E) (P Q : A → Type 0) → ((x : A) → P x → Q x) → IfOk r P → IfOk r Q
-ok-weaker (Ok x) P Q weaker is = weaker x is
-ok-weaker (Err e) P Q weaker is = tt
 
 pub err-weaker : {A E : Type 0} (r : Result A E) (P Q : E → Type 0) → ((e : E) → P e → Q e) → IfErr r P → IfErr r Q
 err-weaker (Ok x) P Q weaker is = tt

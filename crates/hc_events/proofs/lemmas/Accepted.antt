@@ -4,6 +4,7 @@ use Rattle.std.specs.Prelude.{All, Contains, option_map, Result, Ok, Err}
 use Rattle.std.specs.List.{flat_map, list_any, range_with_len}
 use Rattle.std.proofs.lemmas.Bool.Decides.{nat_tests}
 use Rattle.std.proofs.lemmas.List.Elements.{All-nil, All-cons, All-head, All-tail, All-append, All-contains_itself}
+use Rattle.std.proofs.lemmas.Bool.{not-false}
 use Rattle.hc_records.specs.declared.limits.TheConstants.{TASKS}
 use Rattle.hc_records.specs.declared.faults.EditFault.{EditFault}
 use Rattle.hc_records.specs.declared.records.Group.{Group}
@@ -11,7 +12,6 @@ use Rattle.hc_records.specs.Lists.{lowest}
 use Rattle.hc_records.specs.Line.{Member}
 use Rattle.hc_records.specs.Image.{datagram_count, output_length, task_places}
 use Rattle.hc_records.specs.Edits.{edit_faults}
-use Rattle.hc_records.proofs.lemmas.Choices.{not_false}
 use Rattle.hc_registers.specs.Blocks.{LineBlock}
 use Rattle.hc_frames.specs.declared.reading.faults.FrameFault.{FrameFault}
 use Rattle.hc_frames.proofs.lemmas.Spelling.{more_of, same_number}
@@ -92,7 +92,7 @@ accepted_post past task epoch bytes e =
     let first = passed (is_no_task task) NoSuchTask ((not (epoch == epoch_of past), StalePost) ∷ lengths) e in
     let second = passed (not (epoch == epoch_of past)) StalePost lengths first.1 in
     let third = passed (not (length bytes == output_length (task_places task (line_of past)))) PostLength [] second.1 in
-    record { stands = more_of task TASKS (not_false _ first.0); fits = same_number _ _ (not_false _ third.0) }
+    record { stands = more_of task TASKS (not-false _ first.0); fits = same_number _ _ (not-false _ third.0) }
 
 nothing_owed : (past : Record) (tasks : List ℕ) → lowest (task_faults past tasks) ≡ None → owed_blocks past ≡ []
 nothing_owed past tasks e =

@@ -5,6 +5,7 @@ use Rattle.std.specs.Option.{option_map_or}
 use Rattle.std.specs.List.{list_any, zip}
 use Rattle.std.proofs.lemmas.Bool.{and_parts, eq-eqb, eqb-true, not-true, or_parts}
 use Rattle.std.proofs.lemmas.List.Elements.{All-nil, All-cons, All-head, All-tail, All-contains_itself}
+use Rattle.std.proofs.lemmas.Option.{same_Some}
 use Rattle.hc_records.specs.Line.{Member}
 use Rattle.hc_registers.specs.Blocks.{LineBlock, line_blocks}
 use Rattle.hc_records.proofs.lemmas.Lists.{All-passing}
@@ -23,7 +24,6 @@ use Rattle.hc_events.specs.AnswerLaws.{AnswersTheAwaited, IsAnsweredAs, IsAwaite
 use Rattle.hc_events.proofs.lemmas.Awaited.{judged-filter, news-is, same_is}
 use Rattle.hc_events.proofs.lemmas.Once.{only-if_some}
 use Rattle.hc_events.proofs.lemmas.Standing.{standing-found, stands-at}
-use Rattle.hc_events.proofs.lemmas.OneWrite.{same_sending}
 
 -- entries that leave a sending open are those that don't end it
 
@@ -183,7 +183,7 @@ alive_is serial (Some made) sending e =
     (λ t. by_bool (all_sent_again made.since made.heads)
     (λ u. let never : None ≡ Some sending = rw (t, u) at e in cc)
     (λ u. let now : Some (record { heads = made.heads; since = filter is_no_arrival made.since }) ≡ Some sending = rw (t, u) at e in
-    record { made = made; there = refl; goes_on = t; news = u; same = same_sending _ sending now }))
+    record { made = made; there = refl; goes_on = t; news = u; same = same_Some _ sending now }))
 
 answered_as : (past : Record) (arrival : Arrival) (made sending : Sending) → sending_of past arrival.serial ≡ Some made → is_ended arrival.serial made ≡ false → has_heads made.heads arrival.parts ≡ true
     → record { heads = made.heads; since = filter is_no_arrival made.since } ≡ sending → IsAnsweredAs past arrival sending

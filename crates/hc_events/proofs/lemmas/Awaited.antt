@@ -4,10 +4,10 @@ use Rattle.std.specs.Prelude.{map, option_map, option_and_then}
 use Rattle.std.specs.Option.{option_map_or}
 use Rattle.std.specs.List.{list_any, zip}
 use Rattle.std.proofs.lemmas.Bool.Decides.{nat_tests}
-use Rattle.hc_frames.proofs.lemmas.Datagrams.{and_true}
+use Rattle.std.proofs.lemmas.Bool.{and_from, and_parts, or_right}
 use Rattle.hc_frames.proofs.lemmas.Spelling.{same_number}
 use Rattle.hc_records.specs.declared.edit.Edit.{Edit}
-use Rattle.hc_records.proofs.lemmas.Choices.{both, by_bool, or_right}
+use Rattle.hc_records.proofs.lemmas.Choices.{by_bool}
 use Rattle.hc_events.specs.Arrivals.{Arrival, Part}
 use Rattle.hc_events.specs.Entries.{Entry, Record, Opened, Edited, Posted, Sent, Wrote, Came}
 use Rattle.hc_events.specs.Points.{line_of, next_serial}
@@ -64,7 +64,7 @@ pub again-more : (entry : Entry) (since : List Entry) (heads : List Head) → al
 again-more entry since [] e = refl
 again-more entry since (head ∷ heads) e =
     by_bool (list_any (sends head.item) since)
-    (λ t. both _ _ (or_right (sends head.item entry) _ t) (again-more entry since heads (rw t at e)))
+    (λ t. and_from _ _ (or_right (sends head.item entry) _ t) (again-more entry since heads (rw t at e)))
     (λ t. let never : false ≡ true = rw t at e in cc)
 
 -- news and judgements
@@ -80,7 +80,7 @@ news-is since [] [] e = refl
 news-is since [] (part ∷ parts) e = cc
 news-is since (head ∷ heads) [] e = cc
 news-is since (head ∷ heads) (part ∷ parts) e =
-    let rest = (and_true _ _ e).1 in
+    let rest = (and_parts _ _ e).1 in
     ap (λ b. b || list_any is_news (map (judge since) (zip heads parts))) (is_news_of (list_any (sends head.item) since) (part.counter == head.expected))
     ∙ ap (λ b. not (list_any (sends head.item) since) || b) (news-is since heads parts rest)
     ∙ not_both (list_any (sends head.item) since) (all_sent_again since heads)

@@ -5,6 +5,7 @@ use Rattle.std.specs.Result.{result_unwrap_or}
 use Rattle.std.proofs.lemmas.Bool.{and_parts, eqb-true}
 use Rattle.std.proofs.lemmas.Bool.Decides.{nat_tests}
 use Rattle.std.proofs.lemmas.List.Elements.{All-nil, All-cons, All-head, All-tail}
+use Rattle.std.proofs.lemmas.Option.{same_Some}
 use Rattle.hc_records.specs.declared.edit.Edit.{Edit}
 use Rattle.hc_records.specs.declared.faults.EditFault.{EditFault}
 use Rattle.hc_records.specs.declared.records.Group.{Group}
@@ -166,9 +167,6 @@ LastOr task d bytes slot news = IsLastAnswer task d bytes news ⊎ ((slot ≡ So
 last_later : (task d : ℕ) (bytes : List ℕ) (one : News) (news : List News) → IsLastAnswer task d bytes news → IsLastAnswer task d bytes (one ∷ news)
 last_later task d bytes one news last = record { before = one ∷ last.before; behind = last.behind; split = ap (λ more. one ∷ more) last.split; leaves = last.leaves }
 
-same_bytes : (a b : List ℕ) → Some a ≡ Some b → a ≡ b
-same_bytes a b e = cc
-
 abbrev made : ℕ → ℕ → List ℕ → Fresh
 made task d bytes = record { task = task; datagram = d; bytes = bytes }
 
@@ -185,7 +183,7 @@ last_here : (task d : ℕ) (bytes : List ℕ) (slot : Option (List ℕ)) (good :
     → cond own (Some good.bytes) slot ≡ Some bytes → LastOr task d bytes slot (Answered good ∷ news)
 last_here task d bytes slot good news leaves true own e =
     let one : record { task = task; datagram = d; bytes = bytes } ≡ good =
-    ap (λ read. record { task = task; datagram = d; bytes = read }) (sym (same_bytes good.bytes bytes e)) ∙ is_of task d good own in
+    ap (λ read. record { task = task; datagram = d; bytes = read }) (sym (same_Some good.bytes bytes e)) ∙ is_of task d good own in
     inl (record { before = []; behind = news; split = ap (λ g. Answered g ∷ news) (sym one); leaves = leaves })
 last_here task d bytes slot good news leaves false own e = inr (e, All-cons (LeavesData task d) (Answered good) news own leaves)
 
@@ -271,7 +269,7 @@ renewed_slot : (state : State) (task d : ℕ) (slot : Option (List ℕ)) (good :
     → FitsSlot state task d (cond own (Some good.bytes) slot)
 renewed_slot state task d slot good true own is before = λ bytes e.
     let one = is_of task d good own in
-    subst (IsAnswerIn state task d) (same_bytes good.bytes bytes e) (subst (λ g. IsAnswerIn state g.task g.datagram g.bytes) (sym one) is)
+    subst (IsAnswerIn state task d) (same_Some good.bytes bytes e) (subst (λ g. IsAnswerIn state g.task g.datagram g.bytes) (sym one) is)
 renewed_slot state task d slot good false own is before = before
 
 slots_fit : (state : State) (changes : List Change) (task d : ℕ) (slot : Option (List ℕ)) → AreLegalFrom state changes → FitsSlot state task d slot → FitsSlot (state_behind state changes) task d (slot_behind task d slot changes)

@@ -3,7 +3,8 @@ use Rattle.std.proofs.Common.{◌≡◌, ℕ, ◌+◌, ◌<◌, ◌==◌, Bool, 
 use Rattle.std.specs.Prelude.{is_some, nat_lt, option_map, option_and_then}
 use Rattle.std.specs.List.{list_any}
 use Rattle.std.proofs.lemmas.Bool.Decides.{nat_tests}
-use Rattle.hc_records.proofs.lemmas.Choices.{and_right, by_bool, is_other, or_right}
+use Rattle.std.proofs.lemmas.Bool.{and_right, not_from_true, or_right}
+use Rattle.hc_records.proofs.lemmas.Choices.{by_bool, is_other}
 use Rattle.hc_events.specs.Arrivals.{Arrival}
 use Rattle.hc_events.specs.Entries.{Entry, Record, Opened, Edited, Posted, Sent, Wrote, Came}
 use Rattle.hc_events.specs.Points.{line_of, next_serial}
@@ -108,14 +109,10 @@ ended_grows serial past (Wrote block) accepted over = record {
   over = ended_older serial (next_serial past) _ (option_map (followed_by (Wrote block)) (sending_of past serial)) over.made (ended_still serial (Wrote block) (sending_of past serial) over.over);
 }
 
-not_true : (b : Bool) → b ≡ true → not b ≡ false
-not_true true e = refl
-not_true false e = cc
-
 nothing_answers : (arrival : Arrival) (found : Option Sending) → ended arrival.serial found → option_and_then (only_if (is_answer arrival)) found ≡ None
 nothing_answers arrival None over = refl
 nothing_answers arrival (Some sending) over =
-    ap (λ b. cond b (Some sending) None) (and_right (fits arrival.serial sending.heads arrival) _ (not_true _ over))
+    ap (λ b. cond b (Some sending) None) (and_right (fits arrival.serial sending.heads arrival) _ (not_from_true _ over))
 
 pub and_left : (a b : Bool) → (a && b) ≡ true → a ≡ true
 and_left true b e = refl

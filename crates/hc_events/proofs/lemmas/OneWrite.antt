@@ -5,10 +5,12 @@ use Rattle.std.specs.Option.{option_map_or}
 use Rattle.std.specs.List.{list_any}
 use Rattle.std.specs.Str.{bytes_eq}
 use Rattle.std.proofs.lemmas.Bool.Decides.{nat_tests}
+use Rattle.std.proofs.lemmas.Bool.{not-false, or_left, or_right}
+use Rattle.std.proofs.lemmas.Option.{none-some, same_Some}
 use Rattle.hc_frames.proofs.lemmas.Spelling.{same_number}
 use Rattle.hc_records.specs.declared.records.Group.{Group}
 use Rattle.hc_records.specs.Line.{Member}
-use Rattle.hc_records.proofs.lemmas.Choices.{by_bool, not_false, or_left, or_right}
+use Rattle.hc_records.proofs.lemmas.Choices.{by_bool}
 use Rattle.hc_registers.specs.Blocks.{LineBlock, line_blocks}
 use Rattle.hc_events.specs.Arrivals.{Arrival}
 use Rattle.hc_events.specs.Entries.{Entry, Record, Opened, Edited, Posted, Sent, Wrote, Came}
@@ -30,9 +32,6 @@ record Was (past : Record) (serial : ℕ) (now : Sending) : Type 0 where
   there : awaited past serial ≡ Some before
   heads : now.heads ≡ before.heads
 
-pub same_sending : (a b : Sending) → Some a ≡ Some b → a ≡ b
-same_sending a b e = cc
-
 -- an arrival
 
 record StillAwaited (past : Record) (serial : ℕ) (arrival : Arrival) (now : Sending) : Type 0 where
@@ -46,7 +45,7 @@ still_fits past serial arrival now (Some before) there e =
     (λ t. let never : option_and_then (unless_fits serial arrival) (Some before) ≡ None = rw t refl in
     let absurdly : is_some (Some now) ≡ false = ap is_some (sym e ∙ never) in cc)
     (λ t. let stays : option_and_then (unless_fits serial arrival) (Some before) ≡ Some before = rw t refl in
-    let same = same_sending before now (sym stays ∙ e) in
+    let same = same_Some before now (sym stays ∙ e) in
     record { was = record { before = before; there = there; heads = ap (λ s. s.heads) (sym same) }; other = ap (λ s. fits serial s.heads arrival) (sym same) ∙ t })
 
 still_came : (past : Record) (serial : ℕ) (arrival : Arrival) (now : Sending) → awaited (Came arrival ∷ past) serial ≡ Some now → StillAwaited past serial arrival now
@@ -67,7 +66,7 @@ still_again past serial entry now (Some before) there e =
     (λ t. let never : option_and_then (unless_again entry) (Some before) ≡ None = rw t refl in
     let absurdly : is_some (Some now) ≡ false = ap is_some (sym e ∙ never) in cc)
     (λ t. let stays : option_and_then (unless_again entry) (Some before) ≡ Some (followed_by entry before) = rw t refl in
-    let same = same_sending (followed_by entry before) now (sym stays ∙ e) in
+    let same = same_Some (followed_by entry before) now (sym stays ∙ e) in
     record {
       was = record { before = before; there = there; heads = ap (λ s. s.heads) (sym same) };
       since = before.since;
@@ -92,7 +91,7 @@ known_stays past arrival bytes (Some write) e =
 
 not_owed_stays : (past : Record) (arrival : Arrival) (block : LineBlock) → is_owed past block ≡ false → is_owed (Came arrival ∷ past) block ≡ false
 not_owed_stays past arrival block e =
-    ap not (known_stays past arrival block.block.bytes (last_write past block.station block.number) (not_false _ e))
+    ap not (known_stays past arrival block.block.bytes (last_write past block.station block.number) (not-false _ e))
 
 filter_none : (p q : LineBlock → Bool) → ((x : LineBlock) → p x ≡ false → q x ≡ false) → (xs : List LineBlock) → filter p xs ≡ [] → filter q xs ≡ []
 filter_none p q k [] e = refl
@@ -247,16 +246,13 @@ pub record WritesAlone (past : Record) : Type 0 where
 write_was : (now before : Sending) → now.heads ≡ before.heads → is_write before ≡ is_write now
 write_was now before same = ap (list_any (λ head. is_block head.item)) (sym same)
 
-none_some : (now : Sending) → None ≡ Some now → ⊥
-none_some now e = let never : false ≡ true = ap is_some e in cc
-
 pub some_of_none : (block : LineBlock) (blocks : List LineBlock) → [] ≡ block ∷ blocks → ⊥
 some_of_none block blocks e = cc
 
 -- what an arrival leaves awaited
 
 same_one : (past : Record) (serial : ℕ) (arrival : Arrival) (a b : Sending) → awaited past serial ≡ Some a → awaited past serial ≡ Some b → has_heads b.heads arrival.parts ≡ true → has_heads a.heads arrival.parts ≡ true
-same_one past serial arrival a b first second fit = ap (λ s. has_heads s.heads arrival.parts) (same_sending a b (sym first ∙ second)) ∙ fit
+same_one past serial arrival a b first second fit = ap (λ s. has_heads s.heads arrival.parts) (same_Some a b (sym first ∙ second)) ∙ fit
 
 no_good : (past : Record) (serial : ℕ) (before : Sending) (arrival : Arrival) → awaited past serial ≡ Some before → ((other : ℕ) (sending : Sending) → awaited past other ≡ Some sending → other ≡ serial) → fits serial before.heads arrival ≡ false → list_any has_good (judged_by past arrival) ≡ false
 no_good past serial before arrival there alone other =
@@ -308,8 +304,8 @@ posted_write past task bytes serial now all still w =
 -- a sending with a new serial, or an older one
 
 alive_heads : (serial : ℕ) (sending now : Sending) (over : Bool) → cond over None (Some (record { heads = sending.heads; since = filter is_no_arrival sending.since })) ≡ Some now → now.heads ≡ sending.heads
-alive_heads serial sending now true e = absurd (none_some now e)
-alive_heads serial sending now false e = ap (λ s. s.heads) (sym (same_sending _ now e))
+alive_heads serial sending now true e = absurd (none-some now e)
+alive_heads serial sending now false e = ap (λ s. s.heads) (sym (same_Some _ now e))
 
 pub awaited-heads : (serial : ℕ) (sending now : Sending) → alive serial sending ≡ Some now → now.heads ≡ sending.heads
 awaited-heads serial sending now e = alive_heads serial sending now (is_ended serial sending || all_sent_again sending.since sending.heads) e
@@ -398,8 +394,8 @@ wrote_frames past block rest serial now all owed e w =
 alone-grows : Keeps WritesAlone
 alone-grows past (Opened groups) accepted all = absurd accepted
 alone-grows past (Edited edit) accepted all = record {
-  writes = λ serial now e w. absurd (none_some now (sym (alive_edited serial edit (sending_of past serial)) ∙ e));
-  frames = λ serial now e w. absurd (none_some now (sym (alive_edited serial edit (sending_of past serial)) ∙ e));
+  writes = λ serial now e w. absurd (none-some now (sym (alive_edited serial edit (sending_of past serial)) ∙ e));
+  frames = λ serial now e w. absurd (none-some now (sym (alive_edited serial edit (sending_of past serial)) ∙ e));
 }
 alone-grows past (Posted task bytes) accepted all = record {
   writes = λ serial now e w. posted_write past task bytes serial now all (still_other past serial (Posted task bytes) now (λ heads. refl) refl e) w;
@@ -422,8 +418,8 @@ alone-grows past (Came arrival) accepted all = record {
 
 just-opened_alone : (groups : List Group) → WritesAlone (just_opened groups)
 just-opened_alone groups = record {
-  writes = λ serial now e w. absurd (none_some now e);
-  frames = λ serial now e w. absurd (none_some now e);
+  writes = λ serial now e w. absurd (none-some now e);
+  frames = λ serial now e w. absurd (none-some now e);
 }
 
 -- so it is of each record of accepted entries

@@ -4,6 +4,7 @@ use Rattle.std.specs.Prelude.{find, option_map, Result, Ok, Err}
 use Rattle.std.specs.Option.{option_map_or}
 use Rattle.std.specs.List.{list_any, range_with_len}
 use Rattle.std.specs.Str.{bytes_eq}
+use Rattle.std.proofs.lemmas.Bool.{or_parts}
 use Rattle.hc_bits.specs.Bits.{number_of}
 use Rattle.hc_records.specs.Line.{line}
 use Rattle.hc_records.specs.Lists.{lowest}
@@ -13,7 +14,6 @@ use Rattle.hc_records.proofs.lemmas.Choices.{by_bool}
 use Rattle.hc_registers.specs.Blocks.{LineBlock, line_blocks}
 use Rattle.hc_frames.specs.FrameText.{frame_text, lrw}
 use Rattle.hc_frames.specs.declared.reading.faults.FrameFault.{FrameFault}
-use Rattle.hc_frames.proofs.lemmas.Spelling.{or_false}
 use Rattle.hc_events.specs.declared.answer.Answer.TheVariants as answer
 use Rattle.hc_events.specs.declared.faults.CoreFault.{CoreFault}
 use Rattle.hc_events.specs.declared.faults.CoreFault.TheVariants.{NoSuchTask, NothingOwed, PostLength, SerialsSpent, StalePost, Unprogrammed}
@@ -151,7 +151,7 @@ block_told Stale e = refl
 stale_told : (datagrams : List Judged) → list_any is_news datagrams ≡ false → told_of datagrams ≡ answer.Stale
 stale_told [] e = refl
 stale_told (datagram ∷ datagrams) e =
-    let first = (or_false (is_news datagram) (list_any is_news datagrams) e).0 in
+    let first = (or_parts (is_news datagram) (list_any is_news datagrams) e).0 in
     by_bool (is_block datagram.head.item)
     (λ t. rw t (block_told datagram.verdict first))
     (λ t. rw (t, e) refl)

@@ -6,6 +6,7 @@ use Rattle.std.specs.List.{flat_map}
 use Rattle.std.proofs.lemmas.Bool.{and_from, and_parts, eq-eqb, eqb-true}
 use Rattle.std.proofs.lemmas.Bool.Decides.{nat_tests}
 use Rattle.std.proofs.lemmas.List.Elements.{All-nil, All-cons, All-map, All-weaker}
+use Rattle.std.proofs.lemmas.Option.{same_Some}
 use Rattle.hc_frames.proofs.lemmas.Spelling.{more_of}
 use Rattle.hc_records.specs.declared.limits.TheConstants.{TASKS}
 use Rattle.hc_records.specs.declared.records.Dir.TheVariants.{Out}
@@ -113,9 +114,6 @@ two_apart : (a b : VariablePlace) (k : ℕ) → LiesIn a k → LiesIn b k → (a
 two_apart a b k in_a in_b (inl less) = let below = in_a.below in let from = in_b.from in omega arith
 two_apart a b k in_a in_b (inr less) = let below = in_b.below in let from = in_a.from in omega arith
 
-same_some : (a b : VariablePlace) → Some a ≡ Some b → a ≡ b
-same_some a b e = cc
-
 other_number : (m n : ℕ) → (m == n) ≡ false → m ≡ n → ⊥
 other_number m n e same = let yes : (m == n) ≡ true = grind (arith, nat_tests) in let never : true ≡ false = sym yes ∙ e in cc
 
@@ -124,7 +122,7 @@ same_row : (line : List Member) (task d k : ℕ) (a b : Row) → IsRow line task
 same_row line task d k a b is is' has has' =
     by_bool (a.0 == b.0)
     (λ t. let names : a.0 ≡ b.0 = eqb-true a.0 b.0 t in
-    let places : a.1 ≡ b.1 = same_some a.1 b.1 (sym is.there ∙ ap (λ v. variable_place v line) names ∙ is'.there) in
+    let places : a.1 ≡ b.1 = same_Some a.1 b.1 (sym is.there ∙ ap (λ v. variable_place v line) names ∙ is'.there) in
     ap₂ (λ (n : ℕ) (place : VariablePlace). (n, place)) names places)
     (λ t. absurd (two_apart a.1 b.1 k (from_bit k a has) (from_bit k b has')
     (variables-apart line a.0 b.0 a.1 b.1 (other_number a.0 b.0 t) is.there is'.there (is.task_is ∙ sym is'.task_is) (datagram_of d a is.output ∙ sym (datagram_of d b is'.output)))))

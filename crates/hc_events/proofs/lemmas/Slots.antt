@@ -4,12 +4,12 @@ use Rattle.std.specs.Prelude.{All, fold, option_map, option_and_then}
 use Rattle.std.specs.Option.{option_map_or}
 use Rattle.std.specs.List.{flat_map, list_any, zip}
 use Rattle.std.proofs.lemmas.List.Elements.{All-nil, All-cons, All-head, All-tail}
+use Rattle.std.proofs.lemmas.Bool.{and_parts, not-true, or_parts}
 use Rattle.hc_records.specs.Line.{Member}
 use Rattle.hc_records.proofs.lemmas.Lists.{All-flat_map}
-use Rattle.hc_records.proofs.lemmas.Choices.{by_bool, none_of}
+use Rattle.hc_records.proofs.lemmas.Choices.{by_bool}
 use Rattle.hc_frames.specs.Commands.{code_of}
-use Rattle.hc_frames.proofs.lemmas.Datagrams.{and_true}
-use Rattle.hc_frames.proofs.lemmas.Spelling.{or_false, same_number}
+use Rattle.hc_frames.proofs.lemmas.Spelling.{same_number}
 use Rattle.hc_events.specs.Arrivals.{Arrival, Part}
 use Rattle.hc_events.specs.Entries.{Entry, Record, Opened, Edited, Posted, Sent, Wrote, Came}
 use Rattle.hc_events.specs.Points.{line_of, next_serial}
@@ -64,12 +64,12 @@ FitsLine P line serial (Some sending) = list_any (ends serial sending.heads) sen
 
 fits_more : (P : List Member → Named → Type 0) (line : List Member) (serial : ℕ) (entry : Entry) (found : Option Sending) → FitsLine P line serial found → FitsLine P line serial (option_map (followed_by entry) found)
 fits_more P line serial entry None fit = fit
-fits_more P line serial entry (Some sending) fit = λ none. fit (or_false (ends serial sending.heads entry) _ none).1
+fits_more P line serial entry (Some sending) fit = λ none. fit (or_parts (ends serial sending.heads entry) _ none).1
 
 fits_edited : (P : List Member → Named → Type 0) (line : List Member) (serial : ℕ) (entry : Entry) → ((heads : List Head) → ends serial heads entry ≡ true) → (found : Option Sending) → FitsLine P line serial (option_map (followed_by entry) found)
 fits_edited P line serial entry over None = tt
 fits_edited P line serial entry over (Some sending) =
-    λ none. let never : true ≡ false = sym (over sending.heads) ∙ (or_false (ends serial sending.heads entry) _ none).0 in cc
+    λ none. let never : true ≡ false = sym (over sending.heads) ∙ (or_parts (ends serial sending.heads entry) _ none).0 in cc
 
 fits_either : (P : List Member → Named → Type 0) (line : List Member) (serial : ℕ) (c : Bool) (first rest : Option Sending) → FitsLine P line serial first → FitsLine P line serial rest → FitsLine P line serial (cond c first rest)
 fits_either P line serial true first rest a b = a
@@ -103,13 +103,13 @@ fresh_fits P line true (Datagram task d) size bytes fit same =
 same_size : (head : Head) (part : Part) → has_head head part ≡ true → head.length ≡ length part.bytes
 same_size head part e =
     same_number head.length (length part.bytes)
-    (and_true ((code_of head.command == code_of part.command) && (head.address == part.address)) (head.length == length part.bytes) e).1
+    (and_parts ((code_of head.command == code_of part.command) && (head.address == part.address)) (head.length == length part.bytes) e).1
 
 judged_fit : (P : List Member → Named → Type 0) (line : List Member) (since : List Entry) (heads : List Head) (parts : List Part) → All (FitsHead P line) heads → has_heads heads parts ≡ true → All (λ datagram. All (FitsFresh P line) (fresh datagram)) (map (judge since) (zip heads parts))
 judged_fit P line since [] parts fit e = All-nil (λ datagram. All (FitsFresh P line) (fresh datagram))
 judged_fit P line since (head ∷ heads) [] fit e = cc
 judged_fit P line since (head ∷ heads) (part ∷ parts) fit e =
-    let same = and_true (has_head head part) _ e in
+    let same = and_parts (has_head head part) _ e in
     All-cons (λ datagram. All (FitsFresh P line) (fresh datagram)) (judge since (head, part)) (map (judge since) (zip heads parts))
     (fresh_fits P line (has_good (judge since (head, part))) head.item head.length part.bytes (All-head (FitsHead P line) head heads fit) (same_size head part same.0))
     (judged_fit P line since heads parts (All-tail (FitsHead P line) head heads fit) same.1)
@@ -118,9 +118,9 @@ answer_fits : (P : List Member → Named → Type 0) (line : List Member) (arriv
 answer_fits P line arrival None fit = All-nil (FitsFresh P line)
 answer_fits P line arrival (Some sending) fit =
     by_bool (is_answer arrival sending)
-    (λ t. let both = and_true (fits arrival.serial sending.heads arrival) _ t in
+    (λ t. let both = and_parts (fits arrival.serial sending.heads arrival) _ t in
     let all = All-flat_map (FitsFresh P line) fresh (judged arrival sending)
-    (judged_fit P line sending.since sending.heads arrival.parts (fit (none_of _ both.1)) (and_true (arrival.serial == arrival.serial) _ both.0).1) in
+    (judged_fit P line sending.since sending.heads arrival.parts (fit (not-true _ both.1)) (and_parts (arrival.serial == arrival.serial) _ both.0).1) in
     rw t all)
     (λ t. let none = All-nil (FitsFresh P line) in rw t none)
 
@@ -136,7 +136,7 @@ Sized size (Some bytes) = length bytes ≡ size
 renewed_fits : (line : List Member) (task d : ℕ) (good : Fresh) (slot : Option (List ℕ)) → FitsFresh Any line good → Sized (length_of line (task, d)) slot → Sized (length_of line (task, d)) (renewed task d slot good)
 renewed_fits line task d good slot fit sized =
     by_bool (is_for task d good)
-    (λ t. let both = and_true (good.task == task) _ t in
+    (λ t. let both = and_parts (good.task == task) _ t in
     let same : length good.bytes ≡ length_of line (task, d) =
     fit.0 ∙ ap (λ n. length_of line (n, good.datagram)) (same_number good.task task both.0) ∙ ap (λ n. length_of line (task, n)) (same_number good.datagram d both.1) in
     rw t same)

@@ -2,7 +2,8 @@
 use Rattle.std.proofs.Common.{◌≡◌, ℕ, ◌+◌, ◌<◌, ◌==◌, true, false, cond, not, List, [], ◌∷◌, refl, sym, ap, ◌∙◌, subst, Option, Some, None}
 use Rattle.std.specs.Prelude.{option_map, option_and_then}
 use Rattle.std.specs.List.{list_any}
-use Rattle.hc_records.proofs.lemmas.Choices.{by_bool, is_other, none_of, not_false}
+use Rattle.std.proofs.lemmas.Bool.{not-false, not-true}
+use Rattle.hc_records.proofs.lemmas.Choices.{by_bool, is_other}
 use Rattle.hc_events.specs.Arrivals.{Arrival}
 use Rattle.hc_events.specs.Entries.{Entry, Record, Opened, Edited, Posted, Sent, Wrote, Came}
 use Rattle.hc_events.specs.Points.{line_of, next_serial}
@@ -26,7 +27,7 @@ quiet_other : (entry : Entry) (arrival : Arrival) (found : Option Sending) → q
 quiet_other entry arrival None q = q
 quiet_other entry arrival (Some s) q =
     by_bool (has_heads s.heads arrival.parts)
-    (λ h. let all : all_sent_again s.since s.heads ≡ true = not_false _ (sym (news-is s.since s.heads arrival.parts h) ∙ rw h at q) in
+    (λ h. let all : all_sent_again s.since s.heads ≡ true = not-false _ (sym (news-is s.since s.heads arrival.parts h) ∙ rw h at q) in
     rw (again-more entry s.since s.heads all) refl)
     (λ h. by_bool (all_sent_again (entry ∷ s.since) s.heads) (λ t. rw t refl) (λ t. rw t (rw h refl)))
 
@@ -62,6 +63,6 @@ over_grows arrival past (Came other) accepted over = record { made = over.made; 
 
 pub stale-stays : (past : Record) (steps : List Step) (arrival : Arrival) → arrival.serial < next_serial past → is_stale_to past arrival ≡ true → is_stale_to (entries_after_all past steps) arrival ≡ true
 stale-stays past steps arrival below stale =
-    let now : quiet arrival (awaited past arrival.serial) = sym (awaited-any past arrival) ∙ none_of (list_any is_news (judged_by past arrival)) stale in
+    let now : quiet arrival (awaited past arrival.serial) = sym (awaited-any past arrival) ∙ not-true (list_any is_news (judged_by past arrival)) stale in
     let over = kept-after_all (IsOver arrival) (over_grows arrival) past steps (record { made = below; quiet_now = now }) in
     ap not (awaited-any (entries_after_all past steps) arrival ∙ over.quiet_now)

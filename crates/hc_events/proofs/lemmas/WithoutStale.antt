@@ -3,14 +3,14 @@ use Rattle.std.proofs.Common.{◌≡◌, ℕ, ◌+◌, ◌==◌, Bool, true, fal
 use Rattle.std.specs.Prelude.{fold, is_some, option_and_then}
 use Rattle.std.specs.List.{flat_map, list_any}
 use Rattle.std.proofs.lemmas.List.{append-nil}
-use Rattle.hc_frames.proofs.lemmas.Spelling.{or_false}
+use Rattle.std.proofs.lemmas.Bool.{and_right, not-true, or_parts}
 use Rattle.hc_records.specs.Image.{variable_place}
 use Rattle.hc_records.specs.Edits.{state_after, slave_at}
 use Rattle.hc_events.specs.Arrivals.{Arrival}
 use Rattle.hc_events.specs.Entries.{Record, Opened, Edited, Posted, Sent, Wrote, Came}
 use Rattle.hc_events.specs.Points.{epoch_of, line_of, next_serial, state_of}
 use Rattle.hc_records.specs.Line.{line}
-use Rattle.hc_records.proofs.lemmas.Choices.{and_right, by_bool, none_of}
+use Rattle.hc_records.proofs.lemmas.Choices.{by_bool}
 use Rattle.hc_events.specs.Heads.{Block, block_item, same_item}
 use Rattle.hc_events.specs.Answering.{Judged, Verdict, Good, Wrong, Stale, is_good, is_stale, is_news, has_good, judged_by, is_stale_to}
 use Rattle.hc_events.specs.Awaited.{awaited}
@@ -92,7 +92,7 @@ no_news past arrival = list_any is_news (judged_by past arrival) ≡ false
 
 -- what holds of a record without a stale arrival and of one with an arrival holds without the stale ones
 came_either : {X : Type 0} (k : Record → X) (past slim : Record) (arrival : Arrival) (b : Bool) → is_stale_to past arrival ≡ b → (no_news past arrival → k slim ≡ k (Came arrival ∷ past)) → k (Came arrival ∷ slim) ≡ k (Came arrival ∷ past) → k (cond b slim (Came arrival ∷ slim)) ≡ k (Came arrival ∷ past)
-came_either k past slim arrival true e stale other = stale (none_of (list_any is_news (judged_by past arrival)) e)
+came_either k past slim arrival true e stale other = stale (not-true (list_any is_news (judged_by past arrival)) e)
 came_either k past slim arrival false e stale other = other
 
 without-awaited : (past : Record) (serial : ℕ) → awaited (without_stale past) serial ≡ awaited past serial
@@ -133,13 +133,13 @@ not_fresh datagram e = rw e refl
 goods_none : (datagrams : List Judged) → list_any is_news datagrams ≡ false → flat_map fresh datagrams ≡ []
 goods_none [] e = refl
 goods_none (datagram ∷ datagrams) e =
-    let parts = or_false (is_news datagram) (list_any is_news datagrams) e in
+    let parts = or_parts (is_news datagram) (list_any is_news datagrams) e in
     ap (λ goods. goods ++ flat_map fresh datagrams) (not_fresh datagram (good_news datagram.verdict parts.0)) ∙ goods_none datagrams parts.1
 
 any_none : (datagrams : List Judged) → list_any is_news datagrams ≡ false → list_any has_good datagrams ≡ false
 any_none [] e = refl
 any_none (datagram ∷ datagrams) e =
-    let parts = or_false (is_news datagram) (list_any is_news datagrams) e in
+    let parts = or_parts (is_news datagram) (list_any is_news datagrams) e in
     let bad : has_good datagram ≡ false = good_news datagram.verdict parts.0 in
     rw bad (any_none datagrams parts.1)
 

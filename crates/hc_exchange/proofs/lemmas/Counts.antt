@@ -2,10 +2,9 @@
 use Rattle.std.proofs.Common.{◌≡◌, ℕ, zero, suc, ◌+◌, ◌-◌, ◌*◌, ◌<◌, ◌≤◌, ◌⊎◌, ◌∙◌, inl, inr, Bool, true, false, List, [], ◌∷◌, length, refl, sym, ap, ap₂, subst, arith}
 use Rattle.std.specs.Prelude.{All, AllPairs, Contains, IsTrue, Some, filter, map, nat_lt, slice_get, slice_index_or, sum_by, ◌==◌, ◌&&◌, ◌||◌, if◌then◌else◌}
 use Rattle.std.specs.List.{AllZip, enumerate_from, list_any}
-use Rattle.std.proofs.lemmas.Bool.{eqb-true}
+use Rattle.std.proofs.lemmas.Bool.{eqb-true, and_from, and_parts, eq-eqb}
 use Rattle.std.proofs.lemmas.List.Elements.{All-contains, All-contains_itself, All-filter, Contains-get_or, filter_passes}
 use Rattle.std.proofs.lemmas.List.Sums.{sum_by-cons}
-use Rattle.hc_frames.proofs.lemmas.Datagrams.{and_true}
 use Rattle.hc_records.specs.AddressLaws.{IsDatagram}
 use Rattle.hc_records.specs.declared.keys.Key.{Key}
 use Rattle.hc_records.specs.declared.limits.TheConstants.{TASKS}
@@ -27,7 +26,7 @@ use Rattle.hc_records.proofs.lemmas.Packable.{project-packable}
 use Rattle.hc_records.proofs.lemmas.Packed.{area_of, packed-areas}
 use Rattle.hc_records.proofs.lemmas.Parts.{EndsInDatagram, ends-in-datagram}
 use Rattle.hc_records.proofs.lemmas.Tasks.{task-list-all}
-use Rattle.hc_records.proofs.lemmas.Choices.{both, contains-first, contains-later, same-test}
+use Rattle.hc_records.proofs.lemmas.Choices.{contains-first, contains-later}
 use Rattle.hc_records.proofs.lemmas.VariablePlaces.{same_dir-same}
 use Rattle.hc_registers.specs.declared.fmmu.Mapping.{Mapping}
 use Rattle.hc_registers.specs.Blocks.{mapping_at}
@@ -96,13 +95,13 @@ in-datagram state task datagram member dir bit m can is has low carries =
     let told =
     logical-told task datagram 0 11888 bit pairs.area.task p.datagram p.bit p.bits pairs.pair.k early place.good.early short place.good.inside few few' (first-bit (8 * logical_address task datagram) bit _ logical) in
     let there : Contains (task_places task members) p = subst (λ (t : ℕ). Contains (task_places t members) p) (sym told.0) place.in_task in
-    let kept = contains-kept (λ (area : Placed). area.datagram == datagram) (task_places task members) p there (same-test p.datagram datagram (sym told.1)) in
+    let kept = contains-kept (λ (area : Placed). area.datagram == datagram) (task_places task members) p there (eq-eqb p.datagram datagram (sym told.1)) in
     let keyed = contains-mapped (λ (area : Placed). area.key) (inside datagram (task_places task members)) p kept in
     let one : pairs.member ≡ member = one-station members pairs.member member keeps own.in_line has pairs.station_is in
     let rank : p.key.rank ≡ member.rank = ap (λ (key : Key). key.rank) place.key ∙ ap (λ (slave : Member). slave.rank) one in
     let way : same_dir p.key.dir dir ≡ true = ap₂ same_dir (ap (λ (key : Key). key.dir) place.key ∙ carries.direction) refl ∙ same_dir-refl dir in
     some-passes (is_of member.rank dir) (map (λ (area : Placed). area.key) (inside datagram (task_places task members))) p.key keyed
-    (both (p.key.rank == member.rank) (same_dir p.key.dir dir) (same-test p.key.rank member.rank rank) way)
+    (and_from (p.key.rank == member.rank) (same_dir p.key.dir dir) (eq-eqb p.key.rank member.rank rank) way)
   where
     first-bit : (a bit b : ℕ) → a + bit ≡ b → a + 0 + bit ≡ b
     first-bit a bit b same = omega arith
@@ -127,8 +126,8 @@ named-areas line task =
     let numbered = numbered-at 0 member.slave.areas i e within in
     let none : element.0 ≡ element.0 - 0 = omega arith in
     let area = element.1 in
-    let first = and_true ((area.task == task) && same_dir area.dir dir) (nat_lt 0 (width area)) belonging in
-    let tests = and_true (area.task == task) (same_dir area.dir dir) first.0 in
+    let first = and_parts ((area.task == task) && same_dir area.dir dir) (nat_lt 0 (width area)) belonging in
+    let tests = and_parts (area.task == task) (same_dir area.dir dir) first.0 in
     record {
       member = member;
       index = element.0;
@@ -185,7 +184,7 @@ has-bit state task datagram member dir can has some =
     let placed = contains-unmapped (λ (area : Placed). area.key) (inside datagram places) key.0 key.1 in
     let p = placed.0 in
     let kept = unkept-at (λ (area : Placed). area.datagram == datagram) places p placed.1 in
-    let tests = and_true (key.0.rank == member.rank) (same_dir key.0.dir dir) key.2 in
+    let tests = and_parts (key.0.rank == member.rank) (same_dir key.0.dir dir) key.2 in
     let named = All-unmap (HasArea members task) area_of places (subst (All (HasArea members task)) (sym (packed-areas opening (task_list task members))) (named-areas members task)) in
     let source : HasArea members task (area_of p) = All-contains (λ (x : Placed). HasArea members task (area_of x)) places p named kept.0 in
     let area = source.area in

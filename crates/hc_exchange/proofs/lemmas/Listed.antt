@@ -2,7 +2,7 @@
 use Rattle.std.proofs.Common.{◌≡◌, ℕ, ◌+◌, ◌<◌, ◌⊎◌, ◌∙◌, inl, inr, true, false, List, refl, sym, ap, subst, arith}
 use Rattle.std.specs.Prelude.{Contains, None, Option, Some, filter, find, map, option_map, slice_get, nat_lt, ◌==◌, ◌&&◌}
 use Rattle.std.specs.List.{enumerate_from, flat_map}
-use Rattle.std.proofs.lemmas.Bool.{cases_lt}
+use Rattle.std.proofs.lemmas.Bool.{cases_lt, and_from}
 use Rattle.std.proofs.lemmas.Bool.Decides.{nat_tests}
 use Rattle.std.proofs.lemmas.List.Elements.{All-contains, Contains-append_left, Contains-append_right}
 use Rattle.hc_records.specs.declared.keys.Key.{Key}
@@ -19,7 +19,6 @@ use Rattle.hc_records.proofs.lemmas.Finds.{found-none}
 use Rattle.hc_records.proofs.lemmas.KeyOrder.{same_dir-refl, same_key-refl}
 use Rattle.hc_records.proofs.lemmas.Packed.{area_of, packed-areas}
 use Rattle.hc_records.proofs.lemmas.Tasks.{listed}
-use Rattle.hc_records.proofs.lemmas.Choices.{both}
 use Rattle.hc_registers.specs.declared.fmmu.Mapping.{Mapping}
 use Rattle.hc_registers.specs.Blocks.{mapping_at, mapping_of}
 use Rattle.hc_exchange.specs.PairLaws.{AreasWithBitsAreMapped, IsMappedInPlace}
@@ -34,7 +33,7 @@ own-task task bits some = (grind (arith, nat_tests), grind (arith, nat_tests))
 belongs-own : (area : Area) → 0 < width area → belongs area.task area.dir area ≡ true
 belongs-own area some =
     let own = own-task area.task (width area) some in
-    both ((area.task == area.task) && same_dir area.dir area.dir) (nat_lt 0 (width area)) (both (area.task == area.task) (same_dir area.dir area.dir) own.0 (same_dir-refl area.dir)) own.1
+    and_from ((area.task == area.task) && same_dir area.dir area.dir) (nat_lt 0 (width area)) (and_from (area.task == area.task) (same_dir area.dir area.dir) own.0 (same_dir-refl area.dir)) own.1
 
 one-way : (task : ℕ) (line : List Member) (dir : Dir) (l : Listed) → Contains (flat_map (slave_areas task dir) line) l → Contains (task_areas task line) l
 one-way task line Out l has = Contains-append_left (flat_map (slave_areas task Out) line) (flat_map (slave_areas task In) line) l has

@@ -1,8 +1,9 @@
 -- The datagrams that stand in some bytes, step by step.
-use Rattle.std.proofs.Common.{◌≡◌, ℕ, zero, suc, ◌+◌, ◌<◌, ◌≤◌, Bool, true, false, ◌&&◌, List, [], ◌∷◌, length, drop, map, refl, ap, ◌∙◌, sym, arith, length-drop}
+use Rattle.std.proofs.Common.{◌≡◌, ℕ, zero, suc, ◌+◌, ◌<◌, ◌≤◌, true, ◌&&◌, List, [], ◌∷◌, length, drop, map, refl, ap, ◌∙◌, sym, arith, length-drop}
 use Rattle.std.specs.List.{list_all}
 use Rattle.std.proofs.lemmas.Grind.{common_steps}
 use Rattle.std.proofs.lemmas.Bool.Decides.{nat_tests}
+use Rattle.std.proofs.lemmas.Bool.{and_parts}
 use Rattle.hc_frames.specs.Arrived.{Placed, carried, data_size, datagrams_in, is_whole, placed_from, starts_within}
 
 -- as many steps as there are bytes are enough
@@ -40,15 +41,11 @@ whole-long bytes whole = grind (arith, nat_tests)
 pub carried-length : (bytes : List ℕ) → is_whole bytes ≡ true → length (carried bytes).bytes ≡ data_size bytes
 carried-length bytes whole = let long : 12 + data_size bytes ≤ length bytes = whole-long bytes whole in grind (arith, common_steps)
 
-pub and_true : (a b : Bool) → (a && b) ≡ true → (a ≡ true) × (b ≡ true)
-and_true true b e = (refl, e)
-and_true false b e = cc
-
 -- of whole datagrams the first one is, and the others are
 pub first-whole : (bytes : List ℕ) → 0 < length bytes → list_all is_whole (datagrams_in bytes) ≡ true
     → (is_whole bytes ≡ true) × (list_all is_whole (datagrams_in (drop (12 + data_size bytes) bytes)) ≡ true)
 first-whole bytes some whole =
-    and_true (is_whole bytes) (list_all is_whole (datagrams_in (drop (12 + data_size bytes) bytes))) (sym (ap (list_all is_whole) (datagrams-some bytes some)) ∙ whole)
+    and_parts (is_whole bytes) (list_all is_whole (datagrams_in (drop (12 + data_size bytes) bytes))) (sym (ap (list_all is_whole) (datagrams-some bytes some)) ∙ whole)
 
 pub placed-some : (start : ℕ) (bytes : List ℕ) → 0 < length bytes → is_whole bytes ≡ true
     → placed_from start (map carried (datagrams_in bytes)) ≡ record { start = start; carried = carried bytes } ∷ placed_from (start + (12 + data_size bytes)) (map carried (datagrams_in (drop (12 + data_size bytes) bytes)))

@@ -8,14 +8,15 @@ use Rattle.hc_frames.specs.Sizes.{text_size}
 use Rattle.hc_frames.proofs.Faults.{Clear, clear_of}
 use Rattle.std.proofs.lemmas.List.Elements.{All-cons}
 use Rattle.std.proofs.lemmas.Bool.Decides.{nat_tests}
-use Rattle.hc_records.proofs.lemmas.Choices.{by_bool, not_false}
+use Rattle.std.proofs.lemmas.Bool.{and_parts, not-false, or_parts}
+use Rattle.hc_records.proofs.lemmas.Choices.{by_bool}
 use Rattle.hc_frames.specs.declared.commands.Command.TheVariants.{Lrw}
 use Rattle.hc_frames.specs.Commands.{code_of, command_of}
 use Rattle.hc_frames.specs.FrameText.{Carried, head_to, carried_text, carried_texts, length_field}
 use Rattle.hc_frames.specs.Arrived.{carried, circulates, data_size, datagram_bytes, datagrams_in, is_not_ethercat, region, serial_in, has_other_index, is_unknown, is_whole, more_at_end, more_between, says_more, word_at}
 use Rattle.hc_frames.specs.Laws.{ReadableFramesAreCarried}
 use Rattle.hc_frames.specs.Returned.{FitsLine}
-use Rattle.hc_frames.proofs.lemmas.Datagrams.{carried-length, datagrams-none, datagrams-some, whole-long, and_true}
+use Rattle.hc_frames.proofs.lemmas.Datagrams.{carried-length, datagrams-none, datagrams-some, whole-long}
 use Rattle.hc_frames.proofs.lemmas.Opening.{drop_twice}
 use Rattle.hc_frames.proofs.lemmas.Texts.{carried-cut, length-carried_texts}
 
@@ -112,12 +113,8 @@ tail_spelled bytes all whole =
     ∙ ap (λ (xs : List ℕ). take n (drop 10 bytes) ++ xs) (two_spelled t two low_t high_t ∙ sym (drop_twice 10 n bytes))
     ∙ take-append-drop n (drop 10 bytes)
 
-pub or_false : (a b : Bool) → (a || b) ≡ false → (a ≡ false) × (b ≡ false)
-or_false true b e = cc
-or_false false b e = (refl, e)
-
 spare_clear : (bytes : List ℕ) → is_whole bytes ≡ true → word_at bytes 6 / 2048 % 8 ≡ 0
-spare_clear bytes whole = same_number _ 0 (and_true _ _ (and_true _ _ (and_true _ _ whole).1).1).0
+spare_clear bytes whole = same_number _ 0 (and_parts _ _ (and_parts _ _ (and_parts _ _ whole).1).1).0
 
 -- what a datagram at the front of some bytes has to meet
 record Clean (serial : ℕ) (more : Bool) (bytes : List ℕ) : Type 0 where
@@ -169,8 +166,8 @@ head_fits bytes all whole =
     let size : length (carried bytes).bytes ≡ data_size bytes = carried-length bytes whole in
     let low : word_at bytes 2 < 65536 = word_low bytes 2 all (omega arith) in
     let high : word_at bytes 4 < 65536 = word_low bytes 4 all (omega arith) in
-    let one : 1 ≤ data_size bytes = one_of (data_size bytes) (and_true _ _ whole).0 in
-    let most : data_size bytes ≤ 1486 = most_of (data_size bytes) (and_true _ _ (and_true _ _ whole).1).0 in
+    let one : 1 ≤ data_size bytes = one_of (data_size bytes) (and_parts _ _ whole).0 in
+    let most : data_size bytes ≤ 1486 = most_of (data_size bytes) (and_parts _ _ (and_parts _ _ whole).1).0 in
     record {
       address = omega arith;
       interrupt = word_low bytes 8 all (omega arith);
@@ -196,30 +193,30 @@ record AllClean (serial : ℕ) (ds : List (List ℕ)) : Type 0 where
 
 last_clean : (serial : ℕ) (d : List ℕ) → AllClean serial (d ∷ []) → Clean serial false d
 last_clean serial d clean = record {
-  whole = (and_true _ _ clean.whole).0;
-  turn = (or_false _ _ clean.turn).0;
-  known = (or_false _ _ clean.known).0;
-  index = (or_false _ _ clean.index).0;
+  whole = (and_parts _ _ clean.whole).0;
+  turn = (or_parts _ _ clean.turn).0;
+  known = (or_parts _ _ clean.known).0;
+  index = (or_parts _ _ clean.index).0;
   promise = clean.end;
 }
 
 first_clean : (serial : ℕ) (d e : List ℕ) (ds : List (List ℕ)) → AllClean serial (d ∷ e ∷ ds) → Clean serial true d
 first_clean serial d e ds clean = record {
-  whole = (and_true _ _ clean.whole).0;
-  turn = (or_false _ _ clean.turn).0;
-  known = (or_false _ _ clean.known).0;
-  index = (or_false _ _ clean.index).0;
-  promise = (and_true _ _ clean.between).0;
+  whole = (and_parts _ _ clean.whole).0;
+  turn = (or_parts _ _ clean.turn).0;
+  known = (or_parts _ _ clean.known).0;
+  index = (or_parts _ _ clean.index).0;
+  promise = (and_parts _ _ clean.between).0;
 }
 
 others_clean : (serial : ℕ) (d e : List ℕ) (ds : List (List ℕ)) → AllClean serial (d ∷ e ∷ ds) → AllClean serial (e ∷ ds)
 others_clean serial d e ds clean = record {
-  whole = (and_true _ _ clean.whole).1;
-  between = (and_true _ _ clean.between).1;
+  whole = (and_parts _ _ clean.whole).1;
+  between = (and_parts _ _ clean.between).1;
   end = clean.end;
-  turn = (or_false _ _ clean.turn).1;
-  known = (or_false _ _ clean.known).1;
-  index = (or_false _ _ clean.index).1;
+  turn = (or_parts _ _ clean.turn).1;
+  known = (or_parts _ _ clean.known).1;
+  index = (or_parts _ _ clean.index).1;
 }
 
 record Told (serial : ℕ) (bytes : List ℕ) (ds : List (List ℕ)) : Type 0 where
@@ -312,7 +309,7 @@ frame_round bytes long =
     let low : b14 < 256 = all 14 0 (omega arith) in
     let high : b15 < 256 = all 15 0 (omega arith) in
     let header : length text + 4096 ≡ b14 + 256 * b15 = ap (λ (k : ℕ). k + 4096) size ∙ header_back (b14 + 256 * b15) kind in
-    let both = and_true _ _ (not_false _ type) in
+    let both = and_parts _ _ (not-false _ type) in
     let behind : drop (16 + n) bytes ≡ drop n xs = sym (drop_twice 16 n bytes) in
     let tail : text ++ drop (16 + n) bytes ≡ xs = ap (λ (t : List ℕ). t ++ drop (16 + n) bytes) same ∙ ap (λ (t : List ℕ). take n xs ++ t) behind ∙ take-append-drop n xs in (
       spelled.5,
@@ -349,12 +346,12 @@ frame-carried bytes all none =
     let ds : List (List ℕ) = datagrams_in part in
     let serial : ℕ = serial_in bytes in
     let n : ℕ = datagram_bytes bytes in
-    let long = or_false _ _ clear.size in
-    let there : 16 + n ≤ length bytes = least_of _ _ (or_false _ _ long.1).0 in
+    let long = or_parts _ _ clear.size in
+    let there : 16 + n ≤ length bytes = least_of _ _ (or_parts _ _ long.1).0 in
     let within : n ≤ 1498 = least_of _ _ long.0 in
-    let filled = and_true _ _ (not_false _ (or_false _ _ long.1).1) in
+    let filled = and_parts _ _ (not-false _ (or_parts _ _ long.1).1) in
     let some : 0 < length ds = more_of _ _ filled.0 in
-    let rows = and_true _ _ filled.1 in
+    let rows = and_parts _ _ filled.1 in
     let size : length part ≡ n = omega (arith, length-take n (drop 16 bytes), length-drop 16 bytes) in
     let said : Told serial part ds =
     told (length part) serial part (omega arith) (some_bytes part some) (bytes_before n (drop 16 bytes) (bytes_behind 16 bytes all))
@@ -363,6 +360,6 @@ frame-carried bytes all none =
     let text : List ℕ = carried_texts serial parts in
     let size_of : length text ≡ n = ap length said.text ∙ size in
     let text_is : text_size parts ≡ n = sym (length-carried_texts serial parts) ∙ size_of in
-    let kind : word_at bytes 14 / 2048 ≡ 2 = same_number _ 2 (not_false _ clear.type) in
+    let kind : word_at bytes 14 / 2048 ≡ 2 = same_number _ 2 (not-false _ clear.type) in
     let round = frame_round bytes (omega arith) all clear.ethercat kind text said.text size_of in
     (record { some = omega (arith, length-map ds carried); low = round.0; fits = said.fits; within = omega arith }, round.1)

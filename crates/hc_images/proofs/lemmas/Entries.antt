@@ -9,6 +9,7 @@ use Rattle.std.proofs.lemmas.Bool.{eqb-true}
 use Rattle.std.proofs.lemmas.Grind.{flat_map-append}
 use Rattle.std.proofs.lemmas.List.{map-append}
 use Rattle.std.proofs.lemmas.List.Elements.{All-nil, All-cons, All-head, All-map, All-tail, All-weaker}
+use Rattle.std.proofs.lemmas.Option.{same_Some}
 use Rattle.hc_records.specs.declared.records.Dir.{Dir}
 use Rattle.hc_records.specs.declared.records.Pdo.{Pdo}
 use Rattle.hc_records.specs.declared.records.Area.{Area}
@@ -187,12 +188,9 @@ variable_named named groups variable place all there =
     let number : found.0 ≡ variable = eqb-true found.0 variable holds.1 in
     subst (λ (p : VariablePlace). IsNamed named variable p) row.2 (subst (λ (n : ℕ). IsNamed named n found.1) number holds.0)
 
-same_named : (a b : Named) → Some a ≡ Some b → a ≡ b
-same_named a b e = cc
-
 same_entry : (found : Option Named) (variable : ℕ) (place another : VariablePlace) → found ≡ Some (variable, (place.bits, place.dir)) → found ≡ Some (variable, (another.bits, another.dir))
     → KeepsItsEntry place another
-same_entry found variable place another first second = search (rules, same_named)
+same_entry found variable place another first second = search (rules, same_Some)
 
 changes_keep : (state : State) (edit : Edit) → declares edit ≡ false → lowest_fault (groups_of state.groups) ≡ None → KeepEntries (table_of (line state)) (table_of (line (state_after state edit)))
 changes_keep state edit changes none variable place another there there' =

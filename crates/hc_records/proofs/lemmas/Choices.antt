@@ -2,45 +2,18 @@
 use Rattle.std.specs.Prelude.{Contains, nat_lt, ◌&&◌, ◌==◌, ◌||◌, ◌≢◌}
 use Rattle.std.specs.List.{flat_map}
 use Rattle.std.proofs.Common.{◌≡◌, ℕ, suc, ◌+◌, ◌-◌, ◌<◌, ◌≤◌, Bool, true, false, not, List, [], ◌∷◌, refl, rules, arith}
-use Rattle.std.proofs.lemmas.Bool.{le-ltb}
 use Rattle.std.proofs.lemmas.Bool.Decides.{nat_tests}
 use Rattle.std.proofs.lemmas.Grind.{flat_map-append}
-
-pub or_right : (a b : Bool) → b ≡ true → (a || b) ≡ true
-or_right true b e = refl
-or_right false b e = e
-
-pub both : (a b : Bool) → a ≡ true → b ≡ true → (a && b) ≡ true
-both a b p q = rw (p, q) refl
-
-pub not_false : (b : Bool) → not b ≡ false → b ≡ true
-not_false true e = refl
-not_false false e = cc
-
-pub or_left : (a b : Bool) → a ≡ true → (a || b) ≡ true
-or_left true b e = refl
-or_left false b e = cc
 
 pub by_bool : {P : Type 0} (b : Bool) → (b ≡ true → P) → (b ≡ false → P) → P
 by_bool true f g = f refl
 by_bool false f g = g refl
-
-pub none_of : (b : Bool) → not b ≡ true → b ≡ false
-none_of true e = cc
-none_of false e = refl
-
-pub same-test : (a b : ℕ) → a ≡ b → (a == b) ≡ true
-same-test a b e = grind (arith, nat_tests)
 
 pub is_other : (a b : ℕ) → a < b → (b == a) ≡ false
 is_other a b less = grind (arith, nat_tests)
 
 pub itself : (n : ℕ) → (n == n) ≡ true
 itself n = grind (arith, nat_tests)
-
-pub and_right : (a b : Bool) → b ≡ false → (a && b) ≡ false
-and_right true b e = e
-and_right false b e = refl
 
 pub flat_map-flat_map : {X Y Z : Type 0} (g : Y → List Z) (f : X → List Y) (xs : List X) → flat_map g (flat_map f xs) ≡ flat_map (λ x. flat_map g (f x)) xs
 flat_map-flat_map g f [] = refl
@@ -55,18 +28,11 @@ less_differs a b below same = omega (arith, below, same)
 pub below : (a serial : ℕ) → nat_lt a serial ≡ true → (a == serial) ≡ false
 below a serial t = grind (arith, nat_tests)
 
-pub other-number : (a b : ℕ) → a ≢ b → (a == b) ≡ false
-other-number a b e = grind (arith, nat_tests)
-
 pub own-swap : (a b : ℕ) → (a == b) ≡ (b == a)
 own-swap a b = grind (arith, nat_tests)
 
 pub lower-other : (a b : ℕ) → a < b → (a == b) ≡ false
 lower-other a b less = grind (arith, nat_tests)
-
-pub off : (b : Bool) → (b ≡ true → ⊥) → b ≡ false
-off true none = absurd (none refl)
-off false none = refl
 
 pub moved : (a b r : Bool) → (a || (b || r)) ≡ ((a || b) || r)
 moved true b r = refl
@@ -78,15 +44,6 @@ contains-first x xs = (0, omega arith, refl)
 pub or-no : (a : Bool) → (a || false) ≡ a
 or-no true = refl
 or-no false = refl
-
-pub not_long : (n m : ℕ) → n ≤ m → nat_lt m n ≡ false
-not_long n m within = le-ltb m n within
-
-pub not_less : (m n : ℕ) → n ≤ m → nat_lt m n ≡ false
-not_less m n h = grind (arith, nat_tests)
-
-pub less : (m n : ℕ) → m < n → nat_lt m n ≡ true
-less m n h = grind (arith, nat_tests)
 
 pub contains-later : {X : Type 0} (first x : X) (xs : List X) → Contains xs x → Contains (first ∷ xs) x
 contains-later first x xs (k, low, is) = (suc k, omega arith, is)

@@ -3,6 +3,7 @@ use Rattle.std.proofs.Common.{◌≡◌, ℕ, ◌+◌, ◌<◌, ◌≤◌, zero,
 use Rattle.std.specs.Prelude.{All, cond, filter, slice_get, ◌==◌}
 use Rattle.std.proofs.lemmas.Bool.{and_from, and_left, and_right, eq-eqb, ne_eqb}
 use Rattle.std.proofs.lemmas.List.Elements.{All-nil, All-cons, All-head, All-tail, All-weaker}
+use Rattle.std.proofs.lemmas.Option.{same_Some}
 use Rattle.hc_records.specs.declared.keys.Key.{Key}
 use Rattle.hc_records.specs.declared.keys.TheConstants.Key.{START, END}
 use Rattle.hc_records.specs.Keys.{is_before, is_within}
@@ -36,18 +37,15 @@ cut-keys P front (area ∷ areas) all =
 abbrev IsNumbered : Key → List Key → ℕ → Interval → Type 0
 IsNumbered begun cuts number span = slice_get (spans_from begun cuts) number ≡ Some span
 
-some-same : (a b : Interval) → Some a ≡ Some b → a ≡ b
-some-same a b same = cc
-
 ends-all : (P : Key → Type 0) (begun : Key) (cuts : List Key) (number : ℕ) (span : Interval) → All P cuts → P END → IsNumbered begun cuts number span → P span.1
-ends-all P begun [] zero span all end is = subst (λ (s : Interval). P s.1) (some-same (begun, END) span is) end
+ends-all P begun [] zero span all end is = subst (λ (s : Interval). P s.1) (same_Some (begun, END) span is) end
 ends-all P begun [] (suc number) span all end is = cc
-ends-all P begun (cut ∷ cuts) zero span all end is = subst (λ (s : Interval). P s.1) (some-same (begun, cut) span is) (All-head P cut cuts all)
+ends-all P begun (cut ∷ cuts) zero span all end is = subst (λ (s : Interval). P s.1) (same_Some (begun, cut) span is) (All-head P cut cuts all)
 ends-all P begun (cut ∷ cuts) (suc number) span all end is = ends-all P cut cuts number span (All-tail P cut cuts all) end is
 
 begins-first : (begun : Key) (cuts : List Key) (span : Interval) → IsNumbered begun cuts zero span → begun ≡ span.0
-begins-first begun [] span is = ap (λ (s : Interval). s.0) (some-same (begun, END) span is)
-begins-first begun (cut ∷ cuts) span is = ap (λ (s : Interval). s.0) (some-same (begun, cut) span is)
+begins-first begun [] span is = ap (λ (s : Interval). s.0) (same_Some (begun, END) span is)
+begins-first begun (cut ∷ cuts) span is = ap (λ (s : Interval). s.0) (same_Some (begun, cut) span is)
 
 begins-later : (P : Key → Type 0) (begun : Key) (cuts : List Key) (number : ℕ) (span : Interval) → All P cuts → IsNumbered begun cuts (suc number) span → P span.0
 begins-later P begun [] number span all is = cc
@@ -143,7 +141,7 @@ numbered-by true front area areas begun number span at is numbered later =
     (All-head (λ a. is_within begun a.0 ≡ true) area areas is.from) (cut-keys (λ key. is_before area.0 key ≡ true) front' areas higher) (All-head (λ a. is_before a.0 END ≡ true) area areas is.below) numbered
     (subst (λ (d : ℕ). IsSame (d + number) span (packed front' areas)) at (later begun number (list-tail begun area areas is) numbered))
 numbered-by false front area areas begun zero span at is numbered later =
-    none-before front area areas begun span at is (ap (λ (s : Interval). s.1) (some-same (begun, area.0) span numbered))
+    none-before front area areas begun span at is (ap (λ (s : Interval). s.1) (same_Some (begun, area.0) span numbered))
 numbered-by false front area areas begun (suc number) span at is numbered later =
     let front' = behind (placed_at front area) in
     let next : front.datagram + 1 + number ≡ front.datagram + suc number = omega arith in

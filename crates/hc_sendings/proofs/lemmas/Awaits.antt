@@ -1,10 +1,11 @@
 -- What is kept as awaited stays what the record awaits: at the opening, behind edits, stale arrivals and register writes.
 use Rattle.std.proofs.Common.{◌≡◌, ℕ, ◌+◌, ◌==◌, ◌<◌, Bool, true, false, cond, ◌||◌, List, [], ◌∷◌, filter, refl, sym, ap, ◌∙◌, Option, Some, None}
-use Rattle.std.specs.Prelude.{All, is_some, option_and_then, option_map}
+use Rattle.std.specs.Prelude.{All, option_and_then, option_map}
 use Rattle.std.specs.Option.{option_or}
 use Rattle.std.specs.List.{list_any}
 use Rattle.std.proofs.lemmas.Bool.{not-true}
 use Rattle.std.proofs.lemmas.List.Elements.{All-nil, All-weaker}
+use Rattle.std.proofs.lemmas.Option.{none-some}
 use Rattle.hc_records.specs.declared.edit.Edit.{Edit}
 use Rattle.hc_records.specs.declared.records.Group.{Group}
 use Rattle.hc_records.specs.Line.{Member}
@@ -27,9 +28,6 @@ use Rattle.hc_sendings.specs.Judging.{due_with, found_frame, frame_due, write_du
 use Rattle.hc_sendings.proofs.lemmas.Sorts.{none-framed}
 use Rattle.hc_sendings.specs.Record.{KeepsAwaited, due_by, dues_of}
 
-pub none_some : (write : AwaitedWrite) → None ≡ Some write → ⊥
-none_some write e = let never : false ≡ true = ap is_some e in cc
-
 -- nothing is awaited at the opening, and behind an accepted edit
 
 nothing_waits : (past : Record) → ((serial : ℕ) → due_by past serial ≡ None) → KeepsAwaited past nothing
@@ -38,7 +36,7 @@ nothing_waits past none = record {
   ascend = AllPairs-nil (λ (a b : AwaitedFrame). a.serial < b.serial);
   below = All-nil (λ (frame : AwaitedFrame). frame.serial < next_serial past);
   stands = All-nil (λ (frame : AwaitedFrame). All (λ carried. StandsIn (line_of past) carried.datagram) frame.datagrams);
-  apart = λ write e. absurd (none_some write e);
+  apart = λ write e. absurd (none-some write e);
 }
 
 pub waits-opened : (groups : List Group) → KeepsAwaited (just_opened groups) nothing

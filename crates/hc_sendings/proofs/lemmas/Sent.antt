@@ -4,6 +4,7 @@ use Rattle.std.specs.Prelude.{All, AllPairs}
 use Rattle.std.specs.List.{list_any}
 use Rattle.std.proofs.lemmas.List.Elements.{All-nil, All-cons, All-append, All-filter, All-map, All-weaker}
 use Rattle.std.proofs.lemmas.List.Kept.{AllPairs-cons, AllPairs-filter}
+use Rattle.std.proofs.lemmas.Option.{none-some}
 use Rattle.hc_records.specs.Line.{Member}
 use Rattle.hc_records.proofs.lemmas.Lists.{AllPairs-append, AllPairs-map, AllPairs-nil}
 use Rattle.hc_events.specs.Accepted.{AreAccepted, StandsIn}
@@ -17,7 +18,6 @@ use Rattle.hc_sendings.specs.Waiting.{AwaitedFrame, Carried, Waiting, as_sent, i
 use Rattle.hc_sendings.proofs.lemmas.Resent.{due-both, sent-frames}
 use Rattle.hc_sendings.proofs.lemmas.Sorts.{none-written}
 use Rattle.hc_sendings.specs.Record.{KeepsAwaited}
-use Rattle.hc_sendings.proofs.lemmas.Awaits.{none_some}
 
 -- a frame that carries something
 
@@ -76,7 +76,7 @@ waits-sent past kept frame accepted none number some stand waits =
       stands = back (All (Stands (line_of past))) (kept_frames (Stands (line_of past)) frame.datagrams kept.frames (as_sent frame)
           (All-weaker (Stands (line_of past)) (λ (f : AwaitedFrame). Stands (line_of past) (with_again frame.datagrams f)) (λ f all. again_stands (line_of past) frame.datagrams f.datagrams all) kept.frames waits.stands)
           (new_stands (line_of past) frame.datagrams stand));
-      apart = λ write e. absurd (none_some write (sym no_write ∙ e));
+      apart = λ write e. absurd (none-some write (sym no_write ∙ e));
     }
 
 -- each frame of a proposal carries something

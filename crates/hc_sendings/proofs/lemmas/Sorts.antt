@@ -4,6 +4,7 @@ use Rattle.std.specs.Prelude.{option_and_then, option_map}
 use Rattle.std.proofs.lemmas.Bool.{eqb-true}
 use Rattle.std.specs.Option.{option_or}
 use Rattle.std.specs.List.{list_any}
+use Rattle.std.proofs.lemmas.Option.{none-some, same_Some}
 use Rattle.hc_records.specs.Line.{Member}
 use Rattle.hc_records.proofs.lemmas.Choices.{by_bool}
 use Rattle.hc_registers.specs.Blocks.{LineBlock}
@@ -106,19 +107,13 @@ pub record IsKeptWrite (past : Record) (kept : Waiting) (serial : ℕ) (sending 
 due_write : (write : AwaitedWrite) (sending : Sending) → dues_of sending ≡ write_due write → sending.heads ≡ written_head write ∷ []
 due_write write sending e = sym (heads-back sending.since sending.heads) ∙ ap (map (λ one. one.head)) e
 
-same_dues : (a b : List Due) → Some a ≡ Some b → a ≡ b
-same_dues a b e = cc
-
 framed_plain : (line : List Member) (frame : AwaitedFrame) (sending : Sending) → Some (frame_due line frame) ≡ Some (dues_of sending) → is_write sending ≡ false
 framed_plain line frame sending e =
-    ap (list_any (λ one. is_block one.item)) (sym (heads-back sending.since sending.heads) ∙ ap (map (λ one. one.head)) (sym (same_dues (frame_due line frame) (dues_of sending) e)))
+    ap (list_any (λ one. is_block one.item)) (sym (heads-back sending.since sending.heads) ∙ ap (map (λ one. one.head)) (sym (same_Some (frame_due line frame) (dues_of sending) e)))
     ∙ no_block line frame.datagrams
 
-none_dues : (dues : List Due) → None ≡ Some dues → ⊥
-none_dues dues e = cc
-
 no_write_due : (line : List Member) (frame : Option AwaitedFrame) (sending : Sending) → option_map (frame_due line) frame ≡ Some (dues_of sending) → is_write sending ≡ true → ⊥
-no_write_due line None sending e writes = let never : None ≡ Some (dues_of sending) = e in absurd (none_dues (dues_of sending) never)
+no_write_due line None sending e writes = let never : None ≡ Some (dues_of sending) = e in absurd (none-some (dues_of sending) never)
 no_write_due line (Some frame) sending e writes = let never : true ≡ false = sym writes ∙ framed_plain line frame sending e in cc
 
 kept_by_due : (line : List Member) (kept : Waiting) (serial : ℕ) (sending : Sending) (write : Option AwaitedWrite) → kept.write ≡ write
@@ -129,7 +124,7 @@ kept_by_due line kept serial sending (Some write) is e writes =
     by_bool (write.serial == serial)
     (λ t. let due : Some (write_due write) ≡ Some (dues_of sending) =
     sym (ap (λ b. option_or (option_map write_due (cond b (Some write) None)) (option_map (frame_due line) (found_frame serial kept))) t) ∙ e in
-    (write, is, eqb-true write.serial serial t, due_write write sending (sym (same_dues (write_due write) (dues_of sending) due))))
+    (write, is, eqb-true write.serial serial t, due_write write sending (sym (same_Some (write_due write) (dues_of sending) due))))
     (λ t. let other : option_map (frame_due line) (found_frame serial kept) ≡ Some (dues_of sending) =
     sym (ap (λ b. option_or (option_map write_due (cond b (Some write) None)) (option_map (frame_due line) (found_frame serial kept))) t) ∙ e in
     absurd (no_write_due line (found_frame serial kept) sending other writes))

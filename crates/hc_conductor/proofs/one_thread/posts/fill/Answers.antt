@@ -1,5 +1,6 @@
 use Rattle.std.proofs.Common.{◌≡◌, ◌≢◌, ℕ, length, sym, ap, subst, ◌∙◌, Some}
 use Rattle.std.specs.Prelude.{IfOk}
+use Rattle.std.proofs.lemmas.Result.{IfOk-weaker}
 use Rattle.hc_places.specs.Table.{part_in}
 use Rattle.hc_publish.specs.Told.{Told, epoch_shown, table_shown}
 use Rattle.hc_publish.specs.Stories.{Origin}
@@ -7,7 +8,7 @@ use Rattle.hc_conductor.specs.Seats.{epoch_of, size_of, task_of}
 use Rattle.hc_conductor.specs.Views as views
 use Rattle.hc_conductor.specs.declared.one_thread.refusals.PostRefusal.TheVariants as why
 use Rattle.hc_conductor.specs.Posting.{IsFilled, first_refused, known_to}
-use Rattle.hc_conductor.proofs.lemmas.Told.{err-weaker, ok-weaker, told-same}
+use Rattle.hc_conductor.proofs.lemmas.Told.{err-weaker, told-same}
 use Rattle.hc_conductor.proofs.one_thread.posts.fill.Goals as goal
 
 pub returns-in-Ok-clause-filled : goal.returns-in-Ok-clause-filled
@@ -27,7 +28,7 @@ returns-in-Ok-clause-viewed c =
     let table = table_shown (views.told_to c.in-Ok.view) in
     let left = c.leave.result in
     let size = c.leave.ensures.size ∙ ap (λ (k : ℕ). (part_in table k).0) (c.in-Ok.ensures.task ∙ c.requires.task.0) in
-    ok-weaker c.filled-bytes.result (λ bytes. IsFilled table c.args.asked.1 c.args.asked.2.now bytes.items) (λ bytes. (epoch_of left ≡ epoch_shown told) × (size_of left ≡ length bytes.items))
+    IfOk-weaker c.filled-bytes.result (λ bytes. IsFilled table c.args.asked.1 c.args.asked.2.now bytes.items) (λ bytes. (epoch_of left ≡ epoch_shown told) × (size_of left ≡ length bytes.items))
     (λ bytes is. (c.leave.ensures.epoch ∙ ap epoch_shown same, size ∙ sym is.size)) c.filled-bytes.ensures.filled
 
 pub returns-in-Ok-clause-refused : goal.returns-in-Ok-clause-refused

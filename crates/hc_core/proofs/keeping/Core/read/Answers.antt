@@ -1,8 +1,9 @@
 use Rattle.std.proofs.Common.{◌≡◌, ◌<◌}
+use Rattle.std.proofs.lemmas.Result.{IfOk-weaker}
 use Rattle.hc_records.specs.declared.limits.TheConstants.{TASKS}
 use Rattle.hc_events.specs.Steps.{Reads, answer_to}
 use Rattle.hc_core.specs.LastData.{ShowsLastData}
-use Rattle.hc_core.proofs.ReadsAmong.{if-ok, read-shows}
+use Rattle.hc_core.proofs.ReadsAmong.{read-shows}
 use Rattle.hc_core.proofs.keeping.Core.read.Goals as goal
 
 pub returns-clause-answer : goal.returns-clause-answer
@@ -12,4 +13,4 @@ pub returns-clause-shows : goal.returns-clause-shows
 returns-clause-shows c =
     let past = c.args.self.now.past in
     let task = c.args.task in
-    if-ok (λ told. told ≡ answer_to past (Reads task)) (λ told. task < TASKS → ShowsLastData past task told) c.image.result (read-shows past task) c.image.ensures.answer
+    IfOk-weaker (λ told. told ≡ answer_to past (Reads task)) (λ told. task < TASKS → ShowsLastData past task told) c.image.result (read-shows past task) c.image.ensures.answer

@@ -1,4 +1,5 @@
 use Rattle.std.proofs.Common.{map}
+use Rattle.std.proofs.lemmas.Result.{IfOk-weaker}
 use Rattle.hc_events.specs.Steps.{step_of}
 use Rattle.hc_core.specs.Lines.{IsLineAfter}
 use Rattle.hc_core.specs.LastData.{GoesWithoutThem, ReadsShowLastData}
@@ -6,7 +7,7 @@ use Rattle.hc_core.specs.Serving.{MayAnswerAll}
 use Rattle.hc_core.proofs.Lines.{line-after}
 use Rattle.hc_core.proofs.LastData.{reads-last}
 use Rattle.hc_core.proofs.GoesWithout.{goes-without}
-use Rattle.hc_core.proofs.ReadsAmong.{if-ok, shows-among, without-stale}
+use Rattle.hc_core.proofs.ReadsAmong.{shows-among, without-stale}
 use Rattle.hc_core.proofs.keeping.Core.run.Goals as goal
 
 pub returns-clause-line : goal.returns-clause-line
@@ -14,7 +15,7 @@ returns-clause-line c =
     let past = c.args.self.now.past in
     let next = c.serve_all.new.self.past in
     let steps = map step_of c.args.events.now in
-    if-ok (λ answers. MayAnswerAll past steps answers.items next) (λ answers. IsLineAfter past steps answers.items next) c.serve_all.result
+    IfOk-weaker (λ answers. MayAnswerAll past steps answers.items next) (λ answers. IsLineAfter past steps answers.items next) c.serve_all.result
     (λ answers. line-after past next steps answers.items) c.serve_all.ensures.answers
 
 pub returns-clause-shown : goal.returns-clause-shown
@@ -22,7 +23,7 @@ returns-clause-shown c =
     let past = c.args.self.now.past in
     let next = c.serve_all.new.self.past in
     let steps = map step_of c.args.events.now in
-    if-ok (λ answers. MayAnswerAll past steps answers.items next) (λ answers. ReadsShowLastData past steps answers.items) c.serve_all.result
+    IfOk-weaker (λ answers. MayAnswerAll past steps answers.items next) (λ answers. ReadsShowLastData past steps answers.items) c.serve_all.result
     (λ answers. shows-among past next steps answers.items) c.serve_all.ensures.answers
 
 pub returns-clause-reads : goal.returns-clause-reads
@@ -36,5 +37,5 @@ returns-clause-without c =
     let past = c.args.self.now.past in
     let next = c.serve_all.new.self.past in
     let steps = map step_of c.args.events.now in
-    if-ok (λ answers. MayAnswerAll past steps answers.items next) (λ answers. GoesWithoutThem past steps answers.items next) c.serve_all.result
+    IfOk-weaker (λ answers. MayAnswerAll past steps answers.items next) (λ answers. GoesWithoutThem past steps answers.items next) c.serve_all.result
     (λ answers. goes-without past next steps answers.items) c.serve_all.ensures.answers

@@ -1,6 +1,6 @@
 use Rattle.std.proofs.Common.{◌≡◌, ◌<◌, ◌≤◌, ◌+◌, ◌-◌, ℕ, List, true, length, drop, length-drop, ap, sym, ◌∙◌, arith}
 use Rattle.std.proofs.lemmas.Bool.Decides.{nat_tests}
-use Rattle.hc_records.proofs.lemmas.Choices.{none_of, not_false}
+use Rattle.std.proofs.lemmas.Bool.{not-false, not-true}
 use Rattle.hc_frames.specs.Arrived.{data_size, datagrams_in, is_whole}
 use Rattle.hc_frames.specs.Survey.{noted, surveyed}
 use Rattle.hc_frames.proofs.lemmas.Datagrams.{datagrams-none, whole-long}
@@ -13,14 +13,14 @@ returns-then-not-seen c =
     let bytes : List ℕ = c.loop-rest.rest.now in
     let some : 0 < length bytes = grind (arith, nat_tests) in
     let old = c.loop-rest.invariant.0 in
-    elim c.then-not-seen.branch [ then-not-seen-via-then-not-seen w ↦ sym (survey_unpromised c.args.index c.loop-rest.seen bytes some (none_of c.loop-rest.seen.more w.if-not-seen.true)) ∙ old | then-not-seen-via-else-not-seen+then-not-is_whole w ↦ sym (survey_unwhole c.args.index c.loop-rest.seen bytes some (not_false c.loop-rest.seen.more w.if-not-seen.false) (sym w.is_whole.ensures ∙ w.if-not-is_whole.true)) ∙ old ]
+    elim c.then-not-seen.branch [ then-not-seen-via-then-not-seen w ↦ sym (survey_unpromised c.args.index c.loop-rest.seen bytes some (not-true c.loop-rest.seen.more w.if-not-seen.true)) ∙ old | then-not-seen-via-else-not-seen+then-not-is_whole w ↦ sym (survey_unwhole c.args.index c.loop-rest.seen bytes some (not-false c.loop-rest.seen.more w.if-not-seen.false) (sym w.is_whole.ensures ∙ w.if-not-is_whole.true)) ∙ old ]
 
 pub loop-rest-preserved : goal.loop-rest-preserved
 loop-rest-preserved c =
     let bytes : List ℕ = c.loop-rest.rest.now in
     let some : 0 < length bytes = grind (arith, nat_tests) in
     let old = c.loop-rest.invariant in
-    let more : c.loop-rest.seen.more ≡ true = not_false c.loop-rest.seen.more c.if-not-seen.false in
+    let more : c.loop-rest.seen.more ≡ true = not-false c.loop-rest.seen.more c.if-not-seen.false in
     let whole : is_whole bytes ≡ true = sym c.is_whole.ensures ∙ c.if-not-is_whole.false in
     let left : c.behind-rest.result.now ≡ drop (12 + data_size bytes) bytes = c.behind-rest.ensures in
     let long : 12 + data_size bytes ≤ length bytes = whole-long bytes whole in

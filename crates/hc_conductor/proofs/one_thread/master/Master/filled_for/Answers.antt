@@ -1,5 +1,6 @@
 use Rattle.std.proofs.Common.{◌≡◌, ◌≢◌, ℕ, ◌<◌, length, map, set, sym, ap, subst, ◌∙◌, arith, Some}
 use Rattle.std.specs.Prelude.{IfOk, slice_index_or}
+use Rattle.std.proofs.lemmas.Result.{IfOk-weaker}
 use Rattle.hc_publish.specs.Told.{Told, epoch_shown, table_shown}
 use Rattle.hc_conductor.specs.Seats.{epoch_of, size_of, task_of}
 use Rattle.hc_conductor.specs.declared.one_thread.refusals.PostRefusal.TheVariants as why
@@ -7,7 +8,7 @@ use Rattle.hc_conductor.specs.Mastering.{Mastering, shown, waiting}
 use Rattle.hc_conductor.specs.Posting.{HasViewed, IsFilled, first_refused, known_to}
 use Rattle.hc_conductor.proofs.Seated.{seen-at}
 use Rattle.hc_conductor.proofs.OneThreadSeatings.{seat-kept, seat-of, waiting-kept}
-use Rattle.hc_conductor.proofs.lemmas.Told.{err-weaker, ok-weaker}
+use Rattle.hc_conductor.proofs.lemmas.Told.{err-weaker}
 use Rattle.hc_conductor.proofs.one_thread.master.Master.filled_for.Goals as goal
 
 pub replace_with-requires : goal.replace_with-requires
@@ -41,7 +42,7 @@ returns-clause-viewed c =
     let inside : n < length m.seats = omega (arith, own.inside, c.from.ensures) in
     let epoch = ap (λ (k : ℕ). slice_index_or (map epoch_of (set m.seats n t)) k 0) (sym c.from.ensures) ∙ seen-at epoch_of m.seats n t inside in
     let size = ap (λ (k : ℕ). slice_index_or (map size_of (set m.seats n t)) k 0) (sym c.from.ensures) ∙ seen-at size_of m.seats n t inside in
-    ok-weaker c.replace_with.result (λ bytes. (epoch_of t ≡ epoch_shown (known_to s)) × (size_of t ≡ length bytes.items))
+    IfOk-weaker c.replace_with.result (λ bytes. (epoch_of t ≡ epoch_shown (known_to s)) × (size_of t ≡ length bytes.items))
     (λ bytes. HasViewed (record { conductor = m.conductor; seats = set m.seats n t }) task (epoch_shown (shown c.args.self.now)) (length bytes.items))
     (λ bytes viewed. record { epoch_is = epoch ∙ (viewed.0 ∙ ap epoch_shown (own.told ∙ ap shown c.self.view_is)); size_is = size ∙ viewed.1 }) c.replace_with.ensures.1.0
 

@@ -1,6 +1,7 @@
 use Rattle.std.proofs.Common.{◌≡◌, ℕ, ◌<◌, List, refl, sym, ap, subst, ◌∙◌, arith}
 use Rattle.std.specs.Prelude.{IfOk}
 use Rattle.std.proofs.Math.Seq.{map-set_same}
+use Rattle.std.proofs.lemmas.Result.{IfOk-weaker}
 use Rattle.hc_core.specs.State.{CoreState}
 use Rattle.hc_events.specs.Accepted.{IsReachable}
 use Rattle.hc_events.specs.Points.{opened_with}
@@ -15,7 +16,7 @@ use Rattle.hc_conductor.specs.Together.{EachRing, IsWhole, posts_waiting}
 use Rattle.hc_conductor.specs.Mastering.{Mastering, past_of, shown, waiting}
 use Rattle.hc_conductor.specs.Viewing.{IsViewBehind, IsViewOf}
 use Rattle.hc_conductor.proofs.Seated.{each-at, number-at}
-use Rattle.hc_conductor.proofs.lemmas.Told.{ok-weaker, told-same, view-behind}
+use Rattle.hc_conductor.proofs.lemmas.Told.{told-same, view-behind}
 use Rattle.hc_conductor.proofs.one_thread.master.Master.view.Goals as goal
 
 pub replace_with-requires : goal.replace_with-requires
@@ -72,7 +73,7 @@ returns-clause-behind c = λ (tells : TellsAll c.args.self.now.conductor).
     let groups = subst (λ (x : Mastering). (origin_of x.conductor).groups ≡ opened_with (past_of x)) c.self.view_is c.core.ensures.stands.groups in
     let told : Told = record { groups = opened_with past; changes = published m.conductor } in
     let shows = subst (λ (t : Told). ShowsRecord past t) (told-same told (shown m) (sym groups) refl) (c.shows_what_is_read.ensures past (published m.conductor) reachable tells.legal tells.told) in
-    ok-weaker c.replace_with.result (IsViewOf (shown m) c.args.task c.args.number) (IsViewBehind past c.args.task c.args.number)
+    IfOk-weaker c.replace_with.result (IsViewOf (shown m) c.args.task c.args.number) (IsViewBehind past c.args.task c.args.number)
     (λ viewed is. view-behind past (shown m) c.args.task c.args.number viewed shows is) (returns-clause-viewed c)
 
 pub returns-clause-waiting : goal.returns-clause-waiting
