@@ -2,7 +2,7 @@
 use Rattle.std.proofs.Common.{◌≡◌, ℕ, ◌==◌, not, Bool, true, false, List, [], ◌∷◌, map, refl, sym, ap, ◌∙◌, subst, Option, Some, None, Ok, Err}
 use Rattle.std.specs.Prelude.{is_none, unwrap_or}
 use Rattle.std.specs.Option.{option_map_or}
-use Rattle.hc_frames.proofs.lemmas.Spelling.{unequal_not}
+use Rattle.std.proofs.lemmas.Bool.{eqb-true, not-false}
 use Rattle.hc_records.specs.declared.records.Dir.{Dir}
 use Rattle.hc_records.specs.declared.records.Dir.TheVariants.{In, Out}
 use Rattle.hc_records.specs.Image.{VariablePlace, variable_place}
@@ -74,7 +74,7 @@ number_in false false task place (Some bytes) number out_is other_is e = record 
   found = place;
   there = refl;
   input = is_input place.dir out_is;
-  own = unequal_not place.task task other_is;
+  own = eqb-true place.task task (not-false (place.task == task) other_is);
   own_data = bytes;
   has = refl;
   value = cc;

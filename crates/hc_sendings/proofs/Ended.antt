@@ -1,5 +1,5 @@
 -- A frame is answered: it has no datagrams any more, and is awaited no longer.
-use Rattle.std.proofs.Common.{◌≡◌, ◌≢◌, ℕ, ◌<◌, ◌==◌, Bool, true, false, cond, not, List, [], ◌∷◌, length, map, filter, get_or, set, refl, sym, ap, subst, arith, ◌∙◌, Option, Some, None}
+use Rattle.std.proofs.Common.{◌≡◌, ◌≢◌, ℕ, ◌<◌, ◌==◌, Bool, true, false, cond, not, List, [], ◌∷◌, length, map, filter, get_or, set, refl, sym, ap, subst, arith, ◌∙◌, Option, Some, None, ltb-true}
 use Rattle.std.specs.Prelude.{All, AllPairs, nat_lt, option_and_then}
 use Rattle.std.specs.Option.{option_map_or}
 use Rattle.std.specs.List.Sorted.{IsPartitionPoint}
@@ -7,11 +7,9 @@ use Rattle.std.proofs.lemmas.Bool.Decides.{nat_tests}
 use Rattle.std.proofs.lemmas.Grind.{get_or-set_at}
 use Rattle.std.proofs.lemmas.List.{ext_get_or, get_or-map, get_or-set_other, length-map, length-set}
 use Rattle.std.proofs.lemmas.List.Elements.{All-cons, All-head, All-nil, All-tail}
-use Rattle.std.proofs.lemmas.Bool.{eq-eqb, ne_eqb}
+use Rattle.std.proofs.lemmas.Bool.{eq-eqb, ne_eqb, eqb-false, eqb-true}
 use Rattle.hc_records.proofs.lemmas.Choices.{below, by_bool}
-use Rattle.hc_frames.proofs.lemmas.Spelling.{same_number}
 use Rattle.hc_events.specs.Answering.{only_if}
-use Rattle.hc_events.proofs.lemmas.Once.{is_below}
 use Rattle.hc_sendings.specs.Waiting.{AwaitedFrame, AwaitedWrite, IsNamed, ended, is_alive}
 use Rattle.hc_sendings.specs.Kept.{AreKept, KeptFrame, Newest, emptied, newest_of}
 use Rattle.hc_sendings.proofs.Alive.{Table, alive_at, told_at}
@@ -112,9 +110,6 @@ kept-ended newest serial frames next is are =
 
 -- the one frame with the serial stands where the serials reach it
 
-no-number : (a b : ℕ) → (a == b) ≡ false → a ≢ b
-no-number a b t = grind (arith, nat_tests)
-
 is-behind : (a b : ℕ) → nat_lt a b ≡ false → a ≢ b → b < a
 is-behind a b t e = grind (arith, nat_tests)
 
@@ -129,7 +124,7 @@ others : (frames : List KeptFrame) (serial place i : ℕ) (d : KeptFrame) → As
     → ((get_or frames i d).serial == serial) ≡ false
 others frames serial place i d ascend parts within apart =
     by_bool (nat_lt i place)
-    (λ t. below (get_or frames i d).serial serial (parts.0 i d (omega arith) (is_below i place t)))
+    (λ t. below (get_or frames i d).serial serial (parts.0 i d (omega arith) (ltb-true i place t)))
     (λ t. let low = is-behind i place t apart in
     above (get_or frames place d).serial (get_or frames i d).serial serial (ascend place i d low within) (parts.1 place d (omega arith) (omega (arith, low, within))))
 
@@ -142,12 +137,12 @@ set-emptied frames serial place d ascend parts inside is =
     let size = length-set frames place empty in
     let within : i < length frames = omega (arith, size, low) in
     by_bool (i == place)
-    (λ t. let here = same_number i place t in
+    (λ t. let here = eqb-true i place t in
     get_or-set_at frames place i empty d here inside
     ∙ sym (emptied-is serial (get_or frames place d) (eq-eqb (get_or frames place d).serial serial is))
     ∙ ap (λ n. emptied serial (get_or frames n d)) (sym here)
     ∙ sym (get_or-map (emptied serial) frames i d d within))
-    (λ t. let apart = no-number i place t in
+    (λ t. let apart = eqb-false i place t in
     get_or-set_other frames place i empty d apart
     ∙ sym (emptied-not serial (get_or frames i d) (others frames serial place i d ascend parts within apart))
     ∙ sym (get_or-map (emptied serial) frames i d d within)))
@@ -160,7 +155,7 @@ none-emptied frames serial place ascend parts none =
     (λ i within.
     sym (emptied-not serial (get_or frames i d)
     (by_bool (i == place)
-    (λ t. let here = same_number i place t in
+    (λ t. let here = eqb-true i place t in
     ap (λ n. (get_or frames n d).serial == serial) here ∙ ne_eqb (get_or frames place d).serial serial (none d (omega (arith, here, within))))
-    (λ t. others frames serial place i d ascend parts within (no-number i place t))))
+    (λ t. others frames serial place i d ascend parts within (eqb-false i place t))))
     ∙ sym (get_or-map (emptied serial) frames i d d within))

@@ -1,12 +1,11 @@
 -- The frame with a serial, where serials ascend.
-use Rattle.std.proofs.Common.{◌≡◌, ℕ, ◌<◌, ◌≤◌, ◌==◌, Bool, true, false, cond, ◌&&◌, List, [], ◌∷◌, get_or, refl, sym, ap, ◌∙◌, arith, Option, Some, None}
+use Rattle.std.proofs.Common.{◌≡◌, ℕ, ◌<◌, ◌≤◌, ◌==◌, Bool, true, false, cond, ◌&&◌, List, [], ◌∷◌, get_or, refl, sym, ap, ◌∙◌, arith, Option, Some, None, ltb-true, ne_eqb}
 use Rattle.std.specs.Prelude.{AllPairs, find, nat_lt, option_and_then, option_map, slice_get}
 use Rattle.std.specs.List.Sorted.{IsPartitionedBy, IsPartitionPoint}
 use Rattle.std.proofs.lemmas.List.Sorted.{IsPartitionedBy-ltb}
 use Rattle.std.proofs.lemmas.Bool.Decides.{nat_tests}
 use Rattle.std.proofs.lemmas.Bool.{eq-eqb}
 use Rattle.hc_records.proofs.lemmas.Choices.{by_bool}
-use Rattle.hc_events.proofs.lemmas.Once.{is_below}
 use Rattle.hc_cuts.proofs.lemmas.Found.{find-reached, kept}
 use Rattle.hc_sendings.specs.Waiting.{AwaitedFrame, is_alive}
 use Rattle.hc_sendings.specs.Kept.{KeptFrame}
@@ -39,7 +38,7 @@ pub serials-parted : (frames : List KeptFrame) (serial : ℕ) → AllPairs (λ a
 serials-parted frames serial ascend =
     IsPartitionedBy-ltb (λ (frame : KeptFrame). frame.serial) frames serial
     (λ i j d low within. by_bool (nat_lt i j)
-    (λ t. weaker (get_or frames i d).serial (get_or frames j d).serial (ascend i j d (is_below i j t) within))
+    (λ t. weaker (get_or frames i d).serial (get_or frames j d).serial (ascend i j d (ltb-true i j t) within))
     (λ t. at-most (get_or frames i d).serial (get_or frames j d).serial (ap (λ n. (get_or frames n d).serial) (is-same i j low t))))
 
 found-either : (at : Table) (serial : ℕ) (frame : KeptFrame) (frames : List AwaitedFrame) (rest : Option KeptFrame) (alive same : Bool)
@@ -68,9 +67,6 @@ found-at at serial frames place reached ascend parts is =
 
 -- whether it is the one that is sought
 
-other-is : (a b : ℕ) → (a ≡ b → ⊥) → (a == b) ≡ false
-other-is a b e = grind (arith, nat_tests)
-
 pub sought-is : (at : Table) (serial : ℕ) (frame : KeptFrame) → frame.serial ≡ serial → is_alive (told_at at frame) ≡ true
     → option_map (told_at at) (option_and_then (kept (is_sought at serial)) (Some frame)) ≡ Some (told_at at frame)
 sought-is at serial frame is alive = let same = eq-eqb frame.serial serial is in rw (same, alive) refl
@@ -81,4 +77,4 @@ sought-not at serial frame dead = by_bool (frame.serial == serial) (λ t. rw (t,
 
 pub not-serial : (at : Table) (serial : ℕ) (frame : KeptFrame) → (frame.serial ≡ serial → ⊥)
     → option_map (told_at at) (option_and_then (kept (is_sought at serial)) (Some frame)) ≡ None
-not-serial at serial frame other = let apart' = other-is frame.serial serial other in rw apart' refl
+not-serial at serial frame other = let apart' = ne_eqb frame.serial serial other in rw apart' refl

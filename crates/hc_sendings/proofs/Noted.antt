@@ -1,13 +1,12 @@
 -- The table of newest frames, datagram by datagram.
 use Rattle.std.proofs.Common.{◌≡◌, ◌≢◌, ℕ, ◌+◌, ◌*◌, ◌<◌, ◌==◌, Bool, true, false, cond, ◌&&◌, ◌||◌, List, length, take, get_or, set, refl, sym, ap, ◌∙◌, arith, Option, Some, None}
 use Rattle.std.specs.List.{list_any}
-use Rattle.std.proofs.lemmas.Bool.{and_parts}
+use Rattle.std.proofs.lemmas.Bool.{and_parts, eqb-true}
 use Rattle.std.proofs.lemmas.Bool.Decides.{nat_tests}
 use Rattle.std.proofs.lemmas.Grind.{get_or-set_at}
 use Rattle.std.proofs.lemmas.List.{get_or-set_other}
 use Rattle.std.proofs.lemmas.List.Folds.{list_any_more}
 use Rattle.hc_records.proofs.lemmas.Choices.{by_bool}
-use Rattle.hc_frames.proofs.lemmas.Spelling.{same_number}
 use Rattle.hc_events.specs.Sendings.{Named}
 use Rattle.hc_sendings.specs.Waiting.{IsNamed, is_named}
 use Rattle.hc_sendings.specs.Kept.{Newest, datagram_number, newest_of}
@@ -15,8 +14,8 @@ use Rattle.hc_sendings.specs.Kept.{Newest, datagram_number, newest_of}
 same_place : (a b : Named) → is_named a b ≡ true → datagram_number a ≡ datagram_number b
 same_place a b e =
     let parts = and_parts (a.0 == b.0) (a.1 == b.1) e in
-    let task = same_number a.0 b.0 parts.0 in
-    let number = same_number a.1 b.1 parts.1 in
+    let task = eqb-true a.0 b.0 parts.0 in
+    let number = eqb-true a.1 b.1 parts.1 in
     omega (arith, task, number)
 
 -- datagrams that tasks can have stand at places of their own

@@ -1,10 +1,10 @@
 -- What is kept by each accepted entry is kept by each event.
-use Rattle.std.proofs.Common.{◌≡◌, ℕ, zero, suc, ◌+◌, ◌<◌, ◌≤◌, ◌==◌, nat_lt, Bool, true, false, cond, not, List, [], ◌∷◌, length, map, refl, sym, ◌∙◌, subst, arith, Option, Some, None}
+use Rattle.std.proofs.Common.{◌≡◌, ℕ, zero, suc, ◌+◌, ◌<◌, ◌≤◌, ◌==◌, nat_lt, Bool, true, false, cond, not, List, [], ◌∷◌, length, map, refl, sym, ◌∙◌, subst, arith, Option, Some, None, ltb-true}
 use Rattle.std.specs.Prelude.{All, Contains, option_map, Result, Ok, Err}
 use Rattle.std.specs.List.{flat_map, list_any, range_with_len}
 use Rattle.std.proofs.lemmas.Bool.Decides.{nat_tests}
 use Rattle.std.proofs.lemmas.List.Elements.{All-nil, All-cons, All-head, All-tail, All-append, All-contains_itself}
-use Rattle.std.proofs.lemmas.Bool.{not-false}
+use Rattle.std.proofs.lemmas.Bool.{not-false, eqb-true}
 use Rattle.hc_records.specs.declared.limits.TheConstants.{TASKS}
 use Rattle.hc_records.specs.declared.faults.EditFault.{EditFault}
 use Rattle.hc_records.specs.declared.records.Group.{Group}
@@ -14,7 +14,6 @@ use Rattle.hc_records.specs.Image.{datagram_count, output_length, task_places}
 use Rattle.hc_records.specs.Edits.{edit_faults}
 use Rattle.hc_registers.specs.Blocks.{LineBlock}
 use Rattle.hc_frames.specs.declared.reading.faults.FrameFault.{FrameFault}
-use Rattle.hc_frames.proofs.lemmas.Spelling.{more_of, same_number}
 use Rattle.hc_events.specs.declared.faults.CoreFault.{CoreFault}
 use Rattle.hc_events.specs.declared.faults.CoreFault.TheVariants.{NoSuchTask, PostLength, SerialsSpent, StalePost, Unprogrammed}
 use Rattle.hc_events.specs.Faults.{edit_refusal}
@@ -92,7 +91,7 @@ accepted_post past task epoch bytes e =
     let first = passed (is_no_task task) NoSuchTask ((not (epoch == epoch_of past), StalePost) ∷ lengths) e in
     let second = passed (not (epoch == epoch_of past)) StalePost lengths first.1 in
     let third = passed (not (length bytes == output_length (task_places task (line_of past)))) PostLength [] second.1 in
-    record { stands = more_of task TASKS (not-false _ first.0); fits = same_number _ _ (not-false _ third.0) }
+    record { stands = ltb-true task TASKS (not-false _ first.0); fits = eqb-true _ _ (not-false _ third.0) }
 
 nothing_owed : (past : Record) (tasks : List ℕ) → lowest (task_faults past tasks) ≡ None → owed_blocks past ≡ []
 nothing_owed past tasks e =

@@ -4,8 +4,7 @@ use Rattle.std.specs.Prelude.{map, option_map, option_and_then}
 use Rattle.std.specs.Option.{option_map_or}
 use Rattle.std.specs.List.{list_any, zip}
 use Rattle.std.proofs.lemmas.Bool.Decides.{nat_tests}
-use Rattle.std.proofs.lemmas.Bool.{and_from, and_parts, or_right}
-use Rattle.hc_frames.proofs.lemmas.Spelling.{same_number}
+use Rattle.std.proofs.lemmas.Bool.{and_from, and_parts, or_right, eqb-true}
 use Rattle.hc_records.specs.declared.edit.Edit.{Edit}
 use Rattle.hc_records.proofs.lemmas.Choices.{by_bool}
 use Rattle.hc_events.specs.Arrivals.{Arrival, Part}
@@ -182,7 +181,7 @@ unless_stale arrival (Some s) k =
 came_stale : (arrival : Arrival) (serial : ℕ) (found : Option Sending) → (serial ≡ arrival.serial → list_any is_news (option_map_or (judged arrival) (option_and_then (only_if (is_answer arrival)) found) []) ≡ false) → option_and_then (unless_fits serial arrival) (option_and_then (alive serial) found) ≡ option_and_then (alive serial) found
 came_stale arrival serial found k =
     by_bool (serial == arrival.serial)
-    (λ t. let same : serial ≡ arrival.serial = same_number serial arrival.serial t in
+    (λ t. let same : serial ≡ arrival.serial = eqb-true serial arrival.serial t in
     subst (λ m. option_and_then (unless_fits m arrival) (option_and_then (alive m) found) ≡ option_and_then (alive m) found) (sym same) (unless_stale arrival found (k same)))
     (λ t. unless-other serial arrival (option_and_then (alive serial) found) t)
 

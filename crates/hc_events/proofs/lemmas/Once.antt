@@ -1,5 +1,5 @@
 -- A sending is answered once, and serials are those of sendings.
-use Rattle.std.proofs.Common.{◌≡◌, ℕ, ◌+◌, ◌<◌, ◌==◌, Bool, true, false, cond, not, ◌&&◌, ◌||◌, List, [], ◌∷◌, refl, sym, ap, ◌∙◌, subst, arith, Option, Some, None}
+use Rattle.std.proofs.Common.{◌≡◌, ℕ, ◌+◌, ◌<◌, ◌==◌, Bool, true, false, cond, not, ◌&&◌, ◌||◌, List, [], ◌∷◌, refl, sym, ap, ◌∙◌, subst, arith, Option, Some, None, lt-ltb, ltb-true}
 use Rattle.std.specs.Prelude.{is_some, nat_lt, option_map, option_and_then}
 use Rattle.std.specs.List.{list_any}
 use Rattle.std.proofs.lemmas.Bool.Decides.{nat_tests}
@@ -12,12 +12,6 @@ use Rattle.hc_events.specs.Heads.{data_heads, write_head}
 use Rattle.hc_events.specs.Answering.{Sending, just_sent, followed_by, sending_of, fits, ends, is_answer, only_if, answered_by}
 use Rattle.hc_events.specs.Steps.{Step, entries_after_all}
 use Rattle.hc_events.proofs.lemmas.Accepted.{Keeps, kept-after_all}
-
-pub is_below : (m n : ℕ) → nat_lt m n ≡ true → m < n
-is_below m n e = grind (arith, nat_tests)
-
-below_is : (m n : ℕ) → m < n → nat_lt m n ≡ true
-below_is m n h = grind (arith, nat_tests)
 
 none_below : (serial : ℕ) → false ≡ nat_lt serial 0
 none_below serial = grind (arith, nat_tests)
@@ -69,10 +63,10 @@ serial-made (Wrote block ∷ past) serial =
     ∙ sym (next_or_before serial (next_serial past))
 
 pub serial-below : (past : Record) (serial : ℕ) → is_some (sending_of past serial) ≡ true → serial < next_serial past
-serial-below past serial some = is_below serial (next_serial past) (sym (serial-made past serial) ∙ some)
+serial-below past serial some = ltb-true serial (next_serial past) (sym (serial-made past serial) ∙ some)
 
 pub below-serial : (past : Record) (serial : ℕ) → serial < next_serial past → is_some (sending_of past serial) ≡ true
-below-serial past serial below = serial-made past serial ∙ below_is serial (next_serial past) below
+below-serial past serial below = serial-made past serial ∙ lt-ltb serial (next_serial past) below
 
 -- a sending that ended: nothing answers it any more
 

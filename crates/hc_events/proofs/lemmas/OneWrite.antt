@@ -5,9 +5,8 @@ use Rattle.std.specs.Option.{option_map_or}
 use Rattle.std.specs.List.{list_any}
 use Rattle.std.specs.Str.{bytes_eq}
 use Rattle.std.proofs.lemmas.Bool.Decides.{nat_tests}
-use Rattle.std.proofs.lemmas.Bool.{not-false, or_left, or_right}
+use Rattle.std.proofs.lemmas.Bool.{not-false, or_left, or_right, eqb-true}
 use Rattle.std.proofs.lemmas.Option.{none-some, same_Some}
-use Rattle.hc_frames.proofs.lemmas.Spelling.{same_number}
 use Rattle.hc_records.specs.declared.records.Group.{Group}
 use Rattle.hc_records.specs.Line.{Member}
 use Rattle.hc_records.proofs.lemmas.Choices.{by_bool}
@@ -380,7 +379,7 @@ wrote_write past block rest serial now all owed e =
       same = behind.same;
       alone = λ other sending e'.
           by_bool (next_serial past == other)
-          (λ u. sym (same_number (next_serial past) other u) ∙ same_number (next_serial past) serial t)
+          (λ u. sym (eqb-true (next_serial past) other u) ∙ eqb-true (next_serial past) serial t)
           (λ u. absurd (nothing_older past block rest other sending all owed (older_wrote past block other sending e' u)));
     })
     (λ t. absurd (nothing_older past block rest serial now all owed (older_wrote past block serial now e t)))

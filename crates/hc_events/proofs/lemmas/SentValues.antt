@@ -1,13 +1,12 @@
 -- In the line of a project each bit of sent data belongs to the one output variable in whose place it lies.
-use Rattle.std.proofs.Common.{◌≡◌, ◌⊎◌, inl, inr, ℕ, ◌+◌, ◌-◌, ◌*◌, ◌<◌, ◌≤◌, ◌==◌, nat_le, nat_lt, Bool, true, false, cond, get_or, List, [], ◌∷◌, refl, sym, ap, ap₂, ◌∙◌, subst, arith, Option, Some, None}
+use Rattle.std.proofs.Common.{◌≡◌, ◌⊎◌, inl, inr, ℕ, ◌+◌, ◌-◌, ◌*◌, ◌<◌, ◌≤◌, ◌==◌, nat_le, nat_lt, Bool, true, false, cond, get_or, List, [], ◌∷◌, refl, sym, ap, ap₂, ◌∙◌, subst, arith, Option, Some, None, ltb-true}
 use Rattle.std.specs.Prelude.{All, find, option_map}
 use Rattle.std.specs.Option.{option_map_or}
 use Rattle.std.specs.List.{flat_map}
-use Rattle.std.proofs.lemmas.Bool.{and_from, and_parts, eq-eqb, eqb-true}
+use Rattle.std.proofs.lemmas.Bool.{and_from, and_parts, eq-eqb, eqb-true, eqb-false}
 use Rattle.std.proofs.lemmas.Bool.Decides.{nat_tests}
 use Rattle.std.proofs.lemmas.List.Elements.{All-nil, All-cons, All-map, All-weaker}
 use Rattle.std.proofs.lemmas.Option.{same_Some}
-use Rattle.hc_frames.proofs.lemmas.Spelling.{more_of}
 use Rattle.hc_records.specs.declared.limits.TheConstants.{TASKS}
 use Rattle.hc_records.specs.declared.records.Dir.TheVariants.{Out}
 use Rattle.hc_records.specs.Keys.{same_dir}
@@ -108,14 +107,11 @@ from_bit k row has =
     let parts = and_parts (nat_le row.1.bit k) (nat_lt k (row.1.bit + row.1.bits)) has in
     let low = parts.0 in
     let high = parts.1 in
-    record { from = is_least row.1.bit k low; below = more_of k (row.1.bit + row.1.bits) high }
+    record { from = is_least row.1.bit k low; below = ltb-true k (row.1.bit + row.1.bits) high }
 
 two_apart : (a b : VariablePlace) (k : ℕ) → LiesIn a k → LiesIn b k → (a.bit + a.bits ≤ b.bit) ⊎ (b.bit + b.bits ≤ a.bit) → ⊥
 two_apart a b k in_a in_b (inl less) = let below = in_a.below in let from = in_b.from in omega arith
 two_apart a b k in_a in_b (inr less) = let below = in_b.below in let from = in_a.from in omega arith
-
-other_number : (m n : ℕ) → (m == n) ≡ false → m ≡ n → ⊥
-other_number m n e same = let yes : (m == n) ≡ true = grind (arith, nat_tests) in let never : true ≡ false = sym yes ∙ e in cc
 
 -- a bit lies in one row of them
 same_row : (line : List Member) (task d k : ℕ) (a b : Row) → IsRow line task d a → IsRow line task d b → has_bit k a ≡ true → has_bit k b ≡ true → a ≡ b
@@ -125,7 +121,7 @@ same_row line task d k a b is is' has has' =
     let places : a.1 ≡ b.1 = same_Some a.1 b.1 (sym is.there ∙ ap (λ v. variable_place v line) names ∙ is'.there) in
     ap₂ (λ (n : ℕ) (place : VariablePlace). (n, place)) names places)
     (λ t. absurd (two_apart a.1 b.1 k (from_bit k a has) (from_bit k b has')
-    (variables-apart line a.0 b.0 a.1 b.1 (other_number a.0 b.0 t) is.there is'.there (is.task_is ∙ sym is'.task_is) (datagram_of d a is.output ∙ sym (datagram_of d b is'.output)))))
+    (variables-apart line a.0 b.0 a.1 b.1 (eqb-false a.0 b.0 t) is.there is'.there (is.task_is ∙ sym is'.task_is) (datagram_of d a is.output ∙ sym (datagram_of d b is'.output)))))
 
 -- so the row with a bit is the one that is found by it
 

@@ -4,12 +4,11 @@ use Rattle.std.specs.Prelude.{All, fold, option_map, option_and_then}
 use Rattle.std.specs.Option.{option_map_or}
 use Rattle.std.specs.List.{flat_map, list_any, zip}
 use Rattle.std.proofs.lemmas.List.Elements.{All-nil, All-cons, All-head, All-tail}
-use Rattle.std.proofs.lemmas.Bool.{and_parts, not-true, or_parts}
+use Rattle.std.proofs.lemmas.Bool.{and_parts, not-true, or_parts, eqb-true}
 use Rattle.hc_records.specs.Line.{Member}
 use Rattle.hc_records.proofs.lemmas.Lists.{All-flat_map}
 use Rattle.hc_records.proofs.lemmas.Choices.{by_bool}
 use Rattle.hc_frames.specs.Commands.{code_of}
-use Rattle.hc_frames.proofs.lemmas.Spelling.{same_number}
 use Rattle.hc_events.specs.Arrivals.{Arrival, Part}
 use Rattle.hc_events.specs.Entries.{Entry, Record, Opened, Edited, Posted, Sent, Wrote, Came}
 use Rattle.hc_events.specs.Points.{line_of, next_serial}
@@ -102,7 +101,7 @@ fresh_fits P line true (Datagram task d) size bytes fit same =
 
 same_size : (head : Head) (part : Part) → has_head head part ≡ true → head.length ≡ length part.bytes
 same_size head part e =
-    same_number head.length (length part.bytes)
+    eqb-true head.length (length part.bytes)
     (and_parts ((code_of head.command == code_of part.command) && (head.address == part.address)) (head.length == length part.bytes) e).1
 
 judged_fit : (P : List Member → Named → Type 0) (line : List Member) (since : List Entry) (heads : List Head) (parts : List Part) → All (FitsHead P line) heads → has_heads heads parts ≡ true → All (λ datagram. All (FitsFresh P line) (fresh datagram)) (map (judge since) (zip heads parts))
@@ -138,7 +137,7 @@ renewed_fits line task d good slot fit sized =
     by_bool (is_for task d good)
     (λ t. let both = and_parts (good.task == task) _ t in
     let same : length good.bytes ≡ length_of line (task, d) =
-    fit.0 ∙ ap (λ n. length_of line (n, good.datagram)) (same_number good.task task both.0) ∙ ap (λ n. length_of line (task, n)) (same_number good.datagram d both.1) in
+    fit.0 ∙ ap (λ n. length_of line (n, good.datagram)) (eqb-true good.task task both.0) ∙ ap (λ n. length_of line (task, n)) (eqb-true good.datagram d both.1) in
     rw t same)
     (λ t. rw t sized)
 

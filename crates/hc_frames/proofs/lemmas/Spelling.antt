@@ -1,5 +1,5 @@
 -- A readable frame is the spelling of what it tells.
-use Rattle.std.proofs.Common.{◌≡◌, ◌==◌, ℕ, zero, suc, ◌+◌, ◌*◌, ◌/◌, ◌%◌, ◌<◌, ◌≤◌, Bool, true, false, ◌&&◌, ◌||◌, not, All, nat_lt, nat_le, List, [], ◌∷◌, ◌++◌, length, take, drop, map, get_or, refl, sym, ap, ◌∙◌, subst, append-nil, arith, length-drop, unwrap_or, is_none}
+use Rattle.std.proofs.Common.{◌≡◌, ◌==◌, ℕ, zero, suc, ◌+◌, ◌*◌, ◌/◌, ◌%◌, ◌<◌, ◌≤◌, Bool, true, false, ◌&&◌, ◌||◌, not, All, nat_le, List, [], ◌∷◌, ◌++◌, length, take, drop, map, get_or, refl, sym, ap, ◌∙◌, subst, append-nil, arith, length-drop, unwrap_or, is_none, ltb-false, ltb-true}
 use Rattle.std.specs.Prelude.{slice_index}
 use Rattle.std.specs.List.{list_all, list_any}
 use Rattle.std.specs.Int.{w16, to_le_bytes}
@@ -8,7 +8,7 @@ use Rattle.hc_frames.specs.Sizes.{text_size}
 use Rattle.hc_frames.proofs.Faults.{Clear, clear_of}
 use Rattle.std.proofs.lemmas.List.Elements.{All-cons}
 use Rattle.std.proofs.lemmas.Bool.Decides.{nat_tests}
-use Rattle.std.proofs.lemmas.Bool.{and_parts, not-false, or_parts}
+use Rattle.std.proofs.lemmas.Bool.{and_parts, not-false, or_parts, eqb-true}
 use Rattle.hc_records.proofs.lemmas.Choices.{by_bool}
 use Rattle.hc_frames.specs.declared.commands.Command.TheVariants.{Lrw}
 use Rattle.hc_frames.specs.Commands.{code_of, command_of}
@@ -34,18 +34,15 @@ by_ten P each (a ∷ b ∷ c ∷ d ∷ e ∷ f ∷ g ∷ h ∷ []) long = absurd
 by_ten P each (a ∷ b ∷ c ∷ d ∷ e ∷ f ∷ g ∷ h ∷ i ∷ []) long = absurd (omega arith)
 by_ten P each (a ∷ b ∷ c ∷ d ∷ e ∷ f ∷ g ∷ h ∷ i ∷ j ∷ xs) long = each a b c d e f g h i j xs
 
-pub same_number : (m n : ℕ) → (m == n) ≡ true → m ≡ n
-same_number m n e = grind (arith, nat_tests)
-
-pub unequal_not : (m n : ℕ) → not (m == n) ≡ false → m ≡ n
-unequal_not m n e = by_bool (m == n) (λ t. same_number m n t) (λ f. let wrong : true ≡ false = rw f at e in absurd (cc))
+unequal_not : (m n : ℕ) → not (m == n) ≡ false → m ≡ n
+unequal_not m n e = by_bool (m == n) (λ t. eqb-true m n t) (λ f. let wrong : true ≡ false = rw f at e in absurd (cc))
 
 code_back : (n : ℕ) → is_none (command_of n) ≡ false → code_of (unwrap_or (command_of n) Lrw) ≡ n
 code_back n known =
-    by_bool (n == 1) (λ a. rw a (sym (same_number n 1 a)))
-    (λ a. by_bool (n == 2) (λ b. rw (a, b) (sym (same_number n 2 b)))
-    (λ b. by_bool (n == 5) (λ c. rw (a, b, c) (sym (same_number n 5 c)))
-    (λ c. by_bool (n == 12) (λ d. rw (a, b, c, d) (sym (same_number n 12 d)))
+    by_bool (n == 1) (λ a. rw a (sym (eqb-true n 1 a)))
+    (λ a. by_bool (n == 2) (λ b. rw (a, b) (sym (eqb-true n 2 b)))
+    (λ b. by_bool (n == 5) (λ c. rw (a, b, c) (sym (eqb-true n 5 c)))
+    (λ c. by_bool (n == 12) (λ d. rw (a, b, c, d) (sym (eqb-true n 12 d)))
     (λ d. let wrong : true ≡ false = rw (a, b, c, d) at known in absurd (cc)))))
 
 -- numbers in bytes
@@ -114,7 +111,7 @@ tail_spelled bytes all whole =
     ∙ take-append-drop n (drop 10 bytes)
 
 spare_clear : (bytes : List ℕ) → is_whole bytes ≡ true → word_at bytes 6 / 2048 % 8 ≡ 0
-spare_clear bytes whole = same_number _ 0 (and_parts _ _ (and_parts _ _ (and_parts _ _ whole).1).1).0
+spare_clear bytes whole = eqb-true _ 0 (and_parts _ _ (and_parts _ _ (and_parts _ _ whole).1).1).0
 
 -- what a datagram at the front of some bytes has to meet
 record Clean (serial : ℕ) (more : Bool) (bytes : List ℕ) : Type 0 where
@@ -315,17 +312,11 @@ frame_round bytes long =
       spelled.5,
       ap (λ (t : List ℕ). b0 ∷ b1 ∷ b2 ∷ b3 ∷ b4 ∷ b5 ∷ b6 ∷ t)
           (sym (nine_same _ _ _ _ _ _ _ _ _ b7 b8 b9 b10 b11 b12 b13 b14 b15 _ xs
-          spelled.0 spelled.1 spelled.2 spelled.3 spelled.4 (sym (same_number b12 0x88 both.0)) (sym (same_number b13 0xa4 both.1))
+          spelled.0 spelled.1 spelled.2 spelled.3 spelled.4 (sym (eqb-true b12 0x88 both.0)) (sym (eqb-true b13 0xa4 both.1))
           (ap (λ (k : ℕ). k % 256) header ∙ low_byte b14 b15 low high) (ap (λ (k : ℕ). k / 256 % 256) header ∙ high_byte b14 b15 low high) tail)),
     ))
     rest (omega arith))
     bytes (omega arith) long
-
-least_of : (m n : ℕ) → nat_lt m n ≡ false → n ≤ m
-least_of m n e = grind (arith, nat_tests)
-
-pub more_of : (m n : ℕ) → nat_lt m n ≡ true → m < n
-more_of m n e = grind (arith, nat_tests)
 
 some_bytes : (bytes : List ℕ) → 0 < length (datagrams_in bytes) → 0 < length bytes
 some_bytes [] some = let none : length (datagrams_in []) ≡ 0 = ap length (datagrams-none [] refl) in absurd (omega arith)
@@ -347,10 +338,10 @@ frame-carried bytes all none =
     let serial : ℕ = serial_in bytes in
     let n : ℕ = datagram_bytes bytes in
     let long = or_parts _ _ clear.size in
-    let there : 16 + n ≤ length bytes = least_of _ _ (or_parts _ _ long.1).0 in
-    let within : n ≤ 1498 = least_of _ _ long.0 in
+    let there : 16 + n ≤ length bytes = ltb-false _ _ (or_parts _ _ long.1).0 in
+    let within : n ≤ 1498 = ltb-false _ _ long.0 in
     let filled = and_parts _ _ (not-false _ (or_parts _ _ long.1).1) in
-    let some : 0 < length ds = more_of _ _ filled.0 in
+    let some : 0 < length ds = ltb-true _ _ filled.0 in
     let rows = and_parts _ _ filled.1 in
     let size : length part ≡ n = omega (arith, length-take n (drop 16 bytes), length-drop 16 bytes) in
     let said : Told serial part ds =
@@ -360,6 +351,6 @@ frame-carried bytes all none =
     let text : List ℕ = carried_texts serial parts in
     let size_of : length text ≡ n = ap length said.text ∙ size in
     let text_is : text_size parts ≡ n = sym (length-carried_texts serial parts) ∙ size_of in
-    let kind : word_at bytes 14 / 2048 ≡ 2 = same_number _ 2 (not-false _ clear.type) in
+    let kind : word_at bytes 14 / 2048 ≡ 2 = eqb-true _ 2 (not-false _ clear.type) in
     let round = frame_round bytes (omega arith) all clear.ethercat kind text said.text size_of in
     (record { some = omega (arith, length-map ds carried); low = round.0; fits = said.fits; within = omega arith }, round.1)
