@@ -96,7 +96,7 @@ ReplacesRun-from_bits_of old new ys at n run within whole is same =
     }
 
 -- ---- the number that bits spell
-bit_at-number_of : (bits : List ℕ) (k : ℕ) → ((i : ℕ) → get_or bits i 0 < 2) → bit_at (number_of bits) k ≡ get_or bits k 0
+pub bit_at-number_of : (bits : List ℕ) (k : ℕ) → ((i : ℕ) → get_or bits i 0 < 2) → bit_at (number_of bits) k ≡ get_or bits k 0
 unfolding number_of
 bit_at-number_of [] k small = bit_at-zero k
 bit_at-number_of (b ∷ bits) zero small =

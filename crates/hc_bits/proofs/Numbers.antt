@@ -27,7 +27,7 @@ bit_at-or_right : (a b i x : ℕ) → bit_at a i ≡ 0 → bit_at b i ≡ x → 
 bit_at-or_right a b i x p q = bit_at_or a b i ∙ ap (λ y. max y (bit_at b i)) p ∙ (let e : max 0 (bit_at b i) ≡ bit_at b i = omega arith in e) ∙ q
 
 -- an `and` at a place where the mask has a one, and where it has a zero
-bit_at-and_one : (a b i : ℕ) → bit_at b i ≡ 1 → bit_at (bit_and a b) i ≡ bit_at a i
+pub bit_at-and_one : (a b i : ℕ) → bit_at b i ≡ 1 → bit_at (bit_and a b) i ≡ bit_at a i
 bit_at-and_one a b i q =
     let small = bit_at-lt a i in
     bit_at_and a b i ∙ ap (min (bit_at a i)) q ∙ (let e : min (bit_at a i) 1 ≡ bit_at a i = omega (arith, small) in e)

@@ -1,2 +1,3 @@
 -- What the crates above cite, a file a subject.
+pub mod Bits
 pub mod Places

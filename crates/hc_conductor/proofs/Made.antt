@@ -8,6 +8,7 @@ use Rattle.std.proofs.lemmas.Bool.Decides.{nat_tests}
 use Rattle.std.proofs.lemmas.List.{ext_get_or, length-replicate}
 use Rattle.std.proofs.lemmas.List.FromFn.{length-map-range_with_len, get_or-map-range_with_len}
 use Rattle.hc_bits.specs.Bits.{AreBytes, ReplacesRun, bit_of, number_of}
+use Rattle.hc_bits.proofs.lemmas.Bits.{bit_of-byte}
 use Rattle.hc_events.specs.Outputs.{byte_of, bytes_of}
 use Rattle.hc_rings.specs.Post.{overwritten}
 use Rattle.hc_records.specs.Image.{VariablePlace}
@@ -36,19 +37,11 @@ byte-told x n bit small same =
     let e7 : bit (8 * n + 7) ≡ x / 128 % 2 = same 7 (lit< tt) in
     byte-bits x small ∙ rw (e0, e1, e2, e3, e4, e5, e6, e7) refl
 
--- bit j of byte i
-bit_of-byte : (xs : List ℕ) (i j : ℕ) → j < 8 → bit_of xs (8 * i + j) ≡ bit_at (get_or xs i 0) j
-unfolding bit_of
-bit_of-byte xs i j low =
-    let byte : (8 * i + j) / 8 ≡ i = omega arith in
-    let place : (8 * i + j) % 8 ≡ j = omega arith in
-    ap (λ (a : ℕ). bit_at (get_or xs a 0) ((8 * i + j) % 8)) byte ∙ ap (λ (b : ℕ). bit_at (get_or xs i 0) b) place
-
 -- bytes are told by their bits
 pub told-by-bits : (xs : List ℕ) (n : ℕ) (bit : ℕ → ℕ) → AreBytes xs → length xs ≡ n → ((k : ℕ) → bit_of xs k ≡ bit k) → xs ≡ bytes_of bit n
 told-by-bits xs n bit small len same =
     ext_get_or 0 xs _ (len ∙ sym (length-map-range_with_len (byte_of bit) 0 n)) (λ i h.
-    byte-told (get_or xs i 0) i bit (small i h) (λ j low. sym (same (8 * i + j)) ∙ bit_of-byte xs i j low)
+    byte-told (get_or xs i 0) i bit (small i h) (λ j low. sym (same (8 * i + j)) ∙ bit_of-byte xs i j (8 * i + j) low refl)
     ∙ sym (get_or-map-range_with_len (byte_of bit) 0 n i i 0 (omega arith) (omega arith)))
 
 -- where a run lies, before it and behind it

@@ -30,7 +30,7 @@ declares-with count edit slaves room has is = subst (HasSlaveRoom count edit) is
 pub declared-next : (edit : PreparedEdit) (group : Group) → IsPrepared edit → edit.report.swap.edit ≡ Declare group → edit.new ≡ changed edit.old (Declare group)
 declared-next edit group prepared named = accepted-state edit.old edit.new edit.report.swap.edit prepared.accepted ∙ ap (changed edit.old) named
 
-next-project : (edit : PreparedEdit) (group : Group) → IsPrepared edit → edit.report.swap.edit ≡ Declare group → lowest_fault (groups_of (changed edit.old (Declare group)).groups) ≡ None
+pub next-project : (edit : PreparedEdit) (group : Group) → IsPrepared edit → edit.report.swap.edit ≡ Declare group → lowest_fault (groups_of (changed edit.old (Declare group)).groups) ≡ None
 next-project edit group prepared named =
     subst (λ (state : State). lowest_fault (groups_of state.groups) ≡ None) (declared-next edit group prepared named)
     (accepted-project edit.old edit.new edit.report.swap.edit prepared.project prepared.accepted)
@@ -48,7 +48,7 @@ can-admit owed edit slaves room can is = record {
 
 -- any other edit
 
-none-declared : (count : ℕ) (edit : Edit) (slaves : Option OwedRoom) → HasSlaveRoom count edit slaves → slaves ≡ None → declares edit ≡ false
+pub none-declared : (count : ℕ) (edit : Edit) (slaves : Option OwedRoom) → HasSlaveRoom count edit slaves → slaves ≡ None → declares edit ≡ false
 none-declared count edit slaves has is = subst (HasSlaveRoom count edit) is has
 
 abbrev pub can-change : (owed : Board) (edit : PreparedEdit) (slaves : Option OwedRoom) (gone : Gone) (blocks : List RankedBlock) → CanFollow owed edit slaves → slaves ≡ None → gone ≡ edit.gone → blocks ≡ edit.blocks

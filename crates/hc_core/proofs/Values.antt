@@ -5,6 +5,7 @@ use Rattle.std.proofs.lemmas.List.Elements.{All-head, All-tail}
 use Rattle.std.proofs.lemmas.List.FromFn.{get_or-map-range_with_len}
 use Rattle.hc_bits.specs.Bits.{AreBytes, bit_of, number_of}
 use Rattle.hc_bits.proofs.lemmas.Places.{same_bytes_from_bits}
+use Rattle.hc_bits.proofs.lemmas.Bits.{bit_of-lt}
 use Rattle.hc_records.specs.declared.limits.TheConstants.{MOST_DATAGRAMS, TASKS}
 use Rattle.hc_records.specs.Edits.{crowded_task}
 use Rattle.hc_records.specs.Image.{datagram_count, logical_address, task_places}
@@ -21,7 +22,7 @@ use Rattle.hc_events.specs.DataLaws.{IsSentData}
 use Rattle.hc_events.specs.Points.{line_of, state_of}
 use Rattle.hc_events.specs.Sendings.{Frame, Named}
 use Rattle.hc_events.specs.Steps.{sent_datagram, sent_text}
-use Rattle.hc_events.proofs.lemmas.SentBits.{sent-data, bit_small}
+use Rattle.hc_events.proofs.lemmas.SentBits.{sent-data}
 use Rattle.hc_events.proofs.lemmas.SentValues.{sent-values}
 use Rattle.hc_images.specs.Packed.{Bytes, Carries, Packed, sent_bytes, slot_bytes}
 use Rattle.hc_images.proofs.lemmas.Bits.{HasBit, HasNoBit, bit-lies, carried-bit, sent-there}
@@ -36,7 +37,7 @@ unfolding number_of
 byte_small bit n small = search rules
 
 bytes-sent : (past : Record) (task d : ℕ) → AreBytes (sent_data past task d)
-bytes-sent past task d i inside = search (rules, sent-data, get_or-map-range_with_len, byte_small, bit_small)
+bytes-sent past task d i inside = search (rules, sent-data, get_or-map-range_with_len, byte_small, bit_of-lt)
 
 -- bit for bit the same
 

@@ -20,10 +20,6 @@ less_one x y some e = omega arith
 pub ones-below : (n : ℕ) → n ≤ 64 → 18446744073709551615 / 2 ^ (64 - n) < 2 ^ n
 ones-below n h = less_one (18446744073709551615 / 2 ^ (64 - n)) (2 ^ n) (pow_pos n) (ones_are n h)
 
--- the lowest bits of a value under ones
-pub lowest-bit : (value mask k : ℕ) → bit_at mask k ≡ 1 → bit_at (bit_and value mask) k ≡ bit_at value k
-lowest-bit value mask k one = let small = bit_at-lt value k in bit_at_and value mask k ∙ omega arith
-
 -- a run that is told by a number whose bits are those of another
 pub run-told : (old new : List ℕ) (at n : ℕ) (run told : ℕ → ℕ) → ((k : ℕ) → k < n → run k ≡ told k) → ReplacesRun old new at n run → ReplacesRun old new at n told
 run-told old new at n run told same replaced = search rules

@@ -8,6 +8,7 @@ use Rattle.std.proofs.lemmas.Nat.Bits.{bit_at-lt}
 use Rattle.std.proofs.lemmas.Option.{slice_get_past}
 use Rattle.hc_bits.specs.Bits.{AreBytes, bit_of}
 use Rattle.hc_bits.proofs.lemmas.Places.{bit_of-drop, bit_of-zeros}
+use Rattle.hc_bits.proofs.lemmas.Bits.{bit_of-lt}
 use Rattle.hc_records.specs.declared.limits.TheConstants.{MOST_DATAGRAMS, TASKS}
 use Rattle.hc_records.specs.Image.{VariablePlace}
 use Rattle.hc_places.specs.Table.{Table, TaskTable, datagrams_in, place_in}
@@ -65,10 +66,6 @@ blank-carries table bytes blank = record {
 
 -- after a post
 
-bit_small : (bytes : List ℕ) (k : ℕ) → bit_of bytes k < 2
-unfolding bit_of
-bit_small bytes k = bit_at-lt (get_or bytes (k / 8) 0) (k % 8)
-
 under_one : (b m : ℕ) → b < 2 → m ≡ 1 → min b m ≡ b
 under_one b m small one = omega arith
 
@@ -99,7 +96,7 @@ post_taken table new masks bytes variable k place out takes ones is low = elim (
       let offset = offset_in table place.task place.datagram in
       let order : 8 * offset + (place.bit + k) ≡ 8 * offset + place.bit + k = omega arith in
       takes place.datagram (place.bit + k) inside
-      ∙ under_one (bit_of (drop offset bytes) (place.bit + k)) (bit_of (slot_bytes masks place.task place.datagram) (place.bit + k)) (bit_small (drop offset bytes) (place.bit + k)) (ones.values variable k place is low)
+      ∙ under_one (bit_of (drop offset bytes) (place.bit + k)) (bit_of (slot_bytes masks place.task place.datagram) (place.bit + k)) (bit_of-lt (drop offset bytes) (place.bit + k)) (ones.values variable k place is low)
       ∙ bit_of-drop bytes offset (place.bit + k)
       ∙ ap (bit_of bytes) order
   | inr past ↦

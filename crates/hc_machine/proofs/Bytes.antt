@@ -4,6 +4,7 @@ use Rattle.std.specs.Int.{bit_at}
 use Rattle.std.proofs.lemmas.List.{ext_get_or}
 use Rattle.std.proofs.lemmas.List.FromFn.{length-map-range_with_len, get_or-map-range_with_len}
 use Rattle.hc_bits.specs.Bits.{bit_of, AreBytes}
+use Rattle.hc_bits.proofs.lemmas.Bits.{bit_of-byte}
 use Rattle.hc_machine.specs.Memory.{byte_with, bytes_with}
 
 -- a byte is the sum of its bits
@@ -29,19 +30,11 @@ byte-spelled x at bit small same =
         → x % 2 + 2 * (x / 2 % 2) + 4 * (x / 4 % 2) + 8 * (x / 8 % 2) + 16 * (x / 16 % 2) + 32 * (x / 32 % 2) + 64 * (x / 64 % 2) + 128 * (x / 128 % 2) ≡ b0 + 2 * b1 + 4 * b2 + 8 * b3 + 16 * b4 + 32 * b5 + 64 * b6 + 128 * b7
     summed b0 b1 b2 b3 b4 b5 b6 b7 e0 e1 e2 e3 e4 e5 e6 e7 = rw (e0, e1, e2, e3, e4, e5, e6, e7) refl
 
--- bit j of byte i
-pub bit_of-byte : (xs : List ℕ) (i j : ℕ) → j < 8 → bit_of xs (8 * i + j) ≡ bit_at (get_or xs i 0) j
-unfolding bit_of
-bit_of-byte xs i j low =
-    let byte : (8 * i + j) / 8 ≡ i = omega arith in
-    let place : (8 * i + j) % 8 ≡ j = omega arith in
-    ap (λ (a : ℕ). bit_at (get_or xs a 0) ((8 * i + j) % 8)) byte ∙ ap (λ (b : ℕ). bit_at (get_or xs i 0) b) place
-
 -- a list of bytes with these bits
 pub bytes-spelled : (xs : List ℕ) (n : ℕ) (bit : ℕ → ℕ) → AreBytes xs → length xs ≡ n → ((k : ℕ) → k < 8 * n → bit_of xs k ≡ bit k) → xs ≡ bytes_with n bit
 unfolding bytes_with
 bytes-spelled xs n bit small len same =
     let spelled : ℕ → ℕ = λ i. byte_with bit (8 * i) in
     ext_get_or 0 xs _ (len ∙ sym (length-map-range_with_len spelled 0 n)) (λ i h.
-    byte-spelled (get_or xs i 0) (8 * i) bit (small i h) (λ j low. sym (same (8 * i + j) (omega arith)) ∙ bit_of-byte xs i j low)
+    byte-spelled (get_or xs i 0) (8 * i) bit (small i h) (λ j low. sym (same (8 * i + j) (omega arith)) ∙ bit_of-byte xs i j (8 * i + j) low refl)
     ∙ sym (get_or-map-range_with_len spelled 0 n i i 0 (omega arith) (omega arith)))

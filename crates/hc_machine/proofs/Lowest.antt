@@ -6,12 +6,12 @@ use Rattle.std.proofs.lemmas.Bool.{cases_eq, cases_lt, and_from, and_parts, fals
 use Rattle.std.proofs.lemmas.List.FromFn.{get_or-map-range_with_len, length-map-range_with_len}
 use Rattle.std.proofs.lemmas.Nat.Bits.{bit_at-lt}
 use Rattle.hc_bits.specs.Bits.{bit_of}
+use Rattle.hc_bits.proofs.lemmas.Bits.{bit_of-lt, bit_of-kept, bit_of-byte}
 use Rattle.hc_machine.specs.declared.fmmu.Fmmu.{Fmmu}
 use Rattle.hc_machine.specs.Fmmus.{fmmus_of, idle, is_within}
 use Rattle.hc_machine.specs.Laws.{Reads, ReadBitsComeFromMemory, UnreadBitsStay, UnwrittenBitsStay, Writes, WrittenBitsComeFromData}
 use Rattle.hc_machine.specs.Logical.{bit_read, bit_written, logical_bit, logical_data, logical_memory, memory_bit}
 use Rattle.hc_machine.specs.Memory.{byte_with, bytes_with, with_alias_of}
-use Rattle.hc_machine.proofs.Bytes.{bit_of-byte}
 use Rattle.hc_machine.proofs.Paired.{fmmu-count, read-by, reads-back, within-back, write-by, writes-back}
 use Rattle.hc_machine.proofs.Pairs.{within_yes}
 
@@ -70,12 +70,8 @@ byte-at n bit i low = get_or-map-range_with_len (λ i. byte_with bit (8 * i)) 0 
 bit_of-bytes_with : (n : ℕ) (bit : ℕ → ℕ) (k : ℕ) → ((j : ℕ) → bit j < 2) → k < 8 * n → bit_of (bytes_with n bit) k ≡ bit k
 bit_of-bytes_with n bit k small low =
     let there : 8 * (k / 8) + k % 8 ≡ k = omega arith in
-    ap (bit_of (bytes_with n bit)) (sym there) ∙ bit_of-byte (bytes_with n bit) (k / 8) (k % 8) (omega arith)
+    ap (bit_of (bytes_with n bit)) (sym there) ∙ bit_of-byte (bytes_with n bit) (k / 8) (k % 8) (8 * (k / 8) + k % 8) (omega arith) refl
     ∙ ap (λ (b : ℕ). bit_at b (k % 8)) (byte-at n bit (k / 8) (omega arith)) ∙ byte-bit bit (8 * (k / 8)) (k % 8) (omega arith) small ∙ ap bit there
-
-pub bit_of-small : (xs : List ℕ) (k : ℕ) → bit_of xs k < 2
-unfolding bit_of
-bit_of-small xs k = bit_at-lt (get_or xs (k / 8) 0) (k % 8)
 
 -- ---- what is read
 abbrev pub reads-at : Fmmu → ℕ → Bool
@@ -109,7 +105,7 @@ data-bit : (memory bytes : List ℕ) (from k : ℕ) → k < 8 * length bytes →
 unfolding logical_data
 data-bit memory bytes from k low =
     bit_of-bytes_with (length bytes) (λ k. bit_read (fmmus_of memory) (bit_of memory) (from + k) (bit_of bytes k)) k
-    (λ j. read-small (fmmus_of memory) (bit_of memory) (from + j) (bit_of bytes j) (bit_of-small memory) (bit_of-small bytes j)) low
+    (λ j. read-small (fmmus_of memory) (bit_of memory) (from + j) (bit_of bytes j) (bit_of-lt memory) (bit_of-lt bytes j)) low
 
 pub not-read : (memory : List ℕ) (j x : ℕ) → j < 16 → ((n : ℕ) → ¬ Reads memory j x n) → reads-at (get_or (fmmus_of memory) j idle) x ≡ false
 not-read memory j x low none =
@@ -156,15 +152,10 @@ unfolding bit_written
 write-small [] came from n m was small low = low
 write-small (f ∷ fs) came from n m was small low = chosen-small (writes-at from n f m) _ _ (small (logical_bit f m - from)) (write-small fs came from n m was small low)
 
--- a bit of a byte that both lists have
-same-byte : (a b : List ℕ) (m : ℕ) → get_or a (m / 8) 0 ≡ get_or b (m / 8) 0 → bit_of a m ≡ bit_of b m
-unfolding bit_of
-same-byte a b m e = ap (λ (x : ℕ). bit_at x (m % 8)) e
-
 alias-outside : (old new : List ℕ) (m : ℕ) → (m < 144) ⊎ (160 ≤ m) → bit_of (with_alias_of old new) m ≡ bit_of new m
 unfolding with_alias_of
-alias-outside old new m (inl low) = same-byte _ new m (get_or-set_other _ 19 (m / 8) _ 0 (omega arith) ∙ get_or-set_other new 18 (m / 8) _ 0 (omega arith))
-alias-outside old new m (inr high) = same-byte _ new m (get_or-set_other _ 19 (m / 8) _ 0 (omega arith) ∙ get_or-set_other new 18 (m / 8) _ 0 (omega arith))
+alias-outside old new m (inl low) = bit_of-kept _ new m (get_or-set_other _ 19 (m / 8) _ 0 (omega arith) ∙ get_or-set_other new 18 (m / 8) _ 0 (omega arith))
+alias-outside old new m (inr high) = bit_of-kept _ new m (get_or-set_other _ 19 (m / 8) _ 0 (omega arith) ∙ get_or-set_other new 18 (m / 8) _ 0 (omega arith))
 
 memory-bit : (memory bytes : List ℕ) (from m : ℕ) → m < 8 * length memory → (m < 144) ⊎ (160 ≤ m)
     → bit_of (logical_memory memory from bytes) m ≡ bit_written (fmmus_of memory) (bit_of bytes) from (8 * length bytes) m (bit_of memory m)
@@ -172,7 +163,7 @@ unfolding logical_memory
 memory-bit memory bytes from m low outside =
     alias-outside memory _ m outside
     ∙ bit_of-bytes_with (length memory) (λ m. bit_written (fmmus_of memory) (bit_of bytes) from (8 * length bytes) m (bit_of memory m)) m
-    (λ j. write-small (fmmus_of memory) (bit_of bytes) from (8 * length bytes) j (bit_of memory j) (bit_of-small bytes) (bit_of-small memory j)) low
+    (λ j. write-small (fmmus_of memory) (bit_of bytes) from (8 * length bytes) j (bit_of memory j) (bit_of-lt bytes) (bit_of-lt memory j)) low
 
 pub not-written : (memory : List ℕ) (from size j m : ℕ) → j < 16 → ((n : ℕ) → n < size → ¬ Writes memory j (from + n) m) → writes-at from size (get_or (fmmus_of memory) j idle) m ≡ false
 not-written memory from size j m low none =
@@ -205,10 +196,10 @@ written-from-data memory bytes from k i m long outside low number writes before 
 alias-inside : (old new : List ℕ) (m : ℕ) → length new ≡ 12288 → 144 ≤ m → m < 160 → bit_of (with_alias_of old new) m ≡ bit_of old m
 unfolding with_alias_of
 alias-inside old new m long low high = elim (cases_eq (m / 8) 18) [
-  | inl e ↦ same-byte _ old m (ap (λ (i : ℕ). get_or (set (set new 18 (get_or old 18 0)) 19 (get_or old 19 0)) i 0) e ∙ get_or-set_other (set new 18 (get_or old 18 0)) 19 18 _ 0 (omega arith)
+  | inl e ↦ bit_of-kept _ old m (ap (λ (i : ℕ). get_or (set (set new 18 (get_or old 18 0)) 19 (get_or old 19 0)) i 0) e ∙ get_or-set_other (set new 18 (get_or old 18 0)) 19 18 _ 0 (omega arith)
       ∙ get_or-set_same new 18 (get_or old 18 0) 0 (omega arith) ∙ ap (λ (i : ℕ). get_or old i 0) (sym e))
   | inr n ↦ let e : m / 8 ≡ 19 = omega arith in
-      same-byte _ old m (ap (λ (i : ℕ). get_or (set (set new 18 (get_or old 18 0)) 19 (get_or old 19 0)) i 0) e ∙ get_or-set_same (set new 18 (get_or old 18 0)) 19 (get_or old 19 0) 0 (omega (arith, length-set {A = ℕ}))
+      bit_of-kept _ old m (ap (λ (i : ℕ). get_or (set (set new 18 (get_or old 18 0)) 19 (get_or old 19 0)) i 0) e ∙ get_or-set_same (set new 18 (get_or old 18 0)) 19 (get_or old 19 0) 0 (omega (arith, length-set {A = ℕ}))
       ∙ ap (λ (i : ℕ). get_or old i 0) (sym e))
 ]
 

@@ -85,13 +85,13 @@ and-known a b is = search rules
 same-station : (a b : LineBlock) → a.station ≡ b.station → same_block a b ≡ same_bytes a.block b.block
 same-station a b station = and-known (a.station == b.station) (same_bytes a.block b.block) (eq-eqb a.station b.station station)
 
-abbrev those : ℕ → LineBlock → LineBlock → Bool → Bool → List RankedBlock
+abbrev pub those : ℕ → LineBlock → LineBlock → Bool → Bool → List RankedBlock
 those rank a b x y = cond (not x) (ranked rank a ∷ []) [] ++ cond (not y) (ranked rank b ∷ []) []
 
 two-blocks : (rank : ℕ) (x y : Bool) (a b : LineBlock) → map (ranked rank) (cond x (cond y [] (b ∷ [])) (a ∷ cond y [] (b ∷ []))) ≡ those rank a b x y
 two-blocks rank x y a b = search rules
 
-unlike-blocks : (rank : ℕ) (a b c d : LineBlock) → a.station ≡ c.station → b.station ≡ d.station
+pub unlike-blocks : (rank : ℕ) (a b c d : LineBlock) → a.station ≡ c.station → b.station ≡ d.station
     → map (ranked rank) (unlike (c ∷ d ∷ []) (a ∷ b ∷ [])) ≡ those rank a b (same_bytes a.block c.block) (same_bytes b.block d.block)
 unlike-blocks rank a b c d first second = search (rules, two-blocks, same-station)
 
@@ -107,7 +107,7 @@ place-by groups found was rank index =
     ∙ ap (λ (i : ℕ). find (λ (p : Placed). same_key p.key (key found.member.rank i)) places) index
     ∙ sym (place-told groups was.area.task (key found.member.rank found.index))
 
-second-before : (groups : List Declared) (found was : LineArea) → was.member.rank ≡ found.member.rank → was.index ≡ found.index
+pub second-before : (groups : List Declared) (found was : LineArea) → was.member.rank ≡ found.member.rank → was.index ≡ found.index
     → fmmu_block was.index was.area (mapping_of (line_from 1 groups) was.area.task (key_of was))
     ≡ fmmu_block found.index was.area (mapping_by was.area (place_by (record { dir = was.area.dir; rank = found.member.rank; area = found.index }) (list_by was.area.task (areas_by_rank groups))))
 second-before groups found was rank index = search (rules, place-by)

@@ -7,6 +7,7 @@ use Rattle.std.specs.List.{range_with_len}
 use Rattle.std.proofs.lemmas.Nat.Bits.{bit_at-lt, bit_at-suc, bit_at-zero, bit_at_lowest}
 use Rattle.std.proofs.lemmas.List.FromFn.{get_or-map-range_with_len, length-map-range_with_len}
 use Rattle.hc_bits.specs.Bits.{bit_of, number_of}
+use Rattle.hc_bits.proofs.lemmas.Bits.{bit_of-lt, bit_at-number_of}
 use Rattle.hc_records.specs.Line.{Member}
 use Rattle.hc_records.specs.Image.{VariablePlace, variable_place}
 use Rattle.hc_events.specs.Entries.{Record, Opened, Edited, Posted, Sent, Wrote, Came}
@@ -16,10 +17,6 @@ use Rattle.hc_events.specs.Outputs.{byte_of, bytes_of, has_bit, image_bit, is_po
 
 -- each bit is 0 or 1
 
-pub bit_small : (bytes : List ℕ) (k : ℕ) → bit_of bytes k < 2
-unfolding bit_of
-bit_small bytes k = bit_at-lt (get_or bytes (k / 8) 0) (k % 8)
-
 chosen_small : (own : Bool) (a b : ℕ) → a < 2 → b < 2 → cond own a b < 2
 chosen_small true a b p q = p
 chosen_small false a b p q = q
@@ -27,7 +24,7 @@ chosen_small false a b p q = q
 posted_small : (line : List Member) (task : ℕ) (bytes : List ℕ) (k : ℕ) (place : Option VariablePlace) (before : ℕ) → before < 2 → posted_bit line task bytes k place before < 2
 posted_small line task bytes k None before small = small
 posted_small line task bytes k (Some found) before small =
-    chosen_small (is_posted task found) (bit_of bytes (image_bit line found k)) before (bit_small bytes (image_bit line found k)) small
+    chosen_small (is_posted task found) (bit_of bytes (image_bit line found k)) before (bit_of-lt bytes (image_bit line found k)) small
 
 zero_small : 0 < 2
 zero_small = omega arith
@@ -52,17 +49,6 @@ sent_small past outputs k = found_small past k (find (has_bit k) outputs)
 
 -- the bits of bytes that are made of bits
 
-spelled : (bits : List ℕ) (k : ℕ) → ((i : ℕ) → get_or bits i 0 < 2) → bit_at (number_of bits) k ≡ get_or bits k 0
-unfolding number_of
-spelled [] k small = bit_at-zero k
-spelled (bit ∷ bits) zero small =
-    let low : bit < 2 = small 0 in
-    bit_at_lowest (bit + 2 * number_of bits) ∙ omega arith
-spelled (bit ∷ bits) (suc k) small =
-    let low : bit < 2 = small 0 in
-    let half : (bit + 2 * number_of bits) / 2 ≡ number_of bits = omega arith in
-    bit_at-suc (bit + 2 * number_of bits) k ∙ ap (λ x. bit_at x k) half ∙ spelled bits k (λ i. small (suc i))
-
 eight_small : (bit : ℕ → ℕ) → ((k : ℕ) → bit k < 2) → (n first count i : ℕ) → get_or (map (λ k. bit (8 * n + k)) (range_with_len first count)) i 0 < 2
 eight_small bit small n first zero i = zero_small
 eight_small bit small n first (suc count) zero = small (8 * n + first)
@@ -70,7 +56,7 @@ eight_small bit small n first (suc count) (suc i) = eight_small bit small n (fir
 
 byte_bit : (bit : ℕ → ℕ) → ((k : ℕ) → bit k < 2) → (n i : ℕ) → i < 8 → bit_at (byte_of bit n) i ≡ bit (8 * n + i)
 byte_bit bit small n i below =
-    spelled (map (λ k. bit (8 * n + k)) (range_with_len 0 8)) i (eight_small bit small n 0 8)
+    bit_at-number_of (map (λ k. bit (8 * n + k)) (range_with_len 0 8)) i (eight_small bit small n 0 8)
     ∙ get_or-map-range_with_len (λ k. bit (8 * n + k)) 0 8 i i 0 below (omega arith)
 
 made_bit : (bit : ℕ → ℕ) → ((k : ℕ) → bit k < 2) → (size k : ℕ) → k < 8 * size → bit_of (bytes_of bit size) k ≡ bit k

@@ -23,14 +23,14 @@ abbrev pub own_fmmu : List Member → Member → ℕ → Area → RegisterBlock
 own_fmmu line member index area = fmmu_block index area (mapping_of line area.task (key_of member index area))
 
 -- a block of a slave is the FMMU block of one of its areas
-record IsAreaBlock (line : List Member) (member : Member) (block : RegisterBlock) : Type 0 where
+pub record IsAreaBlock (line : List Member) (member : Member) (block : RegisterBlock) : Type 0 where
   pub index : ℕ
   pub area : Area
   pub found : slice_get member.slave.areas index ≡ Some area
   pub is : block ≡ own_fmmu line member index area
 
 -- or the sync manager block of one
-record IsManagerBlock (member : Member) (block : RegisterBlock) : Type 0 where
+pub record IsManagerBlock (member : Member) (block : RegisterBlock) : Type 0 where
   pub index : ℕ
   pub area : Area
   pub found : slice_get member.slave.areas index ≡ Some area

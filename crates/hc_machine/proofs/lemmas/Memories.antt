@@ -1,15 +1,16 @@
 -- The bytes of a memory behind a logical datagram.
-use Rattle.std.proofs.Common.{◌≡◌, ℕ, ◌+◌, ◌-◌, ◌*◌, ◌/◌, ◌%◌, ◌<◌, ◌≤◌, ◌∙◌, inl, inr, List, [], ◌∷◌, length, get_or, set, sym, ap, subst, arith, length-set, get_or-set_other, get_or-set_same, lit<}
+use Rattle.std.proofs.Common.{◌≡◌, ℕ, ◌+◌, ◌-◌, ◌*◌, ◌/◌, ◌%◌, ◌<◌, ◌≤◌, ◌∙◌, inl, inr, List, [], ◌∷◌, length, get_or, set, refl, sym, ap, subst, arith, length-set, get_or-set_other, get_or-set_same, lit<}
 use Rattle.std.specs.Prelude.{◌&&◌, if◌then◌else◌}
 use Rattle.std.specs.Int.{bit_at}
 use Rattle.std.proofs.lemmas.Bool.{cases_eq}
 use Rattle.std.proofs.lemmas.List.FromFn.{get_or-map-range_with_len}
 use Rattle.hc_bits.specs.Bits.{AreBytes, bit_of}
+use Rattle.hc_bits.proofs.lemmas.Bits.{bit_of-lt, bit_of-byte}
 use Rattle.hc_machine.specs.Fmmus.{fmmus_of}
 use Rattle.hc_machine.specs.Logical.{bit_written, logical_data, logical_memory}
 use Rattle.hc_machine.specs.Memory.{byte_with, bytes_with, with_alias_of}
-use Rattle.hc_machine.proofs.Bytes.{bit_of-byte, byte-bits}
-use Rattle.hc_machine.proofs.Lowest.{bit_of-small, length-bytes_with, chosen-small, write-small}
+use Rattle.hc_machine.proofs.Bytes.{byte-bits}
+use Rattle.hc_machine.proofs.Lowest.{length-bytes_with, chosen-small, write-small}
 
 pub length-data : (memory bytes : List ℕ) (from : ℕ) → length (logical_data memory from bytes) ≡ length bytes
 unfolding logical_data
@@ -57,7 +58,7 @@ pub memory-bytes : (memory bytes : List ℕ) (from : ℕ) → length memory ≡ 
 unfolding logical_memory
 memory-bytes memory bytes from long small i within =
     let bit : ℕ → ℕ = λ m. bit_written (fmmus_of memory) (bit_of bytes) from (8 * length bytes) m (bit_of memory m) in
-    let low : (k : ℕ) → bit k < 2 = λ k. write-small (fmmus_of memory) (bit_of bytes) from (8 * length bytes) k (bit_of memory k) (λ j. bit_of-small bytes j) (bit_of-small memory k) in
+    let low : (k : ℕ) → bit k < 2 = λ k. write-small (fmmus_of memory) (bit_of bytes) from (8 * length bytes) k (bit_of memory k) (λ j. bit_of-lt bytes j) (bit_of-lt memory k) in
     let count = length-bytes_with (length memory) bit in
     let inside : i < length memory = omega (arith, within, length-memory memory bytes from) in
     alias-small memory (bytes_with (length memory) bit) i (omega arith) (small 18 (omega arith)) (small 19 (omega arith)) (spelled-small (length memory) bit i inside low)
@@ -80,4 +81,4 @@ same-bits x y small small' same =
 
 pub same-byte : (xs ys : List ℕ) (r : ℕ) → get_or xs r 0 < 256 → get_or ys r 0 < 256 → ((j : ℕ) → j < 8 → bit_of xs (8 * r + j) ≡ bit_of ys (8 * r + j)) → get_or xs r 0 ≡ get_or ys r 0
 same-byte xs ys r small small' same =
-    same-bits (get_or xs r 0) (get_or ys r 0) small small' (λ j low. sym (bit_of-byte xs r j low) ∙ same j low ∙ bit_of-byte ys r j low)
+    same-bits (get_or xs r 0) (get_or ys r 0) small small' (λ j low. sym (bit_of-byte xs r j (8 * r + j) low refl) ∙ same j low ∙ bit_of-byte ys r j (8 * r + j) low refl)
