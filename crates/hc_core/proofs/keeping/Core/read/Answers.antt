@@ -13,4 +13,4 @@ pub returns-clause-shows : goal.returns-clause-shows
 returns-clause-shows c =
     let past = c.args.self.now.past in
     let task = c.args.task in
-    IfOk-weaker (λ told. told ≡ answer_to past (Reads task)) (λ told. task < TASKS → ShowsLastData past task told) c.image.result (read-shows past task) c.image.ensures.answer
+    IfOk-weaker c.image.result (λ told. told ≡ answer_to past (Reads task)) (λ told. task < TASKS → ShowsLastData past task told) (read-shows past task) c.image.ensures.answer

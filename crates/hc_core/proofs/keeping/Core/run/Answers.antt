@@ -15,7 +15,7 @@ returns-clause-line c =
     let past = c.args.self.now.past in
     let next = c.serve_all.new.self.past in
     let steps = map step_of c.args.events.now in
-    IfOk-weaker (λ answers. MayAnswerAll past steps answers.items next) (λ answers. IsLineAfter past steps answers.items next) c.serve_all.result
+    IfOk-weaker c.serve_all.result (λ answers. MayAnswerAll past steps answers.items next) (λ answers. IsLineAfter past steps answers.items next)
     (λ answers. line-after past next steps answers.items) c.serve_all.ensures.answers
 
 pub returns-clause-shown : goal.returns-clause-shown
@@ -23,7 +23,7 @@ returns-clause-shown c =
     let past = c.args.self.now.past in
     let next = c.serve_all.new.self.past in
     let steps = map step_of c.args.events.now in
-    IfOk-weaker (λ answers. MayAnswerAll past steps answers.items next) (λ answers. ReadsShowLastData past steps answers.items) c.serve_all.result
+    IfOk-weaker c.serve_all.result (λ answers. MayAnswerAll past steps answers.items next) (λ answers. ReadsShowLastData past steps answers.items)
     (λ answers. shows-among past next steps answers.items) c.serve_all.ensures.answers
 
 pub returns-clause-reads : goal.returns-clause-reads
@@ -37,5 +37,5 @@ returns-clause-without c =
     let past = c.args.self.now.past in
     let next = c.serve_all.new.self.past in
     let steps = map step_of c.args.events.now in
-    IfOk-weaker (λ answers. MayAnswerAll past steps answers.items next) (λ answers. GoesWithoutThem past steps answers.items next) c.serve_all.result
+    IfOk-weaker c.serve_all.result (λ answers. MayAnswerAll past steps answers.items next) (λ answers. GoesWithoutThem past steps answers.items next)
     (λ answers. goes-without past next steps answers.items) c.serve_all.ensures.answers
