@@ -4,6 +4,7 @@ use Rattle.std.specs.Int.{bit_at, bit_not, byte_at, bytes_low_first, w8}
 use Rattle.std.proofs.lemmas.Nat.{pow_pos, pow-add, shr-shr, shr_split, shl_whole, mod_below, or_lt, shl_below}
 use Rattle.std.proofs.Math.Nat.{pow-suc, pow-le-pow_right, lt_of_lt_of_le}
 use Rattle.std.proofs.lemmas.Nat.Bits.{bit_at_and, bit_at_or, bit_at_not, bit_at_ones, bit_at_ones_above, bit_at_above, bit_at_cat_low, bit_at_cat_high, bit_at-lt, ones_shr}
+use Rattle.std.proofs.lemmas.Grind.{common_steps}
 
 bit_at-shr : (n j i : ℕ) → bit_at (n / 2 ^ j) i ≡ bit_at n (j + i)
 bit_at-shr n j i = ap (λ x. x % 2) (shr-shr n j i)
@@ -28,9 +29,7 @@ bit_at-or_right a b i x p q = bit_at_or a b i ∙ ap (λ y. max y (bit_at b i)) 
 
 -- an `and` at a place where the mask has a one, and where it has a zero
 pub bit_at-and_one : (a b i : ℕ) → bit_at b i ≡ 1 → bit_at (bit_and a b) i ≡ bit_at a i
-bit_at-and_one a b i q =
-    let small = bit_at-lt a i in
-    bit_at_and a b i ∙ ap (min (bit_at a i)) q ∙ (let e : min (bit_at a i) 1 ≡ bit_at a i = omega (arith, small) in e)
+bit_at-and_one a b i q = grind (arith, common_steps, min, bit_at, bit_at-lt, bit_at_and)
 
 bit_at-and_zero : (a b i : ℕ) → bit_at b i ≡ 0 → bit_at (bit_and a b) i ≡ 0
 bit_at-and_zero a b i q = bit_at_and a b i ∙ ap (min (bit_at a i)) q ∙ (let e : min (bit_at a i) 0 ≡ 0 = omega arith in e)

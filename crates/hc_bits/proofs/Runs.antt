@@ -1,11 +1,12 @@
 -- Bits of a slice by the byte in which they stand, and runs of bits that are replaced in turn.
-use Rattle.std.proofs.Common.{rules, ◌≡◌, ◌≢◌, ℕ, ◌+◌, ◌-◌, ◌*◌, ◌/◌, ◌%◌, ◌<◌, ◌≤◌, List, length, get_or, set, take, drop, get_or-set_same, get_or-set_other, refl, sym, ◌∙◌, ap, arith, inl, inr, lit<}
+use Rattle.std.proofs.Common.{rules, ◌≡◌, ◌≢◌, ℕ, ◌+◌, ◌-◌, ◌*◌, ◌/◌, ◌%◌, ◌<◌, ◌≤◌, List, length, get_or, set, take, drop, get_or-set_same, get_or-set_other, refl, sym, ◌∙◌, ap, arith, inl, inr}
 use borrow.Rule.Slice.PartMut.{put_mid}
 use Rattle.std.specs.Int.{bit_at, to_le_bytes, from_le_bytes, w64}
 use Rattle.std.proofs.lemmas.Bool.{cases_lt, cases_eq}
 use Rattle.std.proofs.lemmas.Nat.{le_bytes_8}
 use Rattle.std.proofs.lemmas.Nat.Bits.{bit_at-lt}
-use Rattle.std.proofs.lemmas.List.{places, get_or-take, get_or-drop, get_or_past, length-take}
+use Rattle.std.proofs.lemmas.List.{places, get_or-take, get_or-drop}
+use Rattle.std.proofs.lemmas.Grind.{common_steps}
 use Rattle.hc_bits.specs.Bits.{bit_of, ReplacesRun}
 use Rattle.hc_bits.proofs.Numbers.{bit_at-byte, get_or-bytes_low_first}
 
@@ -112,10 +113,7 @@ bit_of-part xs a n k h = bit_of-same_byte (take n (drop a xs)) xs 0 a k k
 
 -- a part of bytes is of bytes
 pub part-small : (xs : List ℕ) → ((i : ℕ) → get_or xs i 0 < 256) → (a n i : ℕ) → get_or (take n (drop a xs)) i 0 < 256
-part-small xs small a n i = elim (cases_lt i n) [
-  | inl low ↦ rw (get_or-take n (drop a xs) i 0 low, get_or-drop a xs i 0) (small (a + i))
-  | inr high ↦ rw (get_or_past (take n (drop a xs)) i 0 (omega (arith, length-take n (drop a xs)))) (lit< tt)
-]
+part-small xs small a n i = grind (arith, common_steps)
 
 -- the bits of the bytes of a word
 pub bit_of-to_le_bytes : (word k : ℕ) → k < 64 → bit_of (to_le_bytes w64 word) k ≡ bit_at word k

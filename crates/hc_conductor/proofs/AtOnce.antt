@@ -1,10 +1,11 @@
 -- Frames that are filled by their tasks' parts.
-use Rattle.std.proofs.Common.{◌≡◌, ℕ, zero, suc, ◌+◌, ◌<◌, List, [], ◌∷◌, ◌++◌, All, drop, length, map, slice_index_or, sum, sum_by, refl, sym, ap, ap₂, ◌∙◌, arith}
+use Rattle.std.proofs.Common.{◌≡◌, ℕ, suc, ◌+◌, ◌<◌, List, [], ◌∷◌, ◌++◌, All, drop, length, map, slice_index_or, sum, sum_by, refl, sym, ap, ap₂, ◌∙◌, arith}
 use Rattle.std.specs.List.{concat, flat_map}
 use Rattle.std.proofs.lemmas.List.{length-map}
 use Rattle.std.proofs.lemmas.List.Concat.{length-flat_map}
 use Rattle.std.proofs.lemmas.List.Sums.{sum_by-cons}
 use Rattle.std.proofs.lemmas.List.Elements.{All-head, All-tail}
+use Rattle.std.proofs.lemmas.Grind.{common_steps}
 use Rattle.hc_events.specs.Calls.{AreSentTogether}
 use Rattle.hc_events.specs.Entries.{Record}
 use Rattle.hc_events.specs.Outputs.{sent_data}
@@ -49,9 +50,7 @@ sizes-whole past tasks together =
 -- ---- each part can be filled
 
 size_at : (f : ℕ → ℕ) (tasks : List ℕ) (k d : ℕ) → k < length tasks → slice_index_or (map f tasks) k d ≡ f (slice_index_or tasks k 0)
-size_at f [] k d low = absurd (omega arith)
-size_at f (task ∷ tasks) zero d low = refl
-size_at f (task ∷ tasks) (suc k) d low = size_at f tasks k d (omega arith)
+size_at f tasks k d low = grind (arith, common_steps)
 
 pub parts-fillable : (past : Record) (frames : List Frame) (tasks lengths bytes : List ℕ) → All (CanBeFilled past) frames → lengths ≡ sizes_of past frames tasks → sum lengths ≡ length bytes
     → CanWorkOnEach (CanFillPart past frames tasks) 0 lengths bytes

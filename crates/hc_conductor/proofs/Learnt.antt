@@ -1,6 +1,7 @@
 -- Seats that learn what is published.
-use Rattle.std.proofs.Common.{◌≡◌, ◌⊎◌, ◌≤◌, List, [], ◌∷◌, ◌++◌, length, map, replicate, refl, sym, ap, subst, ◌∙◌, arith, ⊎_elim, append_assoc}
+use Rattle.std.proofs.Common.{◌≡◌, ◌⊎◌, ◌≤◌, List, [], ◌∷◌, ◌++◌, length, map, replicate, sym, ap, subst, ◌∙◌, arith, ⊎_elim, append_assoc}
 use Rattle.std.proofs.lemmas.List.{length-append}
+use Rattle.std.proofs.lemmas.Grind.{common_steps}
 use mathlib.Core.List.{IsPrefix}
 use Rattle.hc_events.specs.declared.change.Change.{Change}
 use Rattle.hc_publish.specs.Stories.{Origin}
@@ -10,10 +11,7 @@ use Rattle.hc_conductor.specs.Seats.{known, seat_origin}
 use Rattle.hc_conductor.specs.Learning.{CanLearn}
 
 whole : {A : Type 0} (xs ys : List A) → IsPrefix xs ys → length ys ≤ length xs → xs ≡ ys
-whole [] [] p le = refl
-whole [] (y ∷ ys) p le = absurd (omega arith)
-whole (x ∷ xs) [] p le = absurd (cc (p.1))
-whole (x ∷ xs) (y ∷ ys) p le = let rest = whole xs ys (p.0, cc (p.1)) (omega arith) in cc (p.1, rest)
+whole xs ys p le = grind (arith, common_steps)
 
 longer : {A : Type 0} (xs ys : List A) → IsPrefix xs ys → length xs ≤ length ys
 longer xs ys p = omega (arith, ap length p.1, length-append xs p.0)

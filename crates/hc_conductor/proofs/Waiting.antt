@@ -2,8 +2,9 @@
 use Rattle.std.proofs.Common.{◌≡◌, ℕ, suc, ◌+◌, ◌<◌, ◌≤◌, List, [], ◌∷◌, ◌++◌, length, map, take, drop, refl, sym, ap, subst, ◌∙◌, arith, append_assoc}
 use Rattle.std.specs.Prelude.{All}
 use Rattle.std.proofs.Math.Seq.{drop-append_seam, take-append_seam}
-use Rattle.std.proofs.lemmas.List.{append-nil, append_cancel_left, length-append, take-append-le}
+use Rattle.std.proofs.lemmas.List.{append-nil, append_cancel_left, length-append}
 use Rattle.std.proofs.lemmas.List.Elements.{All-cons, All-nil}
+use Rattle.std.proofs.lemmas.Grind.{common_steps}
 use mathlib.Core.List.{IsPrefix}
 use Rattle.hc_rings.specs.declared.posts.TheConstants.{POSTS_WAITING}
 use Rattle.hc_rings.specs.declared.posts.PostReceiver.{PostReceiver}
@@ -17,14 +18,8 @@ use Rattle.hc_conductor.specs.Together.{AreJoined, EachRing, IsWhole, KnowAll, p
 -- ---- one post that is known comes out
 
 first_known : {X : Type 0} (n : ℕ) (l m : List X) (b : X) → suc n ≤ length l → IsPrefix l (b ∷ m) → (n ≤ length m) × (take (suc n) l ≡ b ∷ take n m)
-first_known n [] m b few p = absurd (omega arith)
-first_known n (x ∷ l) m b few p =
-    let head : x ≡ b = cc (p.1) in
-    let rest : l ++ p.0 ≡ m = cc (p.1) in
-    let short : n ≤ length l = omega arith in (
-      omega (arith, short, ap length rest, length-append l p.0),
-      ap (λ y. y ∷ take n l) head ∙ ap (λ ys. b ∷ ys) (sym (take-append-le n l p.0 short) ∙ ap (take n) rest),
-    )
+first_known n [] m b few p = grind (arith, common_steps)
+first_known n (x ∷ l) m b few p = grind (arith, common_steps)
 
 pub one-known : (n : ℕ) (old mid back new : PostReceiver) (post : Post) → IsPrefix (left old) (post ∷ left mid) → taken mid ≡ taken old ++ post ∷ []
     → taken back ≡ taken mid → left back ≡ left mid → TakesKnown n back new → TakesKnown (suc n) old new

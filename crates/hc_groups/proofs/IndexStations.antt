@@ -5,6 +5,7 @@ use Rattle.std.proofs.lemmas.Bool.{eqb-false, eqb-true}
 use Rattle.std.proofs.lemmas.List.{append-nil, append_assoc, get_or-set_other, get_or-set_same, length-set}
 use Rattle.std.proofs.lemmas.List.Elements.{All-append, All-cons, All-head, All-nil, All-tail, Contains-append_left, Contains-append_right}
 use Rattle.std.proofs.lemmas.Option.{unwrap_or-slice_get}
+use Rattle.std.proofs.lemmas.Grind.{common_steps}
 use Rattle.hc_groups.specs.declared.addresses.Address.{Address}
 use Rattle.hc_groups.specs.Index.{AreRanks, IsRankOf}
 
@@ -55,18 +56,14 @@ ranks-written seen (address ∷ more) ranks room some before =
 -- none, and more places for them
 
 no-rank-at : (n station : ℕ) → get_or (replicate {A = ℕ} n 0) station 0 ≡ 0
-no-rank-at zero station = refl
-no-rank-at (suc n) zero = refl
-no-rank-at (suc n) (suc station) = no-rank-at n station
+no-rank-at n station = grind (arith, common_steps)
 
 pub no-ranks : (ranks : List ℕ) (n : ℕ) → ranks ≡ replicate n 0 → AreRanks [] ranks
 no-ranks ranks n is station =
     subst (IsRankOf [] station) (sym (ap (λ (r : List ℕ). get_or r station 0) is ∙ no-rank-at n station)) (All-nil (λ (a : Address). a.station ≢ station))
 
 longer-at : (ranks : List ℕ) (n station : ℕ) → get_or (ranks ++ replicate n 0) station 0 ≡ get_or ranks station 0
-longer-at [] n station = no-rank-at n station
-longer-at (rank ∷ ranks) n zero = refl
-longer-at (rank ∷ ranks) n (suc station) = longer-at ranks n station
+longer-at ranks n station = grind (arith, common_steps)
 
 pub ranks-longer : (all : List Address) (ranks : List ℕ) (n : ℕ) → AreRanks all ranks → AreRanks all (ranks ++ replicate n 0)
 ranks-longer all ranks n are station = subst (IsRankOf all station) (sym (longer-at ranks n station)) (are station)

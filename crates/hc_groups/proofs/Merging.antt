@@ -4,12 +4,12 @@ use Rattle.std.specs.Prelude.{All, AllPairs, nat_lt, set, slice_range}
 use Rattle.std.specs.List.Sorted.{IsNonDecreasing, IsPartitionPoint, IsPermutation}
 use Rattle.std.proofs.Math.Seq.{paste, take-add}
 use Rattle.std.proofs.lemmas.Bool.{ltb-false, ltb-true}
-use Rattle.std.proofs.lemmas.List.{drop_all, drop_more, drop-take, get_or-drop, drop-set, drop_at, get_or-take, length-append, length-drop, length-set, length-take, take-append-drop, take-append-le, take-set-le, take-take, take_all, take_more}
+use Rattle.std.proofs.lemmas.List.{drop_all, drop_more, drop-take, get_or-drop, drop-set, get_or-take, length-append, length-drop, length-set, length-take, take-append-drop, take-append-le, take-set-le, take-take, take_all, take_more}
 use Rattle.std.proofs.lemmas.List.Elements.{All-append, All-cons, All-head, All-nil, All-tail, All-weaker}
-use Rattle.std.proofs.lemmas.List.Edits.{length-paste}
 use Rattle.std.proofs.lemmas.List.Folds.{drop_split}
 use Rattle.std.proofs.lemmas.List.Kept.{AllPairs-cons}
 use Rattle.std.proofs.lemmas.List.Sorted.{IsPermutation-append_right, IsPermutation-cons, IsPermutation-middle, IsPermutation-refl, IsPermutation-trans}
+use Rattle.std.proofs.lemmas.Grind.{common_steps}
 use Rattle.hc_records.proofs.lemmas.Lists.{All-append_left, All-append_right, AllPairs-append, AllPairs-append_left, AllPairs-append_right, AllPairs-between, AllPairs-nil}
 
 -- each number is no greater than the later ones
@@ -206,20 +206,7 @@ merged-end old names all left rising before =
 
 copied-parts : (all copied : List ℕ) (at left more : ℕ) → at ≤ left → left + more + 1 ≤ length all → copied ≡ paste all (at + more + 1) (drop at all) (left - at)
     → (length copied ≡ length all) × (take (at + more) copied ≡ take (at + more) all) × (drop (at + more + 1) copied ≡ slice_range all at left ++ drop (left + more + 1) all)
-copied-parts all copied at left more low inside is =
-    let to = at + more + 1 in
-    let count = left - at in
-    let rest = length-drop at all in
-    let few = length-take to all in
-    let held : length (take to all) ≡ to = omega (arith, few, low, inside) in
-    let run = slice_range all at left in
-    let end = drop (left + more + 1) all in
-    let parts : copied ≡ take to all ++ (run ++ end) =
-    is ∙ append_assoc (take to all) run (drop (to + count) all) ∙ ap (λ (n : ℕ). take to all ++ (run ++ drop n all)) (omega (arith, low)) in (
-      ap length is ∙ length-paste all to (drop at all) count (omega (arith, low, inside)) (omega (arith, rest, low, inside)),
-      ap (take (at + more)) parts ∙ take-append-le (at + more) (take to all) (run ++ end) (omega (arith, held)) ∙ take-take (at + more) to all (omega arith),
-      ap (drop to) parts ∙ drop_at (take to all) (run ++ end) to held,
-    )
+copied-parts all copied at left more low inside is = grind (arith, common_steps)
 
 pub record PutBelow (all new : List ℕ) (at left more v : ℕ) : Type 0 where
   pub size : length new ≡ length all

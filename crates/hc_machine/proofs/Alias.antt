@@ -2,6 +2,7 @@
 use Rattle.std.proofs.Common.{◌≡◌, ℕ, ◌+◌, ◌*◌, ◌≤◌, Bool, true, false, List, [], ◌∷◌, ◌++◌, length, take, drop, get_or, set, is_none, refl, ap, ◌∙◌, arith, length-append, length-set, length-take, length-drop, get_or-set_other, get_or-set_same}
 use Rattle.std.specs.Prelude.{if◌then◌else◌}
 use Rattle.std.proofs.lemmas.Bool.Decides.{nat_tests}
+use Rattle.std.proofs.lemmas.Grind.{common_steps}
 use Rattle.hc_frames.specs.declared.commands.Command.{Command}
 use Rattle.hc_frames.specs.declared.commands.Command.TheVariants.{Aprd, Apwr, Fpwr, Lrw}
 use Rattle.hc_frames.specs.Arrived.{fault_in, reading_of}
@@ -79,10 +80,7 @@ one-most true = omega arith
 one-most false = omega arith
 
 three-most : (a b : Bool) → (if a then 1 else 0) + (if b then 2 else 0) ≤ 3
-three-most true true = omega arith
-three-most true false = omega arith
-three-most false true = omega arith
-three-most false false = omega arith
+three-most a b = grind (arith, common_steps)
 
 logical-most : (memory : List ℕ) (from n : ℕ) → logical_count memory from n ≤ 3
 unfolding logical_count

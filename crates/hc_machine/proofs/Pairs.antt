@@ -4,6 +4,7 @@ use Rattle.std.specs.Prelude.{◌&&◌, if◌then◌else◌}
 use Rattle.std.proofs.lemmas.Bool.{cases_lt}
 use Rattle.std.proofs.lemmas.List.{drop_more}
 use Rattle.std.proofs.lemmas.Bool.Decides.{nat_tests}
+use Rattle.std.proofs.lemmas.Grind.{common_steps}
 use Rattle.hc_bits.specs.Bits.{bit_of, ReplacesRun}
 use Rattle.hc_machine.specs.declared.fmmu.Fmmu.{Fmmu}
 use Rattle.hc_machine.specs.Fmmus.{idle, is_within}
@@ -85,9 +86,7 @@ and_first true b x y = refl
 and_first false b x y = refl
 
 and_last : (a b : Bool) (x y : ℕ) → (if a && b && false then x else y) ≡ y
-and_last true true x y = refl
-and_last true false x y = refl
-and_last false b x y = refl
+and_last a b x y = grind (arith, common_steps)
 
 write_out : (f : Fmmu) (sent : ℕ → ℕ) (from n m was : ℕ) → is_within f.memory f.width m ≡ false → bit_written (f ∷ []) sent from n m was ≡ was
 unfolding bit_written

@@ -2,12 +2,12 @@
 use Rattle.std.proofs.Common.{◌≡◌, ℕ, zero, suc, ◌+◌, ◌-◌, ◌<◌, ◌≤◌, List, length, ap, arith}
 use Rattle.std.specs.Prelude.{AllPairs, Some, slice_get, slice_index_or}
 use Rattle.std.proofs.lemmas.Option.{get_or_from_slice_get, slice_get_within}
+use Rattle.std.proofs.lemmas.Grind.{common_steps}
 
 from-first : {X : Type 0} (number : X → ℕ) (xs : List X) (i : ℕ) (d : X) → AllPairs (λ a b. number a < number b) xs → i < length xs
     → number (slice_index_or xs 0 d) + i ≤ number (slice_index_or xs i d)
-from-first number xs zero d ascend within = omega arith
-from-first number xs (suc i) d ascend within =
-    grind (arith, from-first number xs i d ascend (omega arith))
+from-first number xs zero d ascend within = grind (arith, common_steps)
+from-first number xs (suc i) d ascend within = grind (arith, common_steps, from-first number xs i d ascend)
 
 pub first-to-last : {X : Type 0} (number : X → ℕ) (xs : List X) (first last : X) → AllPairs (λ a b. number a < number b) xs
     → slice_get xs 0 ≡ Some first → slice_get xs (length xs - 1) ≡ Some last → (0 < length xs) × (number first + length xs ≤ number last + 1)

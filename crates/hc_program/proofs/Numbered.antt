@@ -1,8 +1,7 @@
 -- The texts of numbered things, one after another.
-use Rattle.std.proofs.Common.{◌≡◌, ◌<◌, ℕ, ◌+◌, List, [], ◌∷◌, ◌++◌, get_or, length, map, take, sym, ◌∙◌, ap, append-nil, append_assoc, arith, add-one}
+use Rattle.std.proofs.Common.{◌≡◌, ◌<◌, ℕ, ◌+◌, List, [], ◌∷◌, ◌++◌, get_or, length, map, take, sym, ◌∙◌, ap, append-nil, append_assoc, arith}
 use Rattle.std.specs.List.{flat_map, range_with_len}
-use Rattle.std.proofs.Math.Seq.{take-suc}
-use Rattle.std.proofs.lemmas.Grind.{flat_map-append}
+use Rattle.std.proofs.lemmas.Grind.{flat_map-append, common_steps}
 use Rattle.std.proofs.lemmas.List.FromFn.{map-range_with_len_more}
 use Rattle.std.proofs.lemmas.List.Folds.{flat_map-map}
 
@@ -26,11 +25,4 @@ one_more f n old now new before step =
 -- a text that grows by the text of the next thing
 pub next_text : {X : Type 0} (f : X → List ℕ) (xs : List X) (i : ℕ) (d : X) (old now new : List ℕ) → i < length xs
     → now ≡ old ++ flat_map f (take i xs) → new ≡ now ++ f (get_or xs i d) → new ≡ old ++ flat_map f (take (i + 1) xs)
-next_text f xs i d old now new within before step =
-    let more : take (i + 1) xs ≡ take i xs ++ get_or xs i d ∷ [] = rw add-one (take-suc xs i d within) in
-    step
-    ∙ ap (λ text. text ++ f (get_or xs i d)) before
-    ∙ append_assoc old (flat_map f (take i xs)) (f (get_or xs i d))
-    ∙ ap (λ back. old ++ (flat_map f (take i xs) ++ back)) (sym (append-nil (f (get_or xs i d))))
-    ∙ ap (λ text. old ++ text) (sym (flat_map-append f (take i xs) (get_or xs i d ∷ [])))
-    ∙ ap (λ front. old ++ flat_map f front) (sym more)
+next_text f xs i d old now new within before step = grind (arith, common_steps)

@@ -2,7 +2,8 @@
 use Rattle.std.proofs.Common.{◌≡◌, ◌<◌, ◌≤◌, ◌+◌, ◌-◌, ◌++◌, ℕ, zero, suc, Bool, true, false, not, List, [], ◌∷◌, drop, length, take, refl, sym, ap, ◌∙◌, inl, inr, arith, Some, None, Ok, Err, IfErr, IfOk, OnOk, add-one, is_none, eqb}
 use Rattle.std.specs.Prelude.{Option, Result, if◌then◌else◌, nat_lt}
 use Rattle.std.proofs.lemmas.Bool.{ltb-false}
-use Rattle.std.proofs.lemmas.List.{length-append, length-drop, take_at}
+use Rattle.std.proofs.lemmas.List.{length-drop, take_at}
+use Rattle.std.proofs.lemmas.Grind.{common_steps}
 use Rattle.hc_core.specs.Written.{HoldsWrite}
 use Rattle.hc_events.specs.declared.answer.Answer.TheVariants as answer
 use Rattle.hc_frames.specs.declared.limits.TheConstants.{SETUP_SERIAL}
@@ -139,9 +140,7 @@ unfolding write_frame
 frame-told past text is = ap write_in is
 
 text-length : (whole text rest : List ℕ) (size all : ℕ) → whole ≡ text ++ rest → length whole ≡ all → length rest ≡ all - size → size ≤ all → length text ≡ size
-text-length whole text rest size all is has left fits =
-    let both = sym (ap length is ∙ length-append text rest) in
-    omega (arith, both, has, left, fits)
+text-length whole text rest size all is has left fits = grind (arith, common_steps)
 
 pub frame-is : (past : Record) (old new : List ℕ) (size : ℕ) → HoldsWrite past old new size → length new ≡ length old → size ≤ length old → take size new ≡ write_frame past
 frame-is past old new size holds kept fits =

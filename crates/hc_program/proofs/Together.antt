@@ -2,6 +2,7 @@
 use Rattle.std.proofs.Common.{◌≡◌, ◌<◌, ◌≤◌, ◌⊎◌, inl, inr, ℕ, suc, Bool, true, false, cond, not, ◌&&◌, List, [], ◌∷◌, length, refl, sym, ap, ◌∙◌, arith, Option, Some, None}
 use Rattle.std.specs.Prelude.{nat_le, nat_lt, option_and_then, option_map}
 use Rattle.std.proofs.lemmas.Bool.{le-leb, lt-leb}
+use Rattle.std.proofs.lemmas.Grind.{common_steps}
 use Rattle.hc_records.specs.declared.limits.TheConstants.{TASKS}
 use Rattle.hc_records.specs.Lists.{has_repeat}
 use Rattle.hc_text.specs.Numbers.{number_in, numbers_in}
@@ -9,20 +10,14 @@ use Rattle.hc_program.specs.EventWords.{are_together, if_together, tasks_in}
 
 count_behind : (first : Option ℕ) (rest : Option (List ℕ)) (numbers : List ℕ) (n : ℕ) → ((others : List ℕ) → rest ≡ Some others → length others ≡ n)
     → option_and_then (λ number. option_map (λ others. number ∷ others) rest) first ≡ Some numbers → length numbers ≡ suc n
-count_behind None rest numbers n counts e = cc
-count_behind (Some number) None numbers n counts e = cc
-count_behind (Some number) (Some others) numbers n counts e =
-    let same : number ∷ others ≡ numbers = cc in
-    ap length (sym same) ∙ ap suc (counts others refl)
+count_behind first rest numbers n ( others = grind (arith, common_steps)
 
 numbers_count : (words : List (List ℕ)) (numbers : List ℕ) → numbers_in 255 words ≡ Some numbers → length numbers ≡ length words
 numbers_count [] numbers e = let same : [] ≡ numbers = cc in ap length (sym same)
 numbers_count (word ∷ words) numbers e = count_behind (number_in 255 word) (numbers_in 255 words) numbers (length words) (λ others is. numbers_count words others is) e
 
 beyond : (some few distinct : Bool) → few ≡ false → (some && few && distinct) ≡ false
-beyond true true distinct e = cc
-beyond true false distinct e = refl
-beyond false few distinct e = refl
+beyond some few distinct e = grind (arith, common_steps)
 
 few_or_many : (numbers : List ℕ) → (length numbers ≡ 0) ⊎ (TASKS < length numbers) → are_together numbers ≡ false
 few_or_many [] count = refl

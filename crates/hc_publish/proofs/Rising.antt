@@ -1,9 +1,10 @@
 -- Beginnings of lists, and a book that grows.
-use Rattle.std.proofs.Common.{MatchBool, zero, suc, map, ◌<◌, ◌≡◌, ◌⊎◌, ℕ, ◌+◌, ◌≤◌, ◌==◌, Bool, true, false, List, [], ◌∷◌, ◌++◌, length, refl, ap, sym, subst, ◌∙◌, arith, inl, inr, ⊎_elim, append_assoc, length-append, None}
+use Rattle.std.proofs.Common.{MatchBool, zero, suc, map, ◌<◌, ◌≡◌, ◌⊎◌, ℕ, ◌+◌, ◌≤◌, ◌==◌, Bool, true, false, List, [], ◌∷◌, ◌++◌, length, refl, ap, sym, subst, ◌∙◌, arith, inl, ⊎_elim, append_assoc, length-append, None}
 use Rattle.std.specs.List.{range_with_len}
 use Rattle.std.proofs.lemmas.List.{append-nil}
 use Rattle.std.proofs.lemmas.List.FromFn.{map-range_with_len_more}
 use Rattle.std.proofs.lemmas.Bool.Decides.{nat_tests}
+use Rattle.std.proofs.lemmas.Grind.{common_steps}
 use mathlib.Core.List.{IsPrefix}
 use lib.Dec.{leb}
 use prog.Atomic.{either}
@@ -22,29 +23,21 @@ prefix_longer xs ys p = omega (arith, ap length p.1, length-append xs p.0)
 
 -- of two beginnings of one list the shorter begins the longer
 prefix_shorter : {A : Type 0} (xs ys zs : List A) → IsPrefix xs zs → IsPrefix ys zs → length xs ≤ length ys → IsPrefix xs ys
-prefix_shorter [] ys zs p q le = (ys, refl)
-prefix_shorter (x ∷ xs) [] zs p q le = absurd (omega arith)
-prefix_shorter (x ∷ xs) (y ∷ ys) [] p q le = absurd (cc (p.1))
-prefix_shorter (x ∷ xs) (y ∷ ys) (z ∷ zs) p q le =
-    let heads : x ≡ y = cc (p.1, q.1) in
-    let rest = prefix_shorter xs ys zs (p.0, cc (p.1)) (q.0, cc (q.1)) (omega arith) in
-    (rest.0, cc (heads, rest.1))
+prefix_shorter [] ys zs p q le = grind (arith, common_steps)
+prefix_shorter (x ∷ xs) [] zs p q le = grind (arith, common_steps)
+prefix_shorter (x ∷ xs) (y ∷ ys) [] p q le = grind (arith, common_steps)
+prefix_shorter (x ∷ xs) (y ∷ ys) (z ∷ zs) p q le = grind (arith, common_steps, prefix_shorter xs ys zs)
 
 -- a beginning as long as the whole is the whole
 prefix_whole : {A : Type 0} (xs ys : List A) → IsPrefix xs ys → length ys ≤ length xs → xs ≡ ys
-prefix_whole [] [] p le = refl
-prefix_whole [] (y ∷ ys) p le = absurd (omega arith)
-prefix_whole (x ∷ xs) [] p le = absurd (cc (p.1))
-prefix_whole (x ∷ xs) (y ∷ ys) p le =
-    let rest = prefix_whole xs ys (p.0, cc (p.1)) (omega arith) in cc (p.1, rest)
+prefix_whole xs ys p le = grind (arith, common_steps)
 
 -- a beginning of a list with one element more is a beginning of the list, or the whole
 prefix_snoc : {A : Type 0} (xs ys : List A) (y : A) → IsPrefix xs (ys ++ y ∷ []) → IsPrefix xs ys ⊎ (xs ≡ ys ++ y ∷ [])
-prefix_snoc [] ys y p = inl (ys, refl)
-prefix_snoc (x ∷ []) [] y p = inr (cc (p.1))
-prefix_snoc (x ∷ z ∷ xs) [] y p = absurd (cc (p.1))
-prefix_snoc (x ∷ xs) (z ∷ ys) y p =
-    ⊎_elim (λ (q : IsPrefix xs ys). inl (q.0, cc (p.1, q.1))) (λ (q : xs ≡ ys ++ y ∷ []). inr (cc (p.1, q))) (prefix_snoc xs ys y (p.0, cc (p.1)))
+prefix_snoc [] ys y p = grind (arith, common_steps)
+prefix_snoc (x ∷ []) [] y p = grind (arith, common_steps)
+prefix_snoc (x ∷ z ∷ xs) [] y p = grind (arith, common_steps)
+prefix_snoc (x ∷ xs) (z ∷ ys) y p = grind (arith, common_steps, prefix_snoc xs ys y (p.0, cc (p.1)))
 
 extends_self : (x : Told) → Extends x x
 extends_self x = record { groups = refl; changes = prefix_self x.changes }

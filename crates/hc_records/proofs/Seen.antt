@@ -4,6 +4,7 @@ use Rattle.std.specs.List.{list_any}
 use Rattle.std.specs.Ordering.{nat_cmp}
 use Rattle.std.specs.BTreeMap.{is_at}
 use Rattle.std.proofs.lemmas.Bool.Decides.{nat_tests}
+use Rattle.std.proofs.lemmas.Grind.{common_steps}
 use Rattle.hc_records.specs.Lists.{has_repeat}
 use Rattle.hc_records.proofs.lemmas.Choices.{moved}
 
@@ -17,19 +18,9 @@ pub seen_again : (seen : ℕ → Bool) (n : ℕ) (numbers : List ℕ) → seen n
     → (list_any seen (n ∷ numbers) || has_repeat (n ∷ numbers)) ≡ true
 seen_again seen n numbers before = rw before refl
 
--- the order of four tests doesn't matter
-exchanged : (a b p q : Bool) → ((a || b) || (p || q)) ≡ ((a || p) || (b || q))
-exchanged true b p q = refl
-exchanged false true true q = refl
-exchanged false true false q = refl
-exchanged false false p q = refl
-
 -- the set after one more number tells that number and those it told before
 told : (test was : Bool) → cond test true was ≡ (was || test)
-told true true = refl
-told true false = refl
-told false true = refl
-told false false = refl
+told test was = grind (arith, common_steps)
 
 same_test : (n q : ℕ) → is_at (nat_cmp n) q ≡ (q == n)
 same_test n q = grind (arith, nat_tests)
@@ -38,9 +29,7 @@ same_test n q = grind (arith, nat_tests)
 met : (seen now : ℕ → Bool) (n : ℕ) (numbers : List ℕ) → ((q : ℕ) → now q ≡ (seen q || (q == n)))
     → list_any now numbers ≡ (list_any seen numbers || list_any (λ q. q == n) numbers)
 met seen now n [] one_more = refl
-met seen now n (q ∷ numbers) one_more =
-    rw (one_more q, met seen now n numbers one_more)
-    (exchanged (seen q) (q == n) (list_any seen numbers) (list_any (λ p. p == n) numbers))
+met seen now n (q ∷ numbers) one_more = grind (arith, common_steps, met seen now n numbers)
 
 -- one more number is seen, which wasn't before
 pub seen_more : (seen now : ℕ → Bool) (n : ℕ) (numbers : List ℕ)

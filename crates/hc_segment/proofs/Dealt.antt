@@ -1,7 +1,6 @@
 -- Machines in segments.
-use Rattle.std.proofs.Common.{◌≡◌, ◌≤◌, ◌+◌, ◌*◌, ℕ, All, List, [], ◌∷◌, ◌++◌, length, map, take, drop, refl, sym, ap, subst, ◌∙◌, arith, append_assoc, append-nil, length-append, length-drop, length-take, take-append-drop}
-use Rattle.std.proofs.lemmas.List.{map-append}
-use Rattle.std.proofs.lemmas.List.Elements.{All-push}
+use Rattle.std.proofs.Common.{◌≡◌, ◌≤◌, ◌+◌, ◌*◌, ℕ, All, List, [], ◌∷◌, ◌++◌, length, map, take, drop, refl, sym, ap, ◌∙◌, arith, append_assoc, append-nil, length-append, length-drop, take-append-drop}
+use Rattle.std.proofs.lemmas.Grind.{common_steps}
 use Rattle.hc_segment.specs.Line.{all_machines}
 
 -- one segment more
@@ -40,7 +39,4 @@ lengths-joined (x ∷ xs) (y ∷ ys) same =
 -- and it has so many at most
 pub small-more : (segments more : List (List (List ℕ))) (left : List (List ℕ)) (size : ℕ) → more ≡ segments ++ take size left ∷ [] → All (λ (n : ℕ). n ≤ size) (map (length {A = List ℕ}) segments)
     → All (λ (n : ℕ). n ≤ size) (map (length {A = List ℕ}) more)
-small-more segments more left size pushed small =
-    let few : length (take size left) ≤ size = omega (arith, length-take size left) in
-    subst (All (λ (n : ℕ). n ≤ size)) (sym (ap (λ (ss : List (List (List ℕ))). map (length {A = List ℕ}) ss) pushed ∙ map-append (length {A = List ℕ}) segments (take size left ∷ [])))
-    (All-push (λ (n : ℕ). n ≤ size) (map (length {A = List ℕ}) segments) (length (take size left)) small few)
+small-more segments more left size pushed small = grind (arith, common_steps)

@@ -1,9 +1,9 @@
 -- The table of newest frames, datagram by datagram.
-use Rattle.std.proofs.Common.{◌≡◌, ◌≢◌, ℕ, ◌+◌, ◌*◌, ◌<◌, ◌==◌, Bool, true, false, cond, ◌&&◌, ◌||◌, List, length, take, get_or, set, refl, sym, ap, ◌∙◌, arith, Option, Some, None}
+use Rattle.std.proofs.Common.{◌≡◌, ◌≢◌, ℕ, ◌+◌, ◌*◌, ◌<◌, ◌==◌, Bool, true, false, cond, ◌&&◌, ◌||◌, List, length, take, get_or, set, sym, ap, ◌∙◌, arith, Option, Some, None}
 use Rattle.std.specs.List.{list_any}
 use Rattle.std.proofs.lemmas.Bool.{and_parts, eqb-true}
 use Rattle.std.proofs.lemmas.Bool.Decides.{nat_tests}
-use Rattle.std.proofs.lemmas.Grind.{get_or-set_at}
+use Rattle.std.proofs.lemmas.Grind.{get_or-set_at, common_steps}
 use Rattle.std.proofs.lemmas.List.{get_or-set_other}
 use Rattle.std.proofs.lemmas.List.Folds.{list_any_more}
 use Rattle.hc_records.proofs.lemmas.Choices.{by_bool}
@@ -40,10 +40,7 @@ noted newest serial d named own other low =
     ∙ sym (ap (λ b. cond b (Some serial) (newest_of newest named)) t))
 
 either : {X : Type 0} (a b : Bool) (x y : X) → cond a x (cond b x y) ≡ cond (b || a) x y
-either true true x y = refl
-either true false x y = refl
-either false true x y = refl
-either false false x y = refl
+either a b x y = grind (arith, common_steps)
 
 -- one more of a frame's datagrams
 pub noted-more : (newest : Newest) (before : Option ℕ) (serial i : ℕ) (ds : List Named) (named : Named) → i < length ds

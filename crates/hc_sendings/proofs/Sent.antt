@@ -1,5 +1,5 @@
 -- Frames are sent: what is awaited behind them.
-use Rattle.std.proofs.Common.{◌≡◌, ℕ, ◌-◌, ◌<◌, ◌==◌, nat_lt, Bool, true, false, cond, not, ◌&&◌, ◌||◌, List, [], ◌∷◌, ◌++◌, ◌+◌, ◌≤◌, ◌⊎◌, inl, inr, length, length-append, map, filter, get_or, refl, sym, ap, ◌∙◌, subst, arith, append_assoc, append-nil, Option, Some, zero, suc}
+use Rattle.std.proofs.Common.{◌≡◌, ℕ, ◌-◌, ◌<◌, ◌==◌, nat_lt, Bool, true, false, cond, not, ◌&&◌, ◌||◌, List, [], ◌∷◌, ◌++◌, ◌+◌, ◌≤◌, ◌⊎◌, inl, inr, length, length-append, map, filter, get_or, refl, sym, ap, ◌∙◌, subst, arith, append_assoc, append-nil, Option, Some}
 use Rattle.std.specs.Prelude.{All, AllPairs}
 use Rattle.std.specs.List.{list_any}
 use Rattle.std.proofs.lemmas.Bool.Decides.{nat_tests}
@@ -8,6 +8,7 @@ use Rattle.std.proofs.lemmas.List.{get_or_default, length-map, map-append}
 use Rattle.std.proofs.lemmas.List.Sums.{count_by-le-length, length-filter}
 use Rattle.std.proofs.lemmas.List.Elements.{All-append, All-cons, All-filter, All-head, All-map, All-nil, All-tail, All-weaker, filter-append}
 use Rattle.std.proofs.lemmas.List.Kept.{AllPairs-filter}
+use Rattle.std.proofs.lemmas.Grind.{common_steps}
 use Rattle.hc_records.proofs.lemmas.Lists.{All-unmap, AllPairs-append, AllPairs-head, AllPairs-map, AllPairs-tail}
 use Rattle.hc_records.proofs.lemmas.Choices.{by_bool, itself}
 use Rattle.hc_events.specs.Sendings.{Frame, Named}
@@ -26,9 +27,7 @@ named-itself : (named : Named) → is_named named named ≡ true
 named-itself named = rw (itself named.0, itself named.1) refl
 
 any-at : {X : Type 0} (test : X → Bool) (xs : List X) (k : ℕ) (d : X) → k < length xs → test (get_or xs k d) ≡ true → list_any test xs ≡ true
-any-at test [] k d within e = absurd (omega arith)
-any-at test (x ∷ xs) zero d within e = rw e refl
-any-at test (x ∷ xs) (suc k) d within e = by_bool (test x) (λ t. rw t refl) (λ t. rw t (any-at test xs k d (omega arith) e))
+any-at test xs k d within e = grind (arith, common_steps)
 
 all-in : (datagrams : List Named) → All (λ named. list_any (is_named named) datagrams ≡ true) datagrams
 all-in datagrams = λ k d within. any-at (is_named (get_or datagrams k d)) datagrams k d within (named-itself (get_or datagrams k d))

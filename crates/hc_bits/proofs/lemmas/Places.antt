@@ -1,9 +1,10 @@
 -- Bits of lists of bytes place by place, and what this says of the lists.
 use Rattle.std.proofs.Common.{◌≡◌, ℕ, ◌+◌, ◌-◌, ◌*◌, ◌/◌, ◌%◌, ◌<◌, ◌≤◌, ◌⊎◌, List, ◌++◌, length, take, drop, replicate, get_or, refl, sym, ◌∙◌, ap, arith, inl, inr}
 use Rattle.std.proofs.lemmas.Bool.{cases_lt}
-use Rattle.std.proofs.lemmas.List.{ext_get_or, get_or_append_left, get_or-append-add, get_or-take, get_or-drop, get_or-replicate, get_or_past, length-replicate}
+use Rattle.std.proofs.lemmas.List.{ext_get_or, get_or_append_left, get_or-append-add, get_or-take, get_or-drop}
 use Rattle.std.proofs.lemmas.Nat.Bits.{bit_at-zero, same_from_bits_below}
 use Rattle.std.specs.Int.{bit_at}
+use Rattle.std.proofs.lemmas.Grind.{common_steps}
 use Rattle.hc_bits.specs.Bits.{bit_of, AreBytes, ReplacesRun}
 use Rattle.hc_bits.proofs.Runs.{bit_of-byte, bit_of-kept, bit_of-same_byte}
 
@@ -12,10 +13,7 @@ same_bytes_from_bits xs ys small small2 len same = ext_get_or 0 xs ys len (λ i 
     sym (bit_of-byte xs i j (8 * i + j) low refl) ∙ same (8 * i + j) (omega arith) ∙ bit_of-byte ys i j (8 * i + j) low refl))
 
 byte_of-same : (n i b d : ℕ) → b ≡ d → get_or (replicate n b) i d ≡ d
-byte_of-same n i b d same = elim (cases_lt i n) [
-  | inl low ↦ get_or-replicate n i b d low ∙ same
-  | inr past ↦ get_or_past (replicate n b) i d (omega (arith, length-replicate n b))
-]
+byte_of-same n i b d same = grind (arith, common_steps)
 
 pub bit_of-zeros : (n k : ℕ) → bit_of (replicate n 0) k ≡ 0
 unfolding bit_of

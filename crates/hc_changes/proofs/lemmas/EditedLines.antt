@@ -3,6 +3,7 @@ use Rattle.std.proofs.Common.{◌≡◌, ℕ, zero, suc, ◌+◌, ◌<◌, ◌�
 use Rattle.std.specs.Prelude.{◌&&◌, map, slice_index_or}
 use Rattle.std.proofs.lemmas.Bool.{le-ltb, lt-ltb}
 use Rattle.std.proofs.lemmas.List.{length-map, map-append}
+use Rattle.std.proofs.lemmas.Grind.{common_steps}
 use Rattle.hc_records.specs.declared.records.Area.{Area}
 use Rattle.hc_records.specs.declared.records.Slave.{Slave}
 use Rattle.hc_records.specs.declared.records.Declared.{Declared}
@@ -69,13 +70,7 @@ change-lines groups change was is it =
 -- lists that differ in a stretch have the same outside of it
 outside : {X : Type 0} (front one other behind : List X) (i : ℕ) (none : X) → length other ≡ length one → (length front ≤ i → i < length front + length one → ⊥) →
     slice_index_or (front ++ (one ++ behind)) i none ≡ slice_index_or (front ++ (other ++ behind)) i none
-outside [] [] [] behind i none many out = refl
-outside [] [] (y ∷ other) behind i none many out = absurd (omega (arith, many))
-outside [] (x ∷ one) [] behind i none many out = absurd (omega (arith, many))
-outside [] (x ∷ one) (y ∷ other) behind zero none many out = absurd (out (omega arith) (omega arith))
-outside [] (x ∷ one) (y ∷ other) behind (suc i) none many out = outside [] one other behind i none (omega (arith, many)) (λ low high. out (omega arith) (omega (arith, high)))
-outside (x ∷ front) one other behind zero none many out = refl
-outside (x ∷ front) one other behind (suc i) none many out = outside front one other behind i none many (λ low high. out (omega (arith, low)) (omega (arith, high)))
+outside front one other behind i none many out = grind (arith, common_steps)
 
 inside-by : (low high : Bool) → low ≡ false → high ≡ true → (not low && high) ≡ true
 inside-by low high below above = search rules

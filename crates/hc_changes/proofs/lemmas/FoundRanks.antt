@@ -1,7 +1,7 @@
 -- The candidates by ranks are those of the line: an area, a slave and a group at a time.
 use Rattle.std.proofs.Common.{◌≡◌, ℕ, zero, suc, ◌+◌, ◌-◌, ◌<◌, ◌≤◌, List, [], ◌∷◌, ◌++◌, Contains, None, append-nil, length, length-append, drop, drop-cons, take, refl, sym, ap, subst, ◌∙◌, append_assoc, arith, rules}
 use Rattle.std.specs.Prelude.{if◌then◌else◌, map, slice_index_or}
-use Rattle.std.proofs.lemmas.Grind.{flat_map-append}
+use Rattle.std.proofs.lemmas.Grind.{flat_map-append, common_steps}
 use Rattle.std.proofs.lemmas.List.{length-map, take_more}
 use Rattle.hc_records.specs.declared.limits.TheConstants.{MOST_SLAVES, TASKS}
 use Rattle.hc_records.specs.declared.records.Area.{Area}
@@ -32,10 +32,7 @@ pub areas-added : (it : EditedLine) (station rank i : ℕ) (areas : List Area) (
 areas-added it station rank i areas area own found all within is made so_far = search (rules, append_assoc, areas-next)
 
 past-all : {X : Type 0} (xs : List X) (n : ℕ) → length xs ≤ n → drop n xs ≡ []
-past-all [] zero past = refl
-past-all [] (suc n) past = refl
-past-all (x ∷ xs) zero past = absurd (omega arith)
-past-all (x ∷ xs) (suc n) past = past-all xs n (omega arith)
+past-all xs n past = grind (arith, common_steps)
 
 pub areas-end : (it : EditedLine) (station rank i : ℕ) (areas : List Area) (found all : List Candidate) → length areas ≤ i
     → found ++ areas_found it station rank i (drop i areas) ≡ all → found ≡ all
@@ -70,9 +67,7 @@ rank-added it rank next is = sym (ap (found_below it) is)
 -- a group among the declared ones
 
 at-mapped : {X Y : Type 0} (f : X → Y) (xs : List X) (i : ℕ) (x : X) (none : Y) → i < length xs → x ≡ slice_index_or xs i x → slice_index_or (map f xs) i none ≡ f x
-at-mapped f [] i x none within is = absurd (omega arith)
-at-mapped f (y ∷ xs) zero x none within is = sym (ap f is)
-at-mapped f (y ∷ xs) (suc i) x none within is = at-mapped f xs i x none (omega arith) is
+at-mapped f xs i x none within is = grind (arith, common_steps)
 
 pub many-stations : (groups : List Declared) → length (stations groups) ≡ length (areas_by_rank groups)
 many-stations [] = refl
@@ -126,9 +121,7 @@ behind-passed it low high first to end within order out =
 -- the groups one by one
 
 split-at : {X : Type 0} (xs : List X) (i : ℕ) (x : X) → i < length xs → x ≡ slice_index_or xs i x → xs ≡ take i xs ++ (x ∷ drop (i + 1) xs)
-split-at [] i x within is = absurd (omega arith)
-split-at (y ∷ xs) zero x within is = ap (λ (first : _). first ∷ xs) (sym is)
-split-at (y ∷ xs) (suc i) x within is = search (rules, split-at xs i x (omega arith) is)
+split-at xs i x within is = grind (arith, common_steps)
 
 pub group-at : (groups : List Declared) (first i : ℕ) (declared : Declared) → first ≡ length (areas_by_rank (take i groups)) + 1 → i < length groups
     → declared ≡ slice_index_or groups i declared → IsGroupAt groups first declared
@@ -146,17 +139,12 @@ group-next groups first i declared rank within is =
     omega (arith, rank, long, parts, own)
 
 pub taken-all : {X : Type 0} (xs : List X) (n : ℕ) → length xs ≤ n → take n xs ≡ xs
-taken-all [] zero past = refl
-taken-all [] (suc n) past = refl
-taken-all (x ∷ xs) zero past = absurd (omega arith)
-taken-all (x ∷ xs) (suc n) past = ap (λ (rest : List _). x ∷ rest) (taken-all xs n (omega arith))
+taken-all xs n past = grind (arith, common_steps)
 
 -- no slave has a rank above all of them
 
 past-none : {X : Type 0} (xs : List (List X)) (n : ℕ) → length xs ≤ n → slice_index_or xs n [] ≡ []
-past-none [] n past = refl
-past-none (x ∷ xs) zero past = absurd (omega arith)
-past-none (x ∷ xs) (suc n) past = past-none xs n (omega arith)
+past-none xs n past = grind (arith, common_steps)
 
 pub above-none : (it : EditedLine) (rank : ℕ) → length (areas_by_rank it.new) < rank → rank_found it rank ≡ []
 unfolding rank_found areas_found

@@ -1,9 +1,10 @@
 -- All candidates stand between the ranks of the slaves that change and of those between the boundaries of datagrams behind what is kept of them.
-use Rattle.std.proofs.Common.{◌≡◌, ℕ, zero, suc, ◌+◌, ◌<◌, ◌≤◌, Bool, true, false, List, [], ◌∷◌, Contains, length, refl, sym, ap, subst, ◌∙◌, ⊎_elim, arith, rules}
+use Rattle.std.proofs.Common.{◌≡◌, ℕ, suc, ◌+◌, ◌<◌, ◌≤◌, Bool, true, false, List, [], ◌∷◌, Contains, length, refl, sym, ap, subst, ◌∙◌, ⊎_elim, arith, rules}
 use Rattle.std.specs.Prelude.{All, slice_index_or}
 use Rattle.std.proofs.Math.Nat.{eq-or-lt_of_le}
 use Rattle.std.proofs.lemmas.Bool.{cases_lt, or_parts, false_from_ne_true}
 use Rattle.std.proofs.lemmas.List.Elements.{All-cons, All-contains, All-nil}
+use Rattle.std.proofs.lemmas.Grind.{common_steps}
 use Rattle.hc_places.proofs.lemmas.Loads.{dir-out}
 use Rattle.hc_records.specs.declared.keys.Key.{Key}
 use Rattle.hc_records.specs.declared.keys.TheConstants.Key.{START, END}
@@ -65,9 +66,7 @@ HoldFirst it task count low high =
 
 -- a boundary that is there is read alike, whatever stands for others
 pub same-read : {X : Type 0} (xs : List X) (i : ℕ) (none other : X) → i < length xs → slice_index_or xs i none ≡ slice_index_or xs i other
-same-read [] i none other within = absurd (omega arith)
-same-read (x ∷ xs) zero none other within = refl
-same-read (x ∷ xs) (suc i) none other within = same-read xs i none other (omega arith)
+same-read xs i none other within = grind (arith, common_steps)
 
 -- what is known of an area of the datagram with a number that isn't kept up to it
 pub record IsUnkeptIn (it : EditedLine) (task number : ℕ) (starts : List Key) (inputs : Bool) (key : Key) : Type 0 where

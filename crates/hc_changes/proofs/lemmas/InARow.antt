@@ -1,7 +1,8 @@
 -- The slaves that change, by their places in a row.
-use Rattle.std.proofs.Common.{◌≡◌, ℕ, zero, suc, ◌+◌, ◌-◌, ◌<◌, ◌≤◌, List, [], ◌∷◌, ◌++◌, Contains, length, refl, arith, rules}
+use Rattle.std.proofs.Common.{◌≡◌, ℕ, zero, suc, ◌+◌, ◌-◌, ◌<◌, ◌≤◌, List, [], ◌∷◌, ◌++◌, Contains, length, arith, rules}
 use Rattle.std.specs.Prelude.{slice_index_or}
 use Rattle.std.specs.List.{zip}
+use Rattle.std.proofs.lemmas.Grind.{common_steps}
 use Rattle.hc_records.specs.declared.records.Area.{Area}
 use Rattle.hc_cuts.specs.Areas.{areas_at}
 use Rattle.hc_changes.proofs.lemmas.Lists.{contains-behind, contains-first}
@@ -30,9 +31,7 @@ contains-pair none (x ∷ xs) (y ∷ ys) (suc i) same within = search (rules, co
 -- the areas in a row stand behind those in front
 
 index-own : {X : Type 0} (none : X) (own behind : List X) (i : ℕ) → i < length own → slice_index_or (own ++ behind) i none ≡ slice_index_or own i none
-index-own none [] behind i within = absurd (omega arith)
-index-own none (x ∷ own) behind zero within = refl
-index-own none (x ∷ own) behind (suc i) within = index-own none own behind i (omega arith)
+index-own none own behind i within = grind (arith, common_steps)
 
 pub index-front : {X : Type 0} (none : X) (front own behind : List X) (i : ℕ) → i < length own → slice_index_or (front ++ (own ++ behind)) (length front + i) none ≡ slice_index_or own i none
 index-front none [] own behind i within = search (rules, index-own)

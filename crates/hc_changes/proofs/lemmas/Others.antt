@@ -3,6 +3,7 @@ use Rattle.std.proofs.Common.{◌≡◌, ℕ, ◌<◌, ◌==◌, zero, suc, Bool
 use Rattle.std.specs.Prelude.{AllPairs, find, map, option_map}
 use Rattle.std.specs.List.{enumerate_from}
 use Rattle.std.proofs.lemmas.Bool.{eq-eqb, eqb-true}
+use Rattle.std.proofs.lemmas.Grind.{common_steps}
 use Rattle.hc_records.specs.declared.records.Area.{Area}
 use Rattle.hc_records.specs.Line.{Member}
 use Rattle.hc_records.proofs.lemmas.Finds.{mapped-some}
@@ -19,9 +20,7 @@ map-piece f (x ∷ xs) y (zero, within, is) = (x, contains-first x xs, is)
 map-piece f (x ∷ xs) y (suc k, within, is) = search (rules, contains-behind, map-piece f xs y (k, omega arith, is))
 
 pub contains-mapped : {X Y : Type 0} (f : X → Y) (xs : List X) (x : X) → Contains xs x → Contains (map f xs) (f x)
-contains-mapped f [] x (k, within, is) = absurd (omega arith)
-contains-mapped f (y ∷ ys) x (zero, within, is) = (0, omega arith, ap f is)
-contains-mapped f (y ∷ ys) x (suc k, within, is) = contains-behind (f x) (f y) (map f ys) (contains-mapped f ys x (k, omega arith, is))
+contains-mapped f xs x h3 = grind (arith, common_steps)
 
 -- a slave of a line is found by its rank
 

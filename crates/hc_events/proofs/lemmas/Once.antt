@@ -4,6 +4,7 @@ use Rattle.std.specs.Prelude.{is_some, nat_lt, option_map, option_and_then}
 use Rattle.std.specs.List.{list_any}
 use Rattle.std.proofs.lemmas.Bool.Decides.{nat_tests}
 use Rattle.std.proofs.lemmas.Bool.{and_right, not_from_true, or_right}
+use Rattle.std.proofs.lemmas.Grind.{common_steps}
 use Rattle.hc_records.proofs.lemmas.Choices.{by_bool, is_other}
 use Rattle.hc_events.specs.Arrivals.{Arrival}
 use Rattle.hc_events.specs.Entries.{Entry, Record, Opened, Edited, Posted, Sent, Wrote, Came}
@@ -34,14 +35,7 @@ mapped_some entry None = refl
 mapped_some entry (Some sending) = refl
 
 next_or_before : (serial next : ℕ) → nat_lt serial (next + 1) ≡ cond (next == serial) true (nat_lt serial next)
-next_or_before serial next =
-    by_bool (next == serial)
-    (λ t. let below : serial < next + 1 = grind (arith, nat_tests) in
-    let yes : nat_lt serial (next + 1) ≡ true = grind (arith, nat_tests) in
-    rw t yes)
-    (λ t. by_bool (nat_lt serial next)
-    (λ u. let yes : nat_lt serial (next + 1) ≡ true = grind (arith, nat_tests) in rw (t, u) yes)
-    (λ u. let no : nat_lt serial (next + 1) ≡ false = grind (arith, nat_tests) in rw (t, u) no))
+next_or_before serial next = grind (arith, common_steps)
 
 one_of : (c : Bool) (first : Option Sending) (rest : Option Sending) → is_some first ≡ true → is_some (cond c first rest) ≡ cond c true (is_some rest)
 one_of true first rest e = e

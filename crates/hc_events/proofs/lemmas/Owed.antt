@@ -5,6 +5,7 @@ use Rattle.std.specs.Option.{option_map_or}
 use Rattle.std.specs.List.{flat_map, list_any}
 use Rattle.std.specs.Str.{bytes_eq}
 use Rattle.std.proofs.lemmas.Bool.Decides.{nat_tests}
+use Rattle.std.proofs.lemmas.Grind.{common_steps}
 use Rattle.hc_records.specs.declared.edit.Edit.{Edit}
 use Rattle.hc_records.specs.Line.{Member, is_at}
 use Rattle.hc_records.proofs.lemmas.Choices.{by_bool, member-by}
@@ -27,10 +28,7 @@ of_slave block station first (one ∷ blocks) e =
     (λ t. of_slave block station (first + 1) blocks (member-by _ _ e t))
 
 any_joined : {X : Type 0} (test : X → Bool) (xs ys : List X) → list_any test (xs ++ ys) ≡ true → list_any test xs ≡ false → list_any test ys ≡ true
-any_joined test [] ys e none = e
-any_joined test (x ∷ xs) ys e none =
-    by_bool (test x) (λ t. let never : true ≡ false = sym (ap (λ b. b || list_any test xs) t) ∙ none in cc)
-    (λ t. any_joined test xs ys (member-by _ _ e t) (sym (ap (λ b. b || list_any test xs) t) ∙ none))
+any_joined test xs ys e none = grind (arith, common_steps)
 
 found_either : (c : Bool) (member : Member) (rest : Option Member) → (c ≡ false → is_some rest ≡ true) → is_some (cond c (Some member) rest) ≡ true
 found_either true member rest k = refl

@@ -1,10 +1,11 @@
 -- What a programmed line adds to the working counter of a datagram of a task.
-use Rattle.std.proofs.Common.{◌≡◌, ℕ, zero, suc, ◌+◌, ◌-◌, ◌*◌, ◌<◌, ◌≤◌, ◌⊎◌, ◌∙◌, inl, inr, Bool, true, false, List, [], ◌∷◌, length, refl, sym, ap, ap₂, subst, arith}
+use Rattle.std.proofs.Common.{◌≡◌, ℕ, suc, ◌+◌, ◌-◌, ◌*◌, ◌<◌, ◌≤◌, ◌⊎◌, ◌∙◌, inl, inr, Bool, true, false, List, [], ◌∷◌, length, refl, sym, ap, ap₂, subst, arith}
 use Rattle.std.specs.Prelude.{All, AllPairs, Contains, IsTrue, Some, filter, map, nat_lt, slice_get, slice_index_or, sum_by, ◌==◌, ◌&&◌, ◌||◌, if◌then◌else◌}
 use Rattle.std.specs.List.{AllZip, enumerate_from, list_any}
 use Rattle.std.proofs.lemmas.Bool.{eqb-true, and_from, and_parts, eq-eqb}
 use Rattle.std.proofs.lemmas.List.Elements.{All-contains, All-contains_itself, All-filter, Contains-get_or, filter_passes}
 use Rattle.std.proofs.lemmas.List.Sums.{sum_by-cons}
+use Rattle.std.proofs.lemmas.Grind.{common_steps}
 use Rattle.hc_records.specs.AddressLaws.{IsDatagram}
 use Rattle.hc_records.specs.declared.keys.Key.{Key}
 use Rattle.hc_records.specs.declared.limits.TheConstants.{TASKS}
@@ -47,19 +48,12 @@ use Rattle.hc_exchange.proofs.lemmas.Slaves.{carried-reads, carried-writes, read
 
 -- tests that some element passes
 
-any-true : (a b : Bool) → (a ≡ true) ⊎ (b ≡ true) → (a || b) ≡ true
-any-true true b either = refl
-any-true false b (inl is) = cc
-any-true false b (inr is) = is
-
 true-any : (a b : Bool) → (a || b) ≡ true → (a ≡ true) ⊎ (b ≡ true)
 true-any true b is = inl refl
 true-any false b is = inr is
 
 passes-at : {X : Type 0} (test : X → Bool) (xs : List X) (k : ℕ) (x : X) → k < length xs → slice_index_or xs k x ≡ x → test x ≡ true → list_any test xs ≡ true
-passes-at test [] k x low is passes = absurd (omega arith)
-passes-at test (z ∷ xs) zero x low is passes = any-true (test z) (list_any test xs) (inl (ap test is ∙ passes))
-passes-at test (z ∷ xs) (suc k) x low is passes = any-true (test z) (list_any test xs) (inr (passes-at test xs k x (omega arith) is passes))
+passes-at test xs k x low is passes = grind (arith, common_steps)
 
 some-passes : {X : Type 0} (test : X → Bool) (xs : List X) (x : X) → Contains xs x → test x ≡ true → list_any test xs ≡ true
 some-passes test xs x (k, low, is) passes = passes-at test xs k x low is passes
@@ -233,10 +227,7 @@ has-bit state task datagram member dir can has some =
 -- so each slave counts as its areas in the datagram tell
 
 share-by : (one r : ℕ) (b : Bool) (P : Type 0) → ((r ≡ one) × P) ⊎ ((r ≡ 0) × (¬ P)) → (P → b ≡ true) → (b ≡ true → P) → r ≡ (if b then one else 0)
-share-by one r true P (inl told) to from = told.0
-share-by one r true P (inr told) to from = absurd (told.1 (from refl))
-share-by one r false P (inl told) to from = let no = to told.1 in cc
-share-by one r false P (inr told) to from = told.0
+share-by one r b P h4 to from = grind (arith, common_steps)
 
 slave-counts : (state : State) (task datagram : ℕ) (member : Member) (memory : List ℕ) → IsConfigurable state → IsDatagram (line state) task datagram → Contains (line state) member
     → IsProgrammed (line state) member memory

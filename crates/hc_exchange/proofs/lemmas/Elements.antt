@@ -3,8 +3,9 @@ use Rattle.std.proofs.Common.{◌≡◌, ℕ, zero, suc, ◌+◌, ◌-◌, ◌<�
 use Rattle.std.specs.Prelude.{All, AllPairs, Contains, Some, filter, map, slice_get, slice_index_or}
 use Rattle.std.specs.List.{enumerate_from, flat_map}
 use Rattle.std.proofs.lemmas.Bool.{cases_order}
-use Rattle.std.proofs.lemmas.List.Elements.{All-cons, All-head, All-nil, All-tail, All-weaker, Contains-append_left, Contains-append_right, at_from_Contains}
+use Rattle.std.proofs.lemmas.List.Elements.{All-head, All-tail, Contains-append_left, Contains-append_right, at_from_Contains}
 use Rattle.std.proofs.lemmas.List.Kept.{AllPairs-cons}
+use Rattle.std.proofs.lemmas.Grind.{common_steps}
 use Rattle.hc_records.proofs.lemmas.Lists.{All-enumerate_from, All-flat_map, AllPairs-append, AllPairs-head, AllPairs-nil, AllPairs-tail}
 use Rattle.hc_records.proofs.lemmas.Choices.{contains-first, contains-later}
 
@@ -70,17 +71,8 @@ contains-numbered n (suc index) (z ∷ xs) x is =
 
 -- and back: each number is the element's index
 pub numbered-at : {X : Type 0} (n : ℕ) (xs : List X) → All (λ e. (n ≤ e.0) × (slice_get xs (e.0 - n) ≡ Some e.1)) (enumerate_from n xs)
-numbered-at n [] = All-nil (λ e. (n ≤ e.0) × (slice_get [] (e.0 - n) ≡ Some e.1))
-numbered-at n (x ∷ xs) =
-    let none : n - n ≡ 0 = omega arith in
-    All-cons (λ e. (n ≤ e.0) × (slice_get (x ∷ xs) (e.0 - n) ≡ Some e.1)) (n, x) (enumerate_from (n + 1) xs)
-    (omega arith, ap (slice_get (x ∷ xs)) none)
-    (All-weaker (λ e. (n + 1 ≤ e.0) × (slice_get xs (e.0 - (n + 1)) ≡ Some e.1)) (λ e. (n ≤ e.0) × (slice_get (x ∷ xs) (e.0 - n) ≡ Some e.1))
-    (λ e told.
-    let low = told.0 in
-    let next : e.0 - n ≡ suc (e.0 - (n + 1)) = omega arith in
-    (omega arith, ap (slice_get (x ∷ xs)) next ∙ told.1))
-    (enumerate_from (n + 1) xs) (numbered-at (n + 1) xs))
+numbered-at n [] = grind (arith, common_steps)
+numbered-at n (x ∷ xs) = grind (arith, common_steps, numbered-at (n + 1) xs)
 
 -- two elements of a list are one, or one stands before the other
 pub contains-order : {X : Type 0} (R : X → X → Type 0) (xs : List X) (x y : X) → AllPairs R xs → Contains xs x → Contains xs y → (x ≡ y) ⊎ (R x y ⊎ R y x)

@@ -3,6 +3,7 @@ use Rattle.std.proofs.Common.{◌≡◌, ℕ, ◌+◌, ◌*◌, ◌<◌, ◌≤�
 use Rattle.std.specs.Prelude.{All, Contains, Option, Some, find, slice_get, slice_index_or}
 use Rattle.std.specs.List.{enumerate_from}
 use Rattle.std.proofs.lemmas.List.Elements.{All-contains_itself, Contains-get_or}
+use Rattle.std.proofs.lemmas.Grind.{common_steps}
 use Rattle.hc_records.specs.declared.keys.Key.{Key}
 use Rattle.hc_records.specs.declared.limits.TheConstants.{TASKS}
 use Rattle.hc_records.specs.declared.records.Area.{Area}
@@ -104,10 +105,7 @@ place-mappable line member index area mapping low place = subst (IsMappable area
 pub logical-told : (task datagram bit bits k task' datagram' bit' bits' k' : ℕ) → datagram < 16 → datagram' < 16 → bit + bits ≤ 11888 → bit' + bits' ≤ 11888 → k < bits → k' < bits'
     → 8 * (16777216 * (task + 1) + 2048 * datagram) + bit + k ≡ 8 * (16777216 * (task' + 1) + 2048 * datagram') + bit' + k'
     → (task ≡ task') × (datagram ≡ datagram') × (bit + k ≡ bit' + k')
-logical-told task datagram bit bits k task' datagram' bit' bits' k' early early' inside inside' below below' same =
-    let tasks : task ≡ task' = omega arith in
-    let datagrams : datagram ≡ datagram' = omega arith in
-    (tasks, datagrams, omega arith)
+logical-told task datagram bit bits k task' datagram' bit' bits' k' early early' inside inside' below below' same = grind (arith, common_steps)
 
 meet-no : (a b : Placed) (k l : ℕ) → a.datagram ≡ b.datagram → a.bit + k ≡ b.bit + l → k < a.bits → StandsBefore a b → ⊥
 meet-no a b k l same bits below (inl earlier) = omega arith

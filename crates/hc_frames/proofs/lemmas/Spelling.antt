@@ -9,6 +9,7 @@ use Rattle.hc_frames.proofs.Faults.{Clear, clear_of}
 use Rattle.std.proofs.lemmas.List.Elements.{All-cons}
 use Rattle.std.proofs.lemmas.Bool.Decides.{nat_tests}
 use Rattle.std.proofs.lemmas.Bool.{and_parts, not-false, or_parts, eqb-true}
+use Rattle.std.proofs.lemmas.Grind.{common_steps}
 use Rattle.hc_records.proofs.lemmas.Choices.{by_bool}
 use Rattle.hc_frames.specs.declared.commands.Command.TheVariants.{Lrw}
 use Rattle.hc_frames.specs.Commands.{code_of, command_of}
@@ -80,10 +81,7 @@ ten_same : (a b c d e f g h i j a2 b2 c2 d2 e2 f2 g2 h2 i2 j2 : ℕ) (xs ys : Li
 ten_same a b c d e f g h i j a2 b2 c2 d2 e2 f2 g2 h2 i2 j2 xs ys p q r s t u v w x y z = cc
 
 two_spelled : (t : List ℕ) → 2 ≤ length t → slice_index t 0 < 256 → slice_index t 1 < 256 → to_le_bytes w16 (slice_index t 0 + 256 * slice_index t 1) ++ drop 2 t ≡ t
-two_spelled [] long a b = absurd (omega arith)
-two_spelled (x ∷ []) long a b = absurd (omega arith)
-two_spelled (x ∷ y ∷ ys) long a b =
-    ap (λ (n : ℕ). n ∷ (x + 256 * y) / 256 % 256 ∷ ys) (low_byte x y a b) ∙ ap (λ (n : ℕ). x ∷ n ∷ ys) (high_byte x y a b)
+two_spelled t long a b = grind (arith, common_steps)
 
 abbrev AllBytes : List ℕ → Type 0
 AllBytes xs = All (λ b. b < 256) xs

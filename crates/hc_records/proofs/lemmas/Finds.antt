@@ -1,9 +1,10 @@
 -- What is found in a list, and what holds of each of the eight tasks.
-use Rattle.std.proofs.Common.{◌≡◌, ◌≢◌, ℕ, ◌<◌, ◌⊎◌, inl, inr, zero, suc, Bool, true, false, List, [], ◌∷◌, Option, Some, None, refl, sym, ◌∙◌, arith, if◌then◌else◌}
+use Rattle.std.proofs.Common.{◌≡◌, ◌≢◌, ℕ, ◌<◌, ◌⊎◌, zero, suc, Bool, true, false, List, [], ◌∷◌, Option, Some, None, refl, sym, ◌∙◌, arith, if◌then◌else◌}
 use Rattle.std.specs.Prelude.{All, AllPairs, find, option_map, ◌==◌}
 use Rattle.std.specs.List.{enumerate_from}
 use Rattle.std.proofs.lemmas.Bool.{eqb-true}
 use Rattle.std.proofs.lemmas.List.Elements.{All-nil, All-cons, All-head, All-tail}
+use Rattle.std.proofs.lemmas.Grind.{common_steps}
 use Rattle.hc_records.specs.declared.limits.TheConstants.{TASKS}
 use Rattle.hc_records.specs.Image.{tasks}
 use Rattle.hc_records.proofs.lemmas.Lists.{AllPairs-head, AllPairs-map, AllPairs-numbers, AllPairs-tail}
@@ -39,10 +40,7 @@ mapped-some f (Some x) y is = (x, refl, cc)
 two-by : {X : Type 0} (R : X → X → Type 0) (first second : Bool) (x a b : X) (rest rest' : Option X) →
     (first ≡ true → second ≡ true → ⊥) → (rest' ≡ Some b → R x b) → (rest ≡ Some a → R x a) → (rest ≡ Some a → rest' ≡ Some b → R a b ⊎ R b a) →
     (if first then Some x else rest) ≡ Some a → (if second then Some x else rest') ≡ Some b → R a b ⊎ R b a
-two-by R true true x a b rest rest' apart right left both is is' = absurd (apart refl refl)
-two-by R true false x a b rest rest' apart right left both is is' = let same : x ≡ a = cc in inl (rw (← same) (right is'))
-two-by R false true x a b rest rest' apart right left both is is' = let same : x ≡ b = cc in inr (rw (← same) (left is))
-two-by R false false x a b rest rest' apart right left both is is' = both is is'
+two-by R first second x a b rest rest' apart right left both is is' = grind (arith, common_steps)
 
 pub found-two : {Y : Type 0} (R : ℕ × Y → ℕ × Y → Type 0) (first second : ℕ) (xs : List (ℕ × Y)) (a b : ℕ × Y) → first ≢ second → AllPairs R xs →
     find (λ x. x.0 == first) xs ≡ Some a → find (λ x. x.0 == second) xs ≡ Some b → R a b ⊎ R b a

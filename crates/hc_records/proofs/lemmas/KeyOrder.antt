@@ -1,8 +1,9 @@
 -- The order of keys is total.
 use Rattle.std.proofs.Common.{◌≡◌, ℕ, ◌⊎◌, inl, inr, Bool, true, false, refl, sym, ap, ◌∙◌, arith}
 use Rattle.std.specs.Prelude.{nat_lt, ◌==◌, ◌&&◌, ◌||◌}
-use Rattle.std.proofs.lemmas.Bool.{and_parts, eq-eqb, eqb-true, or_cases, or_left, or_parts, or_right}
+use Rattle.std.proofs.lemmas.Bool.{eq-eqb, or_cases, or_left, or_parts, or_right}
 use Rattle.std.proofs.lemmas.Bool.Decides.{nat_tests}
+use Rattle.std.proofs.lemmas.Grind.{common_steps}
 use Rattle.hc_records.specs.declared.records.Dir.{Dir}
 use Rattle.hc_records.specs.declared.records.Dir.TheVariants.{Out, In}
 use Rattle.hc_records.specs.declared.keys.Key.{Key}
@@ -100,9 +101,7 @@ within-apart a b within = by (is_before b a) refl
 
 -- the same key
 numbers-same : (r a s b : ℕ) → ((r == s) && (a == b)) ≡ true → (r ≡ s) × (a ≡ b)
-numbers-same r a s b same =
-    let parts = and_parts (r == s) (a == b) same in
-    (eqb-true r s parts.0, eqb-true a b parts.1)
+numbers-same r a s b same = grind (arith, common_steps)
 
 same-by : (d e : Dir) (r a s b : ℕ) → same_key (key d r a) (key e s b) ≡ true → key d r a ≡ key e s b
 same-by Out Out r a s b same = let both = numbers-same r a s b same in let rank = both.0 in let area = both.1 in cc

@@ -5,6 +5,7 @@ use Rattle.std.specs.List.{enumerate_from, flat_map, list_any}
 use Rattle.std.proofs.lemmas.Bool.{eqb-false, or_parts}
 use Rattle.std.proofs.lemmas.List.Elements.{All-nil, All-cons, All-head, All-tail, All-append, All-weaker, All-filter, All-map, filter_passes}
 use Rattle.std.proofs.lemmas.List.Kept.{AllPairs-cons}
+use Rattle.std.proofs.lemmas.Grind.{common_steps}
 use Rattle.hc_records.specs.Lists.{has_repeat, lowest, some_pair}
 
 pub All-append_left : {X : Type 0} (P : X → Type 0) (xs ys : List X) → All P (xs ++ ys) → All P xs
@@ -38,10 +39,7 @@ All-from_filter P test (x ∷ xs) all =
 
 -- no element passes a test that isn't passed by any
 pub All-from_none : {X : Type 0} (test : X → Bool) (xs : List X) → list_any test xs ≡ false → All (λ x. test x ≡ false) xs
-All-from_none test [] none = All-nil (λ x. test x ≡ false)
-All-from_none test (x ∷ xs) none =
-    let parts = or_parts (test x) (list_any test xs) none in
-    All-cons (λ x. test x ≡ false) x xs parts.0 (All-from_none test xs parts.1)
+All-from_none test xs none = grind (arith, common_steps)
 
 pub All-unmap : {X Y : Type 0} (P : Y → Type 0) (f : X → Y) (xs : List X) → All P (map f xs) → All (λ x. P (f x)) xs
 All-unmap P f [] all = All-nil (λ x. P (f x))
@@ -55,11 +53,8 @@ All-enumerate_from P number (x ∷ xs) all =
 
 -- its numbers
 pub All-numbers : {X : Type 0} (number : ℕ) (xs : List X) → All (λ e. (number ≤ e.0) × (e.0 < number + length xs)) (enumerate_from number xs)
-All-numbers number [] = All-nil (λ e. (number ≤ e.0) × (e.0 < number + 0))
-All-numbers number (x ∷ xs) =
-    All-cons (λ e. (number ≤ e.0) × (e.0 < number + suc (length xs))) (number, x) (enumerate_from (number + 1) xs) (omega arith, omega arith)
-    (All-weaker (λ e. (number + 1 ≤ e.0) × (e.0 < number + 1 + length xs)) (λ e. (number ≤ e.0) × (e.0 < number + suc (length xs)))
-    (λ e within. (omega arith, omega arith)) (enumerate_from (number + 1) xs) (All-numbers (number + 1) xs))
+All-numbers number [] = grind (arith, common_steps)
+All-numbers number (x ∷ xs) = grind (arith, common_steps, All-numbers (number + 1) xs)
 
 pub AllPairs-nil : {X : Type 0} (R : X → X → Type 0) → AllPairs R []
 AllPairs-nil R i j d lower within = absurd (omega arith)
@@ -71,10 +66,7 @@ pub AllPairs-tail : {X : Type 0} (R : X → X → Type 0) (x : X) (xs : List X) 
 AllPairs-tail R x xs pairs i j d lower within = pairs (suc i) (suc j) d (omega arith) (omega arith)
 
 pub AllPairs-append : {X : Type 0} (R : X → X → Type 0) (xs ys : List X) → AllPairs R xs → AllPairs R ys → All (λ x. All (R x) ys) xs → AllPairs R (xs ++ ys)
-AllPairs-append R [] ys first second across = second
-AllPairs-append R (x ∷ xs) ys first second across =
-    AllPairs-cons R x (xs ++ ys) (All-append (R x) xs ys (AllPairs-head R x xs first) (All-head (λ x. All (R x) ys) x xs across))
-    (AllPairs-append R xs ys (AllPairs-tail R x xs first) second (All-tail (λ x. All (R x) ys) x xs across))
+AllPairs-append R xs ys first second across = grind (arith, common_steps)
 
 pub AllPairs-across : {X : Type 0} (R : X → X → Type 0) (xs : List X) (y : X) (ys : List X) → AllPairs R (xs ++ y ∷ ys) → All (λ x. R x y) xs
 AllPairs-across R [] y ys pairs = All-nil (λ x. R x y)

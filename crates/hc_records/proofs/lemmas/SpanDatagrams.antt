@@ -4,6 +4,7 @@ use Rattle.std.specs.Prelude.{All, cond, filter, slice_get, ◌==◌}
 use Rattle.std.proofs.lemmas.Bool.{and_from, and_left, and_right, eq-eqb, ne_eqb}
 use Rattle.std.proofs.lemmas.List.Elements.{All-nil, All-cons, All-head, All-tail, All-weaker}
 use Rattle.std.proofs.lemmas.Option.{same_Some}
+use Rattle.std.proofs.lemmas.Grind.{common_steps}
 use Rattle.hc_records.specs.declared.keys.Key.{Key}
 use Rattle.hc_records.specs.declared.keys.TheConstants.Key.{START, END}
 use Rattle.hc_records.specs.Keys.{is_before, is_within}
@@ -54,10 +55,7 @@ begins-later P begun (cut ∷ cuts) (suc number) span all is = begins-later P cu
 
 -- two filters that agree on the first element and on the rest
 both-cons : {X : Type 0} (a b : Bool) (x : X) (xs ys : List X) → a ≡ b → xs ≡ ys → cond a (x ∷ xs) xs ≡ cond b (x ∷ ys) ys
-both-cons true true x xs ys same rest = ap (λ (more : List _). x ∷ more) rest
-both-cons true false x xs ys same rest = cc
-both-cons false true x xs ys same rest = cc
-both-cons false false x xs ys same rest = rest
+both-cons a b x xs ys same rest = grind (arith, common_steps)
 
 -- an area stands in the datagram being filled exactly where it lies in the span that is begun
 first-lies : (number datagram : ℕ) (placed : Placed) (first : Key) (span : Interval) → placed.datagram ≡ datagram → placed.key ≡ first →

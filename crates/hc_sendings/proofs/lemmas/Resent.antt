@@ -5,6 +5,7 @@ use Rattle.std.specs.Option.{option_or}
 use Rattle.std.specs.List.{list_any}
 use Rattle.std.proofs.lemmas.Bool.Decides.{nat_tests}
 use Rattle.std.proofs.lemmas.List.Elements.{All-head, All-tail, filter-append}
+use Rattle.std.proofs.lemmas.Grind.{common_steps}
 use Rattle.hc_records.specs.Line.{Member}
 use Rattle.hc_records.proofs.lemmas.Lists.{AllPairs-head, AllPairs-tail}
 use Rattle.hc_records.proofs.lemmas.Choices.{by_bool}
@@ -34,10 +35,7 @@ left_by frame dues = cond (list_any is_newest (map (again frame) dues)) (Some (m
 -- by the record
 
 not_or : (a b : Bool) → (not b && not a) ≡ not (a || b)
-not_or true true = refl
-not_or true false = refl
-not_or false true = refl
-not_or false false = refl
+not_or a b = grind (arith, common_steps)
 
 dues_again : (frame : List Named) (since : List Entry) (heads : List Head) → map (again frame) (map (due_in since) heads) ≡ map (due_in (Sent frame ∷ since)) heads
 dues_again frame since [] = refl

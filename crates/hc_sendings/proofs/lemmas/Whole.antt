@@ -1,10 +1,11 @@
 -- The frames in which datagrams are sent: what they carry, and their bytes.
-use Rattle.std.proofs.Common.{◌≡◌, ◌+◌, ◌<◌, ℕ, Bool, true, false, cond, List, [], ◌∷◌, subst, sym, arith, length, length-append, get_or}
+use Rattle.std.proofs.Common.{◌≡◌, ◌+◌, ◌<◌, ℕ, Bool, true, false, cond, List, [], ◌∷◌, arith, length, length-append, get_or}
 use Rattle.std.specs.Prelude.{All, sum_by}
 use Rattle.std.specs.List.{flat_map, range_with_len}
 use Rattle.std.proofs.lemmas.List.Elements.{All-cons, All-head, All-map, All-nil, All-push, All-tail, All-weaker}
 use Rattle.std.proofs.lemmas.List.FromFn.{get_or-range_with_len, length-range_with_len}
 use Rattle.std.proofs.lemmas.List.Sums.{sum_by-cons, sum_by_push}
+use Rattle.std.proofs.lemmas.Grind.{common_steps}
 use Rattle.hc_records.specs.Line.{Member}
 use Rattle.hc_records.specs.Image.{datagram_count, task_places}
 use Rattle.hc_records.proofs.lemmas.Lists.{All-flat_map}
@@ -56,9 +57,7 @@ whole-frames line P serial (datagram ∷ datagrams) own =
 
 -- the datagrams of tasks stand in the line
 numbers-below : (count : ℕ) → All (λ d. d < count) (range_with_len 0 count)
-numbers-below count i d within =
-    let inside : i < count = omega (arith, length-range_with_len 0 count) in
-    subst (λ n. n < count) (sym (get_or-range_with_len 0 count i d inside)) (omega arith)
+numbers-below count i d within = grind (arith, common_steps, length-range_with_len, get_or-range_with_len)
 
 task-stands : (line : List Member) (task : ℕ) → All (StandsIn line) (task_datagrams line task)
 task-stands line task =
