@@ -164,7 +164,7 @@ fn time<R: Wait + Clock + Print>(
     times: u32,
 ) -> Option<u64> {
     let variables = variables_of(alloc, &given.variables)?;
-    let (mut plan, mut publisher, seats) = opened_line(rt, alloc, &given.line)?;
+    let (mut plan, mut publisher, seats) = opened_line(rt, alloc, &[given.line.as_str()])?;
     let done = play(rt, alloc, &mut plan, &mut publisher, &given.asked, 1);
     let sum = match seat_of(seats, task) {
         Some(seat) if timed == Timed::Views => time_seat(rt, seat, times),
@@ -213,7 +213,7 @@ fn time_last<R: Wait + Clock + Print>(
     given: &Given,
     times: u32,
 ) -> Option<u64> {
-    let (mut plan, mut publisher, mut seats) = opened_line(rt, alloc, &given.line)?;
+    let (mut plan, mut publisher, mut seats) = opened_line(rt, alloc, &[given.line.as_str()])?;
     let done = play(rt, alloc, &mut plan, &mut publisher, &given.asked, 1);
     let sum = match seats.pop() {
         Some(seat) => time_learning(rt, &publisher, seat, times),
