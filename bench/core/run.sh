@@ -8,7 +8,7 @@ bench=$scratch/crates/core_bench
 take hc_project
 take hc_core
 echo 'core_bench staticlib: hc_records hc_project hc_places hc_frames hc_plan hc_events hc_core libc' >> "$scratch/crates.txt"
-share "$bench" answers asked bytes clock cores plans told
+share "$bench" answers bytes clock cores edits_asked plans told
 for part in "$here"/library/*.sh; do
     sh "$part" "$bench"
 done
