@@ -17,8 +17,9 @@ for output in examples/*.out tools/*.out compare/played/*.out; do
     cp "$output" "$scratch/cases/$name.stdout"
 done
 
-# The program comes first, since its build takes longest; as many run at a time as there are processors.
-{ echo program; for crate in crates/worked_*; do basename "$crate"; done; } >"$scratch/jobs"
+# The program comes first, since its build takes longest, and then the crate with the most tests; as many run at a time as there
+# are processors.
+{ echo program; du -s crates/worked_*/src | sort -rn | sed 's|.*crates/||; s|/src$||'; } >"$scratch/jobs"
 export scratch
 xargs -P "$(nproc)" -I NAME sh -c '
     if [ NAME = program ]; then

@@ -1,7 +1,6 @@
 #!/bin/sh
 # Proves `hc_conductor` and a program that plays cycles by it, in a scratch folder: a program, since a static library may
-# not wait. Builds the plain Rust beside it and runs both. KIT is the toolchain's folder, if it is not /opt/rattle; with
-# KEPT=1 the work that earlier checks kept in out/ is taken over.
+# not wait. Builds the plain Rust beside it and runs both. `../shared.sh` tells of KIT and KEPT.
 set -eu
 here=$(cd "$(dirname "$0")" && pwd)
 . "$here/../shared.sh"
@@ -17,6 +16,7 @@ done
 # The line that is cycled beside tasks in threads, as the tests have it.
 tests=$top/crates/worked_threads
 mkdir -p "$program/proofs"
+cp "$tests/src/projects.rt" "$program/src/"
 for name in fates lines posting working; do
     cp "$tests/src/conductor/$name.rt" "$program/src/"
     [ ! -e "$tests/proofs/conductor/$name" ] || cp -r "$tests/proofs/conductor/$name" "$program/proofs/"

@@ -1,7 +1,6 @@
 #!/bin/sh
 # Proves `hc_plan` and what the benchmark needs of it under C names, in a scratch folder; links the benchmark to that
-# static library and runs it. KIT is the toolchain's folder, if it is not /opt/rattle; with KEPT=1 the work that earlier
-# checks kept in out/ is taken over.
+# static library and runs it. `../shared.sh` tells of KIT and KEPT.
 set -eu
 here=$(cd "$(dirname "$0")" && pwd)
 . "$here/../shared.sh"
@@ -9,7 +8,7 @@ bench=$scratch/crates/edits_bench
 take hc_project
 take hc_plan
 echo 'edits_bench staticlib: hc_records hc_project hc_registers hc_places hc_plan libc' >> "$scratch/crates.txt"
-share "$bench" asked clock plans told
+share "$bench" clock edits_asked plans told
 mkdir -p "$bench/proofs/configured_in"
 # Which ledger the blank is of: `open_line` asks for it.
 cat > "$bench/proofs/configured_in/Invariants.antt" <<'END_OF_PROOF'
@@ -22,13 +21,13 @@ cat > "$bench/src/lib.rt" <<'END_OF_CODE'
 //! What the benchmark calls: each function opens a project's plan and plays what is asked of it.
 #![tactic(auto)]
 
-mod asked;
 mod clock;
+mod edits_asked;
 mod plans;
 mod told;
 
-use crate::asked::{EditAsked, edit_of};
 use crate::clock::nanoseconds;
+use crate::edits_asked::{EditAsked, edit_of};
 use crate::plans::{applied_in, opened_plan};
 use crate::told::{told_of, told_of_place, told_of_swap};
 use hc_places::configure::open_line;

@@ -1,8 +1,8 @@
 #!/bin/sh
-# Times the library for C beside the same calls inside the language: builds the library, and in a scratch folder one that plays
-# and times the calls inside, and links a program of C to both. Words are those of the program (main.c). Without words, and
-# where valgrind is, the instructions of each call are counted too: the difference of 40 calls and of 8. KIT is the toolchain's
-# folder, if it is not /opt/rattle; with KEPT=1 the work that earlier checks kept in out/ is taken over.
+# Times the library for C beside the same calls inside the language: builds the library, and in a scratch folder one that
+# plays and times the calls inside, and links a program of C to both. Words are those of the program (main.c). Without
+# words, and where valgrind is, the instructions of each call are counted too: the difference of 40 calls and of 8.
+# `../shared.sh` tells of KIT and KEPT.
 set -eu
 here=$(cd "$(dirname "$0")" && pwd)
 . "$here/../shared.sh"

@@ -1,7 +1,6 @@
 #!/bin/sh
 # Proves `hc_plan` and what the benchmark needs of it under C names, in a scratch folder; links the benchmark to that
-# static library and runs it. KIT is the toolchain's folder, if it is not /opt/rattle; with KEPT=1 the work that earlier
-# checks kept in out/ is taken over.
+# static library and runs it. `../shared.sh` tells of KIT and KEPT.
 set -eu
 here=$(cd "$(dirname "$0")" && pwd)
 . "$here/../shared.sh"

@@ -1,8 +1,7 @@
 #!/bin/sh
-# Times the program `hotline` beside plain Rust that answers the same commands, sees what is resident in a long run, and times
-# how a large project is read beside the TOML reader alone. Builds the program as `rt run` does, and in a scratch folder a
-# program that only reads TOML. KIT is the toolchain's folder, if it is not /opt/rattle; HOTLINE is a built program to be
-# taken in place of that.
+# Times the program `hotline` beside plain Rust that answers the same commands, sees what is resident in a long run, and
+# times how a large project is read beside the TOML reader alone. Builds the program as `rt run` does, and in a scratch
+# folder a program that only reads TOML. HOTLINE is a built program to be taken in place of that.
 set -eu
 here=$(cd "$(dirname "$0")" && pwd)
 . "$here/../shared.sh"

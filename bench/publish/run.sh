@@ -1,7 +1,6 @@
 #!/bin/sh
 # Proves `hc_publish` and a program that publishes and views by it, in a scratch folder: a program, since a static library
-# may not wait. Builds the plain Rust beside it and runs both. KIT is the toolchain's folder, if it is not /opt/rattle; with
-# KEPT=1 the work that earlier checks kept in out/ is taken over.
+# may not wait. Builds the plain Rust beside it and runs both. `../shared.sh` tells of KIT and KEPT.
 set -eu
 here=$(cd "$(dirname "$0")" && pwd)
 . "$here/../shared.sh"
@@ -15,6 +14,7 @@ for part in "$here"/program/*.sh; do
 done
 # The line that is published in turn beside seats in threads, as the tests have it.
 tests=$top/crates/worked_threads
+cp "$tests/src/projects.rt" "$program/src/"
 for name in eight lines turns watched; do
     cp "$tests/src/views/$name.rt" "$program/src/"
     [ ! -e "$tests/proofs/views/$name" ] || cp -r "$tests/proofs/views/$name" "$program/proofs/"

@@ -1,8 +1,8 @@
 #!/bin/sh
 # Proves `hc_segment` and what the benchmark needs of it, in a scratch folder: a static library that passes frames through
 # a segment, and a program that passes them through chains, since a static library may start no thread. Builds the plain
-# Rust beside them and runs all. KIT is the toolchain's folder, if it is not /opt/rattle; with KEPT=1 the work that
-# earlier checks kept is taken over. The word `instructions` counts those of a turn, which needs valgrind, and times nothing.
+# Rust beside them and runs all. `../shared.sh` tells of KIT and KEPT. The word `instructions` counts those of a turn,
+# which needs valgrind, and times nothing.
 set -eu
 here=$(cd "$(dirname "$0")" && pwd)
 . "$here/../shared.sh"

@@ -5,8 +5,9 @@ mkdir -p "$1/src"
 cat > "$1/src/stress.rt" <<'END_OF_CODE'
 //! Cycles beside eight tasks in threads of their own, and the memory that is resident.
 
-use crate::fates::{EIGHT, Master, play_all, play_last};
+use crate::fates::{Master, play_all, play_last};
 use crate::lines::{are_written, opened_line};
+use crate::projects::EIGHT;
 use crate::resident::resident;
 use crate::working::{eight_of, work_eight};
 use hc_conductor::conductor::Conductor;

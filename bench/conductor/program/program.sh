@@ -15,6 +15,7 @@ mod given;
 mod lines;
 mod master;
 mod posting;
+mod projects;
 mod resident;
 mod rounds;
 mod sendings;

@@ -48,11 +48,11 @@ cat > "$1/src/lib.rt" <<'END_OF_CODE'
 #![tactic(auto)]
 
 mod answers;
-mod asked;
 mod bytes;
 mod clock;
 mod cores;
 mod edits;
+mod edits_asked;
 mod plans;
 mod told;
 
@@ -62,10 +62,10 @@ ghost use Rattle.hc_core.specs.Filled.{CanBeFilled};
 ghost use Rattle.hc_core.specs.Proposed.{IsProposal};
 
 use crate::answers::{told_of_answer, told_of_changes};
-use crate::asked::{EditAsked, edit_of};
 use crate::bytes::{bytes_from, put_serial};
 use crate::clock::nanoseconds;
 use crate::cores::{opened, send, write_and_take};
+use crate::edits_asked::{EditAsked, edit_of};
 use crate::told::told_of;
 use hc_core::keeping::Core;
 use hc_events::answer::{Answer, Arrived};

@@ -5,9 +5,9 @@ mkdir -p "$1/src" "$1/proofs"
 cat > "$1/src/edits.rt" <<'END_OF_CODE'
 //! Edits, each timed by itself: in a core, and in a plan of the same line.
 
-use crate::asked::{EditAsked, edit_of};
 use crate::clock::nanoseconds;
 use crate::cores::{opened, write_and_take};
+use crate::edits_asked::{EditAsked, edit_of};
 use crate::plans::{applied_in, opened_plan};
 use hc_core::keeping::Core;
 use hc_events::answer::Answer;

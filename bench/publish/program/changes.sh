@@ -215,7 +215,7 @@ pub fn time_publishings<R: Wait + Clock + Print>(
     times: u32,
     rounds: u32,
 ) -> bool {
-    let Some((mut plan, mut publisher, mut seats)) = opened_line(rt, alloc, &given.line) else {
+    let Some((mut plan, mut publisher, mut seats)) = opened_line(rt, alloc, &[given.line.as_str()]) else {
         return false;
     };
     for _ in count..8 {
@@ -258,7 +258,7 @@ fn tell_each<R: Wait + Clock + Print>(
 
 /// What all seats see behind each thing asked, with that many variables.
 pub fn tell<R: Wait + Clock + Print>(rt: &R, alloc: Global, given: &Given, variables: u32) -> bool {
-    let Some((mut plan, mut publisher, seats)) = opened_line(rt, alloc, &given.line) else {
+    let Some((mut plan, mut publisher, seats)) = opened_line(rt, alloc, &[given.line.as_str()]) else {
         return false;
     };
     let done = tell_each(

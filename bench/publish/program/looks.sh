@@ -164,7 +164,7 @@ fn time<R: Wait + Clock + Print>(
     times: u32,
 ) -> Option<u64> {
     let variables = variables_of(alloc, &given.variables)?;
-    let (mut plan, mut publisher, seats) = opened_line(rt, alloc, &given.line)?;
+    let (mut plan, mut publisher, seats) = opened_line(rt, alloc, &[given.line.as_str()])?;
     let done = play(rt, alloc, &mut plan, &mut publisher, &given.asked, 1);
     let sum = match seat_of(seats, task) {
         Some(seat) if timed == Timed::Views => time_seat(rt, seat, times),
@@ -213,7 +213,7 @@ fn time_last<R: Wait + Clock + Print>(
     given: &Given,
     times: u32,
 ) -> Option<u64> {
-    let (mut plan, mut publisher, mut seats) = opened_line(rt, alloc, &given.line)?;
+    let (mut plan, mut publisher, mut seats) = opened_line(rt, alloc, &[given.line.as_str()])?;
     let done = play(rt, alloc, &mut plan, &mut publisher, &given.asked, 1);
     let sum = match seats.pop() {
         Some(seat) => time_learning(rt, &publisher, seat, times),
@@ -240,8 +240,9 @@ ghost use Rattle.publish_bench.specs.Lines.{LeadsTo};
 
 use crate::eight::{eight_of, watch_eight};
 use crate::lines::opened_line;
+use crate::projects::EIGHT;
 use crate::resident::resident;
-use crate::turns::{EIGHT, publish_turns};
+use crate::turns::publish_turns;
 use hc_plan::plan::Plan;
 use hc_publish::publisher::Publisher;
 use hc_publish::seat::Seat;
@@ -307,7 +308,7 @@ pub fn publish_often<R: Threads + Wait + Files + AllocGlobal + Print>(
     first: u32,
     rest: u32,
 ) -> bool {
-    let Some((mut plan, mut publisher, seats)) = opened_line(rt, alloc, EIGHT) else {
+    let Some((mut plan, mut publisher, seats)) = opened_line(rt, alloc, &[EIGHT]) else {
         return false;
     };
     let told = resident_beside(rt, alloc, &mut plan, &mut publisher, seats, first, rest);

@@ -12,6 +12,7 @@ mod changes;
 mod eight;
 mod lines;
 mod looks;
+mod projects;
 mod resident;
 mod rounds;
 mod stress;
