@@ -1,6 +1,6 @@
 //! Tasks are sent.
-ghost use Rattle.std.specs.Prelude.{◌≡◌, ◌≢◌, ◌↔◌, IfSome, IsTrue, None, Some, length};
-ghost use Rattle.hc_records.specs.Lists.{has_repeat, lowest};
+ghost use Rattle.std.specs.Prelude.{◌≡◌, ◌≢◌, IfSome, None, Some, length};
+ghost use Rattle.hc_records.specs.Lists.{lowest};
 ghost use Rattle.hc_core.specs.Early.{early_fault};
 ghost use Rattle.hc_events.specs.Calls.{AreSentTogether, frames_size, send_into_faults};
 ghost use Rattle.hc_events.specs.Faults.{core_fault_number};
@@ -14,7 +14,7 @@ use crate::arena::send_into;
 use crate::handle::Handle;
 use crate::numbers::{CLOSED, DONE, MISUSED};
 use crate::too_short::refuse;
-use hc_records::limits::TASKS;
+use hc_events::together::Together;
 use std::alloc::Global;
 
 /// What was sent, as C is told it.
@@ -25,27 +25,6 @@ pub struct Sent {
     size: usize,
     /// How many frames there are, at most 128.
     frames: usize,
-}
-
-/// Whether a task stands twice.
-fn has_repeat(tasks: &[u8]) -> bool
-    ensures { result ≡ has_repeat tasks.now }
-{
-    let mut rest = tasks;
-    while let [task, later @ ..] = rest {
-        if later.contains(task) {
-            return true;
-        }
-        rest = later;
-    }
-    false
-}
-
-/// Whether tasks can be sent together: at least one, at most eight, and none twice.
-fn are_sent_together(tasks: &[u8]) -> bool
-    ensures { IsTrue result ↔ AreSentTogether tasks.now }
-{
-    !tasks.is_empty() && tasks.len() <= usize::from(TASKS) && !has_repeat(tasks)
 }
 
 /// Tasks are sent, in their order: the frames stand at the front of `out` one after another, each of its own size, and
@@ -76,16 +55,15 @@ pub extern "C" fn zangjulf_send(
     let Some(mut own) = handle.take(alloc) else {
         return CLOSED;
     };
-    let number = if are_sent_together(tasks) {
-        match send_into(&mut own.core, alloc, tasks, out) {
+    let number = match Together::of(tasks) {
+        Some(_) => match send_into(&mut own.core, alloc, tasks, out) {
             Ok((size, frames)) => {
                 *sent = Sent { size, frames };
                 DONE
             }
             Err(fault) => refuse(fault, &mut sent.size),
-        }
-    } else {
-        MISUSED
+        },
+        None => MISUSED,
     };
     *handle = Handle::of(own);
     number

@@ -1,5 +1,5 @@
 -- What the calls of a core add to the answers: want of memory, a slice of the caller's that is too short, and what the caller keeps to.
-use Rattle.std.specs.Prelude.{◌≡◌, ℕ, ◌+◌, ◌<◌, ◌≤◌, ◌⊎◌, ◌&&◌, nat_lt, Bool, true, false, if◌then◌else◌, List, [], ◌∷◌, ◌++◌, length, sum_by, Option, Some, None}
+use Rattle.std.specs.Prelude.{◌≡◌, ℕ, ◌+◌, ◌<◌, ◌≤◌, ◌⊎◌, ◌&&◌, nat_le, nat_lt, not, Bool, true, false, if◌then◌else◌, List, [], ◌∷◌, ◌++◌, length, sum_by, Option, Some, None}
 use Rattle.hc_records.specs.declared.limits.TheConstants.{TASKS}
 use Rattle.hc_records.specs.Lists.{has_repeat}
 use Rattle.hc_records.specs.Image.{datagram_count, task_places}
@@ -61,6 +61,14 @@ pub record AreSentTogether (tasks : List ℕ) : Type 0 where
   pub some : 0 < length tasks
   pub most : length tasks ≤ TASKS
   pub distinct : has_repeat tasks ≡ false
+
+-- the same as a test
+abbrev pub are_together : List ℕ → Bool
+are_together tasks = nat_lt 0 (length tasks) && nat_le (length tasks) TASKS && not (has_repeat tasks)
+
+-- the tasks, where they can be sent together; else none
+abbrev pub if_together : List ℕ → Option (List ℕ)
+if_together tasks = if are_together tasks then Some tasks else None
 
 -- the frame of one datagram alone as it would be sent next, whether or not blocks are owed; none where the task has no such datagram or no serial is left
 abbrev pub preview : Record → ℕ → ℕ → Option Frame

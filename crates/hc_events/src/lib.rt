@@ -10,3 +10,4 @@ pub mod event;
 pub mod faults;
 pub mod laws;
 pub mod sending;
+pub mod together;

@@ -1,5 +1,4 @@
 pub mod Numbered
-pub mod Arguments
 pub mod Turns
 pub mod Declaring
 mod Checks
@@ -8,15 +7,12 @@ pub mod Outcomes
 pub mod Starved
 pub mod Grown
 pub mod VariablePlaces
-pub mod EditArguments
 pub mod Served
 pub mod Shown
 pub mod Proposed
 pub mod Written
-pub mod Together
 pub mod Programming
 pub mod Ending
 pub mod Machines
-pub mod MemoryArguments
 pub mod Cycling
 pub mod Posting

@@ -34,18 +34,19 @@ use Rattle.hc_conductor.specs.Taking.{events_of, events_of_all}
 use Rattle.hc_segment.specs.Machines.{machines_behind_edit}
 use Rattle.hc_segment.specs.Setup.{alias_frames, machines_named, machines_scanned, station_frames}
 use Rattle.hc_segment.proofs.lemmas.Counts.{after-count, edit-count, opened-count, poked-count}
-use Rattle.hc_program.specs.declared.commands.Command.{Command}
-use Rattle.hc_program.specs.declared.commands.Command.TheVariants as command
+use Rattle.hc_text.specs.declared.commands.Command.{Command}
+use Rattle.hc_text.specs.declared.commands.Command.TheVariants as command
 use Rattle.hc_program.specs.declared.stops.Stop.{Stop}
-use Rattle.hc_program.specs.Commands.{command_in, left_by}
+use Rattle.hc_text.specs.Commands.{command_in}
+use Rattle.hc_program.specs.Commands.{left_by}
 use Rattle.hc_program.specs.Cycles.{arrived, cycle_arrived, cycle_back, cycle_frames, cycle_passed, cycle_sent, cycled, cycled_unless}
 use Rattle.hc_program.specs.Declaring.{Turn, Says, Declares}
 use Rattle.hc_program.specs.Laws.{HasMachines, SlavesHaveMachines, left_by_turns}
 use Rattle.hc_program.specs.Memories.{machine_at, machine_within, poked_at, poked_standing}
-use Rattle.hc_program.specs.MemoryRanges.{Poking}
+use Rattle.hc_text.specs.MemoryRanges.{Poking}
 use Rattle.hc_program.specs.Posts.{posted_unless}
 use Rattle.hc_program.specs.Postings.{post_judged}
-use Rattle.hc_program.specs.declared.commands.post.Posting.{Posting}
+use Rattle.hc_text.specs.declared.commands.post.Posting.{Posting}
 use Rattle.hc_conductor.specs.declared.one_thread.refusals.PostRefusal.{PostRefusal}
 use Rattle.hc_program.specs.Programs.{Programmed, behind_write, can_write, is_done, programmed, programmed_within, write_back, write_frame, write_passed, write_sent, written}
 use Rattle.hc_program.specs.Runs.{bare_reply, reply_to, reply_to_command, reply_to_document, reply_to_words}

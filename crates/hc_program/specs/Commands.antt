@@ -1,62 +1,22 @@
--- The commands: the words that spell each, what it prints, and where it leaves the run.
-use Rattle.std.specs.Prelude.{ℕ, if◌then◌else◌, List, Option, option_map, codes}
-use Rattle.std.specs.Str.{bytes_eq}
+-- The commands: what each prints, and where it leaves the run.
+use Rattle.std.specs.Prelude.{ℕ, List}
 use Rattle.hc_events.specs.Points.{state_of}
 use Rattle.hc_events.specs.Steps.{Arrives, Edits, Reads, SendsTasks, SendsWrite}
-use Rattle.hc_program.specs.declared.commands.Command.{Command}
-use Rattle.hc_program.specs.declared.commands.Command.TheVariants as command
+use Rattle.hc_text.specs.declared.commands.Command.{Command}
+use Rattle.hc_text.specs.declared.commands.Command.TheVariants as command
 use Rattle.hc_program.specs.Answers.{told}
-use Rattle.hc_program.specs.Cycles.{cycle_in, cycle_text, cycled}
-use Rattle.hc_program.specs.EditWords.{edit_in}
-use Rattle.hc_program.specs.EventWords.{arrive_in, read_in, send_in, write_in}
-use Rattle.hc_program.specs.Layout.{layout_in, layout_text}
-use Rattle.hc_program.specs.Memories.{peek_in, peek_text, poke_in, poke_text, poked_standing}
-use Rattle.hc_program.specs.Place.{place_in, place_text}
-use Rattle.hc_program.specs.Posts.{post_in, post_text, posted}
-use Rattle.hc_program.specs.Programs.{program_in, program_text, programmed}
-use Rattle.hc_program.specs.Regs.{regs_in, regs_text}
-use Rattle.hc_program.specs.Setups.{name_in, name_text, named, scan_in, scan_text, scanned}
-use Rattle.hc_program.specs.Show.{show_in, show_text}
+use Rattle.hc_program.specs.Cycles.{cycle_text, cycled}
+use Rattle.hc_program.specs.Layout.{layout_text}
+use Rattle.hc_program.specs.Memories.{peek_text, poke_text, poked_standing}
+use Rattle.hc_program.specs.Place.{place_text}
+use Rattle.hc_program.specs.Posts.{post_text, posted}
+use Rattle.hc_program.specs.Programs.{program_text, programmed}
+use Rattle.hc_program.specs.Regs.{regs_text}
+use Rattle.hc_program.specs.Setups.{name_text, named, scan_text, scanned}
+use Rattle.hc_program.specs.Show.{show_text}
 use Rattle.hc_program.specs.Standings.{Standing, edited, stepped}
-use Rattle.hc_program.specs.Takings.{take_in, take_text, took}
-use Rattle.hc_program.specs.Views.{view_in, view_text}
-
--- the command that a name and its arguments spell: those of the simulated line, and the edits
-abbrev pub line_command_in : List ℕ → List (List ℕ) → Option Command
-line_command_in name arguments =
-    if bytes_eq name (codes "scan") then scan_in arguments
-    else (if bytes_eq name (codes "name") then name_in arguments
-    else (if bytes_eq name (codes "program") then program_in arguments
-    else (if bytes_eq name (codes "cycle") then cycle_in arguments
-    else (if bytes_eq name (codes "poke") then poke_in arguments
-    else (if bytes_eq name (codes "peek") then peek_in arguments
-    else option_map command.Edit (edit_in name arguments))))))
-
--- those of tasks
-abbrev pub task_command_in : List ℕ → List (List ℕ) → Option Command
-task_command_in name arguments =
-    if bytes_eq name (codes "post") then post_in arguments
-    else (if bytes_eq name (codes "take") then take_in arguments
-    else (if bytes_eq name (codes "view") then view_in arguments
-    else line_command_in name arguments))
-
--- those that send, take in what arrives, and read
-abbrev pub event_in : List ℕ → List (List ℕ) → Option Command
-event_in name arguments =
-    if bytes_eq name (codes "send") then send_in arguments
-    else (if bytes_eq name (codes "write") then write_in arguments
-    else (if bytes_eq name (codes "arrive") then arrive_in arguments
-    else (if bytes_eq name (codes "read") then read_in arguments
-    else task_command_in name arguments)))
-
--- and those that only look
-abbrev pub command_in : List ℕ → List (List ℕ) → Option Command
-command_in name arguments =
-    if bytes_eq name (codes "layout") then layout_in arguments
-    else (if bytes_eq name (codes "regs") then regs_in arguments
-    else (if bytes_eq name (codes "show") then show_in arguments
-    else (if bytes_eq name (codes "place") then place_in arguments
-    else event_in name arguments)))
+use Rattle.hc_program.specs.Takings.{take_text, took}
+use Rattle.hc_program.specs.Views.{view_text}
 
 -- what a command prints
 abbrev pub printed : Standing → Command → List ℕ

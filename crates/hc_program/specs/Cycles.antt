@@ -1,20 +1,13 @@
 -- The command `cycle`: process data of tasks are sent along the line, and what comes back is taken in.
-use Rattle.std.specs.Prelude.{ℕ, List, [], ◌∷◌, ◌++◌, map, Option, Some, None, option_map, codes}
+use Rattle.std.specs.Prelude.{ℕ, List, [], ◌∷◌, ◌++◌, map, Option, Some, None, codes}
 use Rattle.hc_records.specs.Lists.{lowest}
 use Rattle.hc_events.specs.declared.faults.CoreFault.{CoreFault}
 use Rattle.hc_events.specs.Entries.{Record}
 use Rattle.hc_events.specs.Steps.{SendsTasks, Arrives, entries_after, proposal, sent_text, task_faults}
 use Rattle.hc_segment.specs.Line.{frames_through}
-use Rattle.hc_program.specs.declared.commands.Command.{Command}
-use Rattle.hc_program.specs.declared.commands.Command.TheVariants as command
 use Rattle.hc_program.specs.Answers.{told}
-use Rattle.hc_program.specs.EventWords.{tasks_in}
 use Rattle.hc_program.specs.Refusals.{refusal_text}
 use Rattle.hc_program.specs.Standings.{Standing, passed, stepped, with_past}
-
--- its arguments are those of `send`
-abbrev pub cycle_in : List (List ℕ) → Option Command
-cycle_in arguments = option_map command.Cycle (tasks_in arguments)
 
 -- the frames in which tasks are sent
 unfoldable pub cycle_frames : Record → List ℕ → List (List ℕ)

@@ -1,5 +1,5 @@
 -- The command `layout`: the datagrams of every task.
-use Rattle.std.specs.Prelude.{ℕ, ◌==◌, is_some, if◌then◌else◌, List, [], ◌++◌, length, Option, Some, None, codes}
+use Rattle.std.specs.Prelude.{ℕ, is_some, if◌then◌else◌, List, [], ◌++◌, length, codes}
 use Rattle.std.specs.Option.{option_map_or}
 use Rattle.std.specs.List.{flat_map, range_with_len}
 use Rattle.std.specs.Fmt.{decimal}
@@ -10,12 +10,6 @@ use Rattle.hc_places.specs.declared.table.Datagram.{Datagram}
 use Rattle.hc_places.specs.Table.{Table, datagram_in, part_in}
 use Rattle.hc_plan.specs.Configuration.{config}
 use Rattle.hc_text.specs.Printing.{hex_address}
-use Rattle.hc_program.specs.declared.commands.Command.{Command}
-use Rattle.hc_program.specs.declared.commands.Command.TheVariants.{Layout}
-
--- it has no argument
-abbrev pub layout_in : List (List ℕ) → Option Command
-layout_in arguments = if length arguments == 0 then Some Layout else None
 
 -- the line of a datagram with a number
 unfoldable pub datagram_text : ℕ → Datagram → List ℕ

@@ -4,8 +4,6 @@ pub mod Layout
 pub mod Regs
 pub mod Show
 pub mod Place
-pub mod EditWords
-pub mod EventWords
 pub mod Answers
 pub mod Standings
 pub mod Setups
@@ -15,7 +13,6 @@ pub mod Takings
 pub mod Postings
 pub mod Posts
 pub mod Views
-pub mod MemoryRanges
 pub mod Memories
 pub mod Commands
 pub mod Declaring

@@ -1,20 +1,11 @@
 -- The command `place`: where a variable stands.
-use Rattle.std.specs.Prelude.{ℕ, List, [], ◌∷◌, ◌++◌, Option, Some, None, option_and_then, option_map, codes}
+use Rattle.std.specs.Prelude.{ℕ, List, ◌++◌, Option, Some, None, option_and_then, codes}
 use Rattle.std.specs.Fmt.{decimal}
 use Rattle.hc_records.specs.declared.records.Dir.{Dir}
 use Rattle.hc_records.specs.declared.records.Dir.TheVariants.{Out, In}
 use Rattle.hc_records.specs.Image.{VariablePlace, variable_place}
 use Rattle.hc_records.specs.Line.{Member, State, line}
 use Rattle.hc_records.specs.Variables.{variable_of}
-use Rattle.hc_text.specs.Numbers.{number_in}
-use Rattle.hc_program.specs.declared.commands.Command.{Command}
-use Rattle.hc_program.specs.declared.commands.Command.TheVariants.{Place}
-
--- its argument is the number of a variable
-abbrev pub place_in : List (List ℕ) → Option Command
-place_in [] = None
-place_in (number ∷ []) = option_map Place (number_in 4294967295 number)
-place_in (number ∷ other ∷ words) = None
 
 -- a direction, as the project text spells it
 abbrev pub dir_name : Dir → List ℕ

@@ -1,5 +1,5 @@
 -- The command `program`: owed register blocks are written along the line, one after another.
-use Rattle.std.specs.Prelude.{◌≡◌, ◌⊎◌, ℕ, zero, suc, ◌+◌, ◌-◌, Bool, true, false, if◌then◌else◌, List, [], ◌∷◌, ◌++◌, length, Option, Some, None, is_none, codes}
+use Rattle.std.specs.Prelude.{◌≡◌, ◌⊎◌, ℕ, zero, suc, ◌+◌, ◌-◌, Bool, true, false, if◌then◌else◌, List, [], ◌∷◌, ◌++◌, length, is_none, codes}
 use Rattle.std.specs.Fmt.{decimal}
 use Rattle.hc_frames.specs.declared.limits.TheConstants.{SETUP_SERIAL}
 use Rattle.hc_records.specs.Lists.{lowest}
@@ -10,14 +10,7 @@ use Rattle.hc_events.specs.Owed.{owed_blocks}
 use Rattle.hc_events.specs.Points.{next_serial}
 use Rattle.hc_events.specs.Steps.{SendsWrite, Arrives, answer_to, write_faults}
 use Rattle.hc_segment.specs.Line.{frame_through}
-use Rattle.hc_program.specs.declared.commands.Command.{Command}
-use Rattle.hc_program.specs.declared.commands.Command.TheVariants as command
 use Rattle.hc_program.specs.Standings.{Standing, passed, stepped}
-
--- it has no argument
-abbrev pub program_in : List (List ℕ) → Option Command
-program_in [] = Some command.Program
-program_in (word ∷ words) = None
 
 -- a block is owed and a serial is left, so that a write can be sent
 abbrev pub can_write : Record → Bool

@@ -1,5 +1,5 @@
 -- The command `regs`: the register blocks of a slave.
-use Rattle.std.specs.Prelude.{ℕ, ◌-◌, ◌*◌, ◌/◌, nat_le, if◌then◌else◌, List, [], ◌∷◌, ◌++◌, Option, None, option_map, Result, Ok, Err, codes}
+use Rattle.std.specs.Prelude.{ℕ, ◌-◌, ◌*◌, ◌/◌, nat_le, if◌then◌else◌, List, [], ◌++◌, Result, Ok, Err, codes}
 use Rattle.std.specs.Option.{option_map_or}
 use Rattle.std.specs.List.{flat_map, range_with_len}
 use Rattle.std.specs.Fmt.{decimal}
@@ -10,17 +10,8 @@ use Rattle.hc_registers.specs.Blocks.{RegisterBlock}
 use Rattle.hc_registers.specs.declared.registers.TheConstants.{FMMU_BLOCKS, FMMU_BLOCK_BYTES, SYNC_MANAGER_BLOCKS, SYNC_MANAGER_BLOCK_BYTES}
 use Rattle.hc_plan.specs.Configuration.{block_at, position_of}
 use Rattle.hc_events.specs.Faults.{edit_refusal}
-use Rattle.hc_text.specs.Numbers.{number_in}
 use Rattle.hc_text.specs.Printing.{hex_register, spaced_bytes}
 use Rattle.hc_program.specs.Refusals.{refusal_text}
-use Rattle.hc_program.specs.declared.commands.Command.{Command}
-use Rattle.hc_program.specs.declared.commands.Command.TheVariants.{Regs}
-
--- its argument is a station address
-abbrev pub regs_in : List (List ℕ) → Option Command
-regs_in [] = None
-regs_in (station ∷ []) = option_map Regs (number_in 65535 station)
-regs_in (station ∷ other ∷ words) = None
 
 -- the sync manager or the FMMU whose block begins at a register
 abbrev pub block_name : ℕ → List ℕ

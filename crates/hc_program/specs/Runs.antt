@@ -5,11 +5,12 @@ use Rattle.hc_records.specs.declared.faults.ProjectFault.{ProjectFault}
 use Rattle.hc_records.specs.declared.records.Group.{Group}
 use Rattle.hc_project.specs.Text.{group_in}
 use Rattle.hc_events.specs.Steps.{Edits}
-use Rattle.hc_program.specs.declared.commands.Command.{Command}
+use Rattle.hc_text.specs.declared.commands.Command.{Command}
 use Rattle.hc_text.specs.Lines.{words_of}
 use Rattle.hc_program.specs.Answers.{told}
 use Rattle.hc_program.specs.Refusals.{bad_command_text, declare_fault_text}
-use Rattle.hc_program.specs.Commands.{command_in, left_by, printed}
+use Rattle.hc_text.specs.Commands.{command_in}
+use Rattle.hc_program.specs.Commands.{left_by, printed}
 use Rattle.hc_program.specs.Declaring.{Turn, Says, Declares}
 use Rattle.hc_program.specs.Standings.{Standing, edited, published}
 

@@ -1,21 +1,9 @@
 -- The commands `scan` and `name`.
-use Rattle.std.specs.Prelude.{ℕ, ◌+◌, List, [], ◌∷◌, ◌++◌, Option, Some, None, codes}
+use Rattle.std.specs.Prelude.{ℕ, ◌+◌, List, [], ◌∷◌, ◌++◌, codes}
 use Rattle.std.specs.Fmt.{decimal}
 use Rattle.hc_events.specs.Points.{line_of}
 use Rattle.hc_segment.specs.Setup.{aliases_read, machines_named, machines_scanned, named_count}
-use Rattle.hc_program.specs.declared.commands.Command.{Command}
-use Rattle.hc_program.specs.declared.commands.Command.TheVariants as command
 use Rattle.hc_program.specs.Standings.{Standing, with_machines}
-
--- `scan` has no argument
-abbrev pub scan_in : List (List ℕ) → Option Command
-scan_in [] = Some command.Scan
-scan_in (word ∷ words) = None
-
--- nor has `name`
-abbrev pub name_in : List (List ℕ) → Option Command
-name_in [] = Some command.Name
-name_in (word ∷ words) = None
 
 -- the line `slot N alias A` of the slave at a position
 unfoldable pub alias_text : ℕ → ℕ → List ℕ

@@ -1,7 +1,6 @@
 -- The command `show`: the frame of a datagram that would be sent next.
-use Rattle.std.specs.Prelude.{ℕ, nat_lt, if◌then◌else◌, List, [], ◌∷◌, Option, Some, None, option_map, option_and_then, codes}
+use Rattle.std.specs.Prelude.{ℕ, nat_lt, if◌then◌else◌, List, Option, Some, None, codes}
 use Rattle.hc_records.specs.declared.limits.TheConstants.{TASKS}
-use Rattle.hc_text.specs.Numbers.{number_in}
 use Rattle.hc_events.specs.declared.faults.CoreFault.TheVariants.{NoSuchTask}
 use Rattle.hc_events.specs.Calls.{preview}
 use Rattle.hc_events.specs.Entries.{Record}
@@ -9,16 +8,6 @@ use Rattle.hc_events.specs.Sendings.{Frame}
 use Rattle.hc_events.specs.Steps.{sent_text}
 use Rattle.hc_program.specs.Frames.{shown_line}
 use Rattle.hc_program.specs.Refusals.{refusal_text}
-use Rattle.hc_program.specs.declared.commands.Command.{Command}
-use Rattle.hc_program.specs.declared.commands.Command.TheVariants.{Show}
-
--- its arguments are a task and the number of a datagram
-abbrev pub show_in : List (List ℕ) → Option Command
-show_in [] = None
-show_in (task ∷ []) = None
-show_in (task ∷ datagram ∷ []) =
-    option_and_then (λ t. option_map (λ d. Show t d) (number_in 255 datagram)) (number_in 255 task)
-show_in (task ∷ datagram ∷ other ∷ words) = None
 
 -- a frame with its own serial, and the values that its datagram's output variables have now
 unfoldable pub frame_or_none : Record → Option Frame → List ℕ

@@ -7,9 +7,9 @@ use Rattle.hc_text.specs.Lines.{Line, command_lines, lines_of, project_text, wor
 use Rattle.hc_project.specs.Text.{project_in}
 use Rattle.hc_program.specs.declared.opening.Unopened.TheVariants.{Project, Memory, NoSeat}
 use Rattle.hc_program.specs.Opening.{opening_of}
-use Rattle.hc_program.specs.declared.commands.Command.{Command}
+use Rattle.hc_text.specs.declared.commands.Command.{Command}
 use Rattle.hc_program.specs.declared.stops.Stop.{Stop}
-use Rattle.hc_program.specs.Commands.{command_in}
+use Rattle.hc_text.specs.Commands.{command_in}
 use Rattle.hc_program.specs.Declaring.{Turn, Says, Declares, turns_of}
 use Rattle.hc_program.specs.Standings.{Standing, opened_standing}
 use Rattle.hc_program.specs.Stops.{StopsIn, Unchanged, stop_text}

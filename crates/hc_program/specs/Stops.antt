@@ -3,8 +3,8 @@ use Rattle.std.specs.Prelude.{◌≡◌, ◌⊎◌, ℕ, zero, suc, true, List, 
 use Rattle.hc_events.specs.declared.faults.CoreFault.TheVariants as core
 use Rattle.hc_segment.specs.declared.faults.ChainFault.{ChainFault}
 use Rattle.hc_segment.specs.declared.faults.ChainFault.TheVariants as chain
-use Rattle.hc_program.specs.declared.commands.Command.{Command}
-use Rattle.hc_program.specs.declared.commands.Command.TheVariants as command
+use Rattle.hc_text.specs.declared.commands.Command.{Command}
+use Rattle.hc_text.specs.declared.commands.Command.TheVariants as command
 use Rattle.hc_program.specs.declared.stops.Stop.{Stop}
 use Rattle.hc_program.specs.declared.stops.Stop.TheVariants as stop
 use Rattle.hc_program.specs.declared.stops.Want.{Want}

@@ -1,17 +1,10 @@
 -- The command `take`: what tasks posted goes to the core.
-use Rattle.std.specs.Prelude.{ℕ, ◌-◌, List, [], ◌∷◌, ◌++◌, length, Option, Some, None, codes, replicate}
+use Rattle.std.specs.Prelude.{ℕ, ◌-◌, List, [], ◌++◌, length, codes, replicate}
 use Rattle.std.specs.Fmt.{decimal}
 use Rattle.hc_records.specs.declared.limits.TheConstants.{TASKS}
 use Rattle.hc_events.specs.Steps.{Step, entries_after_all}
 use Rattle.hc_conductor.specs.Taking.{events_of_all, posted_in}
-use Rattle.hc_program.specs.declared.commands.Command.{Command}
-use Rattle.hc_program.specs.declared.commands.Command.TheVariants as command
 use Rattle.hc_program.specs.Standings.{Standing}
-
--- it has no argument
-abbrev pub take_in : List (List ℕ) → Option Command
-take_in [] = Some command.Take
-take_in (word ∷ words) = None
 
 -- the posts that wait, as events of the core: the tasks ascending, each one's posts in order
 abbrev pub posts_taken : Standing → List Step

@@ -1,8 +1,7 @@
 -- The command `view`: what a task views of a variable.
-use Rattle.std.specs.Prelude.{ℕ, nat_lt, if◌then◌else◌, List, [], ◌∷◌, ◌++◌, Option, None, option_map, option_and_then, Result, Ok, Err, codes}
+use Rattle.std.specs.Prelude.{ℕ, nat_lt, if◌then◌else◌, List, ◌++◌, Result, Ok, Err, codes}
 use Rattle.std.specs.Fmt.{decimal}
 use Rattle.hc_records.specs.declared.limits.TheConstants.{TASKS}
-use Rattle.hc_text.specs.Numbers.{number_in}
 use Rattle.hc_events.specs.declared.faults.CoreFault.TheVariants.{NoSuchTask}
 use Rattle.hc_events.specs.Entries.{Record}
 use Rattle.hc_events.specs.Points.{epoch_of}
@@ -11,16 +10,6 @@ use Rattle.hc_publish.specs.declared.view_faults.ViewFault.TheVariants.{NoSuchVa
 use Rattle.hc_publish.specs.ViewFaults.{view_fault_number}
 use Rattle.hc_conductor.specs.Viewing.{value_at}
 use Rattle.hc_program.specs.Refusals.{refusal_text}
-use Rattle.hc_program.specs.declared.commands.Command.{Command}
-use Rattle.hc_program.specs.declared.commands.Command.TheVariants.{View}
-
--- its arguments are a task and the number of a variable
-abbrev pub view_in : List (List ℕ) → Option Command
-view_in [] = None
-view_in (task ∷ []) = None
-view_in (task ∷ variable ∷ []) =
-    option_and_then (λ t. option_map (λ v. View t v) (number_in 4294967295 variable)) (number_in 255 task)
-view_in (task ∷ variable ∷ other ∷ words) = None
 
 -- the name of the fault for which a task is told no value
 abbrev pub view_fault_name : ViewFault → List ℕ

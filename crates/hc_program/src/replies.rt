@@ -5,11 +5,12 @@ ghost use Rattle.hc_program.specs.Declaring.{turn_of};
 ghost use Rattle.hc_program.specs.Runs.{bare_reply, reply_to_words};
 ghost use Rattle.hc_program.specs.Starved.{StopsTurn, StopsWords};
 
-use crate::commands::{command_in, declare, obey};
+use crate::commands::{declare, obey};
 use crate::refusals::push_bad_command;
 use crate::session::Session;
 use crate::stops::Stop;
 use crate::turn::Turn;
+use hc_text::commands::command_in;
 use hc_text::words::split_words;
 use std::alloc::{AllocError, Global};
 use std::sync::Wait;

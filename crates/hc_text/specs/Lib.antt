@@ -2,3 +2,10 @@ pub mod Lines
 pub mod Cutting
 pub mod Numbers
 pub mod Printing
+pub mod EditWords
+pub mod TaskWords
+pub mod PostWords
+pub mod MemoryRanges
+pub mod MemoryWords
+pub mod ShortCommands
+pub mod Commands

@@ -1,7 +1,9 @@
-//! Text in and out, of which nothing knows an EtherCAT line: an input is read, cut into lines and words,
-//! and its words are taken for numbers; numbers and bytes are printed, and a text is written to its end.
+//! Text in and out: an input is read, cut into lines and words, and its words are taken for numbers; numbers and bytes are
+//! printed, and a text is written to its end. `commands` knows how each command of one line is spelled; nothing
+//! else here knows an EtherCAT line.
 #![tactic(auto)]
 
+pub mod commands;
 pub mod input;
 pub mod lines;
 pub mod numbers;

@@ -1,7 +1,5 @@
 //! A core that events are put to.
-ghost use Rattle.std.specs.Prelude.{◌≡◌, ◌==◌, IsTrue};
-ghost use Rattle.std.specs.List.{list_any};
-ghost use Rattle.hc_records.specs.Lists.{has_repeat};
+ghost use Rattle.std.specs.Prelude.{IsTrue};
 ghost use Rattle.hc_events.specs.Calls.{AreSentTogether};
 ghost use Rattle.hc_events.specs.Steps.{step_of};
 ghost use Rattle.hc_core.specs.Serving.{IsAsked};
@@ -10,33 +8,19 @@ use hc_core::keeping::Core;
 use hc_events::answer::Answer;
 use hc_events::event::Event;
 use hc_events::faults::CoreFault;
+use hc_events::together::Together;
 use hc_records::edit::Edit;
 use hc_records::faults::EditFault;
-use hc_records::limits::TASKS;
 use std::alloc::{AllocError, Global};
-
-/// Whether a task stands in a list.
-fn stands_in(task: u8, list: &[u8]) -> bool
-    ensures { result ≡ list_any (λ other. other == task) list.now }
-{
-    list.iter().any(|other| *other == task)
-}
-
-/// Whether a task stands twice. A sending has at most eight, so deep is this recursion.
-fn repeats(tasks: &[u8]) -> bool
-    ensures { result ≡ has_repeat tasks.now }
-{
-    match tasks {
-        [] => false,
-        [first, rest @ ..] => stands_in(*first, rest) || repeats(rest),
-    }
-}
 
 /// Whether tasks can be sent together: at least one, at most eight, and none twice.
 pub fn are_sent_together(tasks: &[u8]) -> bool
     ensures { IsTrue result → AreSentTogether tasks.now }
 {
-    !tasks.is_empty() && tasks.len() <= usize::from(TASKS) && !repeats(tasks)
+    match Together::of(tasks) {
+        Some(_) => true,
+        None => false,
+    }
 }
 
 /// Whether an event is one that a caller may ask of a core.

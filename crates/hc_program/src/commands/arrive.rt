@@ -1,40 +1,21 @@
 //! The command `arrive`.
-ghost use Rattle.std.specs.Prelude.{◌≡◌, ◌≤◌, ◌+◌, ◌*◌, ◌++◌, IfOk, length, map, OnErr, OnOk, string_bytes};
+ghost use Rattle.std.specs.Prelude.{◌≡◌, ◌≤◌, ◌+◌, ◌*◌, ◌++◌, IfOk, length, OnErr, OnOk, string_bytes};
 ghost use Rattle.std.specs.List.{flat_map};
 ghost use Rattle.std.specs.String.{string_capacity, string_len};
 ghost use Rattle.hc_events.specs.Steps.{Arrives};
 ghost use Rattle.hc_program.specs.Answers.{outcome_text, pair_text, told};
-ghost use Rattle.hc_program.specs.EventWords.{arrive_in};
 ghost use Rattle.hc_program.specs.Standings.{stepped};
 
-use super::Command;
 use crate::refusals::push_refusal;
 use crate::session::Session;
 use hc_events::answer::{Answer, Outcome};
 use hc_events::faults::CoreFault;
 use hc_frames::reading::read_frame;
-use hc_records::items::Items;
-use hc_text::numbers::bytes_in;
 use hc_text::room::{MOST_DIGITS, add_number, add_text};
 use std::alloc::{AllocError, Global};
 
 /// The bytes of the longest line about an arrival: words, two numbers, and the line feed.
 const LONGEST_OUTCOME: usize = 14 + 2 * MOST_DIGITS;
-
-/// Its argument is the bytes that arrive, two hexadecimal digits each; none where it is another, or where
-/// there isn't one argument. `AllocError` where a growth was refused.
-pub fn parse(alloc: Global, arguments: &[&[u8]]) -> Result<Option<Command>, AllocError>
-    ensures { IfOk result (λ spelt. spelt ≡ arrive_in (map (λ word. word.now) arguments.now)) }
-{
-    match arguments {
-        [word] => match bytes_in(alloc, word)? {
-            Some(bytes) => Ok(Some(Command::Arrive(Items::of(bytes)))),
-            None => Ok(None),
-        },
-        [] => Ok(None),
-        [_, _, ..] => Ok(None),
-    }
-}
 
 /// Hands in bytes that arrive and adds what they are: a line for each datagram that they answer, one for a
 /// register write or where they are stale, or why they can't be read. `AllocError` where a growth was

@@ -2,31 +2,21 @@
 ghost use Rattle.std.specs.Prelude.{◌≡◌, ◌++◌, ℕ, All, IfErr, IfOk, OnErr, OnOk, map, string_bytes, take};
 ghost use Rattle.hc_core.specs.Filled.{CanBeFilled};
 ghost use Rattle.hc_events.specs.Steps.{sent_text};
-ghost use Rattle.hc_program.specs.Cycles.{arrivals_text, back_text, cycle_arrived, cycle_in, cycle_text, cycled};
+ghost use Rattle.hc_program.specs.Cycles.{arrivals_text, back_text, cycle_arrived, cycle_text, cycled};
 ghost use Rattle.hc_program.specs.Stops.{StopsInCycle};
 
-use super::send::Together;
-use super::{Command, arrive};
+use super::arrive;
 use crate::frames::LARGEST_FRAME;
 use crate::refusals::tell_refusal;
 use crate::session::Session;
 use crate::stops::Want;
 use hc_core::keeping::Core;
 use hc_events::sending::Sending;
+use hc_events::together::Together;
 use hc_rings::FrameBox;
 use std::alloc::{AllocError, Global};
 use std::sync::Wait;
 use std::thread::Threads;
-
-/// Its arguments are those of `send`; none where they are others.
-pub fn parse(arguments: &[&[u8]]) -> Option<Command>
-    ensures { result ≡ cycle_in (map (λ word. word.now) arguments.now) }
-{
-    match Together::of(arguments) {
-        Some(tasks) => Some(Command::Cycle(tasks)),
-        None => None,
-    }
-}
 
 /// A frame of the present line in a box, with the values that its datagrams' output variables have now.
 fn boxed(alloc: Global, core: &Core, frame: &Sending) -> Result<FrameBox, AllocError>

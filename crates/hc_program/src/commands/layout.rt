@@ -1,24 +1,12 @@
 //! The command `layout`.
-ghost use Rattle.std.specs.Prelude.{◌≡◌, ◌++◌, ◌<◌, map, OnOk, string_bytes};
-ghost use Rattle.hc_program.specs.Layout.{datagram_text, datagrams_text, layout_in, layout_text, numbered_text, part_text, table_text, task_text};
+ghost use Rattle.std.specs.Prelude.{◌≡◌, ◌++◌, ◌<◌, OnOk, string_bytes};
+ghost use Rattle.hc_program.specs.Layout.{datagram_text, datagrams_text, layout_text, numbered_text, part_text, table_text, task_text};
 
-use super::Command;
 use hc_places::table::{Datagram, Places};
 use hc_plan::plan::Plan;
 use hc_records::limits::{MOST_DATAGRAMS, TASKS};
 use hc_text::printing::push_address;
 use std::alloc::AllocError;
-
-/// It has no argument; none where there is one.
-pub fn parse(arguments: &[&[u8]]) -> Option<Command>
-    ensures { result ≡ layout_in (map (λ word. word.now) arguments.now) }
-{
-    if arguments.is_empty() {
-        Some(Command::Layout)
-    } else {
-        None
-    }
-}
 
 /// Adds the epoch, and the datagrams of each task that has one. `AllocError` where a growth was refused;
 /// `out` may then have a front of them.

@@ -1,9 +1,8 @@
 //! The command `name`.
-ghost use Rattle.std.specs.Prelude.{◌≡◌, ◌≤◌, ◌+◌, ◌++◌, OnErr, OnOk, map, string_bytes};
+ghost use Rattle.std.specs.Prelude.{◌≡◌, ◌≤◌, ◌+◌, ◌++◌, OnErr, OnOk, string_bytes};
 ghost use Rattle.std.specs.String.{string_capacity, string_len};
-ghost use Rattle.hc_program.specs.Setups.{name_in, name_text, named, named_text};
+ghost use Rattle.hc_program.specs.Setups.{name_text, named, named_text};
 
-use super::Command;
 use crate::session::Session;
 use crate::stops::Want;
 use hc_text::room::{MOST_DIGITS, add_number, add_text};
@@ -13,17 +12,6 @@ use std::thread::Threads;
 
 /// The bytes of the longest line: its word, a number, and the line feed.
 const LONGEST_NAMED: usize = 7 + MOST_DIGITS;
-
-/// It has no argument; none where there is one.
-pub fn parse(arguments: &[&[u8]]) -> Option<Command>
-    ensures { result ≡ name_in (map (λ word. word.now) arguments.now) }
-{
-    if arguments.is_empty() {
-        Some(Command::Name)
-    } else {
-        None
-    }
-}
 
 /// Gives each slave its station address along the line and adds how many took it. A `Want` where a growth was
 /// refused: no slave was written to then. Room for the line is taken before.

@@ -1,29 +1,12 @@
 //! The command `place`.
-ghost use Rattle.std.specs.Prelude.{◌≡◌, ◌++◌, map, OnOk, string_bytes};
+ghost use Rattle.std.specs.Prelude.{◌≡◌, ◌++◌, OnOk, string_bytes};
 ghost use Rattle.hc_records.specs.Line.{line};
-ghost use Rattle.hc_program.specs.Place.{bits_text, dir_name, numbered_place, place_in, place_text, variable_text};
+ghost use Rattle.hc_program.specs.Place.{bits_text, dir_name, numbered_place, place_text, variable_text};
 
-use super::Command;
 use hc_places::table::Place;
 use hc_plan::plan::Plan;
 use hc_records::records::{Dir, VarId};
-use hc_text::numbers::quadruple_byte_in;
 use std::alloc::AllocError;
-
-/// Its argument is the number of a variable, at most 4,294,967,295; none where it is another, or where
-/// there isn't one argument.
-pub fn parse(arguments: &[&[u8]]) -> Option<Command>
-    ensures { result ≡ place_in (map (λ word. word.now) arguments.now) }
-{
-    match arguments {
-        [number] => match quadruple_byte_in(number) {
-            Some(variable) => Some(Command::Place { variable }),
-            None => None,
-        },
-        [] => None,
-        [_, _, ..] => None,
-    }
-}
 
 /// Adds where the variable with a number stands, or `none` where the line has no place for it; 0 is
 /// no variable's number. `AllocError` where a growth was refused; `out` may then have a front of the

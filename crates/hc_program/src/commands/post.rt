@@ -1,100 +1,23 @@
 //! The command `post`.
-ghost use Rattle.std.specs.Prelude.{◌≡◌, ◌≢◌, ◌⊎◌, [], ◌∷◌, ◌++◌, IfErr, IfOk, OnOk, map, string_bytes};
+ghost use Rattle.std.specs.Prelude.{◌≡◌, ◌≢◌, ◌⊎◌, ◌++◌, IfErr, OnOk, string_bytes};
 ghost use Rattle.hc_conductor.specs.declared.one_thread.refusals.PostRefusal.TheVariants as why;
 ghost use Rattle.hc_program.specs.declared.stops.Stop.TheVariants as stop;
 ghost use Rattle.hc_program.specs.declared.stops.Want.TheVariants as want;
-ghost use Rattle.hc_program.specs.Posts.{post_in, post_refusal_name, post_refusal_number, post_refusal_text, post_text, posted, posting_in, setting_in, setting_with, settings_in};
+ghost use Rattle.hc_program.specs.Posts.{post_refusal_name, post_refusal_number, post_refusal_text, post_text, posted};
 ghost use Rattle.hc_program.specs.Stops.{Unviewed};
 
-use super::Command;
 use crate::refusals::push_refusal;
 use crate::session::Session;
 use crate::stops::{Stop, Want};
 use hc_conductor::one_thread::refusals::PostRefusal;
-use hc_conductor::one_thread::settings::Setting;
 use hc_events::faults::CoreFault;
-use hc_records::items::Items;
 use hc_records::limits::TASKS;
-use hc_text::lines::split_at_byte;
-use hc_text::numbers::{byte_in, number_in, quadruple_byte_in};
+use hc_text::commands::Posting;
 use hc_text::room::add_text;
 use std::alloc::{AllocError, Global};
 
 /// The bytes of the line of an accepted post.
 const POSTED: usize = 7;
-
-/// What a `post` asks.
-#[derive(Debug, Drop)]
-pub struct Posting {
-    /// The task; over 7 the command is refused.
-    pub task: u8,
-    /// The values, in the order of their words.
-    pub settings: Items<Setting>,
-}
-
-/// The value for a variable that two numbers spell.
-fn setting_with(variable: &[u8], value: &[u8]) -> Option<Setting>
-    ensures { result ≡ setting_with (variable.now ∷ value.now ∷ []) }
-{
-    match (quadruple_byte_in(variable), number_in(value, u64::MAX)) {
-        (Some(variable), Some(value)) => Some(Setting { variable, value }),
-        _ => None,
-    }
-}
-
-/// The value for a variable that a word `V=X` spells; none where it has no `=` or more than one, or where a number is
-/// malformed or too large: the variable's is at most 4,294,967,295, and the value has at most 64 bits.
-fn setting_of(word: &[u8]) -> Option<Setting>
-    ensures { result ≡ setting_in word.now }
-{
-    match split_at_byte(word, b'=') {
-        (variable, Some(rest)) => match split_at_byte(rest, b'=') {
-            (value, None) => setting_with(variable, value),
-            (_, Some(_)) => None,
-        },
-        (_, None) => None,
-    }
-}
-
-/// The value of each word, where each spells one.
-fn settings_of(alloc: Global, words: &[&[u8]]) -> Result<Option<Items<Setting>>, AllocError>
-    ensures { IfOk result (λ settings. settings ≡ settings_in (map (λ word. word.now) words.now)) }
-{
-    let mut settings = Vec::with_capacity(alloc, words.len())?;
-    for word in words {
-        match setting_of(word) {
-            Some(setting) => settings.push(setting)?,
-            None => return Ok(None),
-        }
-    }
-    Ok(Some(Items::of(settings)))
-}
-
-fn posting_of(alloc: Global, arguments: &[&[u8]]) -> Result<Option<Posting>, AllocError>
-    ensures { IfOk result (λ posting. posting ≡ posting_in (map (λ word. word.now) arguments.now)) }
-{
-    match arguments {
-        [task, words @ ..] => match byte_in(task) {
-            Some(task) => match settings_of(alloc, words)? {
-                Some(settings) => Ok(Some(Posting { task, settings })),
-                None => Ok(None),
-            },
-            None => Ok(None),
-        },
-        [] => Ok(None),
-    }
-}
-
-/// Its arguments are a task, at most 255, and a word `V=X` for each value; none where a word is another. `AllocError`
-/// where a growth was refused.
-pub fn parse(alloc: Global, arguments: &[&[u8]]) -> Result<Option<Command>, AllocError>
-    ensures { IfOk result (λ command. command ≡ post_in (map (λ word. word.now) arguments.now)) }
-{
-    match posting_of(alloc, arguments)? {
-        Some(posting) => Ok(Some(Command::Post(posting))),
-        None => Ok(None),
-    }
-}
 
 /// A task posts values, and `posted` is added; or why nothing is posted, or the refusal of a task over 7. A `Stop` where a
 /// growth was refused or the task's seat was given no view: nothing was then posted, and `out` may have a front of the

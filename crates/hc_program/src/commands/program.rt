@@ -1,14 +1,13 @@
 //! The command `program`.
-ghost use Rattle.std.specs.Prelude.{◌≡◌, ◌≤◌, ◌+◌, ◌++◌, ◌∷◌, [], IfErr, IfOk, OnErr, OnOk, length, map, string_bytes};
+ghost use Rattle.std.specs.Prelude.{◌≡◌, ◌≤◌, ◌+◌, ◌++◌, ◌∷◌, [], IfErr, IfOk, OnErr, OnOk, length, string_bytes};
 ghost use Rattle.std.specs.String.{string_capacity, string_len};
 ghost use Rattle.hc_events.specs.Steps.{Arrives, answer_to};
 ghost use Rattle.hc_segment.specs.Line.{frame_through};
 ghost use Rattle.hc_program.specs.declared.stops.Want.TheVariants.{Memory};
-ghost use Rattle.hc_program.specs.Programs.{WritesOnce, program_in, program_text, programmed, programmed_text, says_done};
+ghost use Rattle.hc_program.specs.Programs.{WritesOnce, program_text, programmed, programmed_text, says_done};
 ghost use Rattle.hc_program.specs.Standings.{passed, stepped};
 ghost use Rattle.hc_program.specs.Stops.{StopsInWrite, StopsProgram};
 
-use super::Command;
 use super::write::WRITE_FRAME;
 use crate::session::Session;
 use crate::stops::Want;
@@ -22,17 +21,6 @@ use std::thread::Threads;
 
 /// The bytes of the longest line: its words, two numbers, and the line feed.
 const LONGEST_PROGRAMMED: usize = 15 + 2 * MOST_DIGITS;
-
-/// It has no argument; none where there is one.
-pub fn parse(arguments: &[&[u8]]) -> Option<Command>
-    ensures { result ≡ program_in (map (λ word. word.now) arguments.now) }
-{
-    if arguments.is_empty() {
-        Some(Command::Program)
-    } else {
-        None
-    }
-}
 
 /// Passes a frame along the line, and answers it as it comes back. A `Want` where a growth was refused: no machine has
 /// met it then.

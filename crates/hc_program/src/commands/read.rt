@@ -1,31 +1,14 @@
 //! The command `read`.
-ghost use Rattle.std.specs.Prelude.{◌≡◌, ◌++◌, map, OnOk, string_bytes};
+ghost use Rattle.std.specs.Prelude.{◌≡◌, ◌++◌, OnOk, string_bytes};
 ghost use Rattle.hc_events.specs.Steps.{Reads};
 ghost use Rattle.hc_program.specs.Answers.{data_text, image_text, slot_text, slots_text, told};
-ghost use Rattle.hc_program.specs.EventWords.{read_in};
 
-use super::Command;
 use crate::refusals::push_refusal;
 use hc_core::keeping::Core;
 use hc_events::answer::Answer;
 use hc_records::items::Items;
-use hc_text::numbers::byte_in;
 use hc_text::printing::push_bytes;
 use std::alloc::{AllocError, Global};
-
-/// Its argument is a task, at most 255; none where it is another, or where there isn't one argument.
-pub fn parse(arguments: &[&[u8]]) -> Option<Command>
-    ensures { result ≡ read_in (map (λ word. word.now) arguments.now) }
-{
-    match arguments {
-        [task] => match byte_in(task) {
-            Some(task) => Some(Command::Read { task }),
-            None => None,
-        },
-        [] => None,
-        [_, _, ..] => None,
-    }
-}
 
 /// Adds what a task reads: the epoch, and of each datagram its data or none; or the refusal of a task over
 /// 7. `AllocError` where a growth was refused; `out` may then have a front of the lines.

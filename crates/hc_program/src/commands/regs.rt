@@ -1,9 +1,8 @@
 //! The command `regs`.
-ghost use Rattle.std.specs.Prelude.{◌≡◌, ◌++◌, map, OnOk, string_bytes};
+ghost use Rattle.std.specs.Prelude.{◌≡◌, ◌++◌, OnOk, string_bytes};
 ghost use Rattle.hc_records.specs.Line.{line};
-ghost use Rattle.hc_program.specs.Regs.{block_name, block_text, blocks_text, numbered_block_text, regs_in, regs_text};
+ghost use Rattle.hc_program.specs.Regs.{block_name, block_text, blocks_text, numbered_block_text, regs_text};
 
-use super::Command;
 use crate::refusals::push_refusal;
 use hc_events::faults::CoreFault;
 use hc_plan::plan::Plan;
@@ -12,27 +11,11 @@ use hc_registers::blocks::Block;
 use hc_registers::registers::{
     FMMU_BLOCK_BYTES, FMMU_BLOCKS, SYNC_MANAGER_BLOCK_BYTES, SYNC_MANAGER_BLOCKS,
 };
-use hc_text::numbers::double_byte_in;
 use hc_text::printing::{push_register, push_spaced_bytes};
 use std::alloc::AllocError;
 
 /// The blocks of a slave at most: two for each area.
 const MOST_BLOCKS: u8 = 2 * MOST_AREAS as u8;
-
-/// Its argument is a station address, at most 65,535; none where it is another, or where there isn't
-/// one argument.
-pub fn parse(arguments: &[&[u8]]) -> Option<Command>
-    ensures { result ≡ regs_in (map (λ word. word.now) arguments.now) }
-{
-    match arguments {
-        [station] => match double_byte_in(station) {
-            Some(station) => Some(Command::Regs { station }),
-            None => None,
-        },
-        [] => None,
-        [_, _, ..] => None,
-    }
-}
 
 /// Adds the blocks of the slave of the line with the station address, or why there is none. `AllocError`
 /// where a growth was refused; `out` may then have a front of them.

@@ -1,25 +1,13 @@
 //! The command `scan`.
-ghost use Rattle.std.specs.Prelude.{◌≡◌, ◌++◌, IfErr, OnOk, map, string_bytes};
-ghost use Rattle.hc_program.specs.Setups.{alias_text, aliases_text, scan_in, scan_text, scanned};
+ghost use Rattle.std.specs.Prelude.{◌≡◌, ◌++◌, IfErr, OnOk, string_bytes};
+ghost use Rattle.hc_program.specs.Setups.{alias_text, aliases_text, scan_text, scanned};
 ghost use Rattle.hc_program.specs.Stops.{StopsScan};
 
-use super::Command;
 use crate::session::Session;
 use crate::stops::Want;
 use std::alloc::{AllocError, Global};
 use std::sync::Wait;
 use std::thread::Threads;
-
-/// It has no argument; none where there is one.
-pub fn parse(arguments: &[&[u8]]) -> Option<Command>
-    ensures { result ≡ scan_in (map (λ word. word.now) arguments.now) }
-{
-    if arguments.is_empty() {
-        Some(Command::Scan)
-    } else {
-        None
-    }
-}
 
 /// Reads the alias of each slave along the line and adds them, position by position. A `Want` where a growth was
 /// refused: `out` may then have a front of the lines.

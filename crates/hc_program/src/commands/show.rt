@@ -1,31 +1,13 @@
 //! The command `show`.
-ghost use Rattle.std.specs.Prelude.{◌≡◌, ◌++◌, map, OnOk, string_bytes};
-ghost use Rattle.hc_program.specs.Show.{show_in, show_text};
+ghost use Rattle.std.specs.Prelude.{◌≡◌, ◌++◌, OnOk, string_bytes};
+ghost use Rattle.hc_program.specs.Show.{show_text};
 
-use super::Command;
 use crate::frames::push_frame;
 use crate::refusals::push_refusal;
 use hc_core::keeping::Core;
 use hc_events::faults::CoreFault;
 use hc_records::limits::TASKS;
-use hc_text::numbers::byte_in;
 use std::alloc::AllocError;
-
-/// Its arguments are a task and the number of a datagram, each at most 255; none where one is another,
-/// or where there aren't two arguments.
-pub fn parse(arguments: &[&[u8]]) -> Option<Command>
-    ensures { result ≡ show_in (map (λ word. word.now) arguments.now) }
-{
-    match arguments {
-        [task, datagram] => match (byte_in(task), byte_in(datagram)) {
-            (Some(task), Some(datagram)) => Some(Command::Show { task, datagram }),
-            _ => None,
-        },
-        [] => None,
-        [_] => None,
-        [_, _, _, ..] => None,
-    }
-}
 
 /// Adds the frame of a datagram as it would be sent next, `none` where the task has no such datagram or no
 /// serial is left, or the refusal of a task over 7. `AllocError` where a growth was refused; `out` may then have a front of

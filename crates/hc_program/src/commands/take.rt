@@ -1,26 +1,14 @@
 //! The command `take`.
-ghost use Rattle.std.specs.Prelude.{◌≡◌, ◌≤◌, ◌+◌, ◌++◌, OnErr, OnOk, map, string_bytes};
+ghost use Rattle.std.specs.Prelude.{◌≡◌, ◌≤◌, ◌+◌, ◌++◌, OnErr, OnOk, string_bytes};
 ghost use Rattle.std.specs.String.{string_capacity, string_len};
-ghost use Rattle.hc_program.specs.Takings.{take_in, take_text, taken_text, took};
+ghost use Rattle.hc_program.specs.Takings.{take_text, taken_text, took};
 
-use super::Command;
 use crate::session::Session;
 use hc_text::room::{MOST_DIGITS, add_number, add_text};
 use std::alloc::AllocError;
 
 /// The bytes of the longest line: its words, two numbers, and the line feed.
 const LONGEST_TAKEN: usize = 16 + 2 * MOST_DIGITS;
-
-/// It has no argument; none where there is one.
-pub fn parse(arguments: &[&[u8]]) -> Option<Command>
-    ensures { result ≡ take_in (map (λ word. word.now) arguments.now) }
-{
-    if arguments.is_empty() {
-        Some(Command::Take)
-    } else {
-        None
-    }
-}
 
 /// Hands what tasks posted to the core and adds how many posts it accepted, and how many it refused since another epoch
 /// has begun. `AllocError` where a growth was refused; no post was then taken. Room for the line is taken before.

@@ -1,9 +1,8 @@
 //! The command `view`.
-ghost use Rattle.std.specs.Prelude.{◌≡◌, ◌++◌, IfErr, OnOk, Result, map, string_bytes};
+ghost use Rattle.std.specs.Prelude.{◌≡◌, ◌++◌, IfErr, OnOk, Result, string_bytes};
 ghost use Rattle.hc_program.specs.Stops.{Unviewed};
-ghost use Rattle.hc_program.specs.Views.{value_text, view_fault_name, view_fault_text, view_in, view_text, viewed_text};
+ghost use Rattle.hc_program.specs.Views.{value_text, view_fault_name, view_fault_text, view_text, viewed_text};
 
-use super::Command;
 use crate::refusals::push_refusal;
 use crate::session::Session;
 use crate::stops::Stop;
@@ -11,24 +10,7 @@ use hc_conductor::one_thread::viewing::Viewed;
 use hc_events::faults::CoreFault;
 use hc_publish::view_faults::ViewFault;
 use hc_records::limits::TASKS;
-use hc_text::numbers::{byte_in, quadruple_byte_in};
 use std::alloc::AllocError;
-
-/// Its arguments are a task, at most 255, and the number of a variable, at most 4,294,967,295; none where one is another,
-/// or where there aren't two arguments.
-pub fn parse(arguments: &[&[u8]]) -> Option<Command>
-    ensures { result ≡ view_in (map (λ word. word.now) arguments.now) }
-{
-    match arguments {
-        [task, variable] => match (byte_in(task), quadruple_byte_in(variable)) {
-            (Some(task), Some(variable)) => Some(Command::View { task, variable }),
-            _ => None,
-        },
-        [] => None,
-        [_] => None,
-        [_, _, _, ..] => None,
-    }
-}
 
 /// Adds what a task views of a variable: the epoch and the value, or why it is told none, or the refusal of a task over
 /// 7. A `Stop` where a growth was refused or the task's seat was given no view; `out` may then have a front of the line.

@@ -1,13 +1,11 @@
 //! The command `write`.
-ghost use Rattle.std.specs.Prelude.{◌≡◌, ◌≤◌, ◌+◌, ◌++◌, length, map, OnErr, OnOk, string_bytes};
+ghost use Rattle.std.specs.Prelude.{◌≡◌, ◌≤◌, ◌+◌, ◌++◌, length, OnErr, OnOk, string_bytes};
 ghost use Rattle.std.specs.String.{string_capacity, string_len};
 ghost use Rattle.hc_events.specs.Steps.{SendsWrite};
 ghost use Rattle.hc_program.specs.Answers.{told};
-ghost use Rattle.hc_program.specs.EventWords.{write_in};
 ghost use Rattle.hc_program.specs.Frames.{sent_line};
 ghost use Rattle.hc_program.specs.Standings.{stepped};
 
-use super::Command;
 use crate::refusals::push_refusal;
 use crate::session::Session;
 use hc_text::room::{MOST_DIGITS, add_bytes, add_number, add_text};
@@ -20,17 +18,6 @@ pub(crate) const WRITE_FRAME: usize = 60;
 /// The bytes of the longest line of such a frame: its words, the serial, two digits a byte, and the line
 /// feed.
 const LONGEST_SENT: usize = 8 + MOST_DIGITS + 2 * WRITE_FRAME;
-
-/// It has no argument; none where there is one.
-pub fn parse(arguments: &[&[u8]]) -> Option<Command>
-    ensures { result ≡ write_in (map (λ word. word.now) arguments.now) }
-{
-    if arguments.is_empty() {
-        Some(Command::Write)
-    } else {
-        None
-    }
-}
 
 /// Sends the first owed register block and adds its frame, or why the write is refused. `AllocError`
 /// where a growth was refused; nothing was then sent, and `out` may have a front of the line. Room for the
