@@ -2,6 +2,7 @@
 //! answers to these and to reads. What an event means is this project's profile, over frames of ETG.1000.4.
 #![tactic(auto)]
 
+pub mod arena;
 mod arriving;
 mod buffers;
 mod declaring;

@@ -2,14 +2,11 @@
 use Rattle.std.specs.Prelude.{◌≡◌, ℕ, ◌+◌, ◌*◌, ◌<◌, ◌==◌, ◌&&◌, if◌then◌else◌, List, length, map, slice_index_or, Option, Some, None}
 use Rattle.std.specs.List.{range_with_len}
 use Rattle.hc_records.specs.declared.limits.TheConstants.{MOST_DATAGRAMS, TASKS}
+use Rattle.hc_records.specs.Slots.{slot_number}
 
 -- the data of each datagram that a line can have, or none, task by task
 abbrev pub Image : Type 0
 Image = List (Option (List ℕ))
-
--- each of the eight tasks has sixteen
-abbrev pub slot_number : ℕ → ℕ → ℕ
-slot_number task d = MOST_DATAGRAMS * task + d
 
 -- an image has a slot for each datagram that each of the eight tasks can have
 abbrev pub IsWhole : Image → Type 0

@@ -7,15 +7,12 @@ use Rattle.hc_records.specs.declared.limits.TheConstants.{MOST_DATAGRAMS, TASKS}
 use Rattle.hc_records.specs.declared.records.Dir.TheVariants.{Out}
 use Rattle.hc_records.specs.Image.{VariablePlace}
 use Rattle.hc_records.specs.ImageLaws.{SharesNoBit}
+use Rattle.hc_records.specs.Slots.{slot_number}
 use Rattle.hc_places.specs.Table.{Table, datagram_in, place_in}
 
 -- bytes for each datagram that a line can have, task by task
 abbrev pub Bytes : Type 0
 Bytes = List (List ℕ)
-
--- each of the eight tasks has sixteen
-abbrev pub slot_number : ℕ → ℕ → ℕ
-slot_number task d = MOST_DATAGRAMS * task + d
 
 -- of lists of bytes (`Bytes`) the one at the datagram's `slot_number`; empty where the lists end before it
 abbrev pub slot_bytes : Bytes → ℕ → ℕ → List ℕ

@@ -1,16 +1,10 @@
 //! The data of all datagrams that a line can have.
-ghost use Rattle.std.specs.Prelude.{◌≡◌, ◌+◌, ◌*◌, ◌<◌, ◌≤◌, IfOk, length};
-ghost use Rattle.hc_records.specs.declared.limits.TheConstants.{MOST_DATAGRAMS, MOST_DATAGRAM_BYTES, TASKS};
-ghost use Rattle.hc_images.specs.Image.{slot_number};
 
 use crate::slot::Slot;
 use hc_records::items::Items;
-use hc_records::limits::{MOST_DATAGRAMS, TASKS};
+use hc_records::slots::{SLOTS, slot_number};
 use std::alloc::{AllocError, Global};
 use std::marker::Model;
-
-/// The datagrams that a line can have: 16 in each of the eight tasks.
-const SLOTS: usize = TASKS as usize * MOST_DATAGRAMS;
 
 /// For each datagram that a line can have the data of its last good answer in the present epoch, or none.
 /// It has room for the longest data of each, about 190,000 bytes, from the start: so no later epoch and no
@@ -35,16 +29,6 @@ impl Model for Inputs {
     ghost view = { λ inputs. inputs.slots.items };
 
     ghost invariant = { λ inputs. IsWhole inputs.slots.items };
-}
-
-/// The place of a datagram's data among all, below 128.
-fn slot_number(task: u8, number: u8) -> usize
-    requires task { task < TASKS }
-    requires number { number < MOST_DATAGRAMS }
-    ensures value { result ≡ slot_number task number }
-    ensures below { result < 128 }
-{
-    MOST_DATAGRAMS * usize::from(task) + usize::from(number)
 }
 
 impl Inputs {

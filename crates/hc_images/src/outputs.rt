@@ -6,10 +6,11 @@ ghost use Rattle.hc_images.specs.Pieces.{Posts};
 
 use crate::moves::Moves;
 use crate::row::Row;
-use crate::rows::{blank_rows, make_masks, slot_number};
+use crate::rows::{blank_rows, make_masks};
 use hc_places::swap::Swap;
 use hc_places::table::Places;
 use hc_records::limits::{MOST_DATAGRAMS, TASKS};
+use hc_records::slots::slot_number;
 use std::alloc::{AllocError, Global};
 use std::marker::Model;
 

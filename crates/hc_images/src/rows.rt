@@ -5,7 +5,7 @@ ghost use Rattle.std.specs.Option.{MatchOption};
 ghost use Rattle.hc_bits.specs.Bits.{bit_of};
 ghost use Rattle.hc_records.specs.declared.limits.TheConstants.{MOST_DATAGRAMS, TASKS};
 ghost use Rattle.hc_places.specs.Swap.{ChangesAscend};
-ghost use Rattle.hc_images.specs.Packed.{Carries, IsLaidOut, length_in, slot_bytes, slot_number};
+ghost use Rattle.hc_images.specs.Packed.{Carries, IsLaidOut, length_in, slot_bytes};
 ghost use Rattle.hc_images.specs.Pieces.{AreApart, AreBlank, Fit, ReadsEach, Resizes, ResizesEach, WritesAt, WritesEach, length_of, of_changed, of_list, output_of};
 
 use crate::row::Row;
@@ -13,17 +13,8 @@ use hc_places::swap::{ChangedRow, ChangedTask};
 use hc_places::table::{Place, Places, TaskTable};
 use hc_records::limits::{MOST_DATAGRAMS, TASKS};
 use hc_records::records::Dir;
+use hc_records::slots::{SLOTS, slot_number};
 use std::alloc::{AllocError, Global};
-
-/// The datagrams that a line can have: 16 in each of the eight tasks.
-const SLOTS: usize = TASKS as usize * MOST_DATAGRAMS;
-
-/// The place of a datagram's bytes among all.
-pub(crate) fn slot_number(task: u8, number: u8) -> usize
-    ensures { result ≡ slot_number task number }
-{
-    MOST_DATAGRAMS * usize::from(task) + usize::from(number)
-}
 
 /// The bytes of a datagram in a table; 0 where the task has no such datagram.
 fn length_in(places: &Places, task: u8, number: u8) -> u16

@@ -3,6 +3,7 @@ pub mod EditFault
 pub mod Lending
 pub mod Variables
 pub mod Keys
+pub mod Slots
 pub mod Area
 pub mod Line
 pub mod TaskList

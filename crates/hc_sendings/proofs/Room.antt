@@ -13,9 +13,10 @@ use Rattle.std.proofs.lemmas.Bool.{or_left, or_right}
 use Rattle.hc_records.proofs.lemmas.Lists.{AllPairs-map, AllPairs-weaker}
 use Rattle.hc_events.specs.Sendings.{Named}
 use Rattle.hc_records.specs.declared.limits.TheConstants.{MOST_DATAGRAMS, TASKS}
+use Rattle.hc_records.specs.Slots.{slot_number}
 use Rattle.hc_records.proofs.lemmas.Choices.{by_bool, less_differs}
 use Rattle.hc_sendings.specs.Waiting.{Carried, is_alive}
-use Rattle.hc_sendings.specs.Kept.{AreKept, KeptFrame, Newest, datagram_number, is_serial, newest_of}
+use Rattle.hc_sendings.specs.Kept.{AreKept, KeptFrame, Newest, is_serial, newest_of}
 use Rattle.hc_sendings.proofs.Alive.{alive_at, filter-map_is, stays_at, told_at}
 
 -- serials that ascend are distinct
@@ -51,7 +52,7 @@ carried-in : (newest : Newest) (serial : ℕ) (datagrams : List Named)
 carried-in newest serial [] e = cc
 carried-in newest serial (d ∷ ds) e =
     by_bool (is_serial serial (newest_of newest d))
-    (λ t. in-table serial newest (datagram_number d) t)
+    (λ t. in-table serial newest (slot_number d.0 d.1) t)
     (λ t. carried-in newest serial ds (rw t at e))
 
 abbrev Stays : Newest → KeptFrame → Type 0

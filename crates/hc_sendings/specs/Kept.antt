@@ -3,12 +3,9 @@ use Rattle.std.specs.Prelude.{◌≡◌, ◌<◌, ℕ, ◌+◌, ◌*◌, ◌==�
 use Rattle.std.specs.List.{list_any}
 use Rattle.std.specs.Option.{option_map_or}
 use Rattle.hc_records.specs.declared.limits.TheConstants.{MOST_DATAGRAMS, TASKS}
+use Rattle.hc_records.specs.Slots.{slot_number}
 use Rattle.hc_events.specs.Sendings.{Frame, Named}
 use Rattle.hc_sendings.specs.Waiting.{AwaitedFrame, Carried, IsNamed, is_alive, is_named}
-
--- the datagrams of the tasks one after another, sixteen a task
-abbrev pub datagram_number : Named → ℕ
-datagram_number named = MOST_DATAGRAMS * named.0 + named.1
 
 -- the newest frame's serial of each; none where a datagram wasn't sent
 abbrev pub Newest : Type 0
@@ -16,7 +13,7 @@ Newest = List (Option ℕ)
 
 -- the serial of the newest frame that a datagram was sent in; none where it wasn't sent
 abbrev pub newest_of : Newest → Named → Option ℕ
-newest_of newest named = slice_index_or newest (datagram_number named) None
+newest_of newest named = slice_index_or newest (slot_number named.0 named.1) None
 
 -- a serial was found, and it is this one
 abbrev pub is_serial : ℕ → Option ℕ → Bool

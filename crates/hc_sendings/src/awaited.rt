@@ -7,9 +7,10 @@ ghost use Rattle.hc_sendings.specs.Kept.{awaited_frames, emptied, kept_of, newes
 ghost use Rattle.hc_sendings.specs.Waiting.{IsNamed, is_alive};
 
 use crate::kept::KeptFrame;
-use crate::newest::{Newest, PLACES};
+use crate::newest::Newest;
 use hc_events::sending::Sending;
 use hc_plan::blocks::LineBlock;
+use hc_records::slots::SLOTS;
 use hc_registers::blocks::Block;
 use std::alloc::{AllocError, Global};
 use std::marker::Model;
@@ -59,13 +60,13 @@ impl Model for Awaited {
     ghost use Rattle.std.specs.Prelude.{◌≤◌, vec_capacity};
     ghost use Rattle.hc_sendings.specs.Kept.{AreKept, awaited_frames};
     ghost use Rattle.hc_sendings.specs.Waiting.{Waiting};
-    ghost use Rattle.hc_sendings.specs.declared.newest.TheConstants.{PLACES};
+    ghost use Rattle.hc_records.specs.declared.slots.TheConstants.{SLOTS};
 
     ghost Value = { Waiting };
 
     ghost view = { λ awaited. record { frames = awaited_frames awaited.newest awaited.frames.items; write = awaited.write } };
 
-    ghost invariant = { λ awaited. AreKept awaited.newest awaited.frames.items × (PLACES ≤ vec_capacity awaited.frames) };
+    ghost invariant = { λ awaited. AreKept awaited.newest awaited.frames.items × (SLOTS ≤ vec_capacity awaited.frames) };
 }
 
 /// Whether there is a write with this serial.
@@ -217,7 +218,7 @@ impl Awaited {
     {
         Ok(Awaited {
             newest: Newest::new(alloc)?,
-            frames: Vec::with_capacity(alloc, PLACES)?,
+            frames: Vec::with_capacity(alloc, SLOTS)?,
             write: None,
         })
     }

@@ -1,14 +1,8 @@
 //! In which frame each datagram was sent last.
-ghost use Rattle.std.specs.Prelude.{◌≡◌};
-ghost use Rattle.hc_sendings.specs.Kept.{datagram_number};
-
 use hc_events::sending::Named;
-use hc_records::limits::{MOST_DATAGRAMS, TASKS};
+use hc_records::slots::{SLOTS, slot_number};
 use std::alloc::{AllocError, Global};
 use std::marker::Model;
-
-/// The datagrams that tasks can have, 16 each.
-pub(crate) const PLACES: usize = TASKS as usize * MOST_DATAGRAMS;
 
 /// For each datagram that a task can have the serial of the newest frame that it was sent in; none where
 /// it wasn't sent.
@@ -20,20 +14,13 @@ pub(crate) struct Newest {
 impl Model for Newest {
     ghost use Rattle.std.specs.Prelude.{◌≡◌, length};
     ghost use Rattle.hc_sendings.specs.Kept.{Newest};
-    ghost use Rattle.hc_sendings.specs.declared.newest.TheConstants.{PLACES};
+    ghost use Rattle.hc_records.specs.declared.slots.TheConstants.{SLOTS};
 
     ghost Value = { Newest };
 
     ghost view = { λ newest. newest.serials.items };
 
-    ghost invariant = { λ newest. length newest.serials.items ≡ PLACES };
-}
-
-/// Where a datagram stands among those of all tasks.
-fn datagram_number(datagram: Named) -> usize
-    ensures { result ≡ datagram_number datagram }
-{
-    MOST_DATAGRAMS * usize::from(datagram.0) + usize::from(datagram.1)
+    ghost invariant = { λ newest. length newest.serials.items ≡ SLOTS };
 }
 
 impl Newest {
@@ -42,14 +29,14 @@ impl Newest {
     ghost use Rattle.hc_events.specs.Sendings.{Named};
     ghost use Rattle.hc_sendings.specs.Kept.{is_newest, newest_of};
     ghost use Rattle.hc_sendings.specs.Waiting.{IsNamed, is_named};
-    ghost use Rattle.hc_sendings.specs.declared.newest.TheConstants.{PLACES};
+    ghost use Rattle.hc_records.specs.declared.slots.TheConstants.{SLOTS};
 
     /// No datagram was sent. `AllocError` where the table's memory was refused.
     pub(crate) fn new(alloc: Global) -> Result<Newest, AllocError>
-        ensures { IfOk result (λ newest. length newest ≡ PLACES) }
+        ensures { IfOk result (λ newest. length newest ≡ SLOTS) }
     {
         Ok(Newest {
-            serials: vec![in alloc; None; PLACES]?,
+            serials: vec![in alloc; None; SLOTS]?,
         })
     }
 
@@ -57,7 +44,7 @@ impl Newest {
     pub(crate) fn is(&self, serial: u64, datagram: Named) -> bool
         ensures { result ≡ is_newest self.now serial datagram }
     {
-        match self.serials.get(datagram_number(datagram)) {
+        match self.serials.get(slot_number(datagram.0, datagram.1)) {
             Some(newest) => *newest == Some(serial),
             None => false,
         }
@@ -77,7 +64,7 @@ impl Newest {
         ensures noted { (named : Named) → IsNamed named → newest_of self.new named ≡ (if list_any (is_named named) datagrams.now then Some serial else newest_of self.old named) }
     {
         for datagram in datagrams {
-            self.serials[datagram_number(*datagram)] = Some(serial);
+            self.serials[slot_number(datagram.0, datagram.1)] = Some(serial);
         }
     }
 }

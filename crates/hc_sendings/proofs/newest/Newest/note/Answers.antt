@@ -19,9 +19,9 @@ loop-datagram-preserved c =
     let low = place-low datagram own in
     let places = c.loop-datagram.invariant.places in
     record {
-      places = length-set newest c.datagram_number.result (Some c.args.serial) ∙ places;
+      places = length-set newest c.slot_number.result (Some c.args.serial) ∙ places;
       noted = λ named is.
-          ap (λ (place : ℕ). newest_of (set newest place (Some c.args.serial)) named) c.datagram_number.ensures
+          ap (λ (place : ℕ). newest_of (set newest place (Some c.args.serial)) named) c.slot_number.ensures
           ∙ noted-more newest (newest_of c.args.self.now named) c.args.serial number c.args.datagrams.now named c.loop-datagram-test.true own is
           (omega (arith, low, places)) (c.loop-datagram.invariant.noted named is);
     }

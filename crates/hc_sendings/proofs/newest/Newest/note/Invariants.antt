@@ -3,12 +3,12 @@ use Rattle.std.specs.List.{list_any}
 use Rattle.hc_events.specs.Sendings.{Named}
 use Rattle.hc_sendings.specs.Kept.{newest_of}
 use Rattle.hc_sendings.specs.Waiting.{IsNamed, is_named}
-use Rattle.hc_sendings.specs.declared.newest.TheConstants.{PLACES}
+use Rattle.hc_records.specs.declared.slots.TheConstants.{SLOTS}
 use Rattle.hc_sendings.proofs.newest.Newest.note.Given as goal
 
 abbrev pub invariant-loop-datagram : goal.invariant-loop-datagram
 invariant-loop-datagram l = record {
-  places : length l.self-inside.serials.items ≡ PLACES;
+  places : length l.self-inside.serials.items ≡ SLOTS;
   noted : (named : Named) → IsNamed named
       → newest_of l.self-inside.serials.items named
       ≡ cond (list_any (is_named named) (take l.datagram-index l.datagrams)) (Some l.serial) (newest_of l.fn.self named);
