@@ -15,5 +15,6 @@ pub mod line;
 pub mod project;
 pub mod records;
 pub mod room;
+pub mod task;
 
 pub use conditions::names::add_slave_names;
