@@ -21,6 +21,7 @@ use hc_cuts::tasks::LineCuts;
 use hc_records::keys::Key;
 use hc_records::limits::TASKS;
 use hc_records::records::{Area, Declared, Slave};
+use hc_records::task::Task;
 use std::alloc::{AllocError, Global};
 use std::marker::Model;
 
@@ -87,9 +88,8 @@ impl<'b, 'a> CandidateTest<'b, 'a> {
     ghost use Rattle.hc_changes.specs.EditedLine.{IsEditedLine};
 
     /// Whether an area of a task with a place, if it has one, stands in a datagram that isn't kept up to it.
-    fn is_recut(&self, task: u8, place: &Option<Placed>) -> bool
-        requires task { task < TASKS }
-        requires below { IfSome place.now (λ placed. is_before placed.key END ≡ true) }
+    fn is_recut(&self, task: Task, place: &Option<Placed>) -> bool
+        requires { IfSome place.now (λ placed. is_before placed.key END ≡ true) }
         ensures { result ≡ option_map_or (λ placed. not (is_kept_up_to (task_list task (line_from 1 self.now.old)) (task_list task (line_from 1 self.now.new)) placed.datagram placed.key)) place.now false }
     {
         match place {
@@ -117,11 +117,11 @@ impl<'b, 'a> CandidateTest<'b, 'a> {
         ensures found { option_to_list result ≡ area_found self.now station rank index area.now }
     {
         let changed = self.edited_line.is_changed(rank);
-        if !changed && !self.before.is_touched(area.task) {
+        if !changed && !self.before.is_touched(Task(area.task)) {
             return None;
         }
-        let place = places.place(area.task, key_of(area, rank, index));
-        if !changed && !self.is_recut(area.task, &place) {
+        let place = places.place(Task(area.task), key_of(area, rank, index));
+        if !changed && !self.is_recut(Task(area.task), &place) {
             return None;
         }
         Some(Candidate {
@@ -201,8 +201,7 @@ impl<'b, 'a> CandidateTest<'b, 'a> {
     }
 
     /// Ranks with those of the slaves that have areas in datagrams of a task which aren't kept up to them.
-    fn with_recut(&self, ranks: Ranks, task: u8) -> Ranks
-        requires { task < TASKS }
+    fn with_recut(&self, ranks: Ranks, task: Task) -> Ranks
         ensures own { HoldRanks result.low result.high ranks.low ranks.high }
         ensures recut { HoldRecut self.now task result.low result.high }
     {
@@ -227,8 +226,8 @@ impl<'b, 'a> CandidateTest<'b, 'a> {
     {
         let mut ranks = self.changed_ranks();
         for task in 0..TASKS {
-            if self.before.is_touched(task) {
-                ranks = self.with_recut(ranks, task);
+            if self.before.is_touched(Task(task)) {
+                ranks = self.with_recut(ranks, Task(task));
             }
         }
         ranks

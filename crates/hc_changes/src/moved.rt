@@ -1,7 +1,7 @@
 //! The register blocks that an edit moves, by the candidates that move: each block of one is compared with the
 //! block that its slave had with that number.
 ghost use Rattle.std.specs.Prelude.{◌≡◌, ◌++◌, ◌<◌, IfOk, OnOk};
-ghost use Rattle.hc_records.specs.declared.limits.TheConstants.{MOST_AREAS, TASKS};
+ghost use Rattle.hc_records.specs.declared.limits.TheConstants.{MOST_AREAS};
 ghost use Rattle.hc_records.specs.Line.{line_from};
 ghost use Rattle.hc_registers.specs.Ranked.{moved_ranked};
 ghost use Rattle.hc_registers.specs.Blocks.{mapping_at, same_bytes};
@@ -13,15 +13,15 @@ use crate::edited_line::EditedLine;
 use crate::moved_areas::{FormerArea, MovedArea};
 use hc_cuts::packing::Placed;
 use hc_records::records::Area;
+use hc_records::task::Task;
 use hc_registers::blocks::Block;
 use hc_registers::fmmu::{Mapping, logical_address};
 use hc_registers::ranked::RankedBlock;
 use std::alloc::{AllocError, Global};
 
-/// Where an area that has a place in a task, 0 to 7, is mapped: the logical address of its datagram, and its first
+/// Where an area that has a place in a task is mapped: the logical address of its datagram, and its first
 /// bit there.
-pub fn mapping(task: u8, placed: Placed) -> Mapping
-    requires { task < TASKS }
+pub fn mapping(task: Task, placed: Placed) -> Mapping
     ensures { result ≡ mapping_at task placed }
 {
     Mapping {
@@ -39,7 +39,7 @@ fn two_blocks(index: u8, area: &Area, place: Option<Placed>) -> (Block, Block)
     match place {
         Some(placed) => {
             let manager = Block::sized_sync_manager(area, placed.bits());
-            let mapping = mapping(area.task, placed);
+            let mapping = mapping(Task(area.task), placed);
             (
                 manager,
                 Block::mapped_fmmu(index, area, placed.bits(), mapping),

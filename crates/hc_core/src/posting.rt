@@ -7,6 +7,7 @@ ghost use Rattle.hc_events.specs.Steps.{post_faults};
 use crate::keeping::Core;
 use hc_events::faults::CoreFault;
 use hc_records::limits::TASKS;
+use hc_records::task::Task;
 
 impl Core {
     /// A post of a task, 0 to 7, that was made for an epoch: as many bytes as the task has output bytes in it. Each
@@ -28,7 +29,7 @@ impl Core {
         if bytes.len() != usize::from(self.plan.places().part(task).0) {
             return Err(CoreFault::PostLength);
         }
-        self.outputs.post(self.plan.places(), task, bytes);
+        self.outputs.post(self.plan.places(), Task(task), bytes);
         self.past = self.past.posted(task, bytes);
         Ok(())
     }

@@ -16,6 +16,7 @@ use hc_events::answer::Answer;
 use hc_events::faults::CoreFault;
 use hc_plan::plan::Plan;
 use hc_records::limits::{MOST_DATAGRAMS, TASKS};
+use hc_records::task::Task;
 use std::alloc::{AllocError, Global};
 
 impl Core {
@@ -54,7 +55,7 @@ impl Core {
         if task >= TASKS || usize::from(number) >= MOST_DATAGRAMS {
             return None;
         }
-        self.inputs.data(task, number)
+        self.inputs.data(Task(task), number)
     }
 
     /// The image of a task as it is kept.
@@ -66,7 +67,7 @@ impl Core {
             return Ok(Answer::Refused(CoreFault::NoSuchTask));
         }
         let count = self.plan.places().datagrams(task).len() as u8;
-        let slots = self.inputs.read(alloc, task, count)?;
+        let slots = self.inputs.read(alloc, Task(task), count)?;
         let epoch = self.plan.epoch();
         Ok(Answer::Image { epoch, slots })
     }

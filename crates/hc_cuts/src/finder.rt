@@ -5,6 +5,7 @@ use crate::packing::Placed;
 use crate::tasks::LineCuts;
 use hc_records::keys::Key;
 use hc_records::records::Dir;
+use hc_records::task::Task;
 use std::marker::Model;
 
 /// The tasks of a line, lent, and of each task a cursor among its outputs and one among its inputs. Contracts
@@ -29,8 +30,7 @@ impl<'a> Model for Finder<'a> {
 }
 
 impl<'a> Finder<'a> {
-    ghost use Rattle.std.specs.Prelude.{◌≡◌, ◌<◌, List};
-    ghost use Rattle.hc_records.specs.declared.limits.TheConstants.{TASKS};
+    ghost use Rattle.std.specs.Prelude.{◌≡◌, List};
     ghost use Rattle.hc_records.specs.declared.records.Area.{Area};
     ghost use Rattle.hc_cuts.specs.Place.{place_of};
     ghost use Rattle.hc_cuts.specs.Areas.{list_by};
@@ -47,10 +47,9 @@ impl<'a> Finder<'a> {
         }
     }
 
-    /// The place of an area in a task, 0 to 7, by its key, any key, as `LineCuts::place` gives it; none where
+    /// The place of an area in a task by its key, any key, as `LineCuts::place` gives it; none where
     /// the task has no such area. It takes no memory.
-    pub fn place(&mut self, task: u8, key: Key) -> Option<Placed>
-        requires { task < TASKS }
+    pub fn place(&mut self, task: Task, key: Key) -> Option<Placed>
         ensures tasks { self.new ≡ self.old }
         ensures place { (line : List (List Area)) → self.old ≡ line_kept line → result ≡ place_of key (list_by task line) }
     {

@@ -16,6 +16,7 @@ use crate::tasks::LineCuts;
 use crate::touched::touched_hulls;
 use hc_records::keys::Key;
 use hc_records::limits::TASKS;
+use hc_records::task::Task;
 use std::marker::Model;
 
 /// The boundaries of the eight tasks of a line as they were, and the hulls of the keys whose widths differ
@@ -48,11 +49,10 @@ fn all_hulls(first: u16, before: &[SlaveAreas], after: &[SlaveAreas]) -> [Hulls;
 }
 
 impl Before {
-    ghost use Rattle.std.specs.Prelude.{◌≡◌, ◌<◌, List, true};
+    ghost use Rattle.std.specs.Prelude.{◌≡◌, List, true};
     ghost use Rattle.hc_records.specs.Keys.{is_before};
     ghost use Rattle.hc_records.specs.declared.keys.Key.{Key};
     ghost use Rattle.hc_records.specs.declared.keys.TheConstants.Key.{END};
-    ghost use Rattle.hc_records.specs.declared.limits.TheConstants.{TASKS};
     ghost use Rattle.hc_records.specs.declared.records.Area.{Area};
     ghost use Rattle.hc_cuts.specs.Keeping.{is_kept, is_kept_up_to};
     ghost use Rattle.hc_cuts.specs.Areas.{list_by};
@@ -81,36 +81,33 @@ impl Before {
         &self.starts
     }
 
-    /// Whether the width of a key of a task, 0 to 7, differs between the two lines. It takes no memory.
-    pub fn is_touched(&self, task: u8) -> bool
-        requires { task < TASKS }
+    /// Whether the width of a key of a task differs between the two lines. It takes no memory.
+    pub fn is_touched(&self, task: Task) -> bool
         ensures { (old new : List (List Area)) → StandsBefore old new self.now → result ≡ is_touched_by task old new }
     {
-        !self.hulls[usize::from(task)].are_none()
+        !self.hulls[task.as_index()].are_none()
     }
 
-    /// Whether the datagram of a task, 0 to 7, with a number, from 0, is kept: it began at the key at which it
+    /// Whether the datagram of a task, with a number, from 0, is kept: it began at the key at which it
     /// begins now, and its keys up to the next boundary meet neither the interval from the least to the
     /// greatest output whose width differs nor that of the inputs. The tasks are those of the new line,
     /// turned. A datagram that isn't there isn't kept. It takes no memory.
-    pub fn is_kept(&self, cuts: &LineCuts, task: u8, number: u16) -> bool
-        requires { task < TASKS }
+    pub fn is_kept(&self, cuts: &LineCuts, task: Task, number: u16) -> bool
         ensures { (old new : List (List Area)) → IsLine new → StandsBefore old new self.now → cuts.now ≡ line_kept new → result ≡ is_kept (list_by task old) (list_by task new) number }
     {
-        let hulls = &self.hulls[usize::from(task)];
+        let hulls = &self.hulls[task.as_index()];
         is_kept(self.starts.of_task(task), cuts.starts(task), hulls, number)
     }
 
-    /// The key before which the areas of a datagram stand where they stood, by its task, 0 to 7, and its
-    /// number, from 0: where it began at the key at which it begins now, the first of its keys up to which the
+    /// The key before which the areas of a datagram stand where they stood, by its task and its number,
+    /// from 0: where it began at the key at which it begins now, the first of its keys up to which the
     /// interval from there on meets that from the least to the greatest output whose width differs or that of
     /// the inputs, or `Key::END` where none does; `Key::START` where it began elsewhere or isn't there. The
     /// tasks are those of the new line, turned. It takes no memory.
-    pub fn kept_until(&self, cuts: &LineCuts, task: u8, number: u16) -> Key
-        requires { task < TASKS }
+    pub fn kept_until(&self, cuts: &LineCuts, task: Task, number: u16) -> Key
         ensures { (old new : List (List Area)) → IsLine new → StandsBefore old new self.now → cuts.now ≡ line_kept new → (key : Key) → is_before key END ≡ true → is_before key result ≡ is_kept_up_to (list_by task old) (list_by task new) number key }
     {
-        let hulls = &self.hulls[usize::from(task)];
+        let hulls = &self.hulls[task.as_index()];
         kept_until(self.starts.of_task(task), cuts.starts(task), hulls, number)
     }
 }

@@ -2,6 +2,7 @@
 use crate::cuts::Cuts;
 use arrayvec::ArrayVec;
 use hc_records::keys::Key;
+use hc_records::task::Task;
 use std::marker::Model;
 
 /// Those of a task, but `Key::END`.
@@ -58,8 +59,7 @@ impl Model for LineStarts {
 }
 
 impl LineStarts {
-    ghost use Rattle.std.specs.Prelude.{◌≡◌, ◌<◌, [], length, map, slice_index_or};
-    ghost use Rattle.hc_records.specs.declared.limits.TheConstants.{TASKS};
+    ghost use Rattle.std.specs.Prelude.{◌≡◌, [], length, map, slice_index_or};
 
     /// A copy of those of eight tasks. It takes no memory.
     pub(crate) fn of(tasks: &[Cuts]) -> LineStarts
@@ -75,19 +75,17 @@ impl LineStarts {
         LineStarts { tasks: starts }
     }
 
-    /// Those of a task, 0 to 7.
-    pub fn of_task(&self, task: u8) -> &[Key]
-        requires { task < TASKS }
+    /// Those of a task.
+    pub fn of_task(&self, task: Task) -> &[Key]
         ensures { result.now ≡ slice_index_or self.now task [] }
     {
-        self.tasks[usize::from(task)].as_slice()
+        self.tasks[task.as_index()].as_slice()
     }
 
-    /// A copy of those of a task, 0 to 7.
-    pub(crate) fn copied(&self, task: u8) -> ArrayVec<Key, 16>
-        requires { task < TASKS }
+    /// A copy of those of a task.
+    pub(crate) fn copied(&self, task: Task) -> ArrayVec<Key, 16>
         ensures { result.items ≡ slice_index_or self.now task [] }
     {
-        self.tasks[usize::from(task)].copied()
+        self.tasks[task.as_index()].copied()
     }
 }

@@ -12,6 +12,7 @@ use hc_bitsum::steps::Steps;
 use hc_records::faults::EditFault;
 use hc_records::keys::Key;
 use hc_records::limits::TASKS;
+use hc_records::task::Task;
 use std::alloc::{AllocError, Global};
 use std::marker::Model;
 use std::sync::ledger::Ledger;
@@ -54,12 +55,12 @@ fn absent_slaves<'a>(alloc: Global, slaves: usize) -> Result<Vec<SlaveAreas<'a>>
 
 impl LineCuts {
     ghost use Rattle.hc_records.specs.declared.records.Area.{Area};
-    ghost use Rattle.std.specs.Prelude.{◌≡◌, ◌≢◌, ◌↔◌, ℕ, ◌+◌, ◌*◌, ◌<◌, ◌≤◌, List, [], IfErr, IfOk, IsTrue, None, OnErr, OnOk, Some, length, map, option_map, replicate};
+    ghost use Rattle.std.specs.Prelude.{◌≡◌, ◌≢◌, ◌↔◌, ℕ, ◌+◌, ◌*◌, ◌≤◌, List, [], IfErr, IfOk, IsTrue, None, OnErr, OnOk, Some, length, map, option_map, replicate};
     ghost use Rattle.hc_records.specs.Boundaries.{width_in};
     ghost use Rattle.hc_records.specs.Image.{inside};
     ghost use Rattle.hc_records.specs.Packing.{opening, packed};
     ghost use Rattle.hc_records.specs.declared.faults.EditFault.TheVariants.{Memory, TooManyDatagrams};
-    ghost use Rattle.hc_records.specs.declared.limits.TheConstants.{MOST_DATAGRAMS, MOST_SLAVES, TASKS};
+    ghost use Rattle.hc_records.specs.declared.limits.TheConstants.{MOST_DATAGRAMS, MOST_SLAVES};
     ghost use Rattle.hc_bitsum.specs.Tree.{HasRoom};
     ghost use Rattle.hc_cuts.specs.Inputs.{has_inputs};
     ghost use Rattle.hc_cuts.specs.Place.{place_of};
@@ -171,59 +172,58 @@ impl LineCuts {
         Ok(LineCuts { tasks })
     }
 
-    /// The boundaries of a task, 0 to 7, but the last one, `Key::END`: `Key::START`, at which the first
+    /// The boundaries of a task but the last one, `Key::END`: `Key::START`, at which the first
     /// datagram begins if there is one, and the keys at which the later ones do. It takes no memory.
-    pub fn starts(&self, task: u8) -> &[Key]
-        requires { task < TASKS }
+    pub fn starts(&self, task: Task) -> &[Key]
         ensures starts { (line : List (List Area)) → self.now ≡ line_kept line → result.now ≡ starts_by task line }
         ensures few { length result.now ≤ MOST_DATAGRAMS }
     {
-        self.tasks[usize::from(task)].starts()
+        self.tasks[task.as_index()].starts()
     }
 
-    /// Whether a task, 0 to 7, has inputs. No area is read. It takes no memory.
-    pub fn has_inputs(&self, task: u8) -> bool
-        requires { task < TASKS }
+    /// Whether a task has inputs. No area is read. It takes no memory.
+    pub fn has_inputs(&self, task: Task) -> bool
         ensures { (line : List (List Area)) → self.now ≡ line_kept line → result ≡ has_inputs (list_by task line) }
     {
-        self.tasks[usize::from(task)].has_inputs()
+        self.tasks[task.as_index()].has_inputs()
     }
 
-    /// The areas of a datagram of a task, 0 to 7, with their places, in key order; none where the task has no
+    /// The areas of a datagram of a task, with their places, in key order; none where the task has no
     /// datagram with that number. `AllocError` where a growth was refused.
-    pub fn datagram(&self, alloc: Global, task: u8, number: u16) -> Result<Vec<Placed>, AllocError>
-        requires { task < TASKS }
+    pub fn datagram(
+        &self,
+        alloc: Global,
+        task: Task,
+        number: u16,
+    ) -> Result<Vec<Placed>, AllocError>
         ensures { IfOk result (λ places. (line : List (List Area)) → self.now ≡ line_kept line → places.items ≡ inside number (packed opening (list_by task line))) }
     {
-        self.tasks[usize::from(task)].datagram(alloc, number)
+        self.tasks[task.as_index()].datagram(alloc, number)
     }
 
     /// The areas of a task with their places, in key order. `AllocError` where a growth was refused.
-    pub fn places(&self, alloc: Global, task: u8) -> Result<Vec<Placed>, AllocError>
-        requires { task < TASKS }
+    pub fn places(&self, alloc: Global, task: Task) -> Result<Vec<Placed>, AllocError>
         ensures { IfOk result (λ places. (line : List (List Area)) → self.now ≡ line_kept line → places.items ≡ packed opening (list_by task line)) }
     {
-        self.tasks[usize::from(task)].places(alloc)
+        self.tasks[task.as_index()].places(alloc)
     }
 
-    /// The width in bits of an area in a task, 0 to 7, by its key, as `place` takes it; 0 where the task has no
+    /// The width in bits of an area in a task by its key, as `place` takes it; 0 where the task has no
     /// such area. It takes no memory.
-    pub fn bits(&self, task: u8, key: Key) -> u16
-        requires { task < TASKS }
+    pub fn bits(&self, task: Task, key: Key) -> u16
         ensures { (line : List (List Area)) → self.now ≡ line_kept line → result ≡ width_in (list_by task line) key }
     {
-        self.tasks[usize::from(task)].bits(key)
+        self.tasks[task.as_index()].bits(key)
     }
 
-    /// The place of an area in a task, 0 to 7, by its key, any key: the direction, the rank of the slave in
+    /// The place of an area in a task by its key, any key: the direction, the rank of the slave in
     /// the line, and the area's place in the slave's record. The datagram of the task that carries it, and
     /// its first bit there; none where the task has no such area. It is worked out from the widths and the
     /// boundaries of the task. It takes no memory.
-    pub fn place(&self, task: u8, key: Key) -> Option<Placed>
-        requires { task < TASKS }
+    pub fn place(&self, task: Task, key: Key) -> Option<Placed>
         ensures { (line : List (List Area)) → self.now ≡ line_kept line → result ≡ place_of key (list_by task line) }
     {
-        self.tasks[usize::from(task)].place(key)
+        self.tasks[task.as_index()].place(key)
     }
 
     /// A cursor before the first area of each task. It takes no memory.
@@ -234,15 +234,19 @@ impl LineCuts {
         [Cursor::start(); 8]
     }
 
-    /// The place of an area in a task, 0 to 7, as `place` gives it, by cursors that stand in the tasks and stand
+    /// The place of an area in a task, as `place` gives it, by cursors that stand in the tasks and stand
     /// in them again. It takes no memory.
-    pub(crate) fn place_from(&self, cursors: &mut [Cursor; 8], task: u8, key: Key) -> Option<Placed>
-        requires task { task < TASKS }
-        requires stood { StandInTasks self.now cursors.old }
+    pub(crate) fn place_from(
+        &self,
+        cursors: &mut [Cursor; 8],
+        task: Task,
+        key: Key,
+    ) -> Option<Placed>
+        requires { StandInTasks self.now cursors.old }
         ensures place { (line : List (List Area)) → self.now ≡ line_kept line → result ≡ place_of key (list_by task line) }
         ensures stand { StandInTasks self.now cursors.new }
     {
-        let task = usize::from(task);
+        let task = task.as_index();
         self.tasks[task].place_from(&mut cursors[task], key)
     }
 

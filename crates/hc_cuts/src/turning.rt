@@ -19,6 +19,7 @@ use crate::widths::set_widths;
 use arrayvec::ArrayVec;
 use hc_bitsum::steps::Steps;
 use hc_records::keys::Key;
+use hc_records::task::Task;
 use std::sync::ledger::Ledger;
 
 /// Turns a task, and answers how many of its spans aren't settled. `TooManyDatagrams` where it would need
@@ -129,6 +130,13 @@ pub(crate) fn put_tasks(
         return;
     }
     let (these, rest) = tasks.split_at_mut(1);
-    put_task(&mut these[0], task, first, from, to, starts.copied(task));
+    put_task(
+        &mut these[0],
+        task,
+        first,
+        from,
+        to,
+        starts.copied(Task(task)),
+    );
     put_tasks(rest, task + 1, first, from, to, starts);
 }

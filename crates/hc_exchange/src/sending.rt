@@ -14,6 +14,7 @@ use hc_frames::limits::{BESIDE_DATA_BYTES, HEAD_BYTES};
 use hc_images::outputs::Outputs;
 use hc_places::table::Places;
 use hc_records::limits::TASKS;
+use hc_records::task::Task;
 use hc_registers::fmmu::logical_address;
 use std::alloc::{AllocError, Global};
 
@@ -29,7 +30,7 @@ pub(crate) fn packed(
 {
     let mut packed = Outputs::new(alloc, places)?;
     if task < TASKS {
-        packed.post(places, task, image);
+        packed.post(places, Task(task), image);
     }
     Ok(packed)
 }
@@ -76,7 +77,7 @@ pub(crate) fn frames_of(
 {
     let mut frames = Vec::with_capacity(alloc, count)?;
     for n in 0..count {
-        let address = logical_address(task, n as u16);
+        let address = logical_address(Task(task), n as u16);
         let frame = frame_of(
             alloc,
             serial + n as u64,

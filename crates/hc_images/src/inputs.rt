@@ -3,6 +3,7 @@
 use crate::slot::Slot;
 use hc_records::items::Items;
 use hc_records::slots::{SLOTS, slot_number};
+use hc_records::task::Task;
 use std::alloc::{AllocError, Global};
 use std::marker::Model;
 
@@ -33,7 +34,7 @@ impl Model for Inputs {
 
 impl Inputs {
     ghost use Rattle.std.specs.Prelude.{◌≡◌, ◌<◌, ◌≤◌, IfOk, length};
-    ghost use Rattle.hc_records.specs.declared.limits.TheConstants.{MOST_DATAGRAMS, MOST_DATAGRAM_BYTES, TASKS};
+    ghost use Rattle.hc_records.specs.declared.limits.TheConstants.{MOST_DATAGRAMS, MOST_DATAGRAM_BYTES};
     ghost use Rattle.std.specs.Option.{option_copied};
     ghost use Rattle.hc_images.specs.Image.{HasNone, Renews, data_of, data_of_first};
 
@@ -58,42 +59,39 @@ impl Inputs {
         }
     }
 
-    /// A datagram has these data from now on, those of a good answer: at most 1,486 bytes. Its task is 0 to
-    /// 7, and its number in the task 0 to 15. Each other datagram keeps what it had. It takes no memory.
-    pub fn put(&mut self, task: u8, number: u8, bytes: &[u8])
-        requires task { task < TASKS }
+    /// A datagram has these data from now on, those of a good answer: at most 1,486 bytes. Its number in the
+    /// task is 0 to 15. Each other datagram keeps what it had. It takes no memory.
+    pub fn put(&mut self, task: Task, number: u8, bytes: &[u8])
         requires number { number < MOST_DATAGRAMS }
         requires few { length bytes.now ≤ MOST_DATAGRAM_BYTES }
         ensures { Renews self.old self.new task number bytes.now }
     {
-        self.slots[slot_number(task, number)].put(bytes);
+        self.slots[slot_number(task.number(), number)].put(bytes);
     }
 
-    /// The data of a datagram, lent: those that were put last in this epoch, or none. Its task is 0 to 7,
-    /// and its number in the task 0 to 15. It takes no memory.
-    pub fn data(&self, task: u8, number: u8) -> Option<&[u8]>
-        requires task { task < TASKS }
-        requires number { number < MOST_DATAGRAMS }
+    /// The data of a datagram, lent: those that were put last in this epoch, or none. Its number in the task is
+    /// 0 to 15. It takes no memory.
+    pub fn data(&self, task: Task, number: u8) -> Option<&[u8]>
+        requires { number < MOST_DATAGRAMS }
         ensures { option_copied result ≡ data_of self.now task number }
     {
-        self.slots[slot_number(task, number)].data()
+        self.slots[slot_number(task.number(), number)].data()
     }
 
     /// The data of a task's first datagrams, at most 16, each with its data or none: a line's task has so
-    /// many as its places say. The task is 0 to 7. `AllocError` where a growth was refused.
+    /// many as its places say. `AllocError` where a growth was refused.
     pub fn read(
         &self,
         alloc: Global,
-        task: u8,
+        task: Task,
         count: u8,
     ) -> Result<Items<Option<Items<u8>>>, AllocError>
-        requires task { task < TASKS }
-        requires count { count ≤ MOST_DATAGRAMS }
+        requires { count ≤ MOST_DATAGRAMS }
         ensures { IfOk result (λ slots. slots ≡ data_of_first self.now task count) }
     {
         let mut data = Vec::with_capacity(alloc, usize::from(count))?;
         for number in 0..count {
-            data.push(self.slots[slot_number(task, number)].read(alloc)?)?;
+            data.push(self.slots[slot_number(task.number(), number)].read(alloc)?)?;
         }
         Ok(Items::of(data))
     }

@@ -1,6 +1,5 @@
 //! The output values of a line, packed as they are sent.
-ghost use Rattle.std.specs.Prelude.{◌≡◌, ◌<◌, drop};
-ghost use Rattle.hc_records.specs.declared.limits.TheConstants.{TASKS};
+ghost use Rattle.std.specs.Prelude.{◌≡◌, drop};
 ghost use Rattle.hc_images.specs.Packed.{IsWhole};
 ghost use Rattle.hc_images.specs.Pieces.{Posts};
 
@@ -11,6 +10,7 @@ use hc_places::swap::Swap;
 use hc_places::table::Places;
 use hc_records::limits::{MOST_DATAGRAMS, TASKS};
 use hc_records::slots::slot_number;
+use hc_records::task::Task;
 use std::alloc::{AllocError, Global};
 use std::marker::Model;
 
@@ -50,30 +50,27 @@ fn from_byte(bytes: &[u8], offset: u16) -> &[u8]
 }
 
 /// Takes a post of a task into the bytes of its datagrams, by their masks.
-fn post_datagrams(sent: &mut [Row], masks: &[Row], places: &Places, task: u8, bytes: &[u8])
-    requires task { task < TASKS }
-    requires whole { IsWhole (record { sent = sent.old; masks = masks.now }) }
+fn post_datagrams(sent: &mut [Row], masks: &[Row], places: &Places, task: Task, bytes: &[u8])
+    requires { IsWhole (record { sent = sent.old; masks = masks.now }) }
     ensures { Posts places.now sent.old sent.new masks.now task bytes.now }
 {
-    let datagrams = places.datagrams(task);
+    let datagrams = places.datagrams(task.number());
     for number in 0..datagrams.len() {
-        let slot = slot_number(task, number as u8);
+        let slot = slot_number(task.number(), number as u8);
         sent[slot].post(&masks[slot], from_byte(bytes, datagrams[number].offset));
     }
 }
 
 /// The same of all rows that are kept.
-fn post_all(sent: &mut Vec<Row>, masks: &Vec<Row>, places: &Places, task: u8, bytes: &[u8])
-    requires task { task < TASKS }
-    requires whole { IsWhole (record { sent = sent.old.items; masks = masks.now.items }) }
+fn post_all(sent: &mut Vec<Row>, masks: &Vec<Row>, places: &Places, task: Task, bytes: &[u8])
+    requires { IsWhole (record { sent = sent.old.items; masks = masks.now.items }) }
     ensures { Posts places.now sent.old.items sent.new.items masks.now.items task bytes.now }
 {
     post_datagrams(sent.as_mut_slice(), masks.as_slice(), places, task, bytes);
 }
 
 impl Outputs {
-    ghost use Rattle.std.specs.Prelude.{◌≡◌, ◌<◌, ℕ, IfOk};
-    ghost use Rattle.hc_records.specs.declared.limits.TheConstants.{TASKS};
+    ghost use Rattle.std.specs.Prelude.{◌≡◌, ℕ, IfOk};
     ghost use Rattle.hc_images.specs.Moves.{table_after};
     ghost use Rattle.hc_images.specs.Packed.{HasSizes, Holds, IsLaidOut, sent_bytes};
     ghost use Rattle.hc_images.specs.Values.{KeepEntries, kept, posted};
@@ -90,12 +87,11 @@ impl Outputs {
         Ok(Outputs { sent, masks })
     }
 
-    /// A post of a task, 0 to 7, by the table of the present line: the task's output variables have their
+    /// A post of a task by the table of the present line: the task's output variables have their
     /// bits in the post as their values, bits behind its end being 0; those of other tasks keep theirs.
     /// Bits of the post that belong to no output variable are never sent. It takes no memory.
-    pub fn post(&mut self, places: &Places, task: u8, bytes: &[u8])
-        requires task { task < TASKS }
-        requires laid { IsLaidOut places.now }
+    pub fn post(&mut self, places: &Places, task: Task, bytes: &[u8])
+        requires { IsLaidOut places.now }
         ensures { (value : ℕ → ℕ → ℕ) → Holds places.now value self.old → Holds places.now (posted places.now task bytes.now value) self.new }
     {
         post_all(&mut self.sent, &self.masks, places, task, bytes);

@@ -1,5 +1,5 @@
 //! The bytes of all datagrams that a line can have: made for a table, and what an edit does to them.
-ghost use Rattle.std.specs.Prelude.{◌≡◌, ◌+◌, ◌*◌, ◌<◌, ◌≤◌, ℕ, All, IfOk, IfSome, Some, length, option_and_then, slice_index_or};
+ghost use Rattle.std.specs.Prelude.{◌≡◌, ◌+◌, ◌*◌, ◌<◌, ◌≤◌, ℕ, IfOk, IfSome, Some, length, option_and_then, slice_index_or};
 ghost use Rattle.std.specs.Int.{bit_at};
 ghost use Rattle.std.specs.Option.{MatchOption};
 ghost use Rattle.hc_bits.specs.Bits.{bit_of};
@@ -14,6 +14,7 @@ use hc_places::table::{Place, Places, TaskTable};
 use hc_records::limits::{MOST_DATAGRAMS, TASKS};
 use hc_records::records::Dir;
 use hc_records::slots::{SLOTS, slot_number};
+use hc_records::task::Task;
 use std::alloc::{AllocError, Global};
 
 /// The bytes of a datagram in a table; 0 where the task has no such datagram.
@@ -160,22 +161,20 @@ fn length_of(table: &TaskTable, number: usize) -> u16
     }
 }
 
-/// Gives the datagrams of a task, 0 to 7, the lengths of its table.
-fn resize_task(rows: &mut [Row], task: u8, table: &TaskTable)
-    requires all { length rows.old ≡ MOST_DATAGRAMS * TASKS }
-    requires task { task < TASKS }
+/// Gives the datagrams of a task the lengths of its table.
+fn resize_task(rows: &mut [Row], task: Task, table: &TaskTable)
+    requires { length rows.old ≡ MOST_DATAGRAMS * TASKS }
     ensures { Resizes task table.now rows.old rows.new }
 {
     for number in 0..MOST_DATAGRAMS {
         let length = length_of(table, number);
-        rows[slot_number(task, number as u8)].resize(length);
+        rows[slot_number(task.number(), number as u8)].resize(length);
     }
 }
 
 /// Gives the datagrams of changed tasks the lengths of their new tables.
 pub(crate) fn resize(rows: &mut [Row], changed: &[ChangedTask])
     requires all { length rows.old ≡ MOST_DATAGRAMS * TASKS }
-    requires eight { All (λ changed. changed.0 < TASKS) changed.now }
     requires ascends { ChangesAscend changed.now }
     ensures { ResizesEach (length changed.now) changed.now rows.old rows.new }
 {

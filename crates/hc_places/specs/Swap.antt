@@ -2,7 +2,6 @@
 use Rattle.std.specs.Prelude.{ℕ, ◌==◌, ◌&&◌, not, nat_lt, Bool, true, false, if◌then◌else◌, List, [], ◌∷◌, ◌++◌, All, AllPairs, IsTrue, ◌<◌, ◌≤◌, ◌≡◌, ◌≢◌, ◌↔◌, filter, length, map, set, slice_get, Option, Some, None, is_some, option_map, unwrap_or, find}
 use Rattle.std.specs.Option.{option_map_or}
 use Rattle.std.specs.List.{list_any}
-use Rattle.hc_records.specs.declared.limits.TheConstants.{TASKS}
 use Rattle.hc_records.specs.declared.edit.Edit.{Edit}
 use Rattle.hc_records.specs.Keys.{same_dir}
 use Rattle.hc_records.specs.Image.{VariablePlace}
@@ -25,10 +24,9 @@ pub record Change : Type 0 where
 abbrev pub ChangesAscend : {X : Type 0} → List (ℕ × X) → Type 0
 ChangesAscend changed = AllPairs (λ a b. a.0 < b.0) changed
 
--- a swap's tasks, of the eight, and its variables do
+-- a swap's tasks and its variables do
 pub record IsInOrder (change : Change) : Type 0 where
   pub tasks : ChangesAscend change.tasks
-  pub eight : All (λ changed. changed.0 < TASKS) change.tasks
   pub rows : ChangesAscend change.rows
 
 -- a swap names the edit that asks for it

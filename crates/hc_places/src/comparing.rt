@@ -2,10 +2,11 @@
 use crate::swap::ChangedTask;
 use crate::table::{Places, TaskTable};
 use hc_records::limits::TASKS;
+use hc_records::task::Task;
 use std::alloc::{AllocError, Global};
 
 impl Places {
-    ghost use Rattle.std.specs.Prelude.{◌≡◌, ◌<◌, ◌==◌, ℕ, All, IfOk, find, length, option_map, slice_get};
+    ghost use Rattle.std.specs.Prelude.{◌≡◌, ◌==◌, ℕ, IfOk, find, length, option_map, slice_get};
     ghost use Rattle.hc_records.specs.declared.limits.TheConstants.{TASKS};
     ghost use Rattle.hc_places.specs.Swap.{ChangesAscend, IsNewTask};
 
@@ -19,7 +20,6 @@ impl Places {
         requires { length new.now ≡ TASKS }
         ensures says { IfOk result (λ tasks. (task : ℕ) → IsNewTask (slice_get self.now.tasks task) (slice_get new.now task) (option_map (λ changed. changed.1) (find (λ changed. changed.0 == task) tasks.items))) }
         ensures ascends { IfOk result (λ tasks. ChangesAscend tasks.items) }
-        ensures eight { IfOk result (λ tasks. All (λ changed. changed.0 < TASKS) tasks.items) }
     {
         let old = self.tasks.as_slice();
         let mut tasks = Vec::new(alloc);
@@ -27,7 +27,7 @@ impl Places {
             let before = &old[usize::from(number)];
             let after = &new[usize::from(number)];
             if !before.is_same(after) {
-                tasks.push((number, after.duplicate()))?;
+                tasks.push((Task(number), after.duplicate()))?;
             }
         }
         Ok(tasks)

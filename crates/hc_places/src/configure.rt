@@ -18,6 +18,7 @@ use hc_cuts::tasks::LineCuts;
 use hc_records::faults::EditFault;
 use hc_records::limits::TASKS;
 use hc_records::records::Declared;
+use hc_records::task::Task;
 use std::alloc::{AllocError, Global};
 use std::sync::ledger::{Blank, Ledger};
 
@@ -43,9 +44,9 @@ fn opened_places(
     let mut tables = Vec::with_capacity(alloc, usize::from(TASKS))?;
     let mut rows = Vec::new(alloc);
     for task in 0..TASKS {
-        let places = cuts.places(alloc, task)?;
-        tables.push_reserved(task_table(task, places.as_slice()));
-        add_found(&mut rows, task, slaves, places.as_slice())?;
+        let places = cuts.places(alloc, Task(task))?;
+        tables.push_reserved(task_table(Task(task), places.as_slice()));
+        add_found(&mut rows, Task(task), slaves, places.as_slice())?;
     }
     Places::of(tables, rows)
 }

@@ -1,13 +1,13 @@
 //! The datagrams of a task, from the places of its areas.
-ghost use Rattle.std.specs.Prelude.{◌≡◌, ◌<◌};
+ghost use Rattle.std.specs.Prelude.{◌≡◌};
 ghost use Rattle.hc_records.specs.Image.{datagram_count};
-ghost use Rattle.hc_records.specs.declared.limits.TheConstants.{TASKS};
 ghost use Rattle.hc_places.specs.Loads.{table_at};
 ghost use Rattle.hc_places.specs.inner.Parts.{AreSendable};
 
 use crate::loads::Load;
 use crate::table::TaskTable;
 use hc_cuts::packing::Placed;
+use hc_records::task::Task;
 
 /// How many datagrams the areas take.
 fn datagram_count(areas: &[Placed]) -> usize
@@ -21,9 +21,8 @@ fn datagram_count(areas: &[Placed]) -> usize
 }
 
 /// The table of a task by the places of its areas.
-pub(crate) fn task_table(task: u8, areas: &[Placed]) -> TaskTable
-    requires task { task < TASKS }
-    requires sendable { AreSendable areas.now }
+pub(crate) fn task_table(task: Task, areas: &[Placed]) -> TaskTable
+    requires { AreSendable areas.now }
     ensures { result ≡ table_at task areas.now }
 {
     let mut table = TaskTable::empty();

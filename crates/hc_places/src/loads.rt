@@ -12,6 +12,7 @@ use crate::table::{Datagram, Places, TaskTable};
 use arrayvec::ArrayVec;
 use hc_cuts::packing::Placed;
 use hc_records::records::Dir;
+use hc_records::task::Task;
 use hc_registers::counters::added_count;
 use hc_registers::fmmu::logical_address;
 
@@ -93,7 +94,7 @@ impl Load {
 
 impl TaskTable {
     ghost use Rattle.std.specs.Prelude.{◌≡◌, ◌+◌, ◌*◌, ◌<◌, ◌≤◌, length};
-    ghost use Rattle.hc_records.specs.declared.limits.TheConstants.{MOST_DATAGRAM_BYTES, MOST_DATAGRAMS, TASKS};
+    ghost use Rattle.hc_records.specs.declared.limits.TheConstants.{MOST_DATAGRAM_BYTES, MOST_DATAGRAMS};
     ghost use Rattle.hc_places.specs.Loads.{IsLoad, load_in_table, no_datagrams, with_load};
 
     /// The table of a task that has no datagram.
@@ -107,10 +108,9 @@ impl TaskTable {
         }
     }
 
-    /// Adds a datagram of a task, 0 to 7, that has some bytes, behind the others, of which there are fewer
+    /// Adds a datagram of a task that has some bytes, behind the others, of which there are fewer
     /// than 16, with at most 1,486 bytes each.
-    pub fn add(&mut self, task: u8, load: Load)
-        requires task { task < TASKS }
+    pub fn add(&mut self, task: Task, load: Load)
         requires few { length self.old.datagrams < MOST_DATAGRAMS }
         requires short { self.old.outputs + self.old.inputs ≤ length self.old.datagrams * MOST_DATAGRAM_BYTES }
         requires some { 1 ≤ load.length }

@@ -1,6 +1,7 @@
 //! A swap carried out on a table: the memory that it needs is taken first, then nothing can be
 //! refused.
-ghost use Rattle.std.specs.Prelude.{◌≡◌, ◌+◌, ◌≤◌, ◌<◌, [], All, IfSome, length, vec_capacity};
+ghost use Rattle.std.specs.Prelude.{◌≡◌, ◌+◌, ◌≤◌, [], IfSome, length, vec_capacity};
+ghost use Rattle.hc_records.specs.declared.limits.TheConstants.{TASKS};
 ghost use Rattle.std.specs.Option.{MatchOption};
 ghost use Rattle.hc_places.specs.Swap.{ChangesAscend, KeepRows, merged, replaced};
 ghost use Rattle.hc_places.specs.Table.{RowsAscend};
@@ -32,11 +33,11 @@ impl Model for Room {
 
 /// Puts changed tasks in the place of those with their numbers.
 fn replace_tasks(tasks: &mut Items<TaskTable>, changed: &[ChangedTask])
-    requires { All (λ changed. changed.0 < length tasks.old) changed.now }
+    requires { length tasks.old ≡ TASKS }
     ensures { tasks.new ≡ replaced changed.now tasks.old }
 {
     for change in changed {
-        *tasks.item_mut(usize::from(change.0)) = change.1.duplicate();
+        *tasks.item_mut(change.0.as_index()) = change.1.duplicate();
     }
 }
 

@@ -6,11 +6,12 @@ use crate::table::{Place, TaskTable};
 use hc_records::edit::Edit;
 use hc_records::items::{Copied, Items};
 use hc_records::records::VarId;
+use hc_records::task::Task;
 use std::alloc::{AllocError, Global};
 use std::marker::Model;
 
-/// A task whose table differs, 0 to 7, and its new table.
-pub type ChangedTask = (u8, TaskTable);
+/// A task whose table differs, and its new table.
+pub type ChangedTask = (Task, TaskTable);
 
 /// A variable that stands elsewhere, appears or goes, and its new place or none.
 pub type ChangedRow = (VarId, Option<Place>);
@@ -55,8 +56,7 @@ fn sort_changes(rows: &mut Vec<ChangedRow>) -> Result<(), AllocError>
 }
 
 impl Swap {
-    ghost use Rattle.std.specs.Prelude.{◌≡◌, ◌<◌, All, IfOk};
-    ghost use Rattle.hc_records.specs.declared.limits.TheConstants.{TASKS};
+    ghost use Rattle.std.specs.Prelude.{◌≡◌, IfOk};
     ghost use Rattle.hc_places.specs.Swap.{AreOnce, ChangesAscend, LeadsAsSaid, changed_places};
 
     /// What changed tasks, in the order of their numbers, and changed variables, each once and in any
@@ -70,7 +70,6 @@ impl Swap {
         rows: Vec<ChangedRow>,
     ) -> Result<Swap, AllocError>
         requires tasks { ChangesAscend tasks.items }
-        requires eight { All (λ changed. changed.0 < TASKS) tasks.items }
         requires once { AreOnce rows.items }
         ensures edit { IfOk result (λ swap. swap.edit ≡ edit.now) }
         ensures leads { IfOk result (LeadsAsSaid (record { tasks = tasks.items; rows = rows.items })) }
@@ -91,11 +90,9 @@ impl Swap {
         &self.edit
     }
 
-    /// The tasks whose tables differ, 0 to 7, each once, in the order of their numbers, with their new
-    /// tables.
-    pub fn tasks(&self) -> &[(u8, TaskTable)]
+    /// The tasks whose tables differ, each once, in the order of their numbers, with their new tables.
+    pub fn tasks(&self) -> &[ChangedTask]
         ensures tasks { result.now ≡ self.now.change.tasks }
-        ensures eight { All (λ changed. changed.0 < TASKS) self.now.change.tasks }
         ensures ascends { ChangesAscend self.now.change.tasks }
     {
         self.tasks.as_slice()

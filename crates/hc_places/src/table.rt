@@ -7,6 +7,7 @@ use arrayvec::ArrayVec;
 use hc_records::items::{Copied, Items};
 use hc_records::limits::TASKS;
 use hc_records::records::{Dir, VarId};
+use hc_records::task::Task;
 use std::alloc::{AllocError, Global};
 use std::marker::Model;
 
@@ -206,7 +207,7 @@ fn find_place(rows: &[Row], variable: VarId) -> Option<Place>
 }
 
 impl Places {
-    ghost use Rattle.std.specs.Prelude.{◌≡◌, ◌<◌, ◌≤◌, All, IfOk, IfSome, Some, length, slice_get};
+    ghost use Rattle.std.specs.Prelude.{◌≡◌, ◌≤◌, All, IfOk, IfSome, Some, length, slice_get};
     ghost use Rattle.hc_records.specs.declared.limits.TheConstants.{MOST_DATAGRAMS, TASKS};
     ghost use Rattle.hc_places.specs.Ranges.{IsDatagram};
     ghost use Rattle.hc_places.specs.Table.{IsTable, RowsAscend, by_number, datagram_in, datagrams_in, part_in, place_in};
@@ -282,12 +283,11 @@ impl Places {
         }
     }
 
-    /// A copy of the table of a task, 0 to 7. It takes no memory.
-    pub fn task(&self, task: u8) -> TaskTable
-        requires { task < TASKS }
+    /// A copy of the table of a task. It takes no memory.
+    pub fn task(&self, task: Task) -> TaskTable
         ensures { slice_get self.now.tasks task ≡ Some result }
     {
-        self.tasks.as_slice()[usize::from(task)].duplicate()
+        self.tasks.as_slice()[task.as_index()].duplicate()
     }
 
     /// A copy that equals this table, or `AllocError` where a growth was refused.

@@ -3,7 +3,7 @@ ghost use Rattle.std.specs.Prelude.{◌≡◌, ◌+◌, ◌<◌, ◌≤◌, ◌+
 ghost use Rattle.std.specs.List.{flat_map};
 ghost use Rattle.hc_records.specs.Area.{bits_of, width};
 ghost use Rattle.hc_records.specs.Image.{variables_from};
-ghost use Rattle.hc_records.specs.declared.limits.TheConstants.{MOST_AREA_BITS, MOST_DATAGRAMS, TASKS};
+ghost use Rattle.hc_records.specs.declared.limits.TheConstants.{MOST_AREA_BITS, MOST_DATAGRAMS};
 ghost use Rattle.hc_places.specs.Found.{IsFoundSuiting, area_rows, found_variables};
 ghost use Rattle.hc_places.specs.inner.Parts.{AreSendable, row_at};
 ghost use Rattle.hc_records.specs.Limits.{IsEntryInside};
@@ -14,12 +14,13 @@ use hc_cuts::areas::{SlaveAreas, find_area};
 use hc_cuts::packing::Placed;
 use hc_records::assignment::offered_entries;
 use hc_records::records::{Area, Dir, Entry, VarId};
+use hc_records::task::Task;
 use std::alloc::AllocError;
 
 /// The task, the datagram and the direction that an area's variables have in common.
-#[derive(Clone, Copy)]
+#[derive(Drop)]
 struct Carrier {
-    task: u8,
+    task: Task,
     datagram: u8,
     dir: Dir,
 }
@@ -27,15 +28,14 @@ struct Carrier {
 /// Adds the variables of entries, the first of which begins at a bit. Gives the first bit behind them.
 fn add_entries(
     rows: &mut Vec<(VarId, Place)>,
-    carrier: Carrier,
+    carrier: &Carrier,
     first: u16,
     entries: &[Entry],
 ) -> Result<u16, AllocError>
-    requires task { carrier.task < TASKS }
-    requires datagram { carrier.datagram < MOST_DATAGRAMS }
+    requires datagram { carrier.now.datagram < MOST_DATAGRAMS }
     requires inside { first + bits_of entries.now ≤ MOST_AREA_BITS }
     requires widths { All IsEntryInside entries.now }
-    ensures rows { OnOk result (rows.new.items ≡ rows.old.items ++ map (row_at carrier.task carrier.datagram carrier.dir) (variables_from first entries.now)) }
+    ensures rows { OnOk result (rows.new.items ≡ rows.old.items ++ map (row_at carrier.now.task carrier.now.datagram carrier.now.dir) (variables_from first entries.now)) }
     ensures behind { IfOk result (λ behind. behind ≡ first + bits_of entries.now) }
 {
     let mut bit = first;
@@ -43,7 +43,7 @@ fn add_entries(
         let (variable, bits) = *entry;
         if let Some(variable) = variable {
             let place = Place {
-                task: carrier.task,
+                task: carrier.task.number(),
                 datagram: carrier.datagram,
                 bit,
                 bits,
@@ -56,16 +56,15 @@ fn add_entries(
     Ok(bit)
 }
 
-/// Adds the variables of an area that stands at a place in a task, 0 to 7, with their places, in the order in
+/// Adds the variables of an area that stands at a place in a task, with their places, in the order in
 /// which its entries are assigned. The place is that of the area's bits in one of 16 datagrams. `AllocError`
 /// where a growth was refused.
 pub fn add_area(
     rows: &mut Vec<(VarId, Place)>,
-    task: u8,
+    task: Task,
     area: &Area,
     placed: Placed,
 ) -> Result<(), AllocError>
-    requires task { task < TASKS }
     requires few { placed.datagram < MOST_DATAGRAMS }
     requires inside { placed.bit + width area.now ≤ MOST_AREA_BITS }
     requires offers { OffersBits area.now }
@@ -79,7 +78,7 @@ pub fn add_area(
     let mut bit = placed.bit();
     for index in area.assigned.as_slice() {
         let entries = offered_entries(area.offered.as_slice(), *index);
-        bit = add_entries(rows, carrier, bit, entries)?;
+        bit = add_entries(rows, &carrier, bit, entries)?;
     }
     Ok(())
 }
@@ -88,11 +87,10 @@ pub fn add_area(
 /// their keys. `AllocError` where a growth was refused.
 pub(crate) fn add_found(
     rows: &mut Vec<(VarId, Place)>,
-    task: u8,
+    task: Task,
     slaves: &[SlaveAreas],
     places: &[Placed],
 ) -> Result<(), AllocError>
-    requires task { task < TASKS }
     requires sendable { AreSendable places.now }
     requires suit { All (IsFoundSuiting slaves.now) places.now }
     ensures { OnOk result (rows.new.items ≡ rows.old.items ++ flat_map (found_variables task slaves.now) places.now) }

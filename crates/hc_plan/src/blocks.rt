@@ -10,6 +10,7 @@ use hc_changes::moved::mapping;
 use hc_groups::index::Indexed;
 use hc_records::keys::Key;
 use hc_records::records::{Area, Slave};
+use hc_records::task::Task;
 use hc_registers::blocks::Block;
 use std::marker::Model;
 
@@ -44,13 +45,14 @@ fn area_block(layout: &PlacedLine, rank: u16, index: u8, area: &Area, number: u8
         rank,
         area: index,
     };
+    let task = Task(area.task);
     if number % 2 == 0 {
-        let bits = layout.bits(area.task, key);
+        let bits = layout.bits(task, key);
         return Block::sized_sync_manager(area, bits);
     }
-    match layout.placed(area.task, key) {
+    match layout.placed(task, key) {
         Some(placed) => {
-            let mapping = mapping(area.task, placed);
+            let mapping = mapping(task, placed);
             Block::mapped_fmmu(index, area, placed.bits(), mapping)
         }
         None => Block::fmmu(index, area, None),

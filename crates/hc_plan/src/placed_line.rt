@@ -3,6 +3,7 @@ use hc_cuts::packing::Placed;
 use hc_cuts::tasks::LineCuts;
 use hc_records::keys::Key;
 use hc_records::records::Declared;
+use hc_records::task::Task;
 use std::marker::Model;
 
 /// The areas of the line of declared groups with their places, lent. Contracts see it as the layout of that
@@ -29,9 +30,8 @@ impl<'a> Model for PlacedLine<'a> {
 }
 
 impl<'a> PlacedLine<'a> {
-    ghost use Rattle.std.specs.Prelude.{◌≡◌, ◌<◌};
+    ghost use Rattle.std.specs.Prelude.{◌≡◌};
     ghost use Rattle.hc_records.specs.Line.{line_from};
-    ghost use Rattle.hc_records.specs.declared.limits.TheConstants.{TASKS};
     ghost use Rattle.hc_places.specs.Layout.{layout_of, placed_in};
     ghost use Rattle.hc_cuts.specs.Areas.{areas_by_rank};
     ghost use Rattle.hc_cuts.specs.Kept.{line_kept};
@@ -45,21 +45,21 @@ impl<'a> PlacedLine<'a> {
         PlacedLine { groups, cuts }
     }
 
-    /// Where the area with a key stands in a task, 0 to 7; none where the task has no such area, or the area
-    /// has 0 bits. It takes no memory.
-    pub(crate) fn placed(&self, task: u8, key: Key) -> Option<Placed>
-        requires { task < TASKS }
+    /// Where the area with a key stands in a task; none where the task has no such area, or the area has 0 bits. It takes no memory.
+    pub(crate) fn placed(&self, task: Task, key: Key) -> Option<Placed>
         ensures { result ≡ placed_in self.now task key }
     {
+        // says that the task's number is below 8
+        let _ = task.number();
         self.cuts.place(task, key)
     }
 
-    /// The width in bits of the area with a key in a task, 0 to 7; 0 where the task has no such area. It takes
-    /// no memory.
-    pub(crate) fn bits(&self, task: u8, key: Key) -> u16
-        requires { task < TASKS }
+    /// The width in bits of the area with a key in a task; 0 where the task has no such area. It takes no memory.
+    pub(crate) fn bits(&self, task: Task, key: Key) -> u16
         ensures { result ≡ bits_in self.now task key }
     {
+        // says that the task's number is below 8
+        let _ = task.number();
         self.cuts.bits(task, key)
     }
 }

@@ -27,6 +27,7 @@ use hc_records::keys::Key;
 use hc_records::limits::LAST_EPOCH;
 use hc_records::project::Project;
 use hc_records::records::{Declared, Group};
+use hc_records::task::Task;
 use hc_registers::blocks::Block;
 use std::alloc::{AllocError, Global};
 use std::marker::{Brand, Model};
@@ -213,7 +214,7 @@ impl Plan {
         ensures keys { result.now ++ END ∷ [] ≡ boundaries (task_list task (line self.now)) }
         ensures few { length result.now ≤ MOST_DATAGRAMS }
     {
-        self.cuts.starts(task)
+        self.cuts.starts(Task(task))
     }
 
     /// The station address of the slave at a position of the line, from 0; none where the line is

@@ -13,6 +13,7 @@ use hc_places::table::{Datagram, Place, Places};
 use hc_plan::plan::Plan;
 use hc_records::limits::{MOST_DATAGRAMS, TASKS};
 use hc_records::records::{Dir, VarId};
+use hc_records::task::Task;
 use std::alloc::{AllocError, Global};
 use std::marker::Model;
 use std::snapshot::Snapshot;
@@ -111,7 +112,8 @@ impl Shown {
     fn take_good(&mut self, good: &GoodAnswer)
         ensures { self.new ≡ with_change self.old (change.Good good.now) }
     {
-        self.inputs.put(good.task(), good.datagram(), good.bytes());
+        self.inputs
+            .put(Task(good.task()), good.datagram(), good.bytes());
         self.history.add_good(good);
     }
 
@@ -169,7 +171,7 @@ impl Shown {
         ensures { option_copied result ≡ data_shown self.now task datagram }
     {
         if task < TASKS && usize::from(datagram) < MOST_DATAGRAMS {
-            self.inputs.data(task, datagram)
+            self.inputs.data(Task(task), datagram)
         } else {
             None
         }

@@ -16,5 +16,6 @@ pub mod project;
 pub mod records;
 pub mod room;
 pub mod slots;
+pub mod task;
 
 pub use conditions::names::add_slave_names;

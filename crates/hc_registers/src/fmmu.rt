@@ -1,14 +1,14 @@
 //! The FMMU block of an area: which logical bits of a datagram are which bits of the slave's memory
 //! (ETG.1000.4, 6.6).
-ghost use Rattle.std.specs.Prelude.{◌≡◌, ◌<◌, slice_index};
+ghost use Rattle.std.specs.Prelude.{◌≡◌, slice_index};
 ghost use Rattle.std.specs.Option.{ForSome};
 ghost use Rattle.hc_records.specs.Area.{width};
 ghost use Rattle.hc_records.specs.Image.{logical_address};
-ghost use Rattle.hc_records.specs.declared.limits.TheConstants.{TASKS};
 ghost use Rattle.hc_registers.specs.Blocks.{IsMappable, fmmu_bytes, mapped_bytes, type_of};
 ghost use Rattle.hc_registers.specs.Fields.{long_at, word_at};
 
 use hc_records::records::{Area, Dir};
+use hc_records::task::Task;
 
 /// The logical addresses that a task has: its first is this many times one more than its number (this
 /// project's profile).
@@ -17,12 +17,11 @@ const TASK_SPAN: u32 = 0x0100_0000;
 /// The logical addresses from the start of a datagram to that of the next one (this project's profile).
 const DATAGRAM_SPAN: u32 = 2048;
 
-/// The logical address at which a datagram of a task, 0 to 7, begins.
-pub fn logical_address(task: u8, datagram: u16) -> u32
-    requires { task < TASKS }
+/// The logical address at which a datagram of a task begins.
+pub fn logical_address(task: Task, datagram: u16) -> u32
     ensures { result ≡ logical_address task datagram }
 {
-    TASK_SPAN * (u32::from(task) + 1) + DATAGRAM_SPAN * u32::from(datagram)
+    TASK_SPAN * (u32::from(task.number()) + 1) + DATAGRAM_SPAN * u32::from(datagram)
 }
 
 /// Where an area begins.

@@ -13,6 +13,7 @@ use crate::writing::{SentData, carried_bytes};
 use hc_events::sending::{Named, Sending};
 use hc_frames::building::{build_datagram_of, build_head};
 use hc_frames::limits::{BESIDE_DATA_BYTES, HEAD_BYTES, LEAST_FRAME};
+use hc_records::task::Task;
 use hc_registers::fmmu::logical_address;
 
 /// The bytes of those datagrams that are of a task, with their headers and their counters.
@@ -53,7 +54,7 @@ fn write_datagram(out: &mut [u8], serial: u64, datagram: Named, bytes: &[u8], mo
 {
     if !out.is_empty() {
         let (task, number) = datagram;
-        let address = logical_address(task, u16::from(number));
+        let address = logical_address(Task(task), u16::from(number));
         build_datagram_of(out, serial, address, bytes, more);
     }
 }

@@ -11,6 +11,7 @@ use hc_events::sending::{Named, Sending};
 use hc_frames::building::{add_datagram_of, add_head, build_datagram_of, build_head};
 use hc_frames::limits::{BESIDE_DATA_BYTES, HEAD_BYTES, LEAST_FRAME};
 use hc_records::items::Items;
+use hc_records::task::Task;
 use hc_registers::fmmu::logical_address;
 use std::alloc::{AllocError, Global};
 
@@ -48,7 +49,7 @@ fn write_datagrams<D: SentData>(out: &mut [u8], serial: u64, datagrams: &[Named]
     if let [(task, number), rest @ ..] = datagrams {
         let bytes = sent.bytes_of(*task, *number);
         let (first, others) = out.split_at_mut(BESIDE_DATA_BYTES + bytes.len());
-        let address = logical_address(*task, u16::from(*number));
+        let address = logical_address(Task(*task), u16::from(*number));
         build_datagram_of(first, serial, address, bytes, !rest.is_empty());
         write_datagrams(others, serial, rest, sent);
     }
@@ -86,7 +87,7 @@ fn add_datagrams<D: SentData>(
 {
     if let [(task, number), rest @ ..] = datagrams {
         let bytes = sent.bytes_of(*task, *number);
-        let address = logical_address(*task, u16::from(*number));
+        let address = logical_address(Task(*task), u16::from(*number));
         add_datagram_of(text, serial, address, bytes, !rest.is_empty())?;
         add_datagrams(text, serial, rest, sent)?;
     }

@@ -1,7 +1,6 @@
 -- An edit that is worked out on a line, and what is seen of the line that it makes.
-use Rattle.std.specs.Prelude.{◌≡◌, ℕ, ◌<◌, ◌==◌, false, All, List, None, find, option_map, slice_get}
+use Rattle.std.specs.Prelude.{◌≡◌, ℕ, ◌==◌, false, List, None, find, option_map, slice_get}
 use Rattle.hc_records.specs.declared.edit.Edit.{Edit}
-use Rattle.hc_records.specs.declared.limits.TheConstants.{TASKS}
 use Rattle.hc_records.specs.Edits.{crowded_task, declares, groups_after}
 use Rattle.hc_records.specs.Line.{groups_of, line_from}
 use Rattle.hc_records.specs.Project.{lowest_fault}
@@ -30,7 +29,6 @@ pub record AreSeen (edited_line : EditedLine) (found : List Candidate) (tasks : 
       → IsNewTask (slice_get (table_of (line_from 1 edited_line.old)).tasks task) (slice_get (table_of (line_from 1 edited_line.new)).tasks task)
       (option_map (λ changed. changed.1) (find (λ changed. changed.0 == task) tasks))
   pub ascends : ChangesAscend tasks
-  pub eight : All (λ changed. changed.0 < TASKS) tasks
 
 -- an index is that of a project's groups before an edit that declares none, which led to these, a project's again
 pub record Follows (groups : List Declared) (edit : Edit) (index : Index) : Type 0 where

@@ -22,6 +22,6 @@ area_before-requires c =
     subst (λ (f : Candidate). slice_get (areas_at (areas_by_rank c.args.edited_line.now.new) f.rank) f.index ≡ Some f.area) (sym c.found.view_is)
     (candidate-named c.args.edited_line.now.new c.args.found.now c.requires.stands)
 
-pub place-place-requires : goal.place-place-requires
-place-place-requires c =
+pub invariant_of-place : goal.invariant_of-place
+invariant_of-place c =
     (had c.args.edited_line.now _ c.args.found.now c.in_ok-area.area.now c.requires.edited_line c.requires.stands c.found.view_is c.in_ok-area.ensures).task

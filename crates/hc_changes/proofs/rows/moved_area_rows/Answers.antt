@@ -19,8 +19,8 @@ add_area-requires-clause-offers c =
     let holds = stands-at c.args.moved_areas.now c.loop-moved_area.moved_area-index c.moved_area-item.result c.in-Some.placed c.requires c.loop-moved_area-test.true c.moved_area-item.is place in
     subst (λ (a : Area). OffersBits a) area holds.offers
 
-pub add_area-requires-clause-task : goal.add_area-requires-clause-task
-add_area-requires-clause-task c =
+pub invariant_of-add_area : goal.invariant_of-add_area
+invariant_of-add_area c =
     let same : c.moved_area-item.result.found ≡ record { station = c.found.inside.station; rank = c.found.inside.rank; index = c.found.inside.index; area = c.found.inside.area.now; place = c.found.inside.place } = search rules in
     let place : c.moved_area-item.result.found.place ≡ Some c.in-Some.placed = ap (λ (f : Candidate). f.place) same ∙ c.in-Some.is in
     let area : c.moved_area-item.result.found.area ≡ c.found.inside.area.now = ap (λ (f : Candidate). f.area) same in

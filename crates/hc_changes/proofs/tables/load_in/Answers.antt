@@ -1,4 +1,4 @@
-use Rattle.std.proofs.Common.{◌∙◌, ap, List, subst, sym, rules}
+use Rattle.std.proofs.Common.{◌∙◌, ℕ, ap, ap₂, List, subst, sym, rules}
 use Rattle.std.specs.Prelude.{All, ◌<◌}
 use Rattle.hc_records.specs.Laws.{LiesInside}
 use Rattle.hc_records.specs.Packing.{Placed}
@@ -13,22 +13,22 @@ use Rattle.hc_changes.proofs.tables.load_in.Goals as goal
 
 pub of-requires-clause-inside : goal.of-requires-clause-inside
 of-requires-clause-inside c =
-    let groups = c.requires.line.groups in
-    let is = datagram-of groups c.args.task c.args.number c.in_ok-areas.areas.items c.requires.line.line.project (c.in_ok-areas.ensures (areas_by_rank groups) c.requires.line.line.stand) in
+    let groups = c.requires.groups in
+    let is = datagram-of groups c.args.task c.args.number c.in_ok-areas.areas.items c.requires.line.project (c.in_ok-areas.ensures (areas_by_rank groups) c.requires.line.stand) in
     subst (λ (areas : List Placed). All LiesInside areas) (sym c.as_slice.ensures.value) is.inside
 
 pub of-requires-clause-counted : goal.of-requires-clause-counted
 of-requires-clause-counted c =
-    let groups = c.requires.line.groups in
-    let is = datagram-of groups c.args.task c.args.number c.in_ok-areas.areas.items c.requires.line.line.project (c.in_ok-areas.ensures (areas_by_rank groups) c.requires.line.line.stand) in
+    let groups = c.requires.groups in
+    let is = datagram-of groups c.args.task c.args.number c.in_ok-areas.areas.items c.requires.line.project (c.in_ok-areas.ensures (areas_by_rank groups) c.requires.line.stand) in
     subst (λ (areas : List Placed). counted_inside c.args.number areas < 65536) (sym c.as_slice.ensures.value) is.counted
 
 pub returns-then-is_kept-clause-value : goal.returns-then-is_kept-clause-value
 returns-then-is_kept-clause-value c before after edited =
     let said = c.is_kept.ensures (areas_by_rank before) (areas_by_rank after) (project-line after edited.line.project) edited.tasks edited.line.stand in
     c.load.ensures.value
-    ∙ ap (λ (table : Table). load_told table c.args.task c.args.number) edited.table
-    ∙ kept-told before after c.args.task c.args.number edited.project edited.line.project c.requires.task
+    ∙ ap₂ (λ (table : Table) (task : ℕ). load_told table task c.args.number) edited.table c.number.ensures.value
+    ∙ kept-told before after c.args.task c.args.number edited.project edited.line.project c.number.ensures.below
     (kept-listed before after c.args.task c.args.number ∙ sym said ∙ c.if-is_kept.true)
 
 pub returns-clause-value : goal.returns-clause-value

@@ -4,8 +4,8 @@ use Rattle.hc_frames.specs.Arrived.{Placed}
 use Rattle.hc_core.proofs.GoodsSteps.{input-fits}
 use Rattle.hc_core.proofs.goods.put_good.Goals as goal
 
-pub put-requires-clause-task : goal.put-requires-clause-task
-put-requires-clause-task c = (input-fits c.args.outcome.now c.in-Inputs.task c.in-Inputs.datagram c.args.part.now.carried c.in-Inputs.is c.requires).task
+pub invariant_of-put : goal.invariant_of-put
+invariant_of-put c = (input-fits c.args.outcome.now c.in-Inputs.task c.in-Inputs.datagram c.args.part.now.carried c.in-Inputs.is c.requires).task
 
 pub put-requires-clause-number : goal.put-requires-clause-number
 put-requires-clause-number c = (input-fits c.args.outcome.now c.in-Inputs.task c.in-Inputs.datagram c.args.part.now.carried c.in-Inputs.is c.requires).datagram

@@ -10,8 +10,8 @@ use Rattle.hc_places.proofs.Opening.{flat_map-last, flat_map-next, map-last, map
 use Rattle.hc_places.proofs.lemmas.Ascends.{table-ascends}
 use Rattle.hc_places.proofs.configure.opened_places.Goals as goal
 
-pub task_table-requires-clause-sendable : goal.task_table-requires-clause-sendable
-task_table-requires-clause-sendable c =
+pub task_table-requires : goal.task_table-requires
+task_table-requires c =
     rw c.as_slice.ensures.value (opened-task c.args.slaves.now c.args.cuts.now c.requires c.loop-task.task c.in_ok-places.places.items c.loop-task-test.true c.in_ok-places.ensures).sendable
 
 pub push_reserved-requires : goal.push_reserved-requires

@@ -20,10 +20,10 @@ loop-entry-preserved c =
     let entries = c.args.entries.now in
     let entry : Entry = c.entry-item.result in
     let rest = drop (l.entry-index + 1) entries in
-    let row = row_at c.args.carrier.task c.args.carrier.datagram c.args.carrier.dir in
+    let row = row_at c.args.carrier.now.task c.args.carrier.now.datagram c.args.carrier.now.dir in
     let added : c.match-variable.rows.items ≡ l.rows.items ++ map row (variables_from l.bit (entry ∷ [])) =
     elim c.match-variable.branch [
-      | in-Some+in_ok-push w ↦ rw (w.rows-is, w.in-Some.is) w.in_ok-push.ensures.items
+      | in-Some+in_ok-push w ↦ rw (w.rows-is, w.in-Some.is, ← w.number.ensures.value) w.in_ok-push.ensures.items
       | in_default w ↦ rw (w.rows-is, w.in_default.is) (sym (append-nil l.rows.items))
     ] in
     let adds : AddsEntries row l.rows.items c.match-variable.rows.items l.bit (l.bit + c.from-bit.result) (entry ∷ []) rest (drop l.entry-index entries) = record {

@@ -18,7 +18,7 @@ returns-in-Some c =
     let placed = c.in-Some.placed in
     let kept : ℕ → Key → Bool = λ number key. is_kept_up_to (task_list task (line_from 1 it.old)) (task_list task (line_from 1 it.new)) number key in
     let test : IsCandidateTest it c.self.inside.before.now c.self.inside.cuts.now = search rules in
-    let below : is_before placed.key END ≡ true = subst (λ (place : Option Placed). IfSome place (λ p. is_before p.key END ≡ true)) c.in-Some.is c.requires.below in
+    let below : is_before placed.key END ≡ true = subst (λ (place : Option Placed). IfSome place (λ p. is_before p.key END ≡ true)) c.in-Some.is c.requires in
     let told : is_before placed.key c.kept_until-kept.result ≡ kept placed.datagram placed.key =
     kept-is it c.self.inside.before.now c.self.inside.cuts.now test task c.datagram.result c.kept_until-kept.result c.kept_until-kept.ensures placed.key below
     ∙ ap (λ (number : ℕ). kept number placed.key) c.datagram.ensures in

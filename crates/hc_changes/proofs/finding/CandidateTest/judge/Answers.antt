@@ -29,8 +29,8 @@ returns-clause-found c =
     let tested : changes it c.args.rank ≡ c.is_changed-changed.result = search rules in
     search (rules, recut-area, changed-area)
 
-pub is_recut-requires-clause-below : goal.is_recut-requires-clause-below
-is_recut-requires-clause-below c =
+pub is_recut-requires : goal.is_recut-requires
+is_recut-requires c =
     let it = c.args.self.now in
     let test : IsCandidateTest it c.self.inside.before.now c.self.inside.cuts.now = search rules in
     place-below it c.args.station c.args.rank c.args.index c.args.area.now c.place-place.result test.is.is_project

@@ -20,8 +20,8 @@ use Rattle.hc_core.specs.Agreement.{Agree, kept_in}
 use Rattle.hc_core.specs.State.{CoreState}
 use Rattle.hc_core.proofs.keeping.Core.post.Goals as goal
 
-pub post-requires-clause-laid : goal.post-requires-clause-laid
-post-requires-clause-laid c =
+pub post-requires : goal.post-requires
+post-requires c =
     subst IsLaidOut (sym c.places-2.ensures.table) (line-laid_out c.self.inside.plan c.places-2.ensures.kept c.places-2.ensures.uncrowded)
 
 pub invariant_of-self : goal.invariant_of-self

@@ -14,7 +14,7 @@ returns c = λ old new line stands is.
     let was = list_by c.args.task old in
     let now = list_by c.args.task new in
     c.is_kept.ensures was now (line.lists c.args.task)
-    (ap (λ (keys : List Key). keys ++ END ∷ []) (c.of_task.ensures ∙ own.starts c.args.task c.requires))
+    (ap (λ (keys : List Key). keys ++ END ∷ []) (c.of_task.ensures ∙ own.starts c.args.task c.as_index.ensures.below))
     (ap (λ (keys : List Key). keys ++ END ∷ []) (c.starts.ensures.starts new is))
-    (subst (λ (task : ℕ). AreHulls (is_touched was now) (slice_index_or c.self.inside.hulls task no_hulls)) (sym c.from.ensures)
-    (own.hulls c.args.task c.requires))
+    (subst (λ (task : ℕ). AreHulls (is_touched was now) (slice_index_or c.self.inside.hulls task no_hulls)) (sym c.as_index.ensures.value)
+    (own.hulls c.args.task c.as_index.ensures.below))

@@ -9,5 +9,5 @@ pub returns : goal.returns
 returns c = λ old new stands.
     let own = subst (λ (before : Before). StandsBefore old new before) (sym c.self.view_is) stands in
     let hulls = c.self.inside.hulls in
-    tells-touched c.args.task old new (slice_index_or hulls c.args.task no_hulls) c.are_none.result (own.hulls c.args.task c.requires)
-    (c.are_none.ensures ∙ ap (λ (task : ℕ). are_none (slice_index_or hulls task no_hulls)) c.from.ensures)
+    tells-touched c.args.task old new (slice_index_or hulls c.args.task no_hulls) c.are_none.result (own.hulls c.args.task c.as_index.ensures.below)
+    (c.are_none.ensures ∙ ap (λ (task : ℕ). are_none (slice_index_or hulls task no_hulls)) c.as_index.ensures.value)

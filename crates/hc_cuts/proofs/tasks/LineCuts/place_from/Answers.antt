@@ -8,12 +8,12 @@ use Rattle.hc_cuts.proofs.tasks.LineCuts.place_from.Goals as goal
 pub place_from-requires-clause-stood : goal.place_from-requires-clause-stood
 place_from-requires-clause-stood c =
     let own = c.index.result.now in
-    subst (λ (kept : Kept). StandsIn kept.starts kept.tree.list (slice_index_or c.args.cursors.now c.from-task.result _))
-    (kept-same c.self.inside.tasks.items c.args.self.now c.from-task.result own c.self.view_is c.index.ensures)
-    (c.requires.stood c.from-task.result own _ (omega (arith, c.from-task.ensures)))
+    subst (λ (kept : Kept). StandsIn kept.starts kept.tree.list (slice_index_or c.args.cursors.now c.as_index-task.result _))
+    (kept-same c.self.inside.tasks.items c.args.self.now c.as_index-task.result own c.self.view_is c.index.ensures)
+    (c.requires c.as_index-task.result own _ (omega (arith, c.as_index-task.ensures.value)))
 
 pub returns-clause-stand : goal.returns-clause-stand
 returns-clause-stand c =
-    one-moved c.self.inside.tasks.items c.args.self.now c.args.cursors.now c.from-task.result c.index.result.now _ c.self.view_is
-    (omega (arith, c.from-task.ensures, c.self.invariant.0)) (omega (arith, c.from-task.ensures, c.told-cursors)) c.requires.stood c.index.ensures
+    one-moved c.self.inside.tasks.items c.args.self.now c.args.cursors.now c.as_index-task.result c.index.result.now _ c.self.view_is
+    (omega (arith, c.as_index-task.ensures.value, c.self.invariant.0)) (omega (arith, c.as_index-task.ensures.value, c.told-cursors)) c.requires c.index.ensures
     c.place_from.ensures.stands

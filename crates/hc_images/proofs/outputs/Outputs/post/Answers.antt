@@ -9,6 +9,6 @@ returns c = λ value before.
     let sent = subst (λ (p : Packed). Carries table value p.sent) (sym c.self.view_is) before.sent in
     let masks = subst (λ (p : Packed). Carries table (λ v j. 1) p.masks) (sym c.self.view_is) before.masks in
     record {
-      sent = posted-carries table c.args.task c.args.bytes.now value c.self.inside.sent.items c.post_all.new.sent.items c.self.inside.masks.items c.requires.laid sent masks c.post_all.ensures;
+      sent = posted-carries table c.args.task c.args.bytes.now value c.self.inside.sent.items c.post_all.new.sent.items c.self.inside.masks.items c.requires sent masks c.post_all.ensures;
       masks = masks;
     }

@@ -6,7 +6,6 @@ use Rattle.hc_places.proofs.swap.Swap.of.Goals as goal
 pub invariant_of-result : goal.invariant_of-result
 invariant_of-result c = record {
   tasks = subst ChangesAscend (sym c.of.ensures) c.requires.tasks;
-  eight = rw c.of.ensures c.requires.eight;
   rows = c.in_ok-sort_changes.ensures.ascends;
 }
 

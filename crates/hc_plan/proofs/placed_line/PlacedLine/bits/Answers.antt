@@ -12,5 +12,5 @@ returns c =
     let groups = c.self.inside.groups.now in
     c.bits.ensures (areas_by_rank groups) c.self.invariant
     ∙ sym (bits-packed (list_by c.args.task (areas_by_rank groups)) c.args.key)
-    ∙ ap bits_of (placed-told groups c.args.task c.args.key c.requires)
+    ∙ ap bits_of (placed-told groups c.args.task c.args.key c.number.ensures.below)
     ∙ ap (λ (layout : List (List Placed)). bits_in layout c.args.task c.args.key) c.self.view_is

@@ -9,5 +9,5 @@ pub returns : goal.returns
 returns c =
     let groups = c.self.inside.groups.now in
     c.place.ensures (areas_by_rank groups) c.self.invariant
-    ∙ placed-told groups c.args.task c.args.key c.requires
+    ∙ placed-told groups c.args.task c.args.key c.number.ensures.below
     ∙ ap (λ (layout : List (List Placed)). placed_in layout c.args.task c.args.key) c.self.view_is

@@ -1,0 +1,54 @@
+//! The cyclic tasks of a project, by their numbers. The crates above name a task by it where the number is
+//! known to be below 8; what comes from project text or from a user is a number until it is looked at here.
+ghost use Rattle.std.specs.Prelude.{◌≡◌, ◌<◌, ◌≤◌};
+ghost use Rattle.std.specs.Option.{MatchOption};
+ghost use Rattle.hc_records.specs.declared.limits.TheConstants.{TASKS};
+
+use crate::limits::TASKS;
+use std::marker::Model;
+
+/// A cyclic task: its number, 0 to 7. Whoever writes `Task(number)` shows that the number is below 8.
+#[derive(Clone, Copy, Debug, PartialEq, Eq)]
+pub struct Task(pub u8);
+
+impl Model for Task {
+    ghost use Rattle.std.specs.Prelude.{ℕ, ◌<◌};
+    ghost use Rattle.hc_records.specs.declared.limits.TheConstants.{TASKS};
+
+    ghost Value = { ℕ };
+
+    ghost view = { λ task. task.0 };
+
+    ghost invariant = { λ task. task.0 < TASKS };
+
+    ghost inverse = { λ n. record { 0 = n } };
+}
+
+impl Task {
+    /// The task of a number; none where the number is over 7.
+    pub fn new(number: u8) -> Option<Task>
+        ensures { MatchOption result (TASKS ≤ number) (λ task. (task ≡ number) × (number < TASKS)) }
+    {
+        if number < TASKS {
+            Some(Task(number))
+        } else {
+            None
+        }
+    }
+
+    /// The task's number, which is 0 to 7.
+    pub fn number(self) -> u8
+        ensures value { result ≡ self }
+        ensures below { self < TASKS }
+    {
+        self.0
+    }
+
+    /// The task's index in a list of the eight tasks: its number.
+    pub fn as_index(self) -> usize
+        ensures value { result ≡ self }
+        ensures below { self < TASKS }
+    {
+        usize::from(self.0)
+    }
+}
