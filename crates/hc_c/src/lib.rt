@@ -6,7 +6,6 @@
 //! it, one at a time.
 #![tactic(auto)]
 
-mod arena;
 mod arriving;
 mod changing;
 mod declaring;

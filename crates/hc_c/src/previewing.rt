@@ -1,14 +1,27 @@
 //! Frames of one datagram as they would be sent.
-ghost use Rattle.std.specs.Prelude.{◌≡◌, ◌≢◌, IfSome, MatchOption, None};
+ghost use Rattle.std.specs.Prelude.{◌≡◌, ◌≢◌, ◌≤◌, ◌++◌, IfSome, MatchOption, None, drop, length};
+ghost use Rattle.hc_core.specs.Filled.{CanBeFilled};
 ghost use Rattle.hc_events.specs.Calls.{preview};
+ghost use Rattle.hc_events.specs.Sendings.{size_of};
+ghost use Rattle.hc_events.specs.Steps.{sent_text};
 ghost use Rattle.hc_c.specs.Embedded.{past_of};
 ghost use Rattle.hc_c.specs.Sends.{TellsPreview};
 
-use crate::arena::fill_frame;
 use crate::handle::Handle;
 use crate::numbers::{CLOSED, DONE, NOTHING, ROOM};
 use hc_core::keeping::Core;
+use hc_events::sending::Sending;
 use std::alloc::Global;
+
+/// Fills a frame at the front of a slice that has room for it.
+fn fill_frame(core: &Core, frame: &Sending, out: &mut [u8])
+    requires can { CanBeFilled core.now.past frame.now }
+    requires room { size_of frame.now ≤ length out.old }
+    ensures { out.new ≡ sent_text core.now.past frame.now ++ drop (size_of frame.now) out.old }
+{
+    let (front, _) = out.split_at_mut(frame.size());
+    core.fill(frame, front);
+}
 
 /// Tells the frame of a datagram: `DONE`; `NOTHING` where there is none; or `ROOM` where `out` is too short.
 fn tell_preview(core: &Core, task: u8, datagram: u8, out: &mut [u8], size: &mut usize) -> u8

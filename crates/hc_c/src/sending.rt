@@ -10,7 +10,6 @@ ghost use Rattle.hc_c.specs.Numbers.{number_of};
 ghost use Rattle.hc_c.specs.declared.numbers.TheConstants.{MEMORY, ROOM};
 ghost use Rattle.hc_c.specs.Sends.{HoldsFrames};
 
-use crate::arena::send_into;
 use crate::handle::Handle;
 use crate::numbers::{CLOSED, DONE, MISUSED};
 use crate::too_short::refuse;
@@ -56,13 +55,19 @@ pub extern "C" fn zangjulf_send(
         return CLOSED;
     };
     let number = match Together::of(tasks) {
-        Some(_) => match send_into(&mut own.core, alloc, tasks, out) {
-            Ok((size, frames)) => {
-                *sent = Sent { size, frames };
-                DONE
+        Some(_) => {
+            let mut frames = Vec::new(alloc);
+            match own.core.send_into(tasks, out, &mut frames) {
+                Ok(size) => {
+                    *sent = Sent {
+                        size,
+                        frames: frames.len(),
+                    };
+                    DONE
+                }
+                Err(fault) => refuse(fault, &mut sent.size),
             }
-            Err(fault) => refuse(fault, &mut sent.size),
-        },
+        }
         None => MISUSED,
     };
     *handle = Handle::of(own);

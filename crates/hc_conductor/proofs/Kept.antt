@@ -22,7 +22,7 @@ opened_more groups past (Sent frame) accepted before = before
 opened_more groups past (Wrote block) accepted before = before
 opened_more groups past (Came arrival) accepted before = before
 
-opened-after : (past : Record) (step : Step) → opened_with (entries_after past step) ≡ opened_with past
+pub opened-after : (past : Record) (step : Step) → opened_with (entries_after past step) ≡ opened_with past
 opened-after past step = kept-after (OpenedWith (opened_with past)) (opened_more (opened_with past)) past step refl
 
 pub opened-answered : (past next : Record) (step : Step) (told : Answer) → MayAnswer past step told next → opened_with next ≡ opened_with past

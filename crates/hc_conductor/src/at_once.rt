@@ -11,7 +11,7 @@ ghost use Rattle.hc_events.specs.Steps.{SendsTasks, entries_after, proposal, sen
 ghost use Rattle.hc_sendings.specs.Refusals.{early_faults};
 ghost use Rattle.hc_core.specs.Filled.{CanBeFilled};
 ghost use Rattle.hc_core.specs.Proposed.{IsProposal};
-ghost use Rattle.hc_conductor.specs.declared.sending.TheConstants.{LARGEST_FRAME};
+ghost use Rattle.hc_core.specs.declared.arena.TheConstants.{LARGEST_FRAME};
 ghost use Rattle.hc_conductor.specs.AtOnce.{CanFillPart, part_at, sizes_of};
 ghost use Rattle.hc_conductor.specs.Conducting.{SameLists, past_of};
 
@@ -138,7 +138,7 @@ impl Conductor {
         ensures untouched { OnErr result (arena.new ≡ arena.old) }
     {
         let mut frames = Vec::new(alloc);
-        let size = self.propose_into(tasks, arena.len(), &mut frames)?;
+        let size = self.core.propose_within(tasks, arena.len(), &mut frames)?;
         fill_front_at_once(rt, &self.core, tasks, frames.as_slice(), size, arena, gate);
         self.commit(frames.as_slice());
         Ok(frames)

@@ -1,106 +1,22 @@
 //! Tasks are sent into one arena.
-ghost use Rattle.std.specs.Prelude.{◌≡◌, ◌≢◌, ◌+◌, ◌<◌, ◌≤◌, ◌*◌, [], All, ◌++◌, Err, IfErr, IfOk, IfSome, None, OnErr, OnOk, Some, drop, length, sum_by, vec_capacity};
+ghost use Rattle.std.specs.Prelude.{◌≡◌, ◌≢◌, ◌+◌, ◌<◌, ◌*◌, [], ◌++◌, Err, IfErr, IfOk, IfSome, None, OnErr, OnOk, Some, drop, length, vec_capacity};
 ghost use Rattle.std.specs.List.{flat_map};
 ghost use Rattle.hc_records.specs.declared.limits.TheConstants.{MOST_DATAGRAMS, TASKS};
 ghost use Rattle.hc_records.specs.Lists.{lowest};
-ghost use Rattle.hc_frames.specs.declared.limits.TheConstants.{SETUP_SERIAL};
 ghost use Rattle.hc_events.specs.declared.faults.CoreFault.TheVariants.{Memory};
 ghost use Rattle.hc_events.specs.Calls.{AreSentTogether, frames_size, send_into_faults};
 ghost use Rattle.hc_events.specs.Owed.{owed_blocks};
-ghost use Rattle.hc_events.specs.Sendings.{size_of};
-ghost use Rattle.hc_events.specs.Steps.{SendsTasks, entries_after, proposal, sent_text, task_faults, with_sent};
+ghost use Rattle.hc_events.specs.Steps.{SendsTasks, entries_after, proposal, sent_text, with_sent};
 ghost use Rattle.hc_sendings.specs.Refusals.{early_faults};
-ghost use Rattle.hc_core.specs.Filled.{CanBeFilled};
 ghost use Rattle.hc_core.specs.Proposed.{IsProposal};
 ghost use Rattle.hc_conductor.specs.Conducting.{SameLists, past_of};
 
 use crate::conductor::Conductor;
-use hc_core::keeping::Core;
 use hc_events::faults::CoreFault;
 use hc_events::sending::Sending;
 use std::alloc::Global;
 
-/// The most bytes that a frame has, as every Ethernet frame without its check sequence (ETG.1000.4, 5.3).
-pub const LARGEST_FRAME: usize = 1514;
-
-// The bytes of a frame.
-fn size_of(frame: &Sending) -> usize
-    ensures bytes { result ≡ size_of frame.now }
-    ensures most { result ≤ LARGEST_FRAME }
-{
-    let _ = frame.datagrams();
-    frame.size()
-}
-
-// The bytes of frames. A proposal has 128 frames at most, so deep is this recursion.
-fn size_of_all(frames: &[Sending]) -> usize
-    requires { length frames.now ≤ SETUP_SERIAL }
-    ensures bytes { result ≡ sum_by size_of frames.now }
-    ensures most { result ≤ LARGEST_FRAME * length frames.now }
-{
-    match frames {
-        [] => 0,
-        [frame, rest @ ..] => size_of(frame) + size_of_all(rest),
-    }
-}
-
-// Fills frames one after another into a slice of their exact size. A proposal has 128 frames at most, so deep is this
-// recursion.
-fn fill_all(core: &Core, frames: &[Sending], arena: &mut [u8])
-    requires can { All (CanBeFilled core.now.past) frames.now }
-    requires exact { length arena.old ≡ sum_by size_of frames.now }
-    ensures { arena.new ≡ flat_map (sent_text core.now.past) frames.now }
-{
-    let Some((frame, rest)) = frames.split_first() else {
-        return;
-    };
-    let (first, others) = arena.split_at_mut(frame.size());
-    core.fill(frame, first);
-    fill_all(core, rest, others);
-}
-
-// Fills frames at the front of the arena, where they have so many bytes.
-fn fill_front(core: &Core, frames: &[Sending], size: usize, arena: &mut [u8])
-    requires can { All (CanBeFilled core.now.past) frames.now }
-    requires size { size ≡ sum_by size_of frames.now }
-    requires room { size ≤ length arena.old }
-    ensures { arena.new ≡ flat_map (sent_text core.now.past) frames.now ++ drop size arena.old }
-{
-    let (front, _) = arena.split_at_mut(size);
-    fill_all(core, frames, front);
-}
-
 impl Conductor {
-    // The bytes of the present proposal, where the arena has room for it.
-    pub(crate) fn propose_into(
-        &self,
-        tasks: &[u8],
-        room: usize,
-        frames: &mut Vec<Sending>,
-    ) -> Result<usize, CoreFault>
-        requires { AreSentTogether tasks.now }
-        ensures frames { OnOk result (frames.new.items ≡ proposal (past_of self.now) tasks.now) }
-        ensures present { OnOk result (IsProposal (past_of self.now) frames.new.items) }
-        ensures filled { OnOk result (All (CanBeFilled (past_of self.now)) frames.new.items) }
-        ensures few { OnOk result (length frames.new.items ≤ SETUP_SERIAL) }
-        ensures size { IfOk result (λ size. size ≡ sum_by size_of frames.new.items) }
-        ensures fits { IfOk result (λ size. size ≤ room) }
-        ensures most { IfOk result (λ size. size ≤ LARGEST_FRAME * length frames.new.items) }
-        ensures accepted { OnOk result (lowest (task_faults (past_of self.now) tasks.now) ≡ None) }
-        ensures refused { IfErr result (λ fault. fault ≢ Memory → lowest (send_into_faults (past_of self.now) tasks.now room) ≡ Some fault) }
-        ensures early { IfSome (lowest (early_faults (length (owed_blocks (past_of self.now))) tasks.now)) (λ fault. result ≡ Err fault) }
-        ensures room { IfErr result (λ fault. fault ≡ Memory → vec_capacity frames.old < MOST_DATAGRAMS * TASKS) }
-        ensures none { OnErr result (frames.new.items ≡ []) }
-    {
-        self.core.propose_into(tasks, frames)?;
-        let needed = size_of_all(frames.as_slice());
-        if room < needed {
-            frames.clear();
-            return Err(CoreFault::Room(needed));
-        }
-        Ok(needed)
-    }
-
     /// The frames of the present proposal, as the core's `propose` gave it, are sent. It takes no memory.
     pub fn commit(&mut self, frames: &[Sending])
         requires { IsProposal (past_of self.old) frames.now }
@@ -160,9 +76,7 @@ impl Conductor {
         ensures untouched { OnErr result (arena.new ≡ arena.old) }
         ensures none { OnErr result (frames.new.items ≡ []) }
     {
-        let size = self.propose_into(tasks, arena.len(), frames)?;
-        fill_front(&self.core, frames.as_slice(), size, arena);
-        self.commit(frames.as_slice());
+        self.core.send_into(tasks, arena, frames)?;
         Ok(())
     }
 }

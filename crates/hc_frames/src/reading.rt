@@ -7,5 +7,6 @@ mod frames;
 mod returned;
 
 pub use faults::FrameFault;
+pub use fields::{long_at, word_at};
 pub use frames::read_frame;
 pub use returned::{Part, Parts, Returned};

@@ -2,7 +2,7 @@
 
 ghost use Rattle.std.specs.Prelude.{◌≡◌, ◌+◌, ◌<◌, ◌≤◌, drop, length, take, true};
 ghost use Rattle.std.specs.List.{list_all};
-ghost use Rattle.hc_frames.specs.Arrived.{carried, data_size, datagrams_in, is_whole, long_at, word_at};
+ghost use Rattle.hc_frames.specs.Arrived.{carried, data_size, datagrams_in, is_whole};
 ghost use Rattle.hc_machine.specs.Commands.{memory_behind_datagram, served};
 ghost use Rattle.hc_machine.specs.Rewriting.{ServesTexts, rewritten};
 
@@ -11,6 +11,7 @@ use crate::limits::MEMORY_BYTES;
 use crate::memory::put_part;
 use hc_frames::Command;
 use hc_frames::limits::{BESIDE_DATA_BYTES, DATAGRAM_HEAD_BYTES, MAX_DATA};
+use hc_frames::reading::{long_at, word_at};
 
 /// The first byte of a datagram's address (ETG.1000.4, datagram structure).
 const ADDRESS_AT: usize = 2;
@@ -20,22 +21,6 @@ const LENGTH_AT: usize = 6;
 
 /// A length has eleven bits, a datagram's and that of the EtherCAT header.
 pub(crate) const LENGTHS: u16 = 2_048;
-
-/// The number in two bytes, low byte first.
-pub(crate) fn word_at(bytes: &[u8], at: usize) -> u16
-    requires { at + 2 ≤ length bytes.now }
-    ensures { result ≡ word_at bytes.now at }
-{
-    u16::from_le_bytes([bytes[at], bytes[at + 1]])
-}
-
-/// The number in four bytes, low byte first.
-fn long_at(bytes: &[u8], at: usize) -> u32
-    requires { at + 4 ≤ length bytes.now }
-    ensures { result ≡ long_at bytes.now at }
-{
-    u32::from(word_at(bytes, at)) + 65536 * u32::from(word_at(bytes, at + 2))
-}
 
 /// Serves one datagram, which fills the bytes: its address, data and working counter are changed in their places.
 fn serve_datagram(memory: &mut [u8], spare: &mut [u8], datagram: &mut [u8])

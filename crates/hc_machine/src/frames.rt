@@ -5,10 +5,10 @@ ghost use Rattle.std.specs.List.{list_all};
 ghost use Rattle.hc_frames.specs.Arrived.{datagram_bytes, datagrams_in, fault_in, is_whole, region};
 ghost use Rattle.hc_machine.specs.Frames.{frame_after, memory_behind};
 
-use crate::datagrams::{LENGTHS, serve_datagrams, word_at};
+use crate::datagrams::{LENGTHS, serve_datagrams};
 use crate::limits::MEMORY_BYTES;
 use hc_frames::limits::{HEAD_BYTES, MAX_DATA};
-use hc_frames::reading::read_frame;
+use hc_frames::reading::{read_frame, word_at};
 
 /// The first byte of the EtherCAT header, behind the Ethernet header.
 const HEADER_AT: usize = 14;

@@ -75,15 +75,4 @@ impl<T: Drop> Items<T> {
         room.widen(&mut self.inside, 1);
         self.inside.push_reserved(item);
     }
-
-    /// Adds the elements of another list at the end, with the help of memory that was taken before. Nothing
-    /// can be refused.
-    pub fn append_into(&mut self, room: Room<T>, more: Items<T>)
-        requires { length self.old + length more ≤ room }
-        ensures { self.new ≡ self.old ++ more }
-    {
-        let Items { inside: mut added } = more;
-        room.widen(&mut self.inside, added.len());
-        let _moved = self.inside.append(&mut added);
-    }
 }

@@ -1,10 +1,8 @@
 //! The cyclic tasks of a project, by their numbers. The crates above name a task by it where the number is
-//! known to be below 8; what comes from project text or from a user is a number until it is looked at here.
-ghost use Rattle.std.specs.Prelude.{◌≡◌, ◌<◌, ◌≤◌};
-ghost use Rattle.std.specs.Option.{MatchOption};
+//! known to be below 8; what comes from project text or from a user is a number until it was compared with `TASKS`.
+ghost use Rattle.std.specs.Prelude.{◌≡◌, ◌<◌};
 ghost use Rattle.hc_records.specs.declared.limits.TheConstants.{TASKS};
 
-use crate::limits::TASKS;
 use std::marker::Model;
 
 /// A cyclic task: its number, 0 to 7. Whoever writes `Task(number)` shows that the number is below 8.
@@ -25,17 +23,6 @@ impl Model for Task {
 }
 
 impl Task {
-    /// The task of a number; none where the number is over 7.
-    pub fn new(number: u8) -> Option<Task>
-        ensures { MatchOption result (TASKS ≤ number) (λ task. (task ≡ number) × (number < TASKS)) }
-    {
-        if number < TASKS {
-            Some(Task(number))
-        } else {
-            None
-        }
-    }
-
     /// The task's number, which is 0 to 7.
     pub fn number(self) -> u8
         ensures value { result ≡ self }

@@ -5,16 +5,16 @@ ghost use Rattle.hc_frames.specs.Arrived.{circulates, data_size, has_bad_type, h
 use crate::commands::Command;
 use crate::limits::{BESIDE_DATA_BYTES, MAX_DATA};
 
-/// The number in two bytes, low byte first.
-pub(crate) fn word_at(bytes: &[u8], at: usize) -> u16
-    requires low { at + 2 ≤ length bytes.now }
+/// The number in two bytes, low byte first: such are a frame's and a datagram's fields (ETG.1000.4, 5.3 and 5.4).
+pub fn word_at(bytes: &[u8], at: usize) -> u16
+    requires { at + 2 ≤ length bytes.now }
     ensures { result ≡ word_at bytes.now at }
 {
     u16::from_le_bytes([bytes[at], bytes[at + 1]])
 }
 
-/// The number in four bytes, low byte first.
-pub(crate) fn long_at(bytes: &[u8], at: usize) -> u32
+/// The number in four bytes, low byte first: such is a datagram's address (ETG.1000.4, 5.4).
+pub fn long_at(bytes: &[u8], at: usize) -> u32
     requires { at + 4 ≤ length bytes.now }
     ensures { result ≡ long_at bytes.now at }
 {

@@ -87,8 +87,9 @@ fn is_copied(alloc: Global, group: &Group) -> Result<bool, ProjectFault> {
 /// A group with its slaves twice.
 fn doubled(alloc: Global, group: &Group) -> Result<Group, AllocError> {
     let mut slaves = group.slaves.copied(alloc)?;
-    let room = slaves.room_for(alloc, group.slaves.len())?;
-    slaves.append_into(room, group.slaves.copied(alloc)?);
+    for slave in group.slaves.as_slice() {
+        slaves.push(slave.copied(alloc)?)?;
+    }
     Ok(Group {
         alias: group.alias,
         slaves,

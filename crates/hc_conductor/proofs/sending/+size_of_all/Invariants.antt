@@ -1,5 +1,0 @@
-use Rattle.std.proofs.Common.{length}
-use Rattle.hc_conductor.proofs.sending.+size_of_all.Given as goal
-
-abbrev pub decreases-size_of_all : goal.decreases-size_of_all
-decreases-size_of_all l = length l.frames.now
