@@ -1,7 +1,7 @@
 //! What tasks read.
 ghost use Rattle.std.specs.Prelude.{◌≡◌, ◌≢◌, ◌+◌, ◌<◌, ◌≤◌, ◌++◌, IfSome, None, drop, length, map, nat_le, sum_by};
 ghost use Rattle.std.specs.List.{flat_map};
-ghost use Rattle.hc_records.specs.declared.limits.TheConstants.{MOST_DATAGRAMS, TASKS};
+ghost use Rattle.hc_records.specs.declared.limits.TheConstants.{MOST_DATAGRAMS};
 ghost use Rattle.hc_events.specs.Images.{slot_of};
 ghost use Rattle.hc_events.specs.Points.{epoch_of};
 ghost use Rattle.hc_events.specs.Steps.{Reads, answer_to};
@@ -15,6 +15,7 @@ use hc_core::keeping::Core;
 use hc_events::faults::CoreFault;
 use hc_places::table::Datagram;
 use hc_records::limits::TASKS;
+use hc_records::task::Task;
 use std::alloc::Global;
 
 /// A task's input image, as C is told it.
@@ -30,12 +31,11 @@ pub struct Image {
 }
 
 /// The data of a datagram of a task; none where it has none.
-fn data_of(core: &Core, task: u8, number: u8) -> &[u8]
-    requires task { task < TASKS }
-    requires number { number < MOST_DATAGRAMS }
+fn data_of(core: &Core, task: Task, number: u8) -> &[u8]
+    requires { number < MOST_DATAGRAMS }
     ensures { result.now ≡ data_of (slot_of core.now.past task number) }
 {
-    match core.data(task, number) {
+    match core.data(task.number(), number) {
         Some(bytes) => bytes,
         None => &[],
     }
@@ -43,9 +43,8 @@ fn data_of(core: &Core, task: u8, number: u8) -> &[u8]
 
 /// Whether the data of a task's datagrams from one on have room in so many bytes. A task has 16 datagrams at most, so deep
 /// is this recursion.
-fn fit(core: &Core, task: u8, number: u8, datagrams: &[Datagram], room: usize) -> bool
-    requires task { task < TASKS }
-    requires few { number + length datagrams.now ≤ MOST_DATAGRAMS }
+fn fit(core: &Core, task: Task, number: u8, datagrams: &[Datagram], room: usize) -> bool
+    requires { number + length datagrams.now ≤ MOST_DATAGRAMS }
     ensures { result ≡ nat_le (sum_by size_of (slots_from core.now.past task number (length datagrams.now))) room }
 {
     match datagrams {
@@ -58,8 +57,7 @@ fn fit(core: &Core, task: u8, number: u8, datagrams: &[Datagram], room: usize) -
 }
 
 /// Puts the data of these datagrams one after another, and answers their bytes. So deep is this recursion too.
-fn put_data(core: &Core, task: u8, number: u8, datagrams: &[Datagram], out: &mut [u8]) -> usize
-    requires task { task < TASKS }
+fn put_data(core: &Core, task: Task, number: u8, datagrams: &[Datagram], out: &mut [u8]) -> usize
     requires few { number + length datagrams.now ≤ MOST_DATAGRAMS }
     requires room { sum_by size_of (slots_from core.now.past task number (length datagrams.now)) ≤ length out.old }
     ensures bytes { out.new ≡ flat_map data_of (slots_from core.now.past task number (length datagrams.now)) ++ drop (sum_by size_of (slots_from core.now.past task number (length datagrams.now))) out.old }
@@ -75,9 +73,8 @@ fn put_data(core: &Core, task: u8, number: u8, datagrams: &[Datagram], out: &mut
 }
 
 /// Tells the bytes of the data of each of them, as many as there is room for. So deep is this recursion too.
-fn put_sizes(core: &Core, task: u8, number: u8, datagrams: &[Datagram], sizes: &mut [usize])
-    requires task { task < TASKS }
-    requires few { number + length datagrams.now ≤ MOST_DATAGRAMS }
+fn put_sizes(core: &Core, task: Task, number: u8, datagrams: &[Datagram], sizes: &mut [usize])
+    requires { number + length datagrams.now ≤ MOST_DATAGRAMS }
     ensures { sizes.new ≡ put (map size_of (slots_from core.now.past task number (length datagrams.now))) sizes.old }
 {
     let Some((_, rest)) = datagrams.split_first() else {
@@ -93,14 +90,13 @@ fn put_sizes(core: &Core, task: u8, number: u8, datagrams: &[Datagram], sizes: &
 /// Tells what a task reads of its datagrams: `DONE`, or `ROOM` where `out` is too short.
 fn tell_slots(
     core: &Core,
-    task: u8,
+    task: Task,
     datagrams: &[Datagram],
     out: &mut [u8],
     sizes: &mut [usize],
     image: &mut Image,
 ) -> u8
-    requires task { task < TASKS }
-    requires few { length datagrams.now ≤ MOST_DATAGRAMS }
+    requires { length datagrams.now ≤ MOST_DATAGRAMS }
     ensures number { result ≡ fit_number (slots_from core.now.past task 0 (length datagrams.now)) (length out.old) }
     ensures image { result ≡ DONE → HoldsSlots (epoch_of core.now.past) (slots_from core.now.past task 0 (length datagrams.now)) image.new out.old out.new sizes.old sizes.new }
     ensures untouched { result ≢ DONE → out.new ≡ out.old }
@@ -129,7 +125,7 @@ fn tell_image(core: &Core, task: u8, out: &mut [u8], sizes: &mut [usize], image:
         return CoreFault::NoSuchTask.number();
     }
     let datagrams = core.plan().places().datagrams(task);
-    tell_slots(core, task, datagrams, out, sizes, image)
+    tell_slots(core, Task(task), datagrams, out, sizes, image)
 }
 
 /// What a task reads: of each of its datagrams the data of the last good answer in the present epoch, or none. `DONE`: the
