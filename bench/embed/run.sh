@@ -15,11 +15,6 @@ share "$bench" answers bytes clock cores told
 for part in "$here"/library/*.sh; do
     sh "$part" "$bench"
 done
-# frames go into a slice by the library's own code
-cp "$top/crates/hc_c/src/arena.rt" "$bench/src/"
-mkdir -p "$bench/proofs"
-cp -r "$top/crates/hc_c/proofs/arena" "$bench/proofs/"
-sed -i 's/Rattle\.hc_c\./Rattle.embed_bench./' "$bench"/proofs/arena/*/*.antt
 build "$bench" rt lib
 "$top/tools/library.sh" > "$scratch/lib.txt" 2>&1 || { cat "$scratch/lib.txt"; exit 1; }
 # The libraries are made for x86-64-v2, so the program beside them is too.

@@ -4,11 +4,10 @@ set -eu
 mkdir -p "$1/src"
 cat > "$1/src/lib.rt" <<'END_OF_CODE'
 //! The calls of the core inside the language, as the benchmark asks for them: each export opens a project's line. Frames go
-//! into a slice by the code of the library for C.
+//! into a slice by the call that the library for C makes.
 #![tactic(auto)]
 
 mod answers;
-mod arena;
 mod bytes;
 mod clock;
 mod cores;

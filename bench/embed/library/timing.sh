@@ -3,16 +3,19 @@
 set -eu
 cat > "$1/src/timing.rt" <<'END_OF_CODE'
 //! Calls, timed in rounds by a clock inside.
-ghost use Rattle.std.specs.Prelude.{◌≡◌, length};
+ghost use Rattle.std.specs.Prelude.{◌≡◌, ◌≤◌, ◌++◌, drop, length};
+ghost use Rattle.hc_core.specs.Filled.{CanBeFilled};
+ghost use Rattle.hc_events.specs.Sendings.{size_of};
+ghost use Rattle.hc_events.specs.Steps.{sent_text};
 ghost use Rattle.hc_machine.specs.declared.limits.TheConstants.{MEMORY_BYTES};
 
-use crate::arena::{fill_frame, send_into};
 use crate::bytes::put;
 use crate::clock::nanoseconds;
 use crate::cores::{opened, write_and_take};
 use hc_core::keeping::Core;
 use hc_events::answer::Answer;
 use hc_events::event::Event;
+use hc_events::sending::Sending;
 use hc_frames::limits::MAX_DATA;
 use hc_machine::limits::MEMORY_BYTES;
 use hc_machine::{is_readable, serve_frame};
@@ -88,13 +91,14 @@ const FIRST_PDO: u16 = 0x1600;
 
 const HOME_TASK: u8 = 3;
 
-/// One of the lists of tasks is sent into a slice.
+/// One of the lists of tasks is sent into a slice, with a new list for the frames, as the library for C does it.
 fn send(alloc: Global, core: &mut Core, list: u8, out: &mut [u8]) -> bool {
+    let mut frames = Vec::new(alloc);
     match list {
-        0 => send_into(core, alloc, &[0], out).is_ok(),
-        1 => send_into(core, alloc, &[1], out).is_ok(),
-        2 => send_into(core, alloc, &[2], out).is_ok(),
-        _ => send_into(core, alloc, &[3, 4, 5, 6, 7], out).is_ok(),
+        0 => core.send_into(&[0], out, &mut frames).is_ok(),
+        1 => core.send_into(&[1], out, &mut frames).is_ok(),
+        2 => core.send_into(&[2], out, &mut frames).is_ok(),
+        _ => core.send_into(&[3, 4, 5, 6, 7], out, &mut frames).is_ok(),
     }
 }
 
@@ -141,6 +145,16 @@ fn block(core: &Core, station: u16, out: &mut [u8]) -> u64 {
     }
     out[..bytes.len()].copy_from_slice(bytes);
     1
+}
+
+/// Fills a frame at the front of a slice that has room for it.
+fn fill_frame(core: &Core, frame: &Sending, out: &mut [u8])
+    requires can { CanBeFilled core.now.past frame.now }
+    requires room { size_of frame.now ≤ length out.old }
+    ensures { out.new ≡ sent_text core.now.past frame.now ++ drop (size_of frame.now) out.old }
+{
+    let (front, _) = out.split_at_mut(frame.size());
+    core.fill(frame, front);
 }
 
 fn preview(core: &Core, task: u8, out: &mut [u8]) -> u64 {
