@@ -3,8 +3,9 @@
 # sanitizer, from Rust and from Python: each plays examples/*.in, and what it prints is compared with *.out, byte for byte.
 # The C callers also try what a caller may do wrong, each growth of memory refused in turn, and a million drawn calls. What
 # drawn calls are answered is compared, byte for byte, with what the program hotline prints of the same commands; the
-# comparison is shown wrong programs and wrong libraries, and must find each. The library is installed below a folder, and a
-# C program outside the repository finds it by pkg-config and by CMake. A master and its slaves run for five seconds
+# comparison is shown wrong programs and wrong libraries, and must find each. The library is installed below a folder, and
+# programs outside the repository find it: in C by pkg-config and by CMake, in Rust by cargo, in Python by pip. The examples in
+# the pages of the Rust crate are run. A master and its slaves run for five seconds
 # where a network namespace can be made, and tshark reads their capture; where none can be made, that is said. What is missing
 # is named, and counts as failed: tools/embed.packages has the Debian packages. The last line is 'N passed, M failed'. A word
 # after its name is a program to be compared with in place of the built hotline.
@@ -155,6 +156,51 @@ END
     fi
 }
 
+# rust_outside: the crate's pages and the examples in them; a project in an empty folder that finds the installed library
+rust_outside() {
+    export CARGO_TARGET_DIR=$scratch/target
+    RUSTDOCFLAGS='-D warnings' cargo doc --quiet --offline --no-deps --manifest-path bindings/rust/Cargo.toml >"$scratch/printed" 2>&1
+    status=$?
+    tell $status "cargo doc warns"
+    [ $status -eq 0 ] || tail -n 10 "$scratch/printed"
+    cargo test --quiet --offline --doc --manifest-path bindings/rust/Cargo.toml >"$scratch/printed" 2>&1
+    status=$?
+    tell $status "an example in the crate's pages fails"
+    [ $status -eq 0 ] || tail -n 20 "$scratch/printed"
+    mkdir -p "$scratch/rust/src"
+    cp bindings/rust/examples/play.rs "$scratch/rust/src/main.rs"
+    cat >"$scratch/rust/Cargo.toml" <<END
+[package]
+name = "outside"
+version = "0.0.0"
+edition = "2021"
+
+[dependencies]
+zangjulf = { path = "$PWD/bindings/rust" }
+END
+    (cd "$scratch/rust" && PKG_CONFIG_PATH=$scratch/prefix/lib/pkgconfig cargo build --quiet --offline --release) >"$scratch/printed" 2>&1
+    status=$?
+    tell $status "no Rust program is built outside the repository"
+    [ $status -eq 0 ] || tail -n 10 "$scratch/printed"
+    play "Rust outside the repository" "$scratch/target/release/outside"
+}
+
+# python_outside: the package, installed by pip without a network into an environment of its own
+python_outside() {
+    python3 -m venv "$scratch/venv" >"$scratch/printed" 2>&1 &&
+        "$scratch/venv/bin/pip" install --quiet --no-index --disable-pip-version-check ./bindings/python >>"$scratch/printed" 2>&1
+    status=$?
+    tell $status "pip doesn't install the package"
+    [ $status -eq 0 ] || tail -n 10 "$scratch/printed"
+    mkdir "$scratch/python"
+    cp bindings/python/play.py "$scratch/python/"
+    play "Python outside the repository" "$scratch/venv/bin/python" "$scratch/python/play.py"
+    (cd "$scratch/python" && "$scratch/venv/bin/python" -m zangjulf) >"$scratch/printed"
+    grep -qx "zangjulf $(sed -n 's/^#define ZANGJULF_VERSION "\(.*\)"$/\1/p' include/zangjulf.h)" "$scratch/printed" &&
+        grep -q "^library $scratch/venv/" "$scratch/printed"
+    tell $? "python -m zangjulf tells another version, or another library than the installed one"
+}
+
 # read_capture: tshark reads the frames of the capture, as many as there are, and marks none malformed; one that is it marks
 read_capture() {
     tshark -r "$scratch/master.pcap" -Y ecat >"$scratch/frames" 2>"$scratch/tshark"
@@ -194,8 +240,12 @@ if has cargo; then
     CARGO_TARGET_DIR=$scratch/target cargo build --quiet --offline --release --manifest-path bindings/rust/Cargo.toml --example play
     tell $? "the Rust player isn't built"
     play Rust "$scratch/target/release/examples/play"
+    rust_outside
 fi
-has python3 && play Python python3 bindings/python/play.py
+if has python3; then
+    play Python python3 bindings/python/play.py
+    python_outside
+fi
 
 # a master and its slaves, two processes, for five seconds; then the same in Python
 if has gcc && has ip && has unshare; then

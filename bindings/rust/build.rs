@@ -1,14 +1,29 @@
-//! Links the library that tools/library.sh leaves in build/, or the one in the folder that ZANGJULF_LIB names.
+//! Finds libzangjulf.a: in the folder that pkg-config tells, in the one that ZANGJULF_LIB_DIR names, or in the repository's
+//! build folder, where tools/library.sh leaves it.
 use std::env;
 use std::path::PathBuf;
+use std::process::Command;
+
+const ARCHIVE: &str = "libzangjulf.a";
+
+/// The folder of an installed library (tools/install.sh), if pkg-config finds one.
+fn installed() -> Option<PathBuf> {
+    let told = Command::new("pkg-config").args(["--variable=libdir", "zangjulf"]).output().ok()?;
+    let folder = String::from_utf8(told.stdout).ok()?;
+    (told.status.success() && !folder.trim().is_empty()).then(|| PathBuf::from(folder.trim()))
+}
 
 fn main() {
-    let folder = match env::var_os("ZANGJULF_LIB") {
-        Some(folder) => PathBuf::from(folder),
-        None => PathBuf::from(env!("CARGO_MANIFEST_DIR")).join("../../build"),
+    for name in ["PKG_CONFIG_PATH", "ZANGJULF_LIB_DIR"] {
+        println!("cargo:rerun-if-env-changed={name}");
+    }
+    let built = PathBuf::from(env!("CARGO_MANIFEST_DIR")).join("../../build");
+    let named = env::var_os("ZANGJULF_LIB_DIR").map(PathBuf::from);
+    let folders = [installed(), named, Some(built)];
+    let Some(folder) = folders.into_iter().flatten().find(|folder| folder.join(ARCHIVE).exists()) else {
+        panic!("{ARCHIVE} isn't found: install it below PKG_CONFIG_PATH, name its folder in ZANGJULF_LIB_DIR, or run tools/library.sh");
     };
-    println!("cargo:rerun-if-env-changed=ZANGJULF_LIB");
-    println!("cargo:rerun-if-changed={}", folder.join("libzangjulf.a").display());
+    println!("cargo:rerun-if-changed={}", folder.join(ARCHIVE).display());
     println!("cargo:rustc-link-search=native={}", folder.display());
     println!("cargo:rustc-link-lib=static=zangjulf");
 }

@@ -1,0 +1,83 @@
+"""Builds the package's wheel by Python's standard library alone, so that pip needs no network: `pip install bindings/python`.
+
+The wheel carries the shared object that ZANGJULF_LIBRARY names, or the one in the repository's build folder; where there is
+none, it carries none, and the package looks for an installed one when it is imported. The version is the header's.
+"""
+
+import base64
+import hashlib
+import os
+import runpy
+import sysconfig
+import zipfile
+from pathlib import Path
+
+HERE = Path(__file__).resolve().parent
+TOP = HERE.parents[1]
+header_version = runpy.run_path(str(HERE / "zangjulf/version.py"))["header_version"]
+
+METADATA = """Metadata-Version: 2.1
+Name: zangjulf
+Version: {version}
+Summary: The configuration and process image part of an EtherCAT master whose line changes while it runs
+License: MIT OR Apache-2.0
+Requires-Python: >=3.11
+Description-Content-Type: text/markdown
+
+{readme}"""
+
+WHEEL = """Wheel-Version: 1.0
+Generator: zangjulf
+Root-Is-Purelib: {pure}
+Tag: {tag}
+"""
+
+
+def get_requires_for_build_wheel(config_settings=None):
+    return []
+
+
+def shared_object():
+    """The shared object that the wheel carries, or None."""
+    named = os.environ.get("ZANGJULF_LIBRARY")
+    place = Path(named) if named else TOP / "build/libzangjulf.so"
+    return place if place.exists() else None
+
+
+def files(version, carried, tag):
+    """What the wheel holds, by name, but for the record."""
+    held = {f"zangjulf/{file.name}": file.read_bytes() for file in sorted((HERE / "zangjulf").glob("*")) if file.is_file()}
+    if carried:
+        held["zangjulf/libzangjulf.so"] = carried.read_bytes()
+    about = f"zangjulf-{version}.dist-info"
+    for name in ("LICENSE-MIT", "LICENSE-APACHE"):
+        held[f"{about}/licenses/{name}"] = (TOP / name).read_bytes()
+    readme = (HERE / "README.md").read_text(encoding="utf-8")
+    held[f"{about}/METADATA"] = METADATA.format(version=version, readme=readme).encode()
+    held[f"{about}/WHEEL"] = WHEEL.format(pure=str(carried is None).lower(), tag=tag).encode()
+    return held
+
+
+def record(held, place):
+    """The wheel's own record: a checksum of each file."""
+    lines = []
+    for name, data in held.items():
+        digest = base64.urlsafe_b64encode(hashlib.sha256(data).digest()).rstrip(b"=").decode()
+        lines.append(f"{name},sha256={digest},{len(data)}\n")
+    return "".join(lines) + f"{place},,\n"
+
+
+def build_wheel(wheel_directory, config_settings=None, metadata_directory=None):
+    """Writes the wheel, and answers its name."""
+    version = header_version(TOP / "include/zangjulf.h")
+    carried = shared_object()
+    platform = sysconfig.get_platform().replace("-", "_").replace(".", "_")
+    tag = f"py3-none-{platform if carried else 'any'}"
+    held = files(version, carried, tag)
+    place = f"zangjulf-{version}.dist-info/RECORD"
+    held[place] = record(held, place).encode()
+    name = f"zangjulf-{version}-{tag}.whl"
+    with zipfile.ZipFile(Path(wheel_directory) / name, "w", zipfile.ZIP_DEFLATED) as wheel:
+        for file, data in held.items():
+            wheel.writestr(file, data)
+    return name

@@ -1,0 +1,130 @@
+"""Finds the shared object, and tells ctypes the calls of include/zangjulf.h."""
+
+from __future__ import annotations
+
+import ctypes
+import ctypes.util
+import os
+from ctypes import POINTER, c_bool, c_size_t, c_uint8, c_uint16, c_uint32, c_uint64, c_void_p
+from pathlib import Path
+from typing import Any
+
+SHARED_OBJECT = "libzangjulf.so"
+
+
+class Handle(ctypes.Structure):
+    _fields_ = [("is_open", c_bool), ("at", c_void_p)]
+
+
+class Sent(ctypes.Structure):
+    _fields_ = [("size", c_size_t), ("frames", c_size_t)]
+
+
+class Outcome(ctypes.Structure):
+    _fields_ = [("kind", c_uint8), ("task", c_uint8), ("datagram", c_uint8), ("expected", c_uint16), ("got", c_uint16)]
+
+
+class Image(ctypes.Structure):
+    _fields_ = [("epoch", c_uint32), ("datagrams", c_size_t), ("size", c_size_t)]
+
+
+class Change(ctypes.Structure):
+    _fields_ = [("kind", c_uint8), ("task", c_uint8), ("datagram", c_uint8), ("size", c_uint16)]
+
+
+class Place(ctypes.Structure):
+    _fields_ = [("task", c_uint8), ("datagram", c_uint8), ("bits", c_uint8), ("is_input", c_bool), ("bit", c_uint16)]
+
+
+class Datagram(ctypes.Structure):
+    _fields_ = [("address", c_uint32), ("length", c_uint16), ("expected", c_uint16), ("offset", c_uint16)]
+
+
+class Part(ctypes.Structure):
+    _fields_ = [("outputs", c_uint16), ("inputs", c_uint16)]
+
+
+class Block(ctypes.Structure):
+    _fields_ = [("start", c_uint16), ("size", c_size_t)]
+
+
+class Cost(ctypes.Structure):
+    _fields_ = [("epoch", c_uint32), ("recut", c_uint32), ("moved", c_uint32), ("places", c_uint32), ("crowded", c_uint8)]
+
+
+_MOST = {c_uint8: 0xFF, c_uint16: 0xFFFF, c_uint32: 0xFFFFFFFF}
+_BYTES = POINTER(c_uint8)
+_SLICE = (_BYTES, c_size_t)
+
+#: what each call takes after the handle
+CALLS: dict[str, tuple[Any, ...]] = {
+    "open": (*_SLICE, POINTER(c_uint8)),
+    "epoch": (POINTER(c_uint32),),
+    "next_serial": (POINTER(c_uint64),),
+    "owed": (POINTER(c_uint32),),
+    "next_write": (*_SLICE, POINTER(c_size_t)),
+    "post": (c_uint8, c_uint32, *_SLICE),
+    "send": (*_SLICE, *_SLICE, POINTER(Sent)),
+    "arrive": (*_SLICE, POINTER(Outcome), c_size_t, POINTER(c_size_t)),
+    "read": (c_uint8, *_SLICE, POINTER(c_size_t), c_size_t, POINTER(Image)),
+    "next_change": (*_SLICE, POINTER(Change)),
+    "place": (c_uint32, POINTER(Place)),
+    "datagram": (c_uint8, c_uint8, POINTER(Datagram)),
+    "part": (c_uint8, POINTER(Part)),
+    "station": (c_uint32, POINTER(c_uint16)),
+    "position": (c_uint16, POINTER(c_uint32)),
+    "block": (c_uint16, c_uint8, *_SLICE, POINTER(Block)),
+    "preview": (c_uint8, c_uint8, *_SLICE, POINTER(c_size_t)),
+    "connect": (c_uint16, c_bool, POINTER(Cost)),
+    "disconnect": (c_uint16, c_bool, POINTER(Cost)),
+    "remap": (c_uint16, c_uint8, POINTER(c_uint16), c_size_t, c_bool, POINTER(Cost)),
+    "move": (c_uint16, c_uint8, c_uint8, c_bool, POINTER(Cost)),
+    "declare": (*_SLICE, c_bool, POINTER(c_uint8), POINTER(Cost)),
+}
+
+
+def library_path() -> str:
+    """Where the shared object is: the file that ZANGJULF_LIBRARY names, the one that the package carries, the one that
+    tools/library.sh left in the repository's build folder, or what the system's linker finds."""
+    named = os.environ.get("ZANGJULF_LIBRARY")
+    if named:
+        return named
+    here = Path(__file__).resolve()
+    for folder in (here.parent, here.parents[3] / "build"):
+        if (folder / SHARED_OBJECT).exists():
+            return str(folder / SHARED_OBJECT)
+    found = ctypes.util.find_library("zangjulf")
+    if found is None:
+        raise OSError("libzangjulf isn't found: install it, or name the shared object in ZANGJULF_LIBRARY")
+    return found
+
+
+def _load() -> ctypes.CDLL:
+    found = ctypes.CDLL(library_path())
+    for name, arguments in CALLS.items():
+        call = getattr(found, f"zangjulf_{name}")
+        call.argtypes, call.restype = (POINTER(Handle), *arguments), c_uint8
+    found.zangjulf_close.argtypes, found.zangjulf_close.restype = (POINTER(Handle),), None
+    found.zangjulf_slave_start.argtypes, found.zangjulf_slave_start.restype = (*_SLICE, c_uint16), c_uint8
+    found.zangjulf_slave_process.argtypes, found.zangjulf_slave_process.restype = (*_SLICE, *_SLICE), c_uint8
+    return found
+
+
+library = _load()
+
+
+def slice_of(data: Any) -> tuple[Any, int]:
+    """A pointer and a length of bytes: where they stand if they can be written, else of a copy."""
+    view = memoryview(data).cast("B")
+    if view.readonly or not len(view):
+        held = (c_uint8 * max(len(view), 1)).from_buffer_copy(bytes(view) or b"\0")
+    else:
+        held = (c_uint8 * len(view)).from_buffer(view)
+    return ctypes.cast(held, _BYTES), len(view)
+
+
+def held(value: Any, kind: Any) -> Any:
+    """What is handed to C as of a type; a number is one that the type holds, where ctypes would wrap it."""
+    if kind in _MOST and not 0 <= value <= _MOST[kind]:
+        raise ValueError(f"{value} isn't 0 to {_MOST[kind]}")
+    return value
