@@ -6,7 +6,7 @@ use Rattle.hc_images.proofs.lemmas.Crossing.{inputs_send, inputs_sync}
 use Rattle.hc_places.proofs.lemmas.Crossing.{places_send, places_sync}
 use Rattle.hc_publish.specs.contracts.shown.Shown.{the_row}
 
-shown_send : IsSend the_row
+pub shown_send : IsSend the_row
 shown_send = search (sendable, snapshot_send, heap.the_field_send, places_send, inputs_send) depth 24
 
 pub shown_sync : IsSync the_row
