@@ -1,10 +1,12 @@
 -- What the crates above cite, a file a subject.
 pub mod Accepted
+pub mod Ages
 pub mod Answers
 pub mod Awaited
 pub mod Changes
 pub mod Epochs
 pub mod Frames
+pub mod Names
 pub mod Once
 pub mod OneWrite
 pub mod Owed

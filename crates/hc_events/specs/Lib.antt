@@ -6,6 +6,7 @@ pub mod Points
 pub mod Heads
 pub mod Answering
 pub mod Images
+pub mod Ages
 pub mod Outputs
 pub mod Owed
 pub mod Changes
@@ -22,6 +23,7 @@ pub mod WorkedRefusals
 pub mod Awaited
 pub mod Stale
 pub mod Accepted
+pub mod Names
 pub mod Laws
 pub mod SendingLaws
 pub mod AnswerLaws

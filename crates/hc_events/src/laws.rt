@@ -1,11 +1,13 @@
 //! What follows from the definitions of `specs/`, so that a reader can trust them: each function here
 //! does nothing, and its contract is a law that holds of every record. Nobody calls it.
 ghost use Rattle.hc_events.specs.Accepted.{RecordsAreReachable};
+ghost use Rattle.hc_events.specs.Ages.{SerialsAreOfData};
 ghost use Rattle.hc_events.specs.AnswerLaws.{AnsweredAreOfTheLine, AnswersTheSerial, AwaitedAreAnswered, ReturnedFramesAnswer, WritesAreAwaitedAlone};
 ghost use Rattle.hc_events.specs.CallLaws.{FramesFillTheirBytes, PreviewsAreFrames, WritesFillTheirBytes};
 ghost use Rattle.hc_events.specs.DataLaws.{SentDataAreValues};
 ghost use Rattle.hc_events.specs.FaultLaws.{FaultsAreNumbered};
 ghost use Rattle.hc_events.specs.Laws.{AnswersOnce, EditsLeaveNoSlot, EpochsAreCounted, ProposalsAreNumbered, SlotsFit, UnmovedIsOwedAsBefore};
+ghost use Rattle.hc_events.specs.Names.{AddressesAreThoseSent, AnsweredAreNamed};
 ghost use Rattle.hc_events.specs.NewsLaws.{ChangesAreLegal, ChangesTellAll, LegalChangesAgree, LegalChangesDecide, NewsAreOfTheRecord, NewsOnlyGrow, SlotsAreLastAnswers};
 ghost use Rattle.hc_events.specs.SendingLaws.{FramesHaveTheirSizes, IndexesComeAgain, ProposalsCarryTheTasks, SendingsHaveSerials, SentFramesAreFound, SentWritesAreFound, SerialsAscend, SerialsStayBelow};
 ghost use Rattle.hc_events.specs.ViewLaws.{ChangesLeadOn, LegalEpochsFit, LegalJoins, ViewsAreReads};
@@ -105,6 +107,23 @@ pub fn slots_fit()
 /// and there is none else.
 pub fn slots_are_last_answers()
     ensures { SlotsAreLastAnswers }
+{}
+
+/// The data that a task reads of a datagram have the serial of a sending, and where it reads none there is no serial.
+pub fn serials_are_of_data()
+    ensures { SerialsAreOfData }
+{}
+
+/// An arrival is compared with the sending that it answers, so each of its datagrams has the address that it was sent
+/// with.
+pub fn addresses_are_those_sent()
+    ensures { AddressesAreThoseSent }
+{}
+
+/// In a frame of tasks that is answered each datagram's own logical address names the task and the number with which it
+/// was sent, as long as no task of the line has more than 16 datagrams.
+pub fn answered_are_named()
+    ensures { AnsweredAreNamed }
 {}
 
 /// Accepted edits and good answers are told in the order in which they came: events add to what there is

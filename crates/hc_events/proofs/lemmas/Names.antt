@@ -1,0 +1,121 @@
+-- What a frame that came back names by its own addresses is what was sent.
+use Rattle.std.proofs.Common.{◌≡◌, ℕ, ◌+◌, ◌*◌, ◌-◌, ◌/◌, ◌%◌, ◌<◌, ◌==◌, true, false, ◌&&◌, List, [], ◌∷◌, length, map, refl, sym, ap, ◌∙◌, subst, arith, Option, Some, None}
+use Rattle.std.specs.Prelude.{All}
+use Rattle.std.specs.Option.{option_map_or}
+use Rattle.std.specs.List.{list_any, zip}
+use Rattle.std.proofs.lemmas.Bool.{and_parts, eqb-true, or_parts}
+use Rattle.std.proofs.lemmas.List.Elements.{All-nil, All-cons, All-head, All-tail}
+use Rattle.hc_records.specs.declared.limits.TheConstants.{MOST_DATAGRAMS}
+use Rattle.hc_records.specs.Image.{logical_address}
+use Rattle.hc_records.specs.Line.{Member}
+use Rattle.hc_registers.specs.Blocks.{LineBlock}
+use Rattle.hc_frames.specs.Commands.{code_of}
+use Rattle.hc_events.specs.declared.answer.Answer.TheVariants as answer
+use Rattle.hc_events.specs.declared.answer.Outcome.{Outcome}
+use Rattle.hc_events.specs.Arrivals.{Arrival, Part}
+use Rattle.hc_events.specs.Entries.{Entry, Record, Opened, Edited, Posted, Sent, Wrote, Came}
+use Rattle.hc_events.specs.Points.{line_of}
+use Rattle.hc_events.specs.Sendings.{Named}
+use Rattle.hc_events.specs.Heads.{Head, Item, Datagram, Block, data_head, is_block, write_head}
+use Rattle.hc_events.specs.Answering.{Judged, Sending, Verdict, Good, Wrong, Stale, answered_by, has_head, has_heads, judge, judged, judged_by, verdict}
+use Rattle.hc_events.specs.Steps.{told_of, told_of_block}
+use Rattle.hc_events.specs.Accepted.{AreAccepted, StandsIn}
+use Rattle.hc_events.specs.SendingLaws.{heads_of, is_sending}
+use Rattle.hc_events.specs.AnswerLaws.{IsFirstAnswer, IsHeadOf, IsItemOf}
+use Rattle.hc_events.specs.Names.{HasFewDatagrams, HasItsAddress, IsNamed, named_at}
+use Rattle.hc_events.proofs.lemmas.Answers.{answered-of_line, answers-first}
+use Rattle.hc_events.proofs.lemmas.OneWrite.{no_blocks}
+
+-- a datagram that came back has its head's address
+
+same_address : (head : Head) (part : Part) → has_head head part ≡ true → part.address ≡ head.address
+same_address head part e =
+    let first = and_parts ((code_of head.command == code_of part.command) && (head.address == part.address)) (head.length == length part.bytes) e in
+    sym (eqb-true head.address part.address (and_parts (code_of head.command == code_of part.command) (head.address == part.address) first.0).1)
+
+all_addresses : (sending : Sending) (heads : List Head) (parts : List Part) → has_heads heads parts ≡ true → All HasItsAddress (map (judge sending.since) (zip heads parts))
+all_addresses sending [] parts e = All-nil HasItsAddress
+all_addresses sending (head ∷ heads) [] e = cc
+all_addresses sending (head ∷ heads) (part ∷ parts) e =
+    let same = and_parts (has_head head part) _ e in
+    All-cons HasItsAddress (judge sending.since (head, part)) (map (judge sending.since) (zip heads parts)) (same_address head part same.0) (all_addresses sending heads parts same.1)
+
+addresses_by : (past : Record) (arrival : Arrival) (found : Option Sending) → answered_by past arrival ≡ found → All HasItsAddress (option_map_or (judged arrival) found [])
+addresses_by past arrival None is = All-nil HasItsAddress
+addresses_by past arrival (Some sending) is =
+    all_addresses sending sending.heads arrival.parts ((answers-first past arrival sending).0 is).fits
+
+pub addresses-sent : (past : Record) (arrival : Arrival) → All HasItsAddress (judged_by past arrival)
+addresses-sent past arrival = addresses_by past arrival (answered_by past arrival) refl
+
+-- a logical address tells its task and its number
+
+task_back : (task d : ℕ) → d < 16 → (0x01000000 * (task + 1) + 2048 * d) / 0x01000000 - 1 ≡ task
+task_back task d low = omega (arith, low)
+
+number_back : (task d : ℕ) → d < 16 → (0x01000000 * (task + 1) + 2048 * d) / 2048 % 16 ≡ d
+number_back task d low = omega (arith, low)
+
+both_back : (task d first second : ℕ) → first ≡ task → second ≡ d → ◌≡◌ {A = Named} (first, second) (task, d)
+both_back task d first second is same = ap (λ (one : ℕ). (one, second)) is ∙ ap (λ (other : ℕ). (task, other)) same
+
+name_back : (task d address : ℕ) → d < MOST_DATAGRAMS → address ≡ logical_address task d → named_at address ≡ (task, d)
+name_back task d address low is =
+    ap named_at is ∙ both_back task d (named_at (logical_address task d)).0 (named_at (logical_address task d)).1 (task_back task d low) (number_back task d low)
+
+-- the datagrams of a frame of tasks
+
+named_item : (line : List Member) (since : List Entry) (head : Head) (part : Part) (item : Item) → HasFewDatagrams line → head.item ≡ item → IsItemOf line item head → is_block item ≡ false
+    → part.address ≡ head.address → IsNamed line (judge since (head, part))
+named_item line since head part (Block station number) few there is plain same = cc
+named_item line since head part (Datagram task d) few there is plain same = record {
+  named = (task, d);
+  stands = is.0;
+  head = is.1;
+  names = name_back task d part.address (few (task, d) is.0) (same ∙ ap (λ (one : Head). one.address) is.1);
+}
+
+all_named : (line : List Member) (since : List Entry) (heads : List Head) (parts : List Part) → HasFewDatagrams line → All (IsHeadOf line) heads
+    → list_any (λ head. is_block head.item) heads ≡ false → has_heads heads parts ≡ true → All (IsNamed line) (map (judge since) (zip heads parts))
+all_named line since [] parts few are plain fit = All-nil (IsNamed line)
+all_named line since (head ∷ heads) [] few are plain fit = cc
+all_named line since (head ∷ heads) (part ∷ parts) few are plain fit =
+    let same = and_parts (has_head head part) _ fit in
+    let none = or_parts (is_block head.item) (list_any (λ one. is_block one.item) heads) plain in
+    All-cons (IsNamed line) (judge since (head, part)) (map (judge since) (zip heads parts))
+    (named_item line since head part head.item few refl (All-head (IsHeadOf line) head heads are) none.0 (same_address head part same.0))
+    (all_named line since heads parts few (All-tail (IsHeadOf line) head heads are) none.1 same.1)
+
+-- what is answered datagram by datagram is no register write
+
+not_answered : (one : Verdict) (outcomes : List Outcome) → told_of_block one ≡ answer.Answered outcomes → ⊥
+not_answered Good outcomes e = cc
+not_answered Wrong outcomes e = cc
+not_answered Stale outcomes e = cc
+
+never_write : (since : List Entry) (block : LineBlock) (parts : List Part) (outcomes : List Outcome) → told_of (map (judge since) (zip (write_head block ∷ []) parts)) ≡ answer.Answered outcomes → ⊥
+never_write since block [] outcomes e = cc
+never_write since block (part ∷ parts) outcomes e = not_answered (verdict since (write_head block) part) outcomes e
+
+plain_by : (before : Record) (entry : Entry) (since : List Entry) (heads : List Head) (parts : List Part) (outcomes : List Outcome) → is_sending entry ≡ true → heads ≡ heads_of before entry
+    → told_of (map (judge since) (zip heads parts)) ≡ answer.Answered outcomes → list_any (λ head. is_block head.item) heads ≡ false
+plain_by before (Opened groups) since heads parts outcomes sends is told = cc
+plain_by before (Edited edit) since heads parts outcomes sends is told = cc
+plain_by before (Posted task bytes) since heads parts outcomes sends is told = cc
+plain_by before (Came arrival) since heads parts outcomes sends is told = cc
+plain_by before (Sent frame) since heads parts outcomes sends is told = ap (list_any (λ (head : Head). is_block head.item)) is ∙ no_blocks (line_of before) frame
+plain_by before (Wrote block) since heads parts outcomes sends is told =
+    absurd (never_write since block parts outcomes (sym (ap (λ all. told_of (map (judge since) (zip all parts))) is) ∙ told))
+
+named_by_answer : (past : Record) (arrival : Arrival) (outcomes : List Outcome) (found : Option Sending) → AreAccepted past → HasFewDatagrams (line_of past) → answered_by past arrival ≡ found
+    → told_of (option_map_or (judged arrival) found []) ≡ answer.Answered outcomes → All (IsNamed (line_of past)) (option_map_or (judged arrival) found [])
+named_by_answer past arrival outcomes None all few is told = All-nil (IsNamed (line_of past))
+named_by_answer past arrival outcomes (Some sending) all few is told =
+    let first = (answers-first past arrival sending).0 is in
+    let at = first.stands in
+    all_named (line_of past) sending.since sending.heads arrival.parts few (answered-of_line past arrival sending all is)
+    (plain_by at.before at.entry sending.since sending.heads arrival.parts outcomes at.sends at.heads told) first.fits
+
+pub answered-named : (past : Record) (arrival : Arrival) (outcomes : List Outcome) → AreAccepted past → HasFewDatagrams (line_of past)
+    → told_of (judged_by past arrival) ≡ answer.Answered outcomes → All (IsNamed (line_of past)) (judged_by past arrival)
+answered-named past arrival outcomes all few told = named_by_answer past arrival outcomes (answered_by past arrival) all few refl told
