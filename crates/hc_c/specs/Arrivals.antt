@@ -1,14 +1,22 @@
 -- What C is told of an arrival.
-use Rattle.std.specs.Prelude.{◌≡◌, ℕ, List, [], length, map}
+use Rattle.std.specs.Prelude.{◌≡◌, ℕ, ◌+◌, List, [], ◌∷◌, length, Result, Ok, Err}
+use Rattle.hc_frames.specs.declared.reading.faults.FrameFault.{FrameFault}
 use Rattle.hc_events.specs.declared.answer.Answer.{Answer}
 use Rattle.hc_events.specs.declared.answer.Answer.TheVariants as answer
-use Rattle.hc_events.specs.declared.answer.Outcome as core
-use Rattle.hc_events.specs.declared.answer.Outcome.TheVariants as outcome
+use Rattle.hc_events.specs.Answering.{Judged, Verdict, Good, Wrong, Stale, judged_by}
+use Rattle.hc_events.specs.Arrivals as frame
+use Rattle.hc_events.specs.Arrivals.{arrival_in}
 use Rattle.hc_events.specs.Calls.{MayAnswer}
+use Rattle.hc_events.specs.Entries.{Record}
 use Rattle.hc_events.specs.Faults.{core_fault_number}
+use Rattle.hc_events.specs.Heads.{Item, Datagram, Block}
+use Rattle.hc_events.specs.Names.{written_at}
+use Rattle.hc_events.specs.Sendings.{Named}
 use Rattle.hc_events.specs.Steps.{Arrives as ArrivesStep}
 use Rattle.hc_core.specs.Early.{TellsEarly}
 use Rattle.hc_core.specs.LastData.{StaleLeavesNothing}
+use Rattle.hc_core.specs.State.{CoreState}
+use Rattle.hc_c.specs.declared.arriving.Arrival.{Arrival}
 use Rattle.hc_c.specs.declared.arriving.Outcome.{Outcome}
 use Rattle.hc_c.specs.declared.arriving.TheConstants.{INPUTS, SENT_AGAIN, WRONG_COUNT}
 use Rattle.hc_c.specs.declared.embedded.Embedded.{Embedded}
@@ -16,16 +24,38 @@ use Rattle.hc_c.specs.declared.numbers.TheConstants.{DONE, STALE, WRITE_DONE, WR
 use Rattle.hc_c.specs.Embedded.{past_of, with_past}
 use Rattle.hc_c.specs.Lists.{put}
 
--- what C is told of a datagram: its kind, and the numbers that the kind has
-abbrev pub outcome_of : core.Outcome → Outcome
-outcome_of (outcome.Inputs task datagram) = record { kind = INPUTS; task = task; datagram = datagram; expected = 0; got = 0 }
-outcome_of (outcome.WrongCount expected got) = record { kind = WRONG_COUNT; task = 0; datagram = 0; expected = expected; got = got }
-outcome_of outcome.Stale = record { kind = SENT_AGAIN; task = 0; datagram = 0; expected = 0; got = 0 }
+-- the kind of a datagram that came back, by what that is for its task
+abbrev pub kind_of : Verdict → ℕ
+kind_of Good = INPUTS
+kind_of Wrong = WRONG_COUNT
+kind_of Stale = SENT_AGAIN
 
--- the outcomes of an answer to frames of tasks; none of another answer
-abbrev pub outcomes_in : Answer → List core.Outcome
-outcomes_in (answer.Answered outcomes) = outcomes
-outcomes_in _ = []
+-- the task of a task's datagram, and its number in the task; 0 and 0 of a register block
+abbrev pub name_of : Item → Named
+name_of (Datagram task d) = (task, d)
+name_of (Block station number) = (0, 0)
+
+-- what C is told of a datagram that came back, whose data begin at a byte of the frame
+abbrev pub outcome_of : ℕ → Judged → Outcome
+outcome_of at datagram = record {
+  kind = kind_of datagram.verdict;
+  task = (name_of datagram.head.item).0;
+  datagram = (name_of datagram.head.item).1;
+  expected = datagram.head.expected;
+  got = datagram.part.counter;
+  at = at;
+  length = length datagram.part.bytes;
+}
+
+-- the same of datagrams one after another: between the data of two lie 12 bytes, the first one's working counter and the next one's header
+abbrev pub outcomes_from : ℕ → List Judged → List Outcome
+outcomes_from at [] = []
+outcomes_from at (datagram ∷ datagrams) = outcome_of at datagram ∷ outcomes_from (at + (12 + length datagram.part.bytes)) datagrams
+
+-- what C is told of the datagrams of frames of tasks, the first one's data begin at byte 26 (ETG.1000.4, 5.3 and 5.4); nothing of another answer
+abbrev pub outcomes_in : Answer → List Judged → List Outcome
+outcomes_in (answer.Answered outcomes) datagrams = outcomes_from 26 datagrams
+outcomes_in _ datagrams = []
 
 -- a refusal by its fault's number, what answers a register write or nothing by a number of its own, and 0 for frames of tasks
 abbrev pub number_of : Answer → ℕ
@@ -35,13 +65,40 @@ number_of answer.WriteMissed = WRITE_MISSED
 number_of answer.Stale = STALE
 number_of _ = DONE
 
--- C is told an answer that the arrival may have, a fault of its bytes whatever memory does, and by its number; the core's record is the one that this answer leaves, and of the datagrams as many are told as there is room for
-pub record Arrives (old new : Embedded) (bytes : List ℕ) (number : ℕ) (before after : List Outcome) (count : ℕ) : Type 0 where
+-- the datagrams of the sending that bytes answer, each with what came back of it; none where they can't be read
+abbrev pub judged_in : Record → Result frame.Arrival FrameFault → List Judged
+judged_in past (Ok arrival) = judged_by past arrival
+judged_in past (Err fault) = []
+
+-- the serial that bytes bear; 0 where they can't be read
+abbrev pub serial_in : Result frame.Arrival FrameFault → ℕ
+serial_in (Ok arrival) = arrival.serial
+serial_in (Err fault) = 0
+
+-- the station address and the register to which the first of these was sent
+abbrev pub written_in : List Judged → ℕ × ℕ
+written_in [] = (0, 0)
+written_in (datagram ∷ datagrams) = written_at datagram.head.address
+
+-- what C is told of a frame that arrived, in place of what stood there: its serial; how many datagrams it has where it answers frames of tasks, and the station address and the register where it answers a register write, else 0; nothing of a refusal
+abbrev pub arrival_of : Answer → ℕ → List Judged → Arrival → Arrival
+arrival_of (answer.Answered outcomes) serial datagrams before = record { serial = serial; datagrams = length outcomes; station = 0; start = 0 }
+arrival_of answer.WriteDone serial datagrams before = record { serial = serial; datagrams = 0; station = (written_in datagrams).0; start = (written_in datagrams).1 }
+arrival_of answer.WriteMissed serial datagrams before = record { serial = serial; datagrams = 0; station = (written_in datagrams).0; start = (written_in datagrams).1 }
+arrival_of answer.Stale serial datagrams before = record { serial = serial; datagrams = 0; station = 0; start = 0 }
+arrival_of _ serial datagrams before = before
+
+-- C is told an answer that the arrival may have, a fault of its bytes whatever memory does, and by its number; the record `new` is the one that this answer leaves; what the sending's datagrams are is told of as many as there is room for
+pub record Tells (old new : Record) (bytes : List ℕ) (number : ℕ) (before after : List Outcome) (arrival arrival' : Arrival) : Type 0 where
   pub told : Answer
-  pub may : MayAnswer (past_of old) (ArrivesStep bytes) told (past_of new)
-  pub early : TellsEarly (past_of old) (ArrivesStep bytes) told
-  pub stale : StaleLeavesNothing (past_of old) told (past_of new)
-  pub kept : new ≡ with_past old (past_of new)
+  pub may : MayAnswer old (ArrivesStep bytes) told new
+  pub early : TellsEarly old (ArrivesStep bytes) told
+  pub stale : StaleLeavesNothing old told new
   pub numbered : number ≡ number_of told
-  pub outcomes : after ≡ put (map outcome_of (outcomes_in told)) before
-  pub counted : count ≡ length (outcomes_in told)
+  pub outcomes : after ≡ put (outcomes_in told (judged_in old (arrival_in bytes))) before
+  pub arrival_is : arrival' ≡ arrival_of told (serial_in (arrival_in bytes)) (judged_in old (arrival_in bytes)) arrival
+
+-- so it is with a handle's line, of which nothing else changes
+pub record Arrives (old new : Embedded) (bytes : List ℕ) (number : ℕ) (before after : List Outcome) (arrival arrival' : Arrival) : Type 0 where
+  pub tells : Tells (past_of old) (past_of new) bytes number before after arrival arrival'
+  pub kept : new ≡ with_past old (past_of new)

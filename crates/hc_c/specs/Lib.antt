@@ -7,6 +7,7 @@ pub mod Looks
 pub mod Edits
 pub mod Sends
 pub mod Arrivals
+pub mod Returned
 pub mod Reads
 pub mod Tellings
 pub mod Groups

@@ -1,71 +1,117 @@
 //! Frames arrive.
-ghost use Rattle.std.specs.Prelude.{◌≡◌, IfSome, None, is_some, map};
-ghost use Rattle.hc_c.specs.Arrivals.{Arrives, number_of, outcome_of, outcomes_in};
+ghost use Rattle.std.specs.Prelude.{◌≡◌, ◌≢◌, All, IfSome, None, is_some};
+ghost use Rattle.hc_c.specs.Arrivals.{Arrives, Tells};
 ghost use Rattle.hc_c.specs.Lists.{put};
+ghost use Rattle.hc_c.specs.Returned.{IsInFrame, arrived_number, expected_in, first_written, kind_by, told_arrival, told_part, told_parts};
+ghost use Rattle.hc_c.specs.declared.numbers.TheConstants.{BUSY, CLOSED};
 
 use crate::handle::Handle;
-use crate::numbers::{CLOSED, DONE, STALE, WRITE_DONE, WRITE_MISSED};
-use hc_events::answer::{Answer, Outcome as CoreOutcome};
-use hc_events::event::Event;
+use crate::numbers::{DONE, MEMORY, STALE, WRITE_DONE, WRITE_MISSED};
+use hc_core::keeping::Core;
+use hc_core::naming::{named_by, written_by};
+use hc_events::answer::{Arrived, Outcome as CoreOutcome};
+use hc_events::faults::CoreFault;
+use hc_frames::limits::DATAGRAM_HEAD_BYTES;
+use hc_frames::reading::{Part, Parts, Returned, read_frame};
+use hc_places::table::Places;
 use std::alloc::Global;
 
 /// The datagram's data are what its task reads now.
 pub const INPUTS: u8 = 1;
 
-/// It came back with another working counter, and nothing changed.
+/// It came back with another working counter, and what its task reads is as it was.
 pub const WRONG_COUNT: u8 = 2;
 
-/// It was sent again since, and nothing changed.
+/// It was sent again since, and what its task reads is as it was.
 pub const SENT_AGAIN: u8 = 3;
 
-/// What an arrival is for a datagram of the sending that it answers, as C is told it.
+/// What an arrival is for a datagram of a task, as C is told it.
 #[repr(C)]
 #[derive(Clone, Copy)]
 pub struct Outcome {
     /// `INPUTS`, `WRONG_COUNT` or `SENT_AGAIN`.
     kind: u8,
-    /// Of inputs the task, 0 to 7; else 0.
+    /// The task, 0 to 7.
     task: u8,
-    /// Of inputs the datagram's number in the task, 0 to 15; else 0.
+    /// The datagram's number in the task, 0 to 15.
     datagram: u8,
-    /// Of a wrong count the expected working counter; else 0.
+    /// The expected working counter.
     expected: u16,
-    /// Of a wrong count the working counter that it came back with; else 0.
+    /// The working counter that it came back with.
     got: u16,
+    /// The byte of the frame at which its data begin, counted from 0.
+    at: u16,
+    /// The bytes of its data, 1 to 1,486.
+    length: u16,
 }
 
-/// What C is told of a datagram.
-fn outcome_of(outcome: &CoreOutcome) -> Outcome
-    ensures { result ≡ outcome_of outcome.now }
+/// What an arrival is as a whole, as C is told it.
+#[repr(C)]
+#[derive(Clone, Copy)]
+pub struct Arrival {
+    /// The serial that the frame bears: of the sending that it answers, where it is no stale one.
+    serial: u64,
+    /// How many datagrams the frame has, where it answers frames of tasks; else 0.
+    datagrams: usize,
+    /// Of a register write that it answers the slave's station address; else 0.
+    station: u16,
+    /// Of a register write that it answers the register at which its block begins; else 0.
+    start: u16,
+}
+
+/// The kind that an outcome tells.
+fn kind_by(outcome: &CoreOutcome) -> u8
+    ensures { result ≡ kind_by outcome.now }
 {
     match outcome {
-        CoreOutcome::Inputs { task, datagram } => Outcome {
-            kind: INPUTS,
-            task: *task,
-            datagram: *datagram,
-            expected: 0,
-            got: 0,
-        },
-        CoreOutcome::WrongCount { expected, got } => Outcome {
-            kind: WRONG_COUNT,
-            task: 0,
-            datagram: 0,
-            expected: *expected,
-            got: *got,
-        },
-        CoreOutcome::Stale => Outcome {
-            kind: SENT_AGAIN,
-            task: 0,
-            datagram: 0,
-            expected: 0,
-            got: 0,
-        },
+        CoreOutcome::Inputs {
+            task: _,
+            datagram: _,
+        } => INPUTS,
+        CoreOutcome::WrongCount {
+            expected: _,
+            got: _,
+        } => WRONG_COUNT,
+        CoreOutcome::Stale => SENT_AGAIN,
+    }
+}
+
+/// The expected working counter of a task's datagram; 0 where there is none.
+fn expected_in(places: &Places, task: u8, number: u8) -> u16
+    ensures { result ≡ expected_in places.now (task, number) }
+{
+    match places.datagram(task, number) {
+        Some(datagram) => datagram.expected,
+        None => 0,
+    }
+}
+
+/// What C is told of a datagram, by its outcome and what came back of it.
+fn told_part(places: &Places, outcome: &CoreOutcome, part: &Part<'_>) -> Outcome
+    requires { IsInFrame part.now }
+    ensures { result ≡ told_part places.now outcome.now part.now }
+{
+    let (task, datagram) = named_by(part);
+    Outcome {
+        kind: kind_by(outcome),
+        task,
+        datagram,
+        expected: expected_in(places, task, datagram),
+        got: part.counter,
+        at: (part.start + DATAGRAM_HEAD_BYTES) as u16,
+        length: part.bytes.len() as u16,
     }
 }
 
 /// Tells outcomes one after another, as many as there is room for. A frame has 115 at most, so deep is this recursion.
-fn put_outcomes(outcomes: &[CoreOutcome], out: &mut [Outcome])
-    ensures { out.new ≡ put (map outcome_of outcomes.now) out.old }
+fn put_outcomes(
+    places: &Places,
+    outcomes: &[CoreOutcome],
+    parts: Parts<'_>,
+    out: &mut [Outcome],
+)
+    requires { All IsInFrame parts }
+    ensures { out.new ≡ put (told_parts places.now outcomes.now parts) out.old }
 {
     let Some((outcome, rest)) = outcomes.split_first() else {
         return;
@@ -73,55 +119,76 @@ fn put_outcomes(outcomes: &[CoreOutcome], out: &mut [Outcome])
     let Some((first, others)) = out.split_first_mut() else {
         return;
     };
-    *first = outcome_of(outcome);
-    put_outcomes(rest, others);
-}
-
-/// The outcomes of an answer; none of another one than to frames of tasks.
-fn outcomes_in(told: &Answer) -> &[CoreOutcome]
-    ensures { result.now ≡ outcomes_in told.now }
-{
-    match told {
-        Answer::Answered(outcomes) => outcomes.as_slice(),
-        _ => &[],
-    }
-}
-
-/// The number of an answer to an arrival.
-fn number_of(told: &Answer) -> u8
-    ensures { result ≡ number_of told.now }
-{
-    match told {
-        Answer::Refused(fault) => fault.number(),
-        Answer::WriteDone => WRITE_DONE,
-        Answer::WriteMissed => WRITE_MISSED,
-        Answer::Stale => STALE,
-        _ => DONE,
-    }
-}
-
-/// Bytes arrive, any. `DONE` where they answer frames of tasks: `count` is of how many datagrams, in the frame's order,
-/// and the outcomes of the first of them stand in `outcomes`, as many as there is room for; a frame has at most 115.
-/// `WRITE_DONE`, `WRITE_MISSED` or `STALE`; else a fault, 20 to 27, with which they can't be read, or `MEMORY`, and
-/// nothing changed; or `CLOSED`. Of these `count` is 0, but of `CLOSED`, which writes nothing.
-#[unsafe(no_mangle)]
-pub extern "C" fn zangjulf_arrive(
-    alloc: Global,
-    handle: &mut Handle,
-    bytes: &[u8],
-    outcomes: &mut [Outcome],
-    count: &mut usize,
-) -> u8
-    ensures told { IfSome handle.old.holding.value (λ old. IfSome handle.new.holding.value (λ new. Arrives old new bytes.now result outcomes.old outcomes.new count.new)) }
-    ensures held { is_some handle.new.holding.value ≡ is_some handle.old.holding.value }
-    ensures closed { handle.old.holding.value ≡ None → (result ≡ CLOSED) × (outcomes.new ≡ outcomes.old) × (count.new ≡ count.old) }
-{
-    let Some(mut own) = handle.take(alloc) else {
-        return CLOSED;
+    let mut left = parts;
+    let Some(part) = left.next() else {
+        return;
     };
-    let told = own.core.step(alloc, Event::Arrive(bytes));
-    put_outcomes(outcomes_in(&told), outcomes);
-    *count = outcomes_in(&told).len();
-    *handle = Handle::of(own);
-    number_of(&told)
+    *first = told_part(places, outcome, &part);
+    put_outcomes(places, rest, left, others);
+}
+
+/// The station address and the register that a frame's first datagram addresses.
+fn first_written(frame: &Returned<'_>) -> (u16, u16)
+    ensures { result ≡ first_written frame.now.parts }
+{
+    match frame.parts().next() {
+        Some(part) => written_by(&part),
+        None => (0, 0),
+    }
+}
+
+/// What C is told of an arrival as a whole, with so many outcomes.
+fn told_arrival(arrived: Arrived, count: usize, frame: &Returned<'_>) -> Arrival
+    ensures { result ≡ told_arrival arrived count frame.now }
+{
+    let serial = frame.serial();
+    let (datagrams, (station, start)) = match arrived {
+        Arrived::Answered => (count, (0, 0)),
+        Arrived::WriteDone => (0, first_written(frame)),
+        Arrived::WriteMissed => (0, first_written(frame)),
+        Arrived::Stale => (0, (0, 0)),
+    };
+    Arrival {
+        serial,
+        datagrams,
+        station,
+        start,
+    }
+}
+
+/// The number of what an arrival is as a whole.
+fn arrived_number(arrived: Arrived) -> u8
+    ensures { result ≡ arrived_number arrived }
+{
+    match arrived {
+        Arrived::Answered => DONE,
+        Arrived::WriteDone => WRITE_DONE,
+        Arrived::WriteMissed => WRITE_MISSED,
+        Arrived::Stale => STALE,
+    }
+}
+
+/// Gives a core bytes that arrived, and tells what they are, with a list for the core's outcomes.
+fn arrive(
+    core: &mut Core,
+    alloc: Global,
+    bytes: &[u8],
+    list: &mut Vec<CoreOutcome>,
+    outcomes: &mut [Outcome],
+    arrival: &mut Arrival,
+) -> u8
+    ensures tells { Tells core.old.past core.new.past bytes.now result outcomes.old outcomes.new arrival.old arrival.new }
+    ensures kept { core.new ≡ record core.old { past = core.new.past } }
+{
+    let frame = match read_frame(bytes) {
+        Ok(frame) => frame,
+        Err(fault) => return CoreFault::from(fault).number(),
+    };
+    let Ok(arrived) = core.arrive_into(alloc, bytes, list) else {
+        return MEMORY;
+    };
+    let places = core.plan().places();
+    *arrival = told_arrival(arrived, list.len(), &frame);
+    put_outcomes(places, list.as_slice(), frame.parts(), outcomes);
+    arrived_number(arrived)
 }

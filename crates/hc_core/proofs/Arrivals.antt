@@ -18,6 +18,7 @@ use Rattle.hc_events.specs.Accepted.{AreAccepted, StandsIn}
 use Rattle.hc_events.specs.Entries.{Record, Opened, Sent, Came}
 use Rattle.hc_events.specs.Points.{line_of, state_of}
 use Rattle.hc_events.specs.Answering.{is_stale_to, only_if}
+use Rattle.hc_events.specs.Ages.{data_serial, dated}
 use Rattle.hc_events.specs.Images.{FitsImage, Fresh, fresh_by, renewed, slot_of}
 use Rattle.hc_events.specs.Owed.{known_bytes, owed_blocks}
 use Rattle.hc_events.specs.declared.answer.Outcome.{Outcome}
@@ -39,11 +40,16 @@ use Rattle.hc_core.proofs.News.{news-came, news-none}
 use Rattle.hc_core.proofs.Told.{TellsInputs, TellsWrite}
 use Rattle.hc_core.specs.Agreement.{Agree, CoreParts}
 use Rattle.hc_core.specs.Goods.{change_of, goods_in}
+use Rattle.hc_core.specs.Serials.{Serials, serial_of}
 
 -- a stale one
 
 none_fresh : (past : Record) (arrival : Arrival) → is_stale_to past arrival ≡ true → fresh_by past arrival ≡ []
 none_fresh past arrival stale = search (rules, goods-of_news, not-true)
+
+-- without a good answer the serials stay
+none_dated : (past : Record) (arrival : Arrival) (task d : ℕ) → fresh_by past arrival ≡ [] → data_serial (Came arrival ∷ past) task d ≡ data_serial past task d
+none_dated past arrival task d none = ap (fold (dated arrival.serial task d) (data_serial past task d)) none
 
 pub agree-stale : (kept : CoreParts) (past taken : Record) (arrival : Arrival) → is_stale_to past arrival ≡ true → Agree kept past taken → Agree kept (Came arrival ∷ past) taken
 agree-stale kept past taken arrival stale agree =
@@ -57,6 +63,7 @@ agree-stale kept past taken arrival stale agree =
       left = agree.left;
       waits = waits-stale past kept.awaited arrival stale agree.waits;
       slots = λ task d below. agree.slots task d below ∙ sym (says.slots task d);
+      dates = λ task d below. agree.dates task d below ∙ sym (none_dated past arrival task d (none_fresh past arrival stale));
       values = values-came past arrival kept.outputs agree.values;
       known = agree.known ∙ kept-alike (known_bytes past) (known_bytes (Came arrival ∷ past)) (state_of past) (λ station number. sym (says.known station number));
       tells = news-none taken past arrival kept.changes (none_fresh past arrival stale) agree.tells;
@@ -70,10 +77,11 @@ all_sent (other ∷ past) all = all_sent past all.1
 
 -- one that answers a frame of tasks
 
-pub agree-inputs : (kept : CoreParts) (past taken : Record) (arrival : Arrival) (outcomes : List Outcome) (inputs : Image) → TellsInputs past arrival outcomes
-    → ((task d : ℕ) → d < MOST_DATAGRAMS → data_of inputs task d ≡ fold (renewed task d) (data_of kept.inputs task d) (goods_in outcomes arrival.parts)) → Agree kept past taken
-    → Agree (record kept { awaited = ended arrival.serial kept.awaited; inputs = inputs; changes = kept.changes ++ map change_of (goods_in outcomes arrival.parts) }) (Came arrival ∷ past) taken
-agree-inputs kept past taken arrival outcomes inputs tells puts agree = record {
+pub agree-inputs : (kept : CoreParts) (past taken : Record) (arrival : Arrival) (outcomes : List Outcome) (inputs : Image) (serials : Serials) → TellsInputs past arrival outcomes
+    → ((task d : ℕ) → d < MOST_DATAGRAMS → data_of inputs task d ≡ fold (renewed task d) (data_of kept.inputs task d) (goods_in outcomes arrival.parts))
+    → ((task d : ℕ) → d < MOST_DATAGRAMS → serial_of serials task d ≡ fold (dated arrival.serial task d) (serial_of kept.serials task d) (goods_in outcomes arrival.parts)) → Agree kept past taken
+    → Agree (record kept { awaited = ended arrival.serial kept.awaited; inputs = inputs; serials = serials; changes = kept.changes ++ map change_of (goods_in outcomes arrival.parts) }) (Came arrival ∷ past) taken
+agree-inputs kept past taken arrival outcomes inputs serials tells puts dates agree = record {
   accepted = (tt, agree.accepted);
   state = agree.state;
   project = agree.project;
@@ -81,7 +89,12 @@ agree-inputs kept past taken arrival outcomes inputs tells puts agree = record {
   serial = agree.serial;
   left = agree.left;
   waits = waits-ended past kept.awaited arrival agree.accepted agree.waits tells.news;
-  slots = search rules;
+  slots = λ task d below.
+      puts task d below ∙ ap (λ start. fold (renewed task d) start (goods_in outcomes arrival.parts)) (agree.slots task d below)
+      ∙ ap (fold (renewed task d) (slot_of past task d)) (sym tells.goods);
+  dates = λ task d below.
+      dates task d below ∙ ap (λ start. fold (dated arrival.serial task d) start (goods_in outcomes arrival.parts)) (agree.dates task d below)
+      ∙ ap (fold (dated arrival.serial task d) (data_serial past task d)) (sym tells.goods);
   values = values-came past arrival kept.outputs agree.values;
   known = search (rules, kept-alike, known-framed);
   tells = news-came taken past arrival kept.changes (goods_in outcomes arrival.parts) tells.goods (fresh-fits StandsIn past arrival (all_sent past agree.accepted)) agree.tells;
@@ -103,6 +116,7 @@ agree-missed kept past taken arrival tells agree = record {
   left = agree.left;
   waits = waits-ended past kept.awaited arrival agree.accepted agree.waits tells.news;
   slots = λ task d below. agree.slots task d below ∙ sym (none_put past arrival task d tells.none);
+  dates = λ task d below. agree.dates task d below ∙ sym (none_dated past arrival task d tells.none);
   values = values-came past arrival kept.outputs agree.values;
   known = agree.known ∙ kept-alike (known_bytes past) (known_bytes (Came arrival ∷ past)) (state_of past) (λ station number. sym (known-missed past arrival tells.good_is station number));
   tells = news-none taken past arrival kept.changes tells.none agree.tells;
@@ -134,6 +148,7 @@ agree-done kept past taken arrival block rest owed tells first confirmed agree =
       left = agree.left;
       waits = waits-ended past kept.awaited arrival agree.accepted agree.waits tells.news;
       slots = λ task d below. agree.slots task d below ∙ sym (none_put past arrival task d tells.none);
+      dates = λ task d below. agree.dates task d below ∙ sym (none_dated past arrival task d tells.none);
       values = values-came past arrival kept.outputs agree.values;
       known = confirmed
           ∙ kept-alike (known_with (name_of block) (Some block.block.bytes) (known_bytes past)) (known_bytes (Came arrival ∷ past)) (state_of past)

@@ -42,6 +42,7 @@ use Rattle.hc_core.proofs.News.{exact-joined}
 use Rattle.hc_core.proofs.Posts.{values-edited}
 use Rattle.hc_core.proofs.Known.{kept-alike, known-edited}
 use Rattle.hc_core.specs.Agreement.{Agree, CoreParts}
+use Rattle.hc_core.specs.Serials.{HaveNone, Serials}
 use Rattle.hc_core.specs.News.{TellNews}
 use Rattle.hc_core.specs.Prepared.{CanFollow, CoreEdit, IsReady}
 use Rattle.hc_core.specs.State.{CoreState}
@@ -93,19 +94,20 @@ news-edited taken past edit changes new report accepted tell tells =
 
 -- all that is kept
 
-agree-edited : (kept : CoreParts) (past taken : Record) (new : State) (report : Report) (inputs : Image) (outputs : Packed) (owed : Board) → edited (state_of past) report.swap.edit ≡ Ok new → Tells (state_of past) report.swap.edit new report
-    → crowded_task (line new) ≡ None → HasNone inputs → owed ≡ kept_of (known_over (state_of past) (known_bytes past)) new
+agree-edited : (kept : CoreParts) (past taken : Record) (new : State) (report : Report) (inputs : Image) (serials : Serials) (outputs : Packed) (owed : Board) → edited (state_of past) report.swap.edit ≡ Ok new → Tells (state_of past) report.swap.edit new report
+    → crowded_task (line new) ≡ None → HasNone inputs → HaveNone serials → owed ≡ kept_of (known_over (state_of past) (known_bytes past)) new
     → Holds (table_of (line new)) (kept_over (table_of (line_of past)) (value_bit past)) outputs → Agree kept past taken
     → Agree (record {
       plan = new;
       serial = kept.serial;
       awaited = nothing;
       inputs = inputs;
+      serials = serials;
       outputs = outputs;
       owed = owed;
       changes = kept.changes ++ change.Swapped report.swap ∷ [];
     }) (Edited report.swap.edit ∷ past) taken
-agree-edited kept past taken new report inputs outputs owed accepted tell uncrowded none known carried agree =
+agree-edited kept past taken new report inputs serials outputs owed accepted tell uncrowded none undated known carried agree =
     let edit = report.swap.edit in
     let after : state_after (state_of past) edit ≡ new = after-is (state_of past) edit new accepted in
     record {
@@ -117,6 +119,7 @@ agree-edited kept past taken new report inputs outputs owed accepted tell uncrow
       left = agree.left;
       waits = waits-edited past edit;
       slots = λ task d below. none task d;
+      dates = λ task d below. undated task d;
       values = values-edited past edit outputs
           (subst (λ (state : State). Holds (table_of (line state)) (kept_over (table_of (line_of past)) (value_bit past)) outputs) (sym after) carried);
       known = search (rules, kept-alike, known-edited);
@@ -144,19 +147,20 @@ can-follow kept past taken edit moves slaves room capacity ready agree = record 
   slaves = ready.slaves;
 }
 
-pub agree-carried : (kept : CoreParts) (past taken : Record) (edit : PreparedEdit) (moves : Moves) (slaves : Option OwedRoom) (room : List Change) (capacity : ℕ) (inputs : Image) (outputs : Packed) (owed : Board)
-    → IsReady (record { past = past; taken = taken }) edit moves slaves room capacity → IsPrepared edit → HasNone inputs → owed ≡ kept_of (known_over edit.old (known_bytes past)) edit.new
+pub agree-carried : (kept : CoreParts) (past taken : Record) (edit : PreparedEdit) (moves : Moves) (slaves : Option OwedRoom) (room : List Change) (capacity : ℕ) (inputs : Image) (serials : Serials) (outputs : Packed) (owed : Board)
+    → IsReady (record { past = past; taken = taken }) edit moves slaves room capacity → IsPrepared edit → HasNone inputs → HaveNone serials → owed ≡ kept_of (known_over edit.old (known_bytes past)) edit.new
     → ((value : ℕ → ℕ → ℕ) → Holds moves.before value kept.outputs → Holds (table_after moves) (kept_over moves.before value) outputs) → Agree kept past taken
     → Agree (record {
       plan = edit.new;
       serial = kept.serial;
       awaited = nothing;
       inputs = inputs;
+      serials = serials;
       outputs = outputs;
       owed = owed;
       changes = kept.changes ++ change.Swapped edit.report.swap ∷ [];
     }) (Edited edit.report.swap.edit ∷ past) taken
-agree-carried kept past taken edit moves slaves room capacity inputs outputs owed ready prepared none known moves_so agree =
+agree-carried kept past taken edit moves slaves room capacity inputs serials outputs owed ready prepared none undated known moves_so agree =
     let asked = edit.report.swap.edit in
     let accepted : edited (state_of past) asked ≡ Ok edit.new = subst (λ (state : State). edited state asked ≡ Ok edit.new) ready.made prepared.accepted in
     let told : Tells (state_of past) asked edit.new edit.report = subst (λ (state : State). Tells state asked edit.new edit.report) ready.made prepared.told in
@@ -164,7 +168,7 @@ agree-carried kept past taken edit moves slaves room capacity inputs outputs owe
     let carried : Holds (table_of (line edit.new)) (kept_over (table_of (line_of past)) (value_bit past)) outputs =
     subst (λ (table : Table). Holds (table_of (line edit.new)) (kept_over table (value_bit past)) outputs) ready.table
     (subst (λ (table : Table). Holds table (kept_over moves.before (value_bit past)) outputs) (table-leads (record { past = past; taken = taken }) edit moves slaves room capacity ready prepared) (moves_so (value_bit past) before)) in
-    agree-edited kept past taken edit.new edit.report inputs outputs owed accepted told prepared.crowds.1 none
+    agree-edited kept past taken edit.new edit.report inputs serials outputs owed accepted told prepared.crowds.1 none undated
     (known ∙ ap (λ (state : State). kept_of (known_over state (known_bytes past)) edit.new) ready.made) carried agree
 
 -- room that was taken for the changes of a core suffices for them and one more

@@ -15,21 +15,23 @@ use Rattle.hc_owed.specs.Board.{Board, kept_of, nothing_known}
 use Rattle.hc_core.proofs.Awaits.{waits-opened}
 use Rattle.hc_core.proofs.Known.{kept-alike}
 use Rattle.hc_core.specs.Agreement.{Agree}
+use Rattle.hc_core.specs.Serials.{HaveNone, Serials}
 
 none_sent : 0 ≤ SETUP_SERIAL
 none_sent = omega arith
 
-pub agree-opened : (groups : List Group) (inputs : Image) (outputs : Packed) (owed : Board) → lowest_fault (groups_of (opened groups).groups) ≡ None → crowded_task (line (opened groups)) ≡ None → HasNone inputs → owed ≡ kept_of nothing_known (opened groups) → Holds (table_of (line (opened groups))) (λ variable k. 0) outputs
+pub agree-opened : (groups : List Group) (inputs : Image) (serials : Serials) (outputs : Packed) (owed : Board) → lowest_fault (groups_of (opened groups).groups) ≡ None → crowded_task (line (opened groups)) ≡ None → HasNone inputs → HaveNone serials → owed ≡ kept_of nothing_known (opened groups) → Holds (table_of (line (opened groups))) (λ variable k. 0) outputs
     → Agree (record {
       plan = opened groups;
       serial = 0;
       awaited = nothing;
       inputs = inputs;
+      serials = serials;
       outputs = outputs;
       owed = owed;
       changes = [];
     }) (just_opened groups) (just_opened groups)
-agree-opened groups inputs outputs owed project uncrowded none unknown zeros = search (rules, none_sent, waits-opened, kept-alike, append-nil)
+agree-opened groups inputs serials outputs owed project uncrowded none undated unknown zeros = search (rules, none_sent, waits-opened, kept-alike, append-nil)
 
 abbrev pub IsProject : State → Type 0
 IsProject state = lowest_fault (groups_of state.groups) ≡ None

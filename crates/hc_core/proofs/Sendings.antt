@@ -12,6 +12,7 @@ use Rattle.hc_frames.specs.declared.limits.TheConstants.{SETUP_SERIAL}
 use Rattle.hc_events.specs.Accepted.{AreAccepted}
 use Rattle.hc_events.specs.Changes.{news_of}
 use Rattle.hc_events.specs.Entries.{Record, Sent, Wrote}
+use Rattle.hc_events.specs.Ages.{data_serial}
 use Rattle.hc_events.specs.Images.{slot_of}
 use Rattle.hc_events.specs.Owed.{is_owed, known_bytes, owed_blocks}
 use Rattle.hc_events.specs.Points.{line_of, next_serial, state_of}
@@ -64,6 +65,7 @@ agree-sent kept past taken tasks none owed left agree =
       left = left;
       waits = waits-all_sent past kept.awaited tasks owed accepted agree.waits;
       slots = λ task d below. agree.slots task d below ∙ sym (sent_alike (λ before. slot_of before task d) (λ before frame. refl) frames past);
+      dates = λ task d below. agree.dates task d below ∙ sym (sent_alike (λ before. data_serial before task d) (λ before frame. refl) frames past);
       values = values-sent frames past kept.outputs agree.values;
       known = agree.known
           ∙ kept-alike (known_bytes past) (known_bytes (with_sent past frames)) (state_of past) (λ station number. sym (sent_alike (λ before. known_bytes before station number) (λ before frame. refl) frames past))
@@ -94,6 +96,7 @@ agree-wrote kept past taken n block owed first left sent agree = record {
   waits = subst (λ m. Waits (Wrote block ∷ past) (wrote m block kept.awaited)) (sym agree.serial)
       (waits-wrote past kept.awaited block first.rest agree.accepted agree.project first.first agree.waits);
   slots = agree.slots;
+  dates = agree.dates;
   values = values-wrote past block kept.outputs agree.values;
   known = sent ∙ kept-alike (known_with (name_of block) None (known_bytes past)) (known_bytes (Wrote block ∷ past)) (state_of past) (λ station number. sym (known-wrote past block station number));
   tells = record { told = agree.tells.told; legal = agree.tells.legal; exact = agree.tells.exact; behind = agree.tells.behind };

@@ -1,4 +1,5 @@
 -- What the crates above cite, a file a subject.
+pub mod Arriving
 pub mod BlockSizes
 pub mod Parts
 pub mod PostFaults

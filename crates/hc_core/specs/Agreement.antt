@@ -18,6 +18,7 @@ use Rattle.hc_owed.specs.Board.{Board, kept_of}
 use Rattle.hc_core.specs.Records.{record_of}
 use Rattle.hc_core.specs.declared.keeping.Core.TheInside.{Inside}
 use Rattle.hc_core.specs.News.{TellNews}
+use Rattle.hc_core.specs.Serials.{Serials, ShowSerials}
 use Rattle.hc_core.specs.State.{CoreState}
 use Rattle.hc_core.specs.Values.{HoldsValues}
 use Rattle.hc_core.specs.Waits.{Waits}
@@ -32,6 +33,7 @@ pub record CoreParts : Type 0 where
   pub serial : ℕ
   pub awaited : Waiting
   pub inputs : Image
+  pub serials : Serials
   pub outputs : Packed
   pub owed : Board
   pub changes : List Change
@@ -46,6 +48,7 @@ pub record Agree (kept : CoreParts) (past taken : Record) : Type 0 where
   pub left : kept.serial ≤ SETUP_SERIAL
   pub waits : Waits past kept.awaited
   pub slots : ShowsSlots past kept.inputs
+  pub dates : ShowSerials past kept.serials
   pub values : HoldsValues past kept.outputs
   pub known : kept.owed ≡ kept_of (known_bytes past) (state_of past)
   pub tells : TellNews taken past kept.changes
@@ -61,6 +64,7 @@ kept_in core = record {
   serial = core.serial;
   awaited = core.awaited;
   inputs = core.inputs;
+  serials = core.data_serials;
   outputs = core.outputs;
   owed = core.owed;
   changes = core.changes.items;

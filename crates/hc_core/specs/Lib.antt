@@ -10,6 +10,7 @@ pub mod Lines
 pub mod Texts
 pub mod Records
 pub mod News
+pub mod Serials
 pub mod Agreement
 pub mod Waits
 pub mod Prepared

@@ -49,7 +49,7 @@ impl Core {
         self.fresh.clear();
         put_changes(alloc, &mut self.buffers, &mut self.fresh, outcomes, arrival)?;
         self.changes.append(&mut self.fresh)?;
-        put_goods(&mut self.inputs, outcomes, arrival);
+        put_goods(&mut self.inputs, &mut self.data_serials, outcomes, arrival);
         self.awaited.end(arrival.serial());
         self.past = self.past.came(bytes);
         Ok(())

@@ -81,6 +81,7 @@ impl Core {
         } = ready;
         self.awaited.clear();
         self.inputs.clear();
+        self.data_serials.clear();
         follow(&mut self.owed, &edit, slaves);
         self.outputs.change(moves, &edit.report().swap);
         let report = self.plan.carry_out(edit);

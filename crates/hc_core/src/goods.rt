@@ -1,11 +1,14 @@
-//! What an arrival's good answers change: the input image, and the changes that its readers are told.
+//! What an arrival's good answers change: the input image with its serials, and the changes that its readers are told.
 ghost use Rattle.std.specs.Prelude.{◌≡◌, ◌<◌, ℕ, [], All, IfOk, OnOk, fold, map, option_to_list};
 ghost use Rattle.hc_records.specs.declared.limits.TheConstants.{MOST_DATAGRAMS};
+ghost use Rattle.hc_events.specs.Ages.{dated};
 ghost use Rattle.hc_events.specs.Images.{FitsImage, renewed};
 ghost use Rattle.hc_images.specs.Image.{data_of};
 ghost use Rattle.hc_core.specs.Goods.{change_of, good_of, goods_in};
+ghost use Rattle.hc_core.specs.Serials.{serial_of};
 
 use crate::buffers::Buffers;
+use crate::serials::Serials;
 use hc_events::answer::Outcome;
 use hc_events::change::{Change, GoodAnswer};
 use hc_frames::reading::{Part, Returned};
@@ -61,13 +64,24 @@ pub(crate) fn put_changes(
     Ok(())
 }
 
-/// An outcome's data are those of its datagram from now on, where it is a good answer.
-fn put_good(inputs: &mut Inputs, outcome: &Outcome, part: &Part<'_>)
+/// An outcome's data are those of its datagram from now on, where it is a good answer, and this is their serial.
+fn put_good(
+    inputs: &mut Inputs,
+    serials: &mut Serials,
+    serial: u64,
+    outcome: &Outcome,
+    part: &Part<'_>,
+)
     requires { All FitsImage (good_of outcome.now part.now.carried) }
-    ensures { (task d : ℕ) → d < MOST_DATAGRAMS → data_of inputs.new task d ≡ fold (renewed task d) (data_of inputs.old task d) (good_of outcome.now part.now.carried) }
+    ensures slots { (task d : ℕ) → d < MOST_DATAGRAMS → data_of inputs.new task d ≡ fold (renewed task d) (data_of inputs.old task d) (good_of outcome.now part.now.carried) }
+    ensures serials { (task d : ℕ) → d < MOST_DATAGRAMS → serial_of serials.new task d ≡ fold (dated serial task d) (serial_of serials.old task d) (good_of outcome.now part.now.carried) }
 {
     match outcome {
-        Outcome::Inputs { task, datagram } => inputs.put(Task(*task), *datagram, part.bytes),
+        Outcome::Inputs { task, datagram } => {
+            let task = Task(*task);
+            inputs.put(task, *datagram, part.bytes);
+            serials.put(task, *datagram, serial);
+        }
         Outcome::WrongCount {
             expected: _,
             got: _,
@@ -76,16 +90,23 @@ fn put_good(inputs: &mut Inputs, outcome: &Outcome, part: &Part<'_>)
     }
 }
 
-/// So are those of all good answers of an arrival, one after another.
-pub(crate) fn put_goods(inputs: &mut Inputs, outcomes: &[Outcome], arrival: &Returned<'_>)
+/// So are those of all good answers of an arrival, one after another, with the arrival's serial.
+pub(crate) fn put_goods(
+    inputs: &mut Inputs,
+    serials: &mut Serials,
+    outcomes: &[Outcome],
+    arrival: &Returned<'_>,
+)
     requires { All FitsImage (goods_in outcomes.now arrival.now.parts) }
-    ensures { (task d : ℕ) → d < MOST_DATAGRAMS → data_of inputs.new task d ≡ fold (renewed task d) (data_of inputs.old task d) (goods_in outcomes.now arrival.now.parts) }
+    ensures slots { (task d : ℕ) → d < MOST_DATAGRAMS → data_of inputs.new task d ≡ fold (renewed task d) (data_of inputs.old task d) (goods_in outcomes.now arrival.now.parts) }
+    ensures serials { (task d : ℕ) → d < MOST_DATAGRAMS → serial_of serials.new task d ≡ fold (dated arrival.now.serial task d) (serial_of serials.old task d) (goods_in outcomes.now arrival.now.parts) }
 {
+    let serial = arrival.serial();
     let mut parts = arrival.parts();
     for outcome in outcomes {
         let Some(part) = parts.next() else {
             return;
         };
-        put_good(inputs, outcome, &part);
+        put_good(inputs, serials, serial, outcome, &part);
     }
 }

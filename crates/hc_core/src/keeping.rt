@@ -1,6 +1,7 @@
 //! What a core keeps.
 use crate::buffers::Buffers;
 use crate::past::Past;
+use crate::serials::Serials;
 use hc_events::change::Change;
 use hc_events::sending::Sending;
 use hc_images::inputs::Inputs;
@@ -11,14 +12,16 @@ use hc_sendings::awaited::Awaited;
 use std::marker::Model;
 use std::snapshot::Snapshot;
 
-/// The line, the next serial, what is awaited, the input image, the output values, the known and the owed
-/// register blocks, and the changes that nobody took. Contracts see the record of what was accepted, and that
+/// The line, the next serial, what is awaited, the input image and the serials of its data, the output values, the known
+/// and the owed register blocks, and the changes that nobody took. Contracts see the record of what was accepted, and that
 /// record as it was when the changes were taken last.
 pub struct Core {
     pub(crate) plan: Plan,
     pub(crate) serial: u64,
     pub(crate) awaited: Awaited,
     pub(crate) inputs: Inputs,
+    // of each datagram's data the serial of the sending that they answer
+    pub(crate) data_serials: Serials,
     pub(crate) outputs: Outputs,
     pub(crate) owed: Owed,
     pub(crate) changes: Vec<Change>,
@@ -38,6 +41,7 @@ impl Drop for Core {
             serial: _,
             awaited: _,
             inputs: _,
+            data_serials: _,
             outputs: _,
             owed: _,
             changes: _,

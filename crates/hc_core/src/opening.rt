@@ -8,6 +8,7 @@ ghost use Rattle.hc_events.specs.Accepted.{just_opened};
 use crate::buffers::Buffers;
 use crate::keeping::Core;
 use crate::past::Past;
+use crate::serials::Serials;
 use hc_images::inputs::Inputs;
 use hc_images::outputs::Outputs;
 use hc_owed::owed::Owed;
@@ -34,12 +35,14 @@ impl Core {
         let inputs = Inputs::new(alloc)?;
         let owed = Owed::new(alloc, &plan)?;
         let outputs = Outputs::new(alloc, plan.places())?;
+        let data_serials = Serials::new(alloc)?;
         let taken = Snapshot::of(&past);
         Ok(Core {
             plan,
             serial: 0,
             awaited,
             inputs,
+            data_serials,
             outputs,
             owed,
             changes: Vec::new(alloc),

@@ -6,6 +6,7 @@ ghost use Rattle.hc_records.specs.Lists.{lowest};
 ghost use Rattle.hc_events.specs.declared.answer.Answer.TheVariants as answer;
 ghost use Rattle.hc_events.specs.Owed.{owed_blocks};
 ghost use Rattle.hc_events.specs.Accepted.{IsReachable};
+ghost use Rattle.hc_events.specs.Ages.{data_serial};
 ghost use Rattle.hc_events.specs.Images.{slot_of};
 ghost use Rattle.hc_events.specs.Points.{epoch_of, next_serial, state_of};
 ghost use Rattle.hc_events.specs.Steps.{Reads, answer_to, read_faults};
@@ -56,6 +57,20 @@ impl Core {
             return None;
         }
         self.inputs.data(Task(task), number)
+    }
+
+    /// The serial of the sending that those data answer, which tells how old they are beside `next_serial`; none where
+    /// `data` gives none. It takes no memory.
+    pub fn data_serial(&self, task: u8, number: u8) -> Option<u64>
+        ensures serial { task < TASKS → number < MOST_DATAGRAMS → result ≡ data_serial self.now.past task number }
+        ensures none { TASKS ≤ task ⊎ MOST_DATAGRAMS ≤ number → result ≡ None }
+    {
+        // a look at the plan tells the core's invariant, by which the serials are the record's
+        let _ = &self.plan;
+        if task >= TASKS || usize::from(number) >= MOST_DATAGRAMS {
+            return None;
+        }
+        self.data_serials.get(Task(task), number)
     }
 
     /// The image of a task as it is kept.

@@ -79,13 +79,13 @@ invariant_of-self c =
     let swap = ap (λ (report : Report). report.swap) c.carry_out-report.ensures.report in
     let changes = c.add_swap.ensures ∙ ap (λ (one : Swap). inside.changes.items ++ change.Swapped one ∷ []) swap in
     let grows = c.edited.ensures ∙ ap (λ asked. Edited asked ∷ past) (c.edit.ensures ∙ ap (λ (one : Swap). one.edit) swap) in
-    let kept : State → Waiting → List Change → CoreParts = λ plan awaited changes. record { plan = plan; serial = inside.serial; awaited = awaited; inputs = c.clear-2.new.self; outputs = c.change.new.self; owed = c.follow.new.owed; changes = changes } in
+    let kept : State → Waiting → List Change → CoreParts = λ plan awaited changes. record { plan = plan; serial = inside.serial; awaited = awaited; inputs = c.clear-2.new.self; serials = c.clear-3.new.self; outputs = c.change.new.self; owed = c.follow.new.owed; changes = changes } in
     subst (λ (behind : Record). Agree (kept c.carry_out-report.new.self c.clear.new.self c.add_swap.new.changes.items) behind taken) (sym grows)
     (subst (λ (plan : State). Agree (kept plan c.clear.new.self c.add_swap.new.changes.items) (Edited edit.report.swap.edit ∷ past) taken) (sym c.carry_out-report.ensures.plan)
     (subst (λ (waiting : Waiting). Agree (kept edit.new waiting c.add_swap.new.changes.items) (Edited edit.report.swap.edit ∷ past) taken) (sym c.clear.ensures)
     (subst (λ (told : List Change). Agree (kept edit.new nothing told) (Edited edit.report.swap.edit ∷ past) taken) (sym changes)
-    (agree-carried (kept_in inside) past taken edit c.ready.inside.moves c.ready.inside.slaves c.ready.inside.room.items (vec_capacity c.ready.inside.room) c.clear-2.new.self c.change.new.self c.follow.new.owed
-    ready prepared c.clear-2.ensures known c.change.ensures c.self.invariant))))
+    (agree-carried (kept_in inside) past taken edit c.ready.inside.moves c.ready.inside.slaves c.ready.inside.room.items (vec_capacity c.ready.inside.room) c.clear-2.new.self c.clear-3.new.self c.change.new.self c.follow.new.owed
+    ready prepared c.clear-2.ensures c.clear-3.ensures known c.change.ensures c.self.invariant))))
 
 pub returns-clause-answer : goal.returns-clause-answer
 returns-clause-answer c =

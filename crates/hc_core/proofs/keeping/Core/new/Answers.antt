@@ -21,19 +21,19 @@ invariant_of-result c =
     let plan = c.in_ok-plan.ensures.state in
     let past : record_of c.opened-past.result ≡ just_opened groups = c.opened-past.ensures in
     let taken : record_of c.of-taken.result.value ≡ just_opened groups = ap record_of c.of-taken.ensures ∙ past in
-    let kept : State → Waiting → List Change → CoreParts = λ state awaited changes. record { plan = state; serial = 0; awaited = awaited; inputs = inputs; outputs = c.in_ok-outputs.outputs; owed = c.in_ok-owed.owed; changes = changes } in
+    let kept : State → Waiting → List Change → CoreParts = λ state awaited changes. record { plan = state; serial = 0; awaited = awaited; inputs = inputs; serials = c.in_ok-data_serials.data_serials; outputs = c.in_ok-outputs.outputs; owed = c.in_ok-owed.owed; changes = changes } in
     let owed : c.in_ok-owed.owed ≡ kept_of nothing_known (opened groups) = c.in_ok-owed.ensures ∙ ap (kept_of nothing_known) plan in
     let zeros : Holds (table_of (line (opened groups))) (λ variable k. 0) c.in_ok-outputs.outputs =
     subst (λ (t : Table). Holds t (λ variable k. 0) c.in_ok-outputs.outputs) (c.places.ensures.table ∙ ap (λ (state : State). table_of (line state)) plan) c.in_ok-outputs.ensures in
-    subst (λ (before : Record). Agree (kept c.in_ok-plan.plan c.in_ok-awaited.awaited c.new-6.result.items) before (record_of c.of-taken.result.value)) (sym past)
-    (subst (λ (before : Record). Agree (kept c.in_ok-plan.plan c.in_ok-awaited.awaited c.new-6.result.items) (just_opened groups) before) (sym taken)
-    (subst (λ (state : State). Agree (kept state c.in_ok-awaited.awaited c.new-6.result.items) (just_opened groups) (just_opened groups)) (sym plan)
-    (subst (λ (waiting : Waiting). Agree (kept (opened groups) waiting c.new-6.result.items) (just_opened groups) (just_opened groups)) (sym c.in_ok-awaited.ensures)
-    (subst (λ (changes : List Change). Agree (kept (opened groups) nothing changes) (just_opened groups) (just_opened groups)) (sym c.new-6.ensures.items)
-    (agree-opened groups inputs c.in_ok-outputs.outputs c.in_ok-owed.owed
+    subst (λ (before : Record). Agree (kept c.in_ok-plan.plan c.in_ok-awaited.awaited c.new-7.result.items) before (record_of c.of-taken.result.value)) (sym past)
+    (subst (λ (before : Record). Agree (kept c.in_ok-plan.plan c.in_ok-awaited.awaited c.new-7.result.items) (just_opened groups) before) (sym taken)
+    (subst (λ (state : State). Agree (kept state c.in_ok-awaited.awaited c.new-7.result.items) (just_opened groups) (just_opened groups)) (sym plan)
+    (subst (λ (waiting : Waiting). Agree (kept (opened groups) waiting c.new-7.result.items) (just_opened groups) (just_opened groups)) (sym c.in_ok-awaited.ensures)
+    (subst (λ (changes : List Change). Agree (kept (opened groups) nothing changes) (just_opened groups) (just_opened groups)) (sym c.new-7.ensures.items)
+    (agree-opened groups inputs c.in_ok-data_serials.data_serials c.in_ok-outputs.outputs c.in_ok-owed.owed
     (subst IsProject plan c.places.ensures.kept)
     (subst IsUncrowded plan c.places.ensures.uncrowded)
-    c.in_ok-inputs.ensures owed zeros)))))
+    c.in_ok-inputs.ensures c.in_ok-data_serials.ensures owed zeros)))))
 
 pub new-requires-5 : goal.new-requires-5
 new-requires-5 c =
@@ -62,4 +62,9 @@ returns-in_err-owed-clause-refused c =
 pub returns-in_err-outputs-clause-refused : goal.returns-in_err-outputs-clause-refused
 returns-in_err-outputs-clause-refused c =
     let p = err_from_is_err_and c.from_residual-in_err-outputs.result c.from_residual-in_err-outputs.ensures.1 in
+    rw (p.1, p.2) (λ other. absurd (other refl))
+
+pub returns-in_err-data_serials-clause-refused : goal.returns-in_err-data_serials-clause-refused
+returns-in_err-data_serials-clause-refused c =
+    let p = err_from_is_err_and c.from_residual-in_err-data_serials.result c.from_residual-in_err-data_serials.ensures.1 in
     rw (p.1, p.2) (λ other. absurd (other refl))

@@ -47,7 +47,7 @@ invariant_of-self-2 c =
     let told : told_of (judged_by past arrival) ≡ answer.Answered outcomes = ap (λ (state : CoreState). told_of (judged_by state.past arrival)) c.self.view_is ∙ c.requires.told in
     let over = c.end.ensures ∙ ap (λ serial. ended serial inside.awaited) c.serial.ensures.value in
     let more = c.in_ok-append.ensures.items ∙ ap (λ (changes : List Change). inside.changes.items ++ changes) c.in_ok-put_changes.ensures in
-    subst (λ (grows : Record). Agree (record (kept_in inside) { awaited = c.end.new.self; inputs = c.put_goods.new.inputs; changes = c.append.new.self.items }) grows taken) (sym grown)
-    (subst (λ (left : Waiting). Agree (record (kept_in inside) { awaited = left; inputs = c.put_goods.new.inputs; changes = c.append.new.self.items }) (Came arrival ∷ past) taken) (sym over)
-    (subst (λ (changes : List Change). Agree (record (kept_in inside) { awaited = ended arrival.serial inside.awaited; inputs = c.put_goods.new.inputs; changes = changes }) (Came arrival ∷ past) taken) (sym more)
-    (agree-inputs (kept_in inside) past taken arrival outcomes c.put_goods.new.inputs (told-inputs past arrival outcomes told) c.put_goods.ensures c.self.invariant)))
+    subst (λ (grows : Record). Agree (record (kept_in inside) { awaited = c.end.new.self; inputs = c.put_goods.new.inputs; serials = c.put_goods.new.serials; changes = c.append.new.self.items }) grows taken) (sym grown)
+    (subst (λ (left : Waiting). Agree (record (kept_in inside) { awaited = left; inputs = c.put_goods.new.inputs; serials = c.put_goods.new.serials; changes = c.append.new.self.items }) (Came arrival ∷ past) taken) (sym over)
+    (subst (λ (changes : List Change). Agree (record (kept_in inside) { awaited = ended arrival.serial inside.awaited; inputs = c.put_goods.new.inputs; serials = c.put_goods.new.serials; changes = changes }) (Came arrival ∷ past) taken) (sym more)
+    (agree-inputs (kept_in inside) past taken arrival outcomes c.put_goods.new.inputs c.put_goods.new.serials (told-inputs past arrival outcomes told) c.put_goods.ensures.slots c.put_goods.ensures.serials c.self.invariant)))

@@ -1,0 +1,67 @@
+-- What the code makes of a frame that is answered: outcome beside part, by the part's own address and the table of the present line. No public contract names it.
+use Rattle.std.specs.Prelude.{◌≡◌, ℕ, ◌+◌, ◌≤◌, List, [], ◌∷◌, length}
+use Rattle.std.specs.Option.{option_map_or}
+use Rattle.hc_frames.specs.Arrived.{Placed, Reading}
+use Rattle.hc_frames.specs.FrameText.{Carried}
+use Rattle.hc_places.specs.Table.{Table, datagram_in}
+use Rattle.hc_events.specs.declared.answer.Arrived.{Arrived}
+use Rattle.hc_events.specs.declared.answer.Arrived.TheVariants as arrived
+use Rattle.hc_events.specs.declared.answer.Outcome as core
+use Rattle.hc_events.specs.declared.answer.Outcome.TheVariants as outcome
+use Rattle.hc_events.specs.Names.{named_at, written_at}
+use Rattle.hc_events.specs.Sendings.{Named}
+use Rattle.hc_c.specs.declared.arriving.Arrival.{Arrival}
+use Rattle.hc_c.specs.declared.arriving.Outcome.{Outcome}
+use Rattle.hc_c.specs.declared.arriving.TheConstants.{INPUTS, SENT_AGAIN, WRONG_COUNT}
+use Rattle.hc_c.specs.declared.numbers.TheConstants.{DONE, STALE, WRITE_DONE, WRITE_MISSED}
+
+-- the kind that an outcome tells
+abbrev pub kind_by : core.Outcome → ℕ
+kind_by (outcome.Inputs task d) = INPUTS
+kind_by (outcome.WrongCount expected got) = WRONG_COUNT
+kind_by outcome.Stale = SENT_AGAIN
+
+-- the expected working counter of a task's datagram in a table; 0 where it has none
+abbrev pub expected_in : Table → Named → ℕ
+expected_in table named = option_map_or (λ datagram. datagram.expected) (datagram_in table named.0 named.1) 0
+
+-- what is told of a datagram by its outcome and what came back of it
+abbrev pub told_part : Table → core.Outcome → Placed → Outcome
+told_part table one placed = record {
+  kind = kind_by one;
+  task = (named_at placed.carried.address).0;
+  datagram = (named_at placed.carried.address).1;
+  expected = expected_in table (named_at placed.carried.address);
+  got = placed.carried.counter;
+  at = placed.start + 10;
+  length = length placed.carried.bytes;
+}
+
+-- outcome beside part, in order
+abbrev pub told_parts : Table → List core.Outcome → List Placed → List Outcome
+told_parts table [] placed = []
+told_parts table (one ∷ outcomes) [] = []
+told_parts table (one ∷ outcomes) (part ∷ placed) = told_part table one part ∷ told_parts table outcomes placed
+
+-- the datagram ends within the first 2,064 bytes of its frame
+abbrev pub IsInFrame : Placed → Type 0
+IsInFrame placed = placed.start + (12 + length placed.carried.bytes) ≤ 2064
+
+-- the station address and the register of the first datagram's address
+abbrev pub first_written : List Carried → ℕ × ℕ
+first_written [] = (0, 0)
+first_written (part ∷ parts) = written_at part.address
+
+-- the number of what an arrival is as a whole
+abbrev pub arrived_number : Arrived → ℕ
+arrived_number arrived.Answered = DONE
+arrived_number arrived.WriteDone = WRITE_DONE
+arrived_number arrived.WriteMissed = WRITE_MISSED
+arrived_number arrived.Stale = STALE
+
+-- what is told of it as a whole, with so many outcomes
+abbrev pub told_arrival : Arrived → ℕ → Reading → Arrival
+told_arrival arrived.Answered count frame = record { serial = frame.serial; datagrams = count; station = 0; start = 0 }
+told_arrival arrived.WriteDone count frame = record { serial = frame.serial; datagrams = 0; station = (first_written frame.parts).0; start = (first_written frame.parts).1 }
+told_arrival arrived.WriteMissed count frame = record { serial = frame.serial; datagrams = 0; station = (first_written frame.parts).0; start = (first_written frame.parts).1 }
+told_arrival arrived.Stale count frame = record { serial = frame.serial; datagrams = 0; station = 0; start = 0 }
