@@ -7,6 +7,7 @@
 #![tactic(auto)]
 
 mod arriving;
+mod calls;
 mod changing;
 mod declaring;
 mod editing;
@@ -20,6 +21,7 @@ mod previewing;
 mod reading;
 mod sending;
 mod slave;
+mod spare;
 mod telling;
 mod too_short;
 mod untold;

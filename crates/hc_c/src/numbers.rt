@@ -26,6 +26,9 @@ pub const STALE: u8 = 103;
 /// A text that is to be declared is no group's.
 pub const NO_GROUP: u8 = 104;
 
+/// Another call with the handle runs, which this one may not meet.
+pub const BUSY: u8 = 253;
+
 /// What the call asks of its caller doesn't hold.
 pub const MISUSED: u8 = 254;
 
