@@ -26,10 +26,10 @@
  *   zangjulf_block                          29: `*block`
  *   zangjulf_connect, _disconnect, _remap,
  *   _move                                   12: `cost->crowded`
- *   zangjulf_next_write, _preview           29: `*size`
+ *   zangjulf_next_write                     29: `write->size`
+ *   zangjulf_preview                        29: `*size`
  *   zangjulf_send                           29: `sent->size`
  *   zangjulf_next_change                    29: `*change`
- *   zangjulf_arrive            20 to 27 and 28: `*count`, which is 0
  */
 #ifndef ZANGJULF_H
 #define ZANGJULF_H
@@ -99,6 +99,8 @@ extern "C" {
     ANSWER(PROJECT_UNKNOWN_PDO, 209, "an assigned PDO is not one offered PDO") \
     ANSWER(PROJECT_AREA_TOO_BIG, 210, "an area has more bits than a datagram, 11,888") \
     ANSWER(PROJECT_NOT_ONE_GROUP, 212, "the text is a project, but not one group's") \
+    ANSWER(CHANGES_FULL, 252, "as many changes wait as the line was opened to keep") \
+    ANSWER(BUSY, 253, "another call with the handle runs") \
     ANSWER(MISUSED, 254, "what the call asks of its caller does not hold") \
     ANSWER(CLOSED, 255, "the handle is closed")
 
@@ -142,7 +144,7 @@ struct zangjulf {
  * epoch and serial are 0, each register block is owed. ZANGJULF_DONE; a project's fault, 201 to 210, the lowest;
  * ZANGJULF_TOO_MANY_DATAGRAMS, and `*task` is the lowest task, 0 to 7, that needs more than 16; or ZANGJULF_MEMORY. Unless it
  * is done the handle is closed. Takes memory. */
-uint8_t zangjulf_open(struct zangjulf *handle, const uint8_t *text, size_t length, uint8_t *task);
+uint8_t zangjulf_open(struct zangjulf *handle, const uint8_t *text, size_t length, uint32_t changes, uint8_t *task);
 
 /* Frees what the handle holds; it is closed then, and may be opened anew. Also a closed handle may be closed. */
 void zangjulf_close(struct zangjulf *handle);
@@ -196,13 +198,13 @@ uint8_t zangjulf_locate(const uint8_t *text, size_t length, struct zangjulf_loca
 /* What the line tells of itself: ZANGJULF_DONE or ZANGJULF_CLOSED. None takes memory. */
 
 /* The number of accepted edits. */
-uint8_t zangjulf_epoch(struct zangjulf *handle, uint32_t *epoch);
+uint8_t zangjulf_epoch(const struct zangjulf *handle, uint32_t *epoch);
 
 /* The serial of the next frame, which is the number of frames sent before it. */
-uint8_t zangjulf_next_serial(struct zangjulf *handle, uint64_t *serial);
+uint8_t zangjulf_next_serial(const struct zangjulf *handle, uint64_t *serial);
 
 /* How many register blocks are owed: no task is sent before they are written. */
-uint8_t zangjulf_owed(struct zangjulf *handle, uint32_t *count);
+uint8_t zangjulf_owed(const struct zangjulf *handle, uint32_t *count);
 
 /* The configuration of the present line: ZANGJULF_DONE, ZANGJULF_NOTHING or ZANGJULF_CLOSED unless another answer is named. It
  * is that of configuring the present line from nothing. None takes memory. */
@@ -218,7 +220,7 @@ struct zangjulf_place {
 };
 
 /* A variable, 1 to 4,294,967,295; nothing where the line has no place for it. */
-uint8_t zangjulf_place(struct zangjulf *handle, uint32_t variable, struct zangjulf_place *place);
+uint8_t zangjulf_place(const struct zangjulf *handle, uint32_t variable, struct zangjulf_place *place);
 
 /* A datagram of a task. */
 struct zangjulf_datagram {
@@ -229,7 +231,7 @@ struct zangjulf_datagram {
 };
 
 /* The datagram with a number, from 0, of a task; nothing where the task has fewer, or there is no such task. */
-uint8_t zangjulf_datagram(struct zangjulf *handle, uint8_t task, uint8_t number, struct zangjulf_datagram *datagram);
+uint8_t zangjulf_datagram(const struct zangjulf *handle, uint8_t task, uint8_t number, struct zangjulf_datagram *datagram);
 
 /* The bytes of a task's image. */
 struct zangjulf_part {
@@ -238,13 +240,13 @@ struct zangjulf_part {
 };
 
 /* Those of a task, 0 and 0 where there is none: ZANGJULF_DONE or ZANGJULF_CLOSED. */
-uint8_t zangjulf_part(struct zangjulf *handle, uint8_t task, struct zangjulf_part *part);
+uint8_t zangjulf_part(const struct zangjulf *handle, uint8_t task, struct zangjulf_part *part);
 
 /* The station address of the slave at a position of the line, from 0; nothing where the line is shorter. */
-uint8_t zangjulf_station(struct zangjulf *handle, uint32_t position, uint16_t *station);
+uint8_t zangjulf_station(const struct zangjulf *handle, uint32_t position, uint16_t *station);
 
 /* The position, from 0, of the slave with a station address: ZANGJULF_DONE; 5, 6 or ZANGJULF_CLOSED. */
-uint8_t zangjulf_position(struct zangjulf *handle, uint16_t station, uint32_t *position);
+uint8_t zangjulf_position(const struct zangjulf *handle, uint16_t station, uint32_t *position);
 
 /* A register block. */
 struct zangjulf_block {
@@ -256,7 +258,7 @@ struct zangjulf_block {
  * manager block, then its FMMU block. ZANGJULF_DONE, and its bytes stand at the front of `out`; ZANGJULF_NOTHING where no such
  * slave is present or it has fewer blocks; 29 with the bytes needed in `block->size`; or ZANGJULF_CLOSED. Unless it is done
  * `out` is as it was. */
-uint8_t zangjulf_block(struct zangjulf *handle, uint16_t station, uint8_t number, uint8_t *out, size_t length,
+uint8_t zangjulf_block(const struct zangjulf *handle, uint16_t station, uint8_t number, uint8_t *out, size_t length,
                        struct zangjulf_block *block);
 
 /* Edits. Where `asks` is true nothing changes, and what the edit would do is told. It is a byte, 0 or 1: a caller whose
@@ -298,10 +300,27 @@ uint8_t zangjulf_declare(struct zangjulf *handle, const uint8_t *text, size_t le
 
 /* Register writes. */
 
-/* The first owed register block is sent: its frame stands at the front of `out`, and `*size` is its bytes, at most 60.
- * ZANGJULF_DONE; 18, 19, or 29 with the bytes needed in `*size`; or ZANGJULF_CLOSED. Unless it is done nothing changed, `out`
- * neither. What returns is handed to `zangjulf_arrive`; a write that is lost is sent again by the next call. Takes no memory. */
-uint8_t zangjulf_next_write(struct zangjulf *handle, uint8_t *out, size_t length, size_t *size);
+/* A register block that is owed: of which slave, where it begins, and how many bytes it has. */
+struct zangjulf_owed_block {
+    uint16_t station; /* the slave's station address */
+    uint16_t start;   /* the register at which it begins */
+    uint8_t size;     /* its bytes: 8 of a sync manager, 16 of an FMMU */
+};
+
+/* The owed block with an index, from 0, in the order in which they are written. ZANGJULF_DONE; ZANGJULF_NOTHING where fewer are
+ * owed; or ZANGJULF_CLOSED. Takes no memory. */
+uint8_t zangjulf_owed_block(const struct zangjulf *handle, uint32_t index, struct zangjulf_owed_block *block);
+
+/* A register write that was sent. */
+struct zangjulf_write {
+    size_t size;                      /* the bytes of its frame, at most 60 */
+    struct zangjulf_owed_block block; /* the block that it writes */
+};
+
+/* The first owed register block is sent: its frame stands at the front of `out`. ZANGJULF_DONE; 18, 19, or 29 with the bytes
+ * needed in `write->size`; or ZANGJULF_CLOSED. Unless it is done nothing changed, `out` neither. What returns is handed to
+ * `zangjulf_arrive`; a write that is lost is sent again by the next call. Takes no memory. */
+uint8_t zangjulf_next_write(struct zangjulf *handle, uint8_t *out, size_t length, struct zangjulf_write *write);
 
 /* Process data. */
 
@@ -313,6 +332,7 @@ uint8_t zangjulf_post(struct zangjulf *handle, uint8_t task, uint32_t epoch, con
 struct zangjulf_sent {
     size_t size;   /* the bytes of all frames */
     size_t frames; /* how many they are, at most 128 */
+    uint32_t owed; /* of an answer 17 how many register blocks are owed; else 0 */
 };
 
 /* Tasks are sent, 1 to 8 and none twice, in this order: their frames stand at the front of `out` one after another, each of its
@@ -333,42 +353,67 @@ static inline size_t zangjulf_frame_size(const uint8_t *frame) {
  * stands at the front of `out`, and `*size` is its bytes. ZANGJULF_DONE; ZANGJULF_NOTHING where the task has no such datagram,
  * there is no such task, or no serial is left; 29 where `out` is too short, and is as it was; or ZANGJULF_CLOSED. Takes no
  * memory. */
-uint8_t zangjulf_preview(struct zangjulf *handle, uint8_t task, uint8_t datagram, uint8_t *out, size_t length, size_t *size);
+uint8_t zangjulf_preview(const struct zangjulf *handle, uint8_t task, uint8_t datagram, uint8_t *out, size_t length, size_t *size);
 
-/* What an arrival is for a datagram. */
+/* What an arrival is for a datagram of a task. */
 enum {
     ZANGJULF_INPUTS = 1,      /* its data are what its task reads now */
-    ZANGJULF_WRONG_COUNT = 2, /* it came back with another working counter, and nothing changed */
-    ZANGJULF_SENT_AGAIN = 3   /* it was sent again since, and nothing changed */
+    ZANGJULF_WRONG_COUNT = 2, /* it came back with another working counter, and what its task reads is as it was */
+    ZANGJULF_SENT_AGAIN = 3   /* it was sent again since, and what its task reads is as it was */
 };
 struct zangjulf_outcome {
     uint8_t kind;
-    uint8_t task;      /* of inputs, 0 to 7; else 0 */
-    uint8_t datagram;  /* of inputs its number in the task, 0 to 15; else 0 */
-    uint16_t expected; /* of a wrong count the expected working counter; else 0 */
-    uint16_t got;      /* of a wrong count the one that it came back with; else 0 */
+    uint8_t task;      /* 0 to 7 */
+    uint8_t datagram;  /* its number in the task, 0 to 15 */
+    uint16_t expected; /* the expected working counter */
+    uint16_t got;      /* the one that it came back with */
+    uint16_t at;       /* the byte of the frame at which its data begin, so that those of a wrong count can be had */
+    uint16_t length;   /* the bytes of its data */
 };
 
-/* A frame arrives: any bytes, without the check sequence. ZANGJULF_DONE where they answer frames of tasks: `*count` tells how
- * many datagrams they have, and the outcomes of the first of them stand in `outcomes`, as many as there is room for.
- * ZANGJULF_WRITE_DONE, ZANGJULF_WRITE_MISSED or ZANGJULF_STALE; or nothing changed: 20 to 27 where they can't be read,
- * ZANGJULF_MEMORY, or ZANGJULF_CLOSED. Of all answers but ZANGJULF_DONE `*count` is 0; of ZANGJULF_CLOSED it is as it was. Takes
- * memory. */
+/* What an arrival answers. */
+struct zangjulf_arrival {
+    uint64_t serial;  /* of the sending that it answers */
+    size_t datagrams; /* how many datagrams of tasks it has; 0 of a register write */
+    uint16_t station; /* of a register write the slave's station address; else 0 */
+    uint16_t start;   /* of a register write the register at which its block begins; else 0 */
+};
+
+/* A frame arrives: any bytes, without the check sequence. ZANGJULF_DONE where they answer frames of tasks, and the outcomes of
+ * the first datagrams stand in `outcomes`, as many as there is room for. ZANGJULF_WRITE_DONE or ZANGJULF_WRITE_MISSED of a
+ * register write, and `*arrival` names it. ZANGJULF_STALE; or nothing changed: 20 to 27 where they can't be read,
+ * ZANGJULF_CHANGES_FULL, ZANGJULF_MEMORY, or ZANGJULF_CLOSED; then `*arrival` is as it was. Takes memory only where changes are
+ * kept, and after an edit. */
 uint8_t zangjulf_arrive(struct zangjulf *handle, const uint8_t *bytes, size_t length, struct zangjulf_outcome *outcomes,
-                        size_t room, size_t *count);
+                        size_t room, struct zangjulf_arrival *arrival);
 
 /* A task's input image. */
 struct zangjulf_image {
     uint32_t epoch;   /* whose places the data are in */
     size_t datagrams; /* how many the task has, at most 16 */
-    size_t size;      /* the bytes of all their data, at most 23,776 */
+    size_t size;      /* the bytes of the task's image, at most 23,776 */
+    uint16_t has;     /* bit d: datagram d has data in this epoch */
 };
 
-/* What a task reads: of each of its datagrams the data of its last good answer in the present epoch, or none. They stand at the
- * front of `out` one after another, and `sizes` has the bytes of each, 0 where it has none, as many as there is room for.
- * ZANGJULF_DONE, 8, 29 or ZANGJULF_CLOSED. Unless it is done `out` is as it was. Nothing changes. Takes no memory. */
-uint8_t zangjulf_read(struct zangjulf *handle, uint8_t task, uint8_t *out, size_t length, size_t *sizes, size_t room,
+/* What a task reads: of each of its datagrams the data of its last good answer in the present epoch, or none. They stand in
+ * `out` at the datagram's offset in the task's image; bytes of a datagram without data are 0. `serials` has of each the serial
+ * of the sending that its data answer, 0 where it has none, as many as there is room for: the difference to what was sent last
+ * is their age. ZANGJULF_DONE, 8, 29 or ZANGJULF_CLOSED. Unless it is done `out` is as it was. Nothing changes. Takes no
+ * memory. */
+uint8_t zangjulf_read(const struct zangjulf *handle, uint8_t task, uint8_t *out, size_t length, uint64_t *serials, size_t room,
                       struct zangjulf_image *image);
+
+/* How often a datagram, by task and number, was sent, and what arrivals were for it, since the line was opened. An edit sets
+ * none of them back. Each stops at 2^64 - 1. */
+struct zangjulf_counters {
+    uint64_t sent;
+    uint64_t good;
+    uint64_t wrong;
+    uint64_t again;
+};
+
+/* Those of a datagram: ZANGJULF_DONE; ZANGJULF_NOTHING where the task is over 7, or the number over 15; or ZANGJULF_CLOSED. */
+uint8_t zangjulf_counters(const struct zangjulf *handle, uint8_t task, uint8_t datagram, struct zangjulf_counters *counters);
 
 /* A change of what tasks read. */
 enum {
