@@ -11,3 +11,7 @@ pub mod Arrivals
 pub mod Reads
 pub mod Tellings
 pub mod Groups
+pub mod Runs
+pub mod Values
+pub mod Beside
+pub mod Locations

@@ -4,7 +4,7 @@ ghost use Rattle.hc_events.specs.Points.{line_of, state_of};
 ghost use Rattle.hc_plan.specs.Configuration.{block_at, position_of, station_at};
 ghost use Rattle.hc_c.specs.Embedded.{past_of};
 ghost use Rattle.hc_c.specs.declared.numbers.TheConstants.{BUSY, CLOSED};
-ghost use Rattle.hc_c.specs.Looks.{TellsBlock, TellsPosition, datagram_at, part_at, place_at, told_datagram, told_part, told_place};
+ghost use Rattle.hc_c.specs.Looks.{TellsBlock, TellsPosition, datagram_at, image_bit_of, part_at, place_at, told_datagram, told_part, told_place};
 
 use crate::handle::Handle;
 use crate::numbers::{DONE, NOTHING, ROOM};
@@ -28,6 +28,8 @@ pub struct Place {
     is_input: bool,
     /// Its first bit in the datagram's data, counted from the least significant bit of byte 0.
     bit: u16,
+    /// Its first bit in its task's image, counted likewise: of what the task posts, and of what it reads.
+    image_bit: u32,
 }
 
 /// A datagram of a task, as C is told it.
@@ -65,7 +67,7 @@ pub struct Block {
 }
 
 /// The place of the variable with a number in the present line.
-fn place_at(core: &Core, number: u32) -> Option<LinePlace>
+pub fn place_at(core: &Core, number: u32) -> Option<LinePlace>
     ensures { result ≡ place_at core.now.past number }
 {
     match VarId::new(number) {
@@ -88,9 +90,20 @@ fn part_at(core: &Core, task: u8) -> (u16, u16)
     core.plan().places().part(task)
 }
 
-/// What C is told of a place.
-fn told_place(place: LinePlace) -> Place
-    ensures { result ≡ told_place place }
+/// The bit of its task's image at which a place of the present line begins.
+pub fn image_bit_of(core: &Core, place: LinePlace) -> u32
+    ensures { result ≡ image_bit_of core.now.past place }
+{
+    let offset = match datagram_at(core, place.task, place.datagram) {
+        Some(datagram) => datagram.offset,
+        None => 0,
+    };
+    8 * u32::from(offset) + u32::from(place.bit)
+}
+
+/// What C is told of a place of the present line.
+fn told_place(core: &Core, place: LinePlace) -> Place
+    ensures { result ≡ told_place core.now.past place }
 {
     Place {
         task: place.task,
@@ -101,6 +114,7 @@ fn told_place(place: LinePlace) -> Place
             Dir::In => true,
         },
         bit: place.bit,
+        image_bit: image_bit_of(core, place),
     }
 }
 
@@ -124,7 +138,7 @@ pub extern "C" fn zangjulf_place(
     variable: u32,
     place: &mut Place,
 ) -> u8
-    ensures told { IfSome handle.now.holding.value (λ now. result ≢ BUSY → MatchOption (place_at (past_of now) variable) (result ≡ NOTHING) (λ found. (result ≡ DONE) × (place.new ≡ told_place found))) }
+    ensures told { IfSome handle.now.holding.value (λ now. result ≢ BUSY → MatchOption (place_at (past_of now) variable) (result ≡ NOTHING) (λ found. (result ≡ DONE) × (place.new ≡ told_place (past_of now) found))) }
     ensures untouched { result ≢ DONE → place.new ≡ place.old }
     ensures closed { handle.now.holding.value ≡ None → (result ≡ CLOSED) × (place.new ≡ place.old) }
 {
@@ -134,7 +148,7 @@ pub extern "C" fn zangjulf_place(
     };
     let number = match place_at(&own.core, variable) {
         Some(found) => {
-            *place = told_place(found);
+            *place = told_place(&own.core, found);
             DONE
         }
         None => NOTHING,

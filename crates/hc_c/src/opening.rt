@@ -8,7 +8,7 @@ ghost use Rattle.hc_c.specs.Opening.{crowded_in, fresh, opened_by, opening_numbe
 use crate::calls::Calls;
 use crate::embedded::Embedded;
 use crate::handle::Handle;
-use crate::numbers::{CROWDED, DONE, MEMORY};
+use crate::numbers::{CROWDED, DONE, MEMORY, PROJECT};
 use crate::spare::Spare;
 use crate::untold::Untold;
 use hc_core::keeping::Core;
@@ -49,7 +49,7 @@ fn open_project(alloc: Global, project: Project, task: &mut u8) -> Result<Box<Em
 }
 
 /// Opens the project of a text in place of what the handle held, and answers `DONE`: the mandatory group alone is present,
-/// and nothing has happened. Otherwise the handle is closed, and the answer is the project's fault, 1 to 10, the lowest
+/// and nothing has happened. Otherwise the handle is closed, and the answer is the project's fault, 201 to 210, the lowest
 /// whose condition holds; `CROWDED` where a task of the opening line needs more than 16 datagrams, and `task` is the lowest
 /// such; or `MEMORY`. With every answer but `CROWDED` `task` is as it was.
 #[unsafe(no_mangle)]
@@ -70,7 +70,7 @@ pub extern "C" fn zangjulf_open(
     let project = match read_project(alloc, text) {
         Ok(project) => project,
         Err(ProjectFault::Memory) => return MEMORY,
-        Err(fault) => return fault.number(),
+        Err(fault) => return PROJECT + fault.number(),
     };
     match open_project(alloc, project, task) {
         Ok(own) => {
