@@ -26,11 +26,10 @@
  *   zangjulf_block                          29: `*block`
  *   zangjulf_connect, _disconnect, _remap,
  *   _move                                   12: `cost->crowded`
- *   zangjulf_declare                       104: `*fault`
- *   zangjulf_next_write, _preview           29: `*size`
+ *   zangjulf_next_write                     29: `write->size`
+ *   zangjulf_preview                        29: `*size`
  *   zangjulf_send                           29: `sent->size`
  *   zangjulf_next_change                    29: `*change`
- *   zangjulf_arrive            20 to 27 and 28: `*count`, which is 0
  */
 #ifndef ZANGJULF_H
 #define ZANGJULF_H
@@ -46,69 +45,83 @@
 extern "C" {
 #endif
 
-/* What calls answer. 1 to 13 and 15 to 35 are the numbers of the faults of edits and events, which never change; 14 is no
- * fault's. Of several that hold the lowest is answered. `zangjulf_open` answers a project's fault, 1 to 10, instead. */
-enum {
-    ZANGJULF_DONE = 0,
+/* What calls answer: name, number, text. 1 to 35, but 14, are the faults of edits and events, which never change; 201 to 212 are
+ * the faults of a project's text. Where several hold, the lowest is answered. */
+#define ZANGJULF_ANSWERS(ANSWER) \
+    ANSWER(DONE, 0, "done") \
+    ANSWER(UNKNOWN_ALIAS, 1, "no declared group has the alias") \
+    ANSWER(ALREADY_PRESENT, 2, "the group is in the line already") \
+    ANSWER(NOT_PRESENT, 3, "the group is not in the line") \
+    ANSWER(MANDATORY, 4, "the mandatory group, alias 0, stays") \
+    ANSWER(UNKNOWN_STATION, 5, "no declared slave has the station address") \
+    ANSWER(ABSENT, 6, "the slave's group is not in the line") \
+    ANSWER(NO_SUCH_AREA, 7, "the slave has no such area") \
+    ANSWER(NO_SUCH_TASK, 8, "tasks are 0 to 7") \
+    ANSWER(UNKNOWN_PDO, 9, "the area does not offer one of the PDOs") \
+    ANSWER(REPEATED_PDO, 10, "a PDO is named twice") \
+    ANSWER(AREA_TOO_BIG, 11, "the area would have more bits than a datagram, 11,888") \
+    ANSWER(TOO_MANY_DATAGRAMS, 12, "a task would need more than 16 datagrams") \
+    ANSWER(EPOCHS_SPENT, 13, "the epoch is the last one, 4,294,967,295") \
+    ANSWER(STALE_POST, 15, "the post was made for another epoch") \
+    ANSWER(POST_LENGTH, 16, "the post does not have the task's number of output bytes") \
+    ANSWER(UNPROGRAMMED, 17, "register blocks are owed: no task is sent before they are written") \
+    ANSWER(NOTHING_OWED, 18, "no register block is owed") \
+    ANSWER(SERIALS_SPENT, 19, "too few serials are left below 2^40 - 1") \
+    ANSWER(SHORT, 20, "the frame has fewer bytes than the shortest one") \
+    ANSWER(NOT_ETHERCAT, 21, "the frame's EtherType is not 0x88A4") \
+    ANSWER(BAD_TYPE, 22, "the EtherCAT header has another type than 1") \
+    ANSWER(BAD_LENGTH, 23, "the frame's lengths do not fit one another") \
+    ANSWER(CIRCULATING, 24, "a datagram has come round a second time") \
+    ANSWER(MORE_FOLLOWS, 25, "the last datagram says that another one follows") \
+    ANSWER(UNKNOWN_COMMAND, 26, "a datagram has a command that is not used") \
+    ANSWER(INDEX_MISMATCH, 27, "a datagram's index is not that of the frame's serial") \
+    ANSWER(MEMORY, 28, "out of memory") \
+    ANSWER(ROOM, 29, "a slice is too short") \
+    ANSWER(ALIAS_TAKEN, 31, "a declared group has the alias") \
+    ANSWER(STATION_TAKEN, 32, "a declared slave has one of the station addresses") \
+    ANSWER(VARIABLE_TAKEN, 33, "a declared slave offers one of the variables") \
+    ANSWER(TOO_MANY_GROUPS, 34, "more than 512 groups would be declared, the mandatory one counted") \
+    ANSWER(TOO_MANY_SLAVES, 35, "more than 2,048 slaves would be declared") \
+    ANSWER(NOTHING, 100, "there is no such thing") \
+    ANSWER(WRITE_DONE, 101, "an arrival answered a register write: the block is known") \
+    ANSWER(WRITE_MISSED, 102, "an arrival answered a register write that no slave took: the block stays owed") \
+    ANSWER(STALE, 103, "an arrival answered nothing that is awaited") \
+    ANSWER(IS_INPUT, 105, "the variable is an input: no value is put into it") \
+    ANSWER(TOO_WIDE, 106, "the value needs more bits than there are") \
+    ANSWER(PROJECT_NOT_TOML, 201, "the text is no TOML document in UTF-8") \
+    ANSWER(PROJECT_MISSING_FIELD, 202, "a needed key is absent, or a value is of another kind") \
+    ANSWER(PROJECT_OUT_OF_RANGE, 203, "a value is outside its range") \
+    ANSWER(PROJECT_REPEATED_ALIAS, 204, "two groups have one alias") \
+    ANSWER(PROJECT_REPEATED_STATION, 205, "two slaves have one station address") \
+    ANSWER(PROJECT_REPEATED_SYNC_MANAGER, 206, "two areas of a slave have one sync manager") \
+    ANSWER(PROJECT_OVERLAPPING_AREAS, 207, "two areas of a slave overlap in its memory") \
+    ANSWER(PROJECT_REPEATED_VARIABLE, 208, "a variable is named by two entries") \
+    ANSWER(PROJECT_UNKNOWN_PDO, 209, "an assigned PDO is not one offered PDO") \
+    ANSWER(PROJECT_AREA_TOO_BIG, 210, "an area has more bits than a datagram, 11,888") \
+    ANSWER(PROJECT_NOT_ONE_GROUP, 212, "the text is a project, but not one group's") \
+    ANSWER(CHANGES_FULL, 252, "as many changes wait as the line was opened to keep") \
+    ANSWER(BUSY, 253, "another call with the handle runs") \
+    ANSWER(MISUSED, 254, "what the call asks of its caller does not hold") \
+    ANSWER(CLOSED, 255, "the handle is closed")
 
-    ZANGJULF_UNKNOWN_ALIAS = 1,        /* no declared group has the alias */
-    ZANGJULF_ALREADY_PRESENT = 2,      /* the group is in the line already */
-    ZANGJULF_NOT_PRESENT = 3,          /* the group isn't in the line */
-    ZANGJULF_MANDATORY = 4,            /* the mandatory group, alias 0, stays */
-    ZANGJULF_UNKNOWN_STATION = 5,      /* no declared slave has the station address */
-    ZANGJULF_ABSENT = 6,               /* the slave's group isn't in the line */
-    ZANGJULF_NO_SUCH_AREA = 7,         /* the slave has no such area */
-    ZANGJULF_NO_SUCH_TASK = 8,         /* tasks are 0 to 7 */
-    ZANGJULF_UNKNOWN_PDO = 9,          /* the area doesn't offer one of the PDOs */
-    ZANGJULF_REPEATED_PDO = 10,        /* a PDO is named twice */
-    ZANGJULF_AREA_TOO_BIG = 11,        /* the area would have more bits than a datagram, 11,888 */
-    ZANGJULF_TOO_MANY_DATAGRAMS = 12,  /* a task would need more than 16 datagrams */
-    ZANGJULF_EPOCHS_SPENT = 13,        /* the epoch is the last one, 4,294,967,295 */
-    ZANGJULF_STALE_POST = 15,          /* the post was made for another epoch */
-    ZANGJULF_POST_LENGTH = 16,         /* the post hasn't the task's number of output bytes */
-    ZANGJULF_UNPROGRAMMED = 17,        /* register blocks are owed */
-    ZANGJULF_NOTHING_OWED = 18,        /* no register block is owed */
-    ZANGJULF_SERIALS_SPENT = 19,       /* too few serials are left below 2^40 - 1 */
-    ZANGJULF_SHORT = 20,               /* the frame has fewer bytes than the shortest one */
-    ZANGJULF_NOT_ETHERCAT = 21,        /* the frame's EtherType isn't 0x88A4 */
-    ZANGJULF_BAD_TYPE = 22,            /* its EtherCAT header has another type than 1 */
-    ZANGJULF_BAD_LENGTH = 23,          /* its lengths don't fit one another */
-    ZANGJULF_CIRCULATING = 24,         /* a datagram has come round a second time */
-    ZANGJULF_MORE_FOLLOWS = 25,        /* the last datagram says that another one follows */
-    ZANGJULF_UNKNOWN_COMMAND = 26,     /* a datagram has a command that isn't used */
-    ZANGJULF_INDEX_MISMATCH = 27,      /* a datagram's index isn't that of the frame's serial */
-    ZANGJULF_MEMORY = 28,              /* a growth of memory was refused */
-    ZANGJULF_ROOM = 29,                /* a slice is too short for what is to stand in it */
-    ZANGJULF_BAD_GROUP = 30,           /* the group is none by itself; `zangjulf_declare` answers ZANGJULF_NO_GROUP instead */
-    ZANGJULF_ALIAS_TAKEN = 31,         /* a declared group has the alias */
-    ZANGJULF_STATION_TAKEN = 32,       /* a declared slave has one of the station addresses */
-    ZANGJULF_VARIABLE_TAKEN = 33,      /* a declared slave offers one of the variables */
-    ZANGJULF_TOO_MANY_GROUPS = 34,     /* more than 512 groups would be declared, the mandatory one counted */
-    ZANGJULF_TOO_MANY_SLAVES = 35,     /* more than 2,048 slaves would be declared */
+#define ZANGJULF_ANSWER_NUMBER(name, number, text) ZANGJULF_##name = number,
+enum zangjulf_answer { ZANGJULF_ANSWERS(ZANGJULF_ANSWER_NUMBER) };
 
-    ZANGJULF_NOTHING = 100,            /* there is no such thing */
-    ZANGJULF_WRITE_DONE = 101,         /* an arrival answered a register write: the block is known */
-    ZANGJULF_WRITE_MISSED = 102,       /* an arrival answered a register write that no slave took: the block stays owed */
-    ZANGJULF_STALE = 103,              /* an arrival answered nothing that is awaited */
-    ZANGJULF_NO_GROUP = 104,           /* a text that is to be declared is no group's */
-    ZANGJULF_MISUSED = 254,            /* what the call asks of its caller doesn't hold */
-    ZANGJULF_CLOSED = 255              /* the handle is closed */
-};
-
-/* The faults of a project, which `zangjulf_open` answers, and of a text in `zangjulf_declare`, which tells them by `fault`. */
-enum {
-    ZANGJULF_PROJECT_NOT_TOML = 1,             /* the text is no TOML document in UTF-8 */
-    ZANGJULF_PROJECT_MISSING_FIELD = 2,        /* a needed key is absent, or a value is of another kind */
-    ZANGJULF_PROJECT_OUT_OF_RANGE = 3,         /* a value is outside its range */
-    ZANGJULF_PROJECT_REPEATED_ALIAS = 4,       /* two groups have one alias */
-    ZANGJULF_PROJECT_REPEATED_STATION = 5,     /* two slaves have one station address */
-    ZANGJULF_PROJECT_REPEATED_SYNC_MANAGER = 6,/* two areas of a slave have one sync manager */
-    ZANGJULF_PROJECT_OVERLAPPING_AREAS = 7,    /* two areas of a slave overlap in its memory */
-    ZANGJULF_PROJECT_REPEATED_VARIABLE = 8,    /* a variable stands in two entries */
-    ZANGJULF_PROJECT_UNKNOWN_PDO = 9,          /* an assigned PDO isn't one offered PDO */
-    ZANGJULF_PROJECT_AREA_TOO_BIG = 10,        /* an area has more bits than a datagram */
-    ZANGJULF_PROJECT_NOT_ONE_GROUP = 12        /* of `zangjulf_declare` alone: a project, but not one group's */
-};
+/* The name of an answer, as "UNPROGRAMMED", and what it says; "UNKNOWN" and "no call answers this" of any other number. */
+#define ZANGJULF_ANSWER_NAME(name, number, text) case number: return #name;
+static inline const char *zangjulf_name(uint8_t answer) {
+    switch (answer) {
+        ZANGJULF_ANSWERS(ZANGJULF_ANSWER_NAME)
+        default: return "UNKNOWN";
+    }
+}
+#define ZANGJULF_ANSWER_TEXT(name, number, text) case number: return text;
+static inline const char *zangjulf_text(uint8_t answer) {
+    switch (answer) {
+        ZANGJULF_ANSWERS(ZANGJULF_ANSWER_TEXT)
+        default: return "no call answers this";
+    }
+}
 
 #define ZANGJULF_TASKS 8            /* tasks are 0 to 7 */
 #define ZANGJULF_DATAGRAMS 16       /* the most datagrams of a task */
@@ -128,24 +141,70 @@ struct zangjulf {
 /* Opening and closing. */
 
 /* Opens the project of a text (docs/PROJECT_TEXT.md) in place of what the handle held: the mandatory group alone is present,
- * epoch and serial are 0, each register block is owed. ZANGJULF_DONE; a project's fault, 1 to 10, the lowest;
+ * epoch and serial are 0, each register block is owed. ZANGJULF_DONE; a project's fault, 201 to 210, the lowest;
  * ZANGJULF_TOO_MANY_DATAGRAMS, and `*task` is the lowest task, 0 to 7, that needs more than 16; or ZANGJULF_MEMORY. Unless it
  * is done the handle is closed. Takes memory. */
-uint8_t zangjulf_open(struct zangjulf *handle, const uint8_t *text, size_t length, uint8_t *task);
+uint8_t zangjulf_open(struct zangjulf *handle, const uint8_t *text, size_t length, uint32_t changes, uint8_t *task);
 
 /* Frees what the handle holds; it is closed then, and may be opened anew. Also a closed handle may be closed. */
 void zangjulf_close(struct zangjulf *handle);
 
+/* A place of a project's text. Indexes count from 0 in the order of the text, and are ZANGJULF_NOWHERE where the place lies in
+ * none. */
+#define ZANGJULF_NOWHERE SIZE_MAX
+enum {
+    ZANGJULF_KEY_WHOLE = 0,        /* the table itself */
+    ZANGJULF_KEY_GROUPS = 1,       /* the array `group` of the document */
+    ZANGJULF_KEY_ALIAS = 2,        /* `alias` of a group */
+    ZANGJULF_KEY_SLAVES = 3,       /* the array `slave` of the document or of a group */
+    ZANGJULF_KEY_STATION = 4,      /* `station` of a slave */
+    ZANGJULF_KEY_AREAS = 5,        /* the array `area` of a slave */
+    ZANGJULF_KEY_SM = 6,           /* `sm` of an area */
+    ZANGJULF_KEY_DIR = 7,          /* `dir` of an area */
+    ZANGJULF_KEY_PHYS = 8,         /* `phys` of an area */
+    ZANGJULF_KEY_TASK = 9,         /* `task` of an area */
+    ZANGJULF_KEY_ASSIGNED = 10,    /* the array `assigned` of an area */
+    ZANGJULF_KEY_ASSIGNED_AT = 11, /* `item` of it */
+    ZANGJULF_KEY_PDOS = 12,        /* the array `pdo` of an area */
+    ZANGJULF_KEY_INDEX = 13,       /* `index` of a PDO */
+    ZANGJULF_KEY_ENTRIES = 14,     /* the array `entries` of a PDO */
+    ZANGJULF_KEY_ENTRY = 15,       /* `item` of it */
+    ZANGJULF_KEY_VARIABLE = 16,    /* the variable of that entry */
+    ZANGJULF_KEY_BITS = 17         /* the bits of that entry */
+};
+struct zangjulf_spot {
+    size_t group;     /* the group, counted from 1 as the text declares them; 0 is the top of the document */
+    size_t slave;     /* the slave in its array */
+    size_t area;      /* the area of the slave */
+    size_t pdo;       /* the PDO that the area offers */
+    size_t item;      /* the item of the array that the key means */
+    uint16_t alias;   /* the group's alias, 0 at the top and where it can't be read */
+    uint16_t station; /* the slave's station address, 0 where the place lies in no slave and where it can't be read */
+    uint8_t key;      /* what the place names there: ZANGJULF_KEY_.. */
+};
+
+/* Where a text is no project. */
+struct zangjulf_location {
+    size_t line;                /* of 201 the line, counted from 1; else 0 */
+    size_t column;              /* of 201 the column in characters, counted from 1; else 0 */
+    struct zangjulf_spot place; /* of every other fault the first place at which its condition holds */
+    struct zangjulf_spot first; /* of two things that may not stand together the earlier one; else as `place` */
+};
+
+/* Why `zangjulf_open` refuses a text, and where: ZANGJULF_DONE where it is a project; its fault, 201 to 210; or ZANGJULF_MEMORY.
+ * With ZANGJULF_DONE and ZANGJULF_MEMORY `*location` is as it was. It takes memory, and gives it back. */
+uint8_t zangjulf_locate(const uint8_t *text, size_t length, struct zangjulf_location *location);
+
 /* What the line tells of itself: ZANGJULF_DONE or ZANGJULF_CLOSED. None takes memory. */
 
 /* The number of accepted edits. */
-uint8_t zangjulf_epoch(struct zangjulf *handle, uint32_t *epoch);
+uint8_t zangjulf_epoch(const struct zangjulf *handle, uint32_t *epoch);
 
 /* The serial of the next frame, which is the number of frames sent before it. */
-uint8_t zangjulf_next_serial(struct zangjulf *handle, uint64_t *serial);
+uint8_t zangjulf_next_serial(const struct zangjulf *handle, uint64_t *serial);
 
 /* How many register blocks are owed: no task is sent before they are written. */
-uint8_t zangjulf_owed(struct zangjulf *handle, uint32_t *count);
+uint8_t zangjulf_owed(const struct zangjulf *handle, uint32_t *count);
 
 /* The configuration of the present line: ZANGJULF_DONE, ZANGJULF_NOTHING or ZANGJULF_CLOSED unless another answer is named. It
  * is that of configuring the present line from nothing. None takes memory. */
@@ -157,10 +216,11 @@ struct zangjulf_place {
     uint8_t bits;     /* its bits, 1 to 64 */
     bool is_input;    /* whether the slave sends it */
     uint16_t bit;     /* its first bit in the datagram's data, counted from the least significant bit of byte 0 */
+    uint32_t image_bit; /* its first bit in its task's image, counted likewise: of what the task posts, and of what it reads */
 };
 
 /* A variable, 1 to 4,294,967,295; nothing where the line has no place for it. */
-uint8_t zangjulf_place(struct zangjulf *handle, uint32_t variable, struct zangjulf_place *place);
+uint8_t zangjulf_place(const struct zangjulf *handle, uint32_t variable, struct zangjulf_place *place);
 
 /* A datagram of a task. */
 struct zangjulf_datagram {
@@ -171,7 +231,7 @@ struct zangjulf_datagram {
 };
 
 /* The datagram with a number, from 0, of a task; nothing where the task has fewer, or there is no such task. */
-uint8_t zangjulf_datagram(struct zangjulf *handle, uint8_t task, uint8_t number, struct zangjulf_datagram *datagram);
+uint8_t zangjulf_datagram(const struct zangjulf *handle, uint8_t task, uint8_t number, struct zangjulf_datagram *datagram);
 
 /* The bytes of a task's image. */
 struct zangjulf_part {
@@ -180,13 +240,13 @@ struct zangjulf_part {
 };
 
 /* Those of a task, 0 and 0 where there is none: ZANGJULF_DONE or ZANGJULF_CLOSED. */
-uint8_t zangjulf_part(struct zangjulf *handle, uint8_t task, struct zangjulf_part *part);
+uint8_t zangjulf_part(const struct zangjulf *handle, uint8_t task, struct zangjulf_part *part);
 
 /* The station address of the slave at a position of the line, from 0; nothing where the line is shorter. */
-uint8_t zangjulf_station(struct zangjulf *handle, uint32_t position, uint16_t *station);
+uint8_t zangjulf_station(const struct zangjulf *handle, uint32_t position, uint16_t *station);
 
 /* The position, from 0, of the slave with a station address: ZANGJULF_DONE; 5, 6 or ZANGJULF_CLOSED. */
-uint8_t zangjulf_position(struct zangjulf *handle, uint16_t station, uint32_t *position);
+uint8_t zangjulf_position(const struct zangjulf *handle, uint16_t station, uint32_t *position);
 
 /* A register block. */
 struct zangjulf_block {
@@ -198,7 +258,7 @@ struct zangjulf_block {
  * manager block, then its FMMU block. ZANGJULF_DONE, and its bytes stand at the front of `out`; ZANGJULF_NOTHING where no such
  * slave is present or it has fewer blocks; 29 with the bytes needed in `block->size`; or ZANGJULF_CLOSED. Unless it is done
  * `out` is as it was. */
-uint8_t zangjulf_block(struct zangjulf *handle, uint16_t station, uint8_t number, uint8_t *out, size_t length,
+uint8_t zangjulf_block(const struct zangjulf *handle, uint16_t station, uint8_t number, uint8_t *out, size_t length,
                        struct zangjulf_block *block);
 
 /* Edits. Where `asks` is true nothing changes, and what the edit would do is told. It is a byte, 0 or 1: a caller whose
@@ -232,19 +292,35 @@ uint8_t zangjulf_remap(struct zangjulf *handle, uint16_t station, uint8_t area, 
 uint8_t zangjulf_move(struct zangjulf *handle, uint16_t station, uint8_t area, uint8_t task, bool asks,
                       struct zangjulf_cost *cost);
 
-/* The group of a text, a project's with exactly one group and no mandatory slave, is declared behind the others. It is absent
- * until it is connected, and the line stays as it is but for its epoch. ZANGJULF_DONE; 13, 31 to 35; ZANGJULF_NO_GROUP, and
- * `*fault` is the lowest fault of the text: a project's, or behind these 12 where it is the text of another project;
- * ZANGJULF_MEMORY or ZANGJULF_CLOSED. Takes memory. */
-uint8_t zangjulf_declare(struct zangjulf *handle, const uint8_t *text, size_t length, bool asks, uint8_t *fault,
-                         struct zangjulf_cost *cost);
+/* The group of a text, a project's with exactly one group and no mandatory slave, is declared after the others. It is absent
+ * until it is connected, and the line stays as it is but for its epoch. ZANGJULF_DONE; 13, 31 to 35; the lowest fault of the
+ * text, 201 to 210, or after these 212 where it is the text of another project; ZANGJULF_MEMORY or ZANGJULF_CLOSED. Takes
+ * memory. */
+uint8_t zangjulf_declare(struct zangjulf *handle, const uint8_t *text, size_t length, bool asks, struct zangjulf_cost *cost);
 
 /* Register writes. */
 
-/* The first owed register block is sent: its frame stands at the front of `out`, and `*size` is its bytes, at most 60.
- * ZANGJULF_DONE; 18, 19, or 29 with the bytes needed in `*size`; or ZANGJULF_CLOSED. Unless it is done nothing changed, `out`
- * neither. What returns is handed to `zangjulf_arrive`; a write that is lost is sent again by the next call. Takes no memory. */
-uint8_t zangjulf_next_write(struct zangjulf *handle, uint8_t *out, size_t length, size_t *size);
+/* A register block that is owed: of which slave, where it begins, and how many bytes it has. */
+struct zangjulf_owed_block {
+    uint16_t station; /* the slave's station address */
+    uint16_t start;   /* the register at which it begins */
+    uint8_t size;     /* its bytes: 8 of a sync manager, 16 of an FMMU */
+};
+
+/* The owed block with an index, from 0, in the order in which they are written. ZANGJULF_DONE; ZANGJULF_NOTHING where fewer are
+ * owed; or ZANGJULF_CLOSED. Takes no memory. */
+uint8_t zangjulf_owed_block(const struct zangjulf *handle, uint32_t index, struct zangjulf_owed_block *block);
+
+/* A register write that was sent. */
+struct zangjulf_write {
+    size_t size;                      /* the bytes of its frame, at most 60 */
+    struct zangjulf_owed_block block; /* the block that it writes */
+};
+
+/* The first owed register block is sent: its frame stands at the front of `out`. ZANGJULF_DONE; 18, 19, or 29 with the bytes
+ * needed in `write->size`; or ZANGJULF_CLOSED. Unless it is done nothing changed, `out` neither. What returns is handed to
+ * `zangjulf_arrive`; a write that is lost is sent again by the next call. Takes no memory. */
+uint8_t zangjulf_next_write(struct zangjulf *handle, uint8_t *out, size_t length, struct zangjulf_write *write);
 
 /* Process data. */
 
@@ -256,6 +332,7 @@ uint8_t zangjulf_post(struct zangjulf *handle, uint8_t task, uint32_t epoch, con
 struct zangjulf_sent {
     size_t size;   /* the bytes of all frames */
     size_t frames; /* how many they are, at most 128 */
+    uint32_t owed; /* of an answer 17 how many register blocks are owed; else 0 */
 };
 
 /* Tasks are sent, 1 to 8 and none twice, in this order: their frames stand at the front of `out` one after another, each of its
@@ -276,42 +353,67 @@ static inline size_t zangjulf_frame_size(const uint8_t *frame) {
  * stands at the front of `out`, and `*size` is its bytes. ZANGJULF_DONE; ZANGJULF_NOTHING where the task has no such datagram,
  * there is no such task, or no serial is left; 29 where `out` is too short, and is as it was; or ZANGJULF_CLOSED. Takes no
  * memory. */
-uint8_t zangjulf_preview(struct zangjulf *handle, uint8_t task, uint8_t datagram, uint8_t *out, size_t length, size_t *size);
+uint8_t zangjulf_preview(const struct zangjulf *handle, uint8_t task, uint8_t datagram, uint8_t *out, size_t length, size_t *size);
 
-/* What an arrival is for a datagram. */
+/* What an arrival is for a datagram of a task. */
 enum {
     ZANGJULF_INPUTS = 1,      /* its data are what its task reads now */
-    ZANGJULF_WRONG_COUNT = 2, /* it came back with another working counter, and nothing changed */
-    ZANGJULF_SENT_AGAIN = 3   /* it was sent again since, and nothing changed */
+    ZANGJULF_WRONG_COUNT = 2, /* it came back with another working counter, and what its task reads is as it was */
+    ZANGJULF_SENT_AGAIN = 3   /* it was sent again since, and what its task reads is as it was */
 };
 struct zangjulf_outcome {
     uint8_t kind;
-    uint8_t task;      /* of inputs, 0 to 7; else 0 */
-    uint8_t datagram;  /* of inputs its number in the task, 0 to 15; else 0 */
-    uint16_t expected; /* of a wrong count the expected working counter; else 0 */
-    uint16_t got;      /* of a wrong count the one that it came back with; else 0 */
+    uint8_t task;      /* 0 to 7 */
+    uint8_t datagram;  /* its number in the task, 0 to 15 */
+    uint16_t expected; /* the expected working counter */
+    uint16_t got;      /* the one that it came back with */
+    uint16_t at;       /* the byte of the frame at which its data begin, so that those of a wrong count can be had */
+    uint16_t length;   /* the bytes of its data */
 };
 
-/* A frame arrives: any bytes, without the check sequence. ZANGJULF_DONE where they answer frames of tasks: `*count` tells how
- * many datagrams they have, and the outcomes of the first of them stand in `outcomes`, as many as there is room for.
- * ZANGJULF_WRITE_DONE, ZANGJULF_WRITE_MISSED or ZANGJULF_STALE; or nothing changed: 20 to 27 where they can't be read,
- * ZANGJULF_MEMORY, or ZANGJULF_CLOSED. Of all answers but ZANGJULF_DONE `*count` is 0; of ZANGJULF_CLOSED it is as it was. Takes
- * memory. */
+/* What an arrival answers. */
+struct zangjulf_arrival {
+    uint64_t serial;  /* of the sending that it answers */
+    size_t datagrams; /* how many datagrams of tasks it has; 0 of a register write */
+    uint16_t station; /* of a register write the slave's station address; else 0 */
+    uint16_t start;   /* of a register write the register at which its block begins; else 0 */
+};
+
+/* A frame arrives: any bytes, without the check sequence. ZANGJULF_DONE where they answer frames of tasks, and the outcomes of
+ * the first datagrams stand in `outcomes`, as many as there is room for. ZANGJULF_WRITE_DONE or ZANGJULF_WRITE_MISSED of a
+ * register write, and `*arrival` names it. ZANGJULF_STALE; or nothing changed: 20 to 27 where they can't be read,
+ * ZANGJULF_CHANGES_FULL, ZANGJULF_MEMORY, or ZANGJULF_CLOSED; then `*arrival` is as it was. Takes memory only where changes are
+ * kept, and after an edit. */
 uint8_t zangjulf_arrive(struct zangjulf *handle, const uint8_t *bytes, size_t length, struct zangjulf_outcome *outcomes,
-                        size_t room, size_t *count);
+                        size_t room, struct zangjulf_arrival *arrival);
 
 /* A task's input image. */
 struct zangjulf_image {
     uint32_t epoch;   /* whose places the data are in */
     size_t datagrams; /* how many the task has, at most 16 */
-    size_t size;      /* the bytes of all their data, at most 23,776 */
+    size_t size;      /* the bytes of the task's image, at most 23,776 */
+    uint16_t has;     /* bit d: datagram d has data in this epoch */
 };
 
-/* What a task reads: of each of its datagrams the data of its last good answer in the present epoch, or none. They stand at the
- * front of `out` one after another, and `sizes` has the bytes of each, 0 where it has none, as many as there is room for.
- * ZANGJULF_DONE, 8, 29 or ZANGJULF_CLOSED. Unless it is done `out` is as it was. Nothing changes. Takes no memory. */
-uint8_t zangjulf_read(struct zangjulf *handle, uint8_t task, uint8_t *out, size_t length, size_t *sizes, size_t room,
+/* What a task reads: of each of its datagrams the data of its last good answer in the present epoch, or none. They stand in
+ * `out` at the datagram's offset in the task's image; bytes of a datagram without data are 0. `serials` has of each the serial
+ * of the sending that its data answer, 0 where it has none, as many as there is room for: the difference to what was sent last
+ * is their age. ZANGJULF_DONE, 8, 29 or ZANGJULF_CLOSED. Unless it is done `out` is as it was. Nothing changes. Takes no
+ * memory. */
+uint8_t zangjulf_read(const struct zangjulf *handle, uint8_t task, uint8_t *out, size_t length, uint64_t *serials, size_t room,
                       struct zangjulf_image *image);
+
+/* How often a datagram, by task and number, was sent, and what arrivals were for it, since the line was opened. An edit sets
+ * none of them back. Each stops at 2^64 - 1. */
+struct zangjulf_counters {
+    uint64_t sent;
+    uint64_t good;
+    uint64_t wrong;
+    uint64_t again;
+};
+
+/* Those of a datagram: ZANGJULF_DONE; ZANGJULF_NOTHING where the task is over 7, or the number over 15; or ZANGJULF_CLOSED. */
+uint8_t zangjulf_counters(const struct zangjulf *handle, uint8_t task, uint8_t datagram, struct zangjulf_counters *counters);
 
 /* A change of what tasks read. */
 enum {
@@ -330,6 +432,48 @@ struct zangjulf_change {
  * told again; or ZANGJULF_CLOSED. Unless it is done `out` is as it was. Changes that nobody asks for are kept until the handle
  * is closed. Takes no memory. */
 uint8_t zangjulf_next_change(struct zangjulf *handle, uint8_t *out, size_t length, struct zangjulf_change *change);
+
+/* Bits of bytes that the caller keeps, counted from the least significant bit of the first byte. None takes memory. */
+
+/* The number in 1 to 64 bits from bit `bit` on, whose least significant bit is the first one. ZANGJULF_DONE; ZANGJULF_MISUSED
+ * where `bits` is 0 or over 64, or they don't lie within the slice, and `*value` is as it was. */
+uint8_t zangjulf_get_bits(const uint8_t *bytes, size_t length, size_t bit, uint8_t bits, uint64_t *value);
+
+/* Replaces 1 to 64 bits from bit `bit` on by those of a number; every other bit stays. ZANGJULF_DONE; ZANGJULF_MISUSED where
+ * `bits` is 0 or over 64, or they don't lie within the slice; ZANGJULF_TOO_WIDE where the number needs more bits. Unless it is
+ * done the slice is as it was. */
+uint8_t zangjulf_put_bits(uint8_t *bytes, size_t length, size_t bit, uint8_t bits, uint64_t value);
+
+/* Puts a value into a task's outputs, at the place that an output variable has in the present line; every other bit stays.
+ * ZANGJULF_DONE; ZANGJULF_NOTHING where the line has no place for the variable; ZANGJULF_IS_INPUT; ZANGJULF_TOO_WIDE where the
+ * value needs more bits than the variable has; 29 where the slice ends before the place does; or ZANGJULF_CLOSED. Unless it is
+ * done the slice is as it was. */
+uint8_t zangjulf_put_value(const struct zangjulf *handle, uint32_t variable, uint64_t value, uint8_t *outputs, size_t length);
+
+/* The value of a variable in its task's image, as `zangjulf_read` gives it, at the place that it has in the present line.
+ * ZANGJULF_DONE; ZANGJULF_NOTHING where the line has no place for the variable; 29 where the slice ends before the place does;
+ * or ZANGJULF_CLOSED. Unless it is done `*value` is as it was. */
+uint8_t zangjulf_get_value(const struct zangjulf *handle, uint32_t variable, const uint8_t *image, size_t length,
+                           uint64_t *value);
+
+/* Frames beside those of the line. A frame that the library writes bears the source address 02 and its serial in five bytes, the
+ * high one first, and its datagrams the index serial modulo 256. A master's own EtherCAT frames take another first byte of the
+ * source address, with bit 1 set, since slaves set that bit of what passes: ZANGJULF_OTHER_SOURCE for instance. Then any index
+ * is free. None takes memory. */
+#define ZANGJULF_OTHER_SOURCE 0x06
+
+/* Whether a frame may be one that the library wrote, as sent or as it came back: EtherType 0x88A4, and a source address that
+ * begins with 02. */
+bool zangjulf_is_mine(const uint8_t *frame, size_t length);
+
+/* The frame that reads the station alias of the slave at a position, from 0 (APRD of register 0x0012): it stands at the front of
+ * `out`, and `*size` is 60. ZANGJULF_DONE, or 29 where `out` is shorter, and is as it was. It bears the serial 2^40 - 1, which no
+ * other sending has, and `zangjulf_arrive` answers it STALE: its alias stands in bytes 26 and 27, low byte first, and the
+ * working counter after it is 1 where a slave answered. */
+uint8_t zangjulf_alias_read(uint16_t position, uint8_t *out, size_t length, size_t *size);
+
+/* The frame that gives the slave at a position, from 0, its station address (APWR of register 0x0010), likewise. */
+uint8_t zangjulf_station_write(uint16_t position, uint16_t station, uint8_t *out, size_t length, size_t *size);
 
 /* A simulated slave, over 12,288 bytes that the caller keeps: registers and process memory from register 0 on
  * (docs/SLAVE_MACHINE.md). ZANGJULF_DONE; ZANGJULF_MISUSED where `size` is another, and then nothing is written. Neither takes

@@ -58,7 +58,7 @@ compiled() {
 
 # compiled_fuzz WORDS..: the caller that draws, likewise
 compiled_fuzz() {
-    compiled fuzz tools/embed/draws.c tools/embed/growths.c tools/embed/news.c tools/embed/words.c $wrapped "$@"
+    compiled fuzz tools/embed/draws.c tools/embed/growths.c tools/embed/model.c tools/embed/news.c tools/embed/words.c $wrapped "$@"
 }
 
 # edges LABEL FLAGS..: what a caller may do wrong
@@ -112,8 +112,9 @@ compare_drawn() {
         ! same_inside "$scratch/wrong" $way "$hotline"
         tell $? "drawn calls agree with a program with another $way"
     done
-    for name in place read connect arrive next_change next_write preview post close; do
-        compiled_fuzz tools/embed/wrong.c -DWRONG_$name -Wl,--wrap=zangjulf_$name
+    for name in place read read=2 read=3 connect arrive arrive=2 next_change next_write preview post close counters owed_block \
+        get_value put_bits; do
+        compiled_fuzz tools/embed/wrong.c -DWRONG_$name -Wl,--wrap=zangjulf_${name%=*}
         tell $? "the wrong $name isn't built"
         ! { drawn examples/tool_changer.in 30000 3 && same_inside "$hotline"; }
         tell $? "drawn calls don't find the wrong $name"
@@ -229,8 +230,10 @@ if has gcc; then
     play C "$scratch/play"
     edges "C callers that do wrong" -fsanitize=address,undefined
     edges "growths refused to a C caller" -DWRAPPED tools/embed/growths.c $wrapped
-    compiled_fuzz && timeout 600 "$scratch/fuzz" examples/tool_changer.toml 1000000 1
-    tell $? "a million drawn calls from C"
+    compiled steady tools/embed/growths.c $wrapped && timeout 60 "$scratch/steady"
+    tell $? "a cycle that takes memory"
+    compiled_fuzz && timeout 900 "$scratch/fuzz" examples/tool_changer.toml 2000000 1
+    tell $? "two million drawn calls from C"
     if has rustc && rustc -O --edition 2021 -o "$scratch/wrong" compare/wrong_program.rs; then
         compare_drawn
     fi

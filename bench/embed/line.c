@@ -67,11 +67,12 @@ const size_t LIST_SIZES[5] = {1, 1, 1, 5, 3};
 uint32_t write_all(struct zangjulf *line) {
     uint8_t frame[60];
     struct zangjulf_outcome outcome;
-    size_t size = 0, count = 0;
+    struct zangjulf_write write;
+    struct zangjulf_arrival arrival;
     uint32_t writes = 0;
-    for (; !zangjulf_next_write(line, frame, sizeof frame, &size); writes++) {
+    for (; !zangjulf_next_write(line, frame, sizeof frame, &write); writes++) {
         frame[26 + frame[22]] = 1;
-        if (zangjulf_arrive(line, frame, size, &outcome, 1, &count) != ZANGJULF_WRITE_DONE) give_up("a block isn't written");
+        if (zangjulf_arrive(line, frame, write.size, &outcome, 1, &arrival) != ZANGJULF_WRITE_DONE) give_up("a block isn't written");
     }
     return writes;
 }

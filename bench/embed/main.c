@@ -73,7 +73,7 @@ static struct zangjulf open_line(void) {
     size_t size;
     uint8_t task;
     const uint8_t *text = project(&size);
-    if (zangjulf_open(&line, text, size, &task)) give_up("the project isn't opened");
+    if (zangjulf_open(&line, text, size, UINT32_MAX, &task)) give_up("the project isn't opened");
     return line;
 }
 
@@ -82,14 +82,15 @@ static void fill_slave(struct slices *slices, const uint8_t *frame, size_t size)
     struct zangjulf line = open_line();
     const uint16_t station = 1003;
     uint8_t write[60];
-    size_t written = 0, count = 0;
+    struct zangjulf_write written;
+    struct zangjulf_arrival arrival;
     struct zangjulf_outcome outcome;
     zangjulf_slave_start(slices->out, ZANGJULF_SLAVE_MEMORY, 0);
     memcpy(slices->out + 0x10, &station, 2);
     while (!zangjulf_next_write(&line, write, sizeof write, &written)) {
-        zangjulf_slave_process(slices->out, ZANGJULF_SLAVE_MEMORY, write, written);
+        zangjulf_slave_process(slices->out, ZANGJULF_SLAVE_MEMORY, write, written.size);
         write[26 + write[22]] = 1;
-        zangjulf_arrive(&line, write, written, &outcome, 1, &count);
+        zangjulf_arrive(&line, write, written.size, &outcome, 1, &arrival);
     }
     zangjulf_close(&line);
     memcpy(slices->in, frame, size);
@@ -100,7 +101,7 @@ static uint32_t prepare(const struct row *row, struct slices *slices) {
     struct zangjulf line = open_line();
     static uint8_t frames[ZANGJULF_FRAMES];
     const struct timed *timed = &row->timed;
-    struct zangjulf_sent sent = {0, 0};
+    struct zangjulf_sent sent = {0, 0, 0};
     memset(slices, 0, sizeof *slices);
     memset(slices->in, 0x69, row->in);
     slices->in_size = row->in, slices->out_size = row->out;
@@ -132,10 +133,10 @@ static bool send(struct zangjulf *line, const struct timed *timed, struct slices
 
 static bool exchange(struct zangjulf *line, const struct timed *timed, struct slices *slices) {
     struct zangjulf_outcome outcomes[ZANGJULF_OUTCOMES];
-    size_t count = 0;
+    struct zangjulf_arrival arrival;
     if (!send(line, timed, slices)) return false;
     for (size_t i = 0; i < slices->counted_count; i++) slices->out[slices->counted[i].at] = slices->counted[i].count;
-    bool is_answered = !zangjulf_arrive(line, slices->out, slices->out_size, outcomes, ZANGJULF_OUTCOMES, &count);
+    bool is_answered = !zangjulf_arrive(line, slices->out, slices->out_size, outcomes, ZANGJULF_OUTCOMES, &arrival);
     return is_answered & take_changes(line);
 }
 
@@ -163,7 +164,6 @@ static bool look(struct zangjulf *line, const struct timed *timed, struct slices
 static bool edit(struct zangjulf *line, const struct timed *timed, struct slices *slices) {
     const uint16_t name = timed->name, pdo = 0x1600;
     struct zangjulf_cost cost;
-    uint8_t fault;
     switch (timed->kind) {
     case CONNECT: {
         bool comes = !zangjulf_connect(line, name, false, &cost) && take_changes(line);
@@ -177,7 +177,7 @@ static bool edit(struct zangjulf *line, const struct timed *timed, struct slices
         bool moves = !zangjulf_move(line, name, 0, timed->task, false, &cost) && take_changes(line);
         return moves & (!zangjulf_move(line, name, 0, 3, false, &cost) && take_changes(line));
     }
-    case DECLARE: return !zangjulf_declare(line, slices->in, slices->in_size, true, &fault, &cost);
+    case DECLARE: return !zangjulf_declare(line, slices->in, slices->in_size, true, &cost);
     default: return !zangjulf_connect(line, name, true, &cost);
     }
 }
@@ -186,15 +186,18 @@ static bool edit(struct zangjulf *line, const struct timed *timed, struct slices
 static bool once(struct zangjulf *line, const struct timed *timed, struct slices *slices) {
     struct zangjulf_outcome outcome;
     struct zangjulf_image image;
-    size_t sizes[ZANGJULF_DATAGRAMS], size = 0;
+    struct zangjulf_arrival arrival;
+    struct zangjulf_write write;
+    uint64_t serials[ZANGJULF_DATAGRAMS];
+    size_t size = 0;
     switch (timed->kind) {
     case POST: return !zangjulf_post(line, timed->task, 0, slices->in, slices->in_size);
     case SEND: return send(line, timed, slices);
     case EXCHANGE: return exchange(line, timed, slices);
-    case STALE: return zangjulf_arrive(line, slices->in, slices->in_size, &outcome, 1, &size) == ZANGJULF_STALE;
-    case READ: return !zangjulf_read(line, timed->task, slices->out, slices->out_size, sizes, ZANGJULF_DATAGRAMS, &image) && image.size;
+    case STALE: return zangjulf_arrive(line, slices->in, slices->in_size, &outcome, 1, &arrival) == ZANGJULF_STALE;
+    case READ: return !zangjulf_read(line, timed->task, slices->out, slices->out_size, serials, ZANGJULF_DATAGRAMS, &image) && image.size;
     case PREVIEW: return !zangjulf_preview(line, timed->task, 0, slices->out, slices->out_size, &size);
-    case WRITE: return !zangjulf_next_write(line, slices->out, slices->out_size, &size);
+    case WRITE: return !zangjulf_next_write(line, slices->out, slices->out_size, &write);
     case PROCESS: return !zangjulf_slave_process(slices->out, slices->out_size, slices->in, slices->in_size);
     case CONNECT: case ASK: case REMAP: case MOVE: case DECLARE: return edit(line, timed, slices);
     default: return look(line, timed, slices);

@@ -77,7 +77,7 @@ static uint64_t post(struct asked *asked) {
 }
 
 static uint64_t send(struct asked *asked) {
-    struct zangjulf_sent sent = {0, 0};
+    struct zangjulf_sent sent = {0, 0, 0};
     unsigned list = asked->task = (uint8_t)below(5);
     unsigned number = zangjulf_send(&line, LISTS[list], LIST_SIZES[list], out, sizeof out, &sent);
     if (number) return refused(number);
@@ -91,11 +91,11 @@ static uint64_t send(struct asked *asked) {
 }
 
 static uint64_t write(void) {
-    size_t size = 0;
-    unsigned number = zangjulf_next_write(&line, out, sizeof out, &size);
+    struct zangjulf_write write;
+    unsigned number = zangjulf_next_write(&line, out, sizeof out, &write);
     if (number) return refused(number);
-    keep(out, size, true);
-    return mixed_bytes(mixed(mixed(0, 14), size), out, size);
+    keep(out, write.size, true);
+    return mixed_bytes(mixed(mixed(0, 14), write.size), out, write.size);
 }
 
 static uint64_t outcome(uint64_t mix, const struct zangjulf_outcome *one) {
@@ -108,14 +108,15 @@ static uint64_t outcome(uint64_t mix, const struct zangjulf_outcome *one) {
 
 static uint64_t arrive(struct asked *asked) {
     struct zangjulf_outcome outcomes[ZANGJULF_OUTCOMES];
-    size_t i = below(KEPT), size = below(16) ? kept_sizes[i] : below(60), count = 0;
+    size_t i = below(KEPT), size = below(16) ? kept_sizes[i] : below(60);
+    struct zangjulf_arrival arrival = {0, 0, 0, 0};
     if (!below(8)) kept[i][below(ZANGJULF_FRAME)] = (uint8_t)below(256);
     copy_bytes(asked, kept[i], size);
-    unsigned number = zangjulf_arrive(&line, kept[i], size, outcomes, ZANGJULF_OUTCOMES, &count);
-    uint64_t mix = mixed(mixed(0, 15), count);
+    unsigned number = zangjulf_arrive(&line, kept[i], size, outcomes, ZANGJULF_OUTCOMES, &arrival);
+    uint64_t mix = mixed(mixed(0, 15), arrival.datagrams);
     switch (number) {
     case ZANGJULF_DONE:
-        for (size_t k = 0; k < count; k++) mix = outcome(mix, &outcomes[k]);
+        for (size_t k = 0; k < arrival.datagrams; k++) mix = outcome(mix, &outcomes[k]);
         return mix;
     case ZANGJULF_WRITE_DONE: return mixed(0, 16);
     case ZANGJULF_WRITE_MISSED: return mixed(0, 17);
@@ -125,15 +126,17 @@ static uint64_t arrive(struct asked *asked) {
 }
 
 static uint64_t read(struct asked *asked) {
-    struct zangjulf_image image = {0, 0, 0};
-    size_t sizes[ZANGJULF_DATAGRAMS];
+    struct zangjulf_image image = {0, 0, 0, 0};
+    struct zangjulf_datagram datagram;
+    uint64_t serials[ZANGJULF_DATAGRAMS];
     asked->task = (uint8_t)below(9);
-    unsigned number = zangjulf_read(&line, asked->task, out, sizeof out, sizes, ZANGJULF_DATAGRAMS, &image);
+    unsigned number = zangjulf_read(&line, asked->task, out, sizeof out, serials, ZANGJULF_DATAGRAMS, &image);
     if (number) return refused(number);
     uint64_t mix = mixed(mixed(mixed(0, 19), image.epoch), image.datagrams);
-    const uint8_t *own = out;
-    for (size_t i = 0; i < image.datagrams; own += sizes[i++])
-        mix = sizes[i] ? mixed_bytes(mixed(mix, sizes[i]), own, sizes[i]) : mixed(mix, 99);
+    for (size_t i = 0; i < image.datagrams; i++) {
+        bool has = image.has >> i & 1 && !zangjulf_datagram(&line, asked->task, (uint8_t)i, &datagram);
+        mix = has ? mixed_bytes(mixed(mix, datagram.length), out + datagram.offset, datagram.length) : mixed(mix, 99);
+    }
     return mix;
 }
 
@@ -183,7 +186,7 @@ void compare(size_t count) {
     size_t size;
     uint8_t task;
     const uint8_t *text = project(&size);
-    if (count > MOST || zangjulf_open(&line, text, size, &task)) give_up("nothing can be compared");
+    if (count > MOST || zangjulf_open(&line, text, size, UINT32_MAX, &task)) give_up("nothing can be compared");
     for (size_t i = 0; i < count; i++) told[i] = with_changes(serve(&events[i]));
     zangjulf_close(&line);
     if (inside_told(text, size, events, count, bytes, used, inside, count) != count) give_up("not all events were played");

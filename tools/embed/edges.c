@@ -34,9 +34,14 @@ static void closed(void) {
     uint16_t word = 7;
     uint32_t number = 7;
     uint64_t serial = 7;
-    size_t size = 7, sizes[16];
+    uint64_t serials[16];
+    size_t size = 7;
     struct zangjulf_sent sent;
+    struct zangjulf_write write = {7, {7, 7, 7}};
+    struct zangjulf_owed_block owed = {7, 7, 7};
+    struct zangjulf_counters counters = {7, 7, 7, 7};
     struct zangjulf_outcome outcomes[1];
+    struct zangjulf_arrival arrival = {7, 7, 7, 7};
     struct zangjulf_image image;
     struct zangjulf_change change;
     struct zangjulf_cost cost;
@@ -48,10 +53,12 @@ static void closed(void) {
     EXPECT(zangjulf_next_serial(&line, &serial) == ZANGJULF_CLOSED && serial == 7);
     EXPECT(zangjulf_owed(&line, &number) == ZANGJULF_CLOSED && number == 7);
     EXPECT(zangjulf_post(&line, 0, 0, &byte, 1) == ZANGJULF_CLOSED);
-    EXPECT(zangjulf_next_write(&line, &byte, 1, &size) == ZANGJULF_CLOSED && byte == 7 && size == 7);
+    EXPECT(zangjulf_next_write(&line, &byte, 1, &write) == ZANGJULF_CLOSED && byte == 7 && write.size == 7);
+    EXPECT(zangjulf_owed_block(&line, 0, &owed) == ZANGJULF_CLOSED && owed.size == 7);
+    EXPECT(zangjulf_counters(&line, 0, 0, &counters) == ZANGJULF_CLOSED && counters.sent == 7);
     EXPECT(zangjulf_send(&line, tasks, 1, &byte, 1, &sent) == ZANGJULF_CLOSED && byte == 7);
-    EXPECT(zangjulf_arrive(&line, &byte, 1, outcomes, 1, &size) == ZANGJULF_CLOSED && size == 7);
-    EXPECT(zangjulf_read(&line, 0, &byte, 1, sizes, 16, &image) == ZANGJULF_CLOSED && byte == 7);
+    EXPECT(zangjulf_arrive(&line, &byte, 1, outcomes, 1, &arrival) == ZANGJULF_CLOSED && arrival.serial == 7);
+    EXPECT(zangjulf_read(&line, 0, &byte, 1, serials, 16, &image) == ZANGJULF_CLOSED && byte == 7);
     EXPECT(zangjulf_next_change(&line, &byte, 1, &change) == ZANGJULF_CLOSED && byte == 7);
     EXPECT(zangjulf_preview(&line, 0, 0, &byte, 1, &size) == ZANGJULF_CLOSED && byte == 7);
     EXPECT(zangjulf_place(&line, 1, &place) == ZANGJULF_CLOSED);
@@ -64,7 +71,9 @@ static void closed(void) {
     EXPECT(zangjulf_disconnect(&line, 100, false, &cost) == ZANGJULF_CLOSED);
     EXPECT(zangjulf_remap(&line, 1002, 0, &word, 1, false, &cost) == ZANGJULF_CLOSED);
     EXPECT(zangjulf_move(&line, 1002, 0, 1, false, &cost) == ZANGJULF_CLOSED);
-    EXPECT(zangjulf_declare(&line, &byte, 1, false, &byte, &cost) == ZANGJULF_CLOSED && byte == 7);
+    EXPECT(zangjulf_declare(&line, &byte, 1, false, &cost) == ZANGJULF_CLOSED);
+    EXPECT(zangjulf_put_value(&line, 1, 1, &byte, 1) == ZANGJULF_CLOSED && byte == 7);
+    EXPECT(zangjulf_get_value(&line, 1, &byte, 1, &serial) == ZANGJULF_CLOSED && serial == 7);
     zangjulf_close(&line);
     EXPECT(!line.is_open && !line.at);
 }
@@ -72,22 +81,28 @@ static void closed(void) {
 static void misused(void) {
     struct zangjulf line = {0};
     uint8_t task = 0, twice[2] = {1, 1}, nine[9] = {0, 1, 2, 3, 4, 5, 6, 7, 8}, *out = slice(59);
-    struct zangjulf_sent sent = {0, 0};
+    struct zangjulf_sent sent = {0, 0, 0};
+    struct zangjulf_write write = {0, {0, 0, 0}};
+    struct zangjulf_owed_block block;
     struct zangjulf_outcome outcome;
+    struct zangjulf_arrival arrival = {7, 7, 7, 7};
     uint32_t owed = 0;
-    size_t size = 0;
-    EXPECT(zangjulf_open(&line, (const uint8_t *)"x", 1, &task) == ZANGJULF_PROJECT_NOT_TOML && !line.is_open);
-    EXPECT(zangjulf_open(&line, (const uint8_t *)"[[slave]]", 9, &task) == ZANGJULF_PROJECT_MISSING_FIELD && !line.is_open);
-    EXPECT(zangjulf_open(&line, text, length, &task) == ZANGJULF_DONE && line.is_open);
+    EXPECT(zangjulf_open(&line, (const uint8_t *)"x", 1, 0, &task) == ZANGJULF_PROJECT_NOT_TOML && !line.is_open);
+    EXPECT(zangjulf_open(&line, (const uint8_t *)"[[slave]]", 9, 0, &task) == ZANGJULF_PROJECT_MISSING_FIELD && !line.is_open);
+    EXPECT(zangjulf_open(&line, text, length, 8, &task) == ZANGJULF_DONE && line.is_open);
     EXPECT(zangjulf_send(&line, twice, 2, out, 59, &sent) == ZANGJULF_MISUSED);
     EXPECT(zangjulf_send(&line, nine, 9, out, 59, &sent) == ZANGJULF_MISUSED);
     EXPECT(zangjulf_send(&line, nine, 0, out, 59, &sent) == ZANGJULF_MISUSED);
-    EXPECT(zangjulf_send(&line, twice, 1, out, 59, &sent) == ZANGJULF_UNPROGRAMMED);
+    EXPECT(zangjulf_send(&line, twice, 1, out, 59, &sent) == ZANGJULF_UNPROGRAMMED && sent.owed == 12);
     EXPECT(zangjulf_send(&line, nine + 8, 1, out, 59, &sent) == ZANGJULF_NO_SUCH_TASK);
     /* three slaves with an output and an input area each, two blocks an area */
     EXPECT(zangjulf_owed(&line, &owed) == ZANGJULF_DONE && owed == 12);
-    EXPECT(zangjulf_next_write(&line, out, 59, &size) == ZANGJULF_ROOM && size == 60 && out[0] == 0xaa);
-    EXPECT(zangjulf_arrive(&line, out, 27, &outcome, 0, &size) == ZANGJULF_SHORT);
+    EXPECT(zangjulf_owed_block(&line, 0, &block) == ZANGJULF_DONE && block.station == 1002 && block.start == 0x0810 && block.size == 8);
+    EXPECT(zangjulf_owed_block(&line, 11, &block) == ZANGJULF_DONE && block.size == 16);
+    EXPECT(zangjulf_owed_block(&line, 12, &block) == ZANGJULF_NOTHING);
+    EXPECT(zangjulf_next_write(&line, out, 59, &write) == ZANGJULF_ROOM && write.size == 60 && out[0] == 0xaa);
+    EXPECT(zangjulf_arrive(&line, out, 27, &outcome, 0, &arrival) == ZANGJULF_SHORT && arrival.serial == 7);
+    EXPECT(zangjulf_post(&line, 0, 0, NULL, 0) == ZANGJULF_POST_LENGTH && zangjulf_post(&line, 7, 0, NULL, 0) == ZANGJULF_DONE);
     EXPECT(zangjulf_post(&line, 0, 0, out, 13) == ZANGJULF_POST_LENGTH);
     EXPECT(zangjulf_post(&line, 0, 1, out, 14) == ZANGJULF_STALE_POST);
     EXPECT(zangjulf_post(&line, 8, 1, out, 0) == ZANGJULF_NO_SUCH_TASK);
@@ -117,13 +132,18 @@ static void start(void) {
 static void write_all(struct zangjulf *line) {
     uint8_t *frame = slice(60);
     struct zangjulf_outcome outcome;
-    size_t size = 0, count = 7;
+    struct zangjulf_write write;
+    struct zangjulf_owed_block first;
+    struct zangjulf_arrival arrival;
     unsigned number;
-    while (!(number = zangjulf_next_write(line, frame, 60, &size))) {
-        pass(frame, size);
-        EXPECT(zangjulf_arrive(line, frame, size, &outcome, 1, &count) == ZANGJULF_WRITE_DONE && !count);
-        EXPECT(zangjulf_arrive(line, frame, size, &outcome, 1, &count) == ZANGJULF_STALE);
+    while (!zangjulf_owed_block(line, 0, &first) && !(number = zangjulf_next_write(line, frame, 60, &write))) {
+        EXPECT(write.block.station == first.station && write.block.start == first.start && write.block.size == first.size);
+        pass(frame, write.size);
+        EXPECT(zangjulf_arrive(line, frame, write.size, &outcome, 1, &arrival) == ZANGJULF_WRITE_DONE && !arrival.datagrams);
+        EXPECT(arrival.station == first.station && arrival.start == first.start);
+        EXPECT(zangjulf_arrive(line, frame, write.size, &outcome, 1, &arrival) == ZANGJULF_STALE);
     }
+    number = zangjulf_next_write(line, frame, 60, &write);
     EXPECT(number == ZANGJULF_NOTHING_OWED);
     free(frame);
 }
@@ -132,11 +152,13 @@ static void write_all(struct zangjulf *line) {
 static void exchange(struct zangjulf *line) {
     const uint8_t tasks[2] = {0, 1}, outputs[14] = {1, 2, 3, 4, 5, 6, 7, 8, 9, 10, 11, 12, 13, 14};
     uint8_t *frames = slice(80), *data = slice(26);
-    struct zangjulf_sent sent = {0, 0};
+    struct zangjulf_sent sent = {0, 0, 0};
     struct zangjulf_outcome outcomes[2];
+    struct zangjulf_arrival arrival;
     struct zangjulf_change change;
-    struct zangjulf_image image = {0, 0, 0};
-    size_t sizes[16], count = 0;
+    struct zangjulf_image image = {0, 0, 0, 0};
+    struct zangjulf_counters counters;
+    uint64_t serials[16], value = 0;
     for (int i = 0; i < 6; i++) memories[1][0x1180 + i] = (uint8_t)(0x20 + i), memories[2][0x1180 + i] = (uint8_t)(0x30 + i);
     EXPECT(zangjulf_post(line, 0, 0, outputs, sizeof outputs) == ZANGJULF_DONE);
     /* datagrams of 26 and 2 bytes in one frame: 16 + 38 + 14 */
@@ -147,10 +169,14 @@ static void exchange(struct zangjulf *line) {
     /* axis X has the first six output bytes, axis Y the others; its second byte is a gap, of which nothing is sent */
     EXPECT(memories[1][0x1100] == 1 && memories[1][0x1105] == 6 && memories[2][0x1100] == 7 && memories[2][0x1107] == 14);
     EXPECT(!memories[2][0x1101]);
-    EXPECT(zangjulf_arrive(line, frames, sent.size, outcomes, 1, &count) == ZANGJULF_DONE && count == 2);
-    EXPECT(outcomes[0].kind == ZANGJULF_INPUTS && outcomes[0].task == 0 && outcomes[0].datagram == 0);
-    EXPECT(zangjulf_read(line, 0, data, 25, sizes, 16, &image) == ZANGJULF_ROOM && data[0] == 0xaa);
-    EXPECT(zangjulf_read(line, 0, data, 26, sizes, 16, &image) == ZANGJULF_DONE && image.datagrams == 1 && image.size == 26 && sizes[0] == 26);
+    EXPECT(zangjulf_is_mine(frames, sent.size));
+    EXPECT(zangjulf_arrive(line, frames, sent.size, outcomes, 1, &arrival) == ZANGJULF_DONE && arrival.datagrams == 2 && arrival.serial == 12);
+    EXPECT(outcomes[0].kind == ZANGJULF_INPUTS && outcomes[0].task == 0 && outcomes[0].datagram == 0 && outcomes[0].at == 26 && outcomes[0].length == 26);
+    EXPECT(zangjulf_counters(line, 0, 0, &counters) == ZANGJULF_DONE && counters.sent == 1 && counters.good == 1 && !counters.wrong && !counters.again);
+    EXPECT(zangjulf_counters(line, 0, 16, &counters) == ZANGJULF_NOTHING && zangjulf_counters(line, 8, 0, &counters) == ZANGJULF_NOTHING);
+    EXPECT(zangjulf_read(line, 0, data, 25, serials, 16, &image) == ZANGJULF_ROOM && data[0] == 0xaa);
+    EXPECT(zangjulf_read(line, 0, data, 26, serials, 16, &image) == ZANGJULF_DONE && image.datagrams == 1 && image.size == 26 && image.has == 1 && serials[0] == 12);
+    EXPECT(zangjulf_get_value(line, 12, data, 26, &value) == ZANGJULF_DONE && value == 0x25242322);
     EXPECT(!memcmp(data, outputs, 7) && !data[7] && !memcmp(data + 8, outputs + 8, 6) && data[14] == 0x20 && data[19] == 0x25 && data[20] == 0x30 && data[25] == 0x35);
     EXPECT(zangjulf_next_change(line, data, 25, &change) == ZANGJULF_ROOM && change.kind == ZANGJULF_GOOD && change.size == 26);
     EXPECT(zangjulf_next_change(line, data, 26, &change) == ZANGJULF_DONE && change.task == 0 && data[14] == 0x20);
@@ -166,8 +192,8 @@ static void edit(struct zangjulf *line) {
     struct zangjulf_change change;
     struct zangjulf_image image;
     uint32_t epoch = 7;
-    size_t sizes[16];
-    uint8_t *none = slice(0);
+    uint64_t serials[16];
+    uint8_t *none = slice(0), *blank = slice(26);
     EXPECT(zangjulf_connect(line, 99, false, &cost) == ZANGJULF_UNKNOWN_ALIAS);
     EXPECT(zangjulf_disconnect(line, 0, false, &cost) == ZANGJULF_MANDATORY);
     EXPECT(zangjulf_disconnect(line, 100, false, &cost) == ZANGJULF_NOT_PRESENT);
@@ -177,8 +203,9 @@ static void edit(struct zangjulf *line) {
     EXPECT(cost.recut == would.recut && cost.moved == would.moved && cost.places == would.places);
     EXPECT(zangjulf_epoch(line, &epoch) == ZANGJULF_DONE && epoch == 1);
     EXPECT(zangjulf_next_change(line, none, 0, &change) == ZANGJULF_DONE && change.kind == ZANGJULF_SWAPPED);
-    EXPECT(zangjulf_read(line, 0, none, 0, sizes, 16, &image) == ZANGJULF_DONE && image.epoch == 1 && image.datagrams == 1 && !sizes[0]);
+    EXPECT(zangjulf_read(line, 0, blank, 26, serials, 16, &image) == ZANGJULF_DONE && image.epoch == 1 && image.datagrams == 1 && !image.has && !blank[25]);
     free(none);
+    free(blank);
 }
 
 /* A group is declared: asked first, then done; it is taken then, and comes when it is connected. A text of no group is told. */
@@ -186,29 +213,71 @@ static void declare(struct zangjulf *line) {
     static const char group[] = "[[group]]\nalias = 900\n[[group.slave]]\nstation = 9001\n";
     struct zangjulf_cost cost;
     uint32_t epoch = 7;
-    uint8_t fault = 7;
-    EXPECT(zangjulf_declare(line, (const uint8_t *)"x", 1, false, &fault, &cost) == ZANGJULF_NO_GROUP && fault == ZANGJULF_PROJECT_NOT_TOML);
-    EXPECT(zangjulf_declare(line, (const uint8_t *)"", 0, false, &fault, &cost) == ZANGJULF_NO_GROUP && fault == 12);
-    EXPECT(zangjulf_declare(line, (const uint8_t *)group, sizeof group - 1, true, &fault, &cost) == ZANGJULF_DONE && cost.epoch == 2);
+    EXPECT(zangjulf_declare(line, (const uint8_t *)"x", 1, false, &cost) == ZANGJULF_PROJECT_NOT_TOML);
+    EXPECT(zangjulf_declare(line, (const uint8_t *)"", 0, false, &cost) == ZANGJULF_PROJECT_NOT_ONE_GROUP);
+    EXPECT(zangjulf_declare(line, (const uint8_t *)group, sizeof group - 1, true, &cost) == ZANGJULF_DONE && cost.epoch == 2);
     EXPECT(zangjulf_epoch(line, &epoch) == ZANGJULF_DONE && epoch == 1);
     EXPECT(zangjulf_connect(line, 900, true, &cost) == ZANGJULF_UNKNOWN_ALIAS);
-    EXPECT(zangjulf_declare(line, (const uint8_t *)group, sizeof group - 1, false, &fault, &cost) == ZANGJULF_DONE);
+    EXPECT(zangjulf_declare(line, (const uint8_t *)group, sizeof group - 1, false, &cost) == ZANGJULF_DONE);
     EXPECT(cost.epoch == 2 && !cost.recut && !cost.moved && !cost.places);
-    EXPECT(zangjulf_declare(line, (const uint8_t *)group, sizeof group - 1, false, &fault, &cost) == ZANGJULF_ALIAS_TAKEN);
+    EXPECT(zangjulf_declare(line, (const uint8_t *)group, sizeof group - 1, false, &cost) == ZANGJULF_ALIAS_TAKEN);
     EXPECT(zangjulf_connect(line, 900, false, &cost) == ZANGJULF_DONE && cost.epoch == 3 && !cost.moved);
+}
+
+/* Bits of a slice, and what isn't a run of it; a value by its variable: 21 is the control word of axis Y, in bytes 8 and 9. */
+static void bits(void) {
+    struct zangjulf line = {0};
+    struct zangjulf_place place;
+    uint64_t value = 7;
+    uint8_t task, *bytes = slice(14);
+    EXPECT(zangjulf_get_bits(bytes, 14, 0, 8, &value) == ZANGJULF_DONE && value == 0xaa);
+    EXPECT(zangjulf_get_bits(bytes, 14, 49, 63, &value) == ZANGJULF_DONE && value == 0x5555555555555555);
+    EXPECT(zangjulf_get_bits(bytes, 14, 49, 64, &value) == ZANGJULF_MISUSED && zangjulf_get_bits(bytes, 14, 0, 65, &value) == ZANGJULF_MISUSED);
+    EXPECT(zangjulf_get_bits(bytes, 14, 0, 0, &value) == ZANGJULF_MISUSED && zangjulf_get_bits(bytes, 14, SIZE_MAX, 1, &value) == ZANGJULF_MISUSED);
+    EXPECT(zangjulf_put_bits(bytes, 14, 3, 2, 4) == ZANGJULF_TOO_WIDE && bytes[0] == 0xaa && value == 0x5555555555555555);
+    EXPECT(zangjulf_put_bits(bytes, 14, 7, 2, 0) == ZANGJULF_DONE && bytes[0] == 0x2a && bytes[1] == 0xaa);
+    EXPECT(zangjulf_open(&line, text, length, 0, &task) == ZANGJULF_DONE);
+    EXPECT(zangjulf_place(&line, 21, &place) == ZANGJULF_DONE && !place.is_input && place.image_bit == 64);
+    EXPECT(zangjulf_put_value(&line, 21, 0x1234, bytes, 14) == ZANGJULF_DONE && bytes[8] == 0x34 && bytes[9] == 0x12 && bytes[10] == 0xaa);
+    EXPECT(zangjulf_get_value(&line, 21, bytes, 14, &value) == ZANGJULF_DONE && value == 0x1234);
+    EXPECT(zangjulf_put_value(&line, 12, 1, bytes, 14) == ZANGJULF_IS_INPUT);
+    EXPECT(zangjulf_put_value(&line, 21, (uint64_t)1 << place.bits, bytes, 14) == ZANGJULF_TOO_WIDE);
+    EXPECT(zangjulf_put_value(&line, 21, 1, bytes, 9) == ZANGJULF_ROOM && zangjulf_put_value(&line, 99999, 1, bytes, 14) == ZANGJULF_NOTHING);
+    zangjulf_close(&line);
+    free(bytes);
+}
+
+/* Frames beside the line's, and where a text is no project. */
+static void beside(void) {
+    struct zangjulf_location location;
+    uint8_t *out = slice(60), other[14] = {[6] = ZANGJULF_OTHER_SOURCE, [12] = 0x88, [13] = 0xa4};
+    size_t size = 0;
+    EXPECT(zangjulf_alias_read(2, out, 59, &size) == ZANGJULF_ROOM && size == 60 && out[0] == 0xaa);
+    EXPECT(zangjulf_alias_read(2, out, 60, &size) == ZANGJULF_DONE && size == 60);
+    /* APRD at position 2: the low word of the address is 2 below zero; register 0x0012 */
+    EXPECT(out[16] == 1 && out[18] == 0xfe && out[19] == 0xff && out[20] == 0x12 && !out[21] && zangjulf_is_mine(out, 60));
+    EXPECT(zangjulf_station_write(0, 1001, out, 60, &size) == ZANGJULF_DONE && out[16] == 2 && !out[18] && out[20] == 0x10 && out[26] == 0xe9 && out[27] == 3);
+    EXPECT(!zangjulf_is_mine(other, 14) && !zangjulf_is_mine(out, 13));
+    EXPECT(zangjulf_locate(text, length, &location) == ZANGJULF_DONE);
+    EXPECT(zangjulf_locate((const uint8_t *)"a = 1\n b = [", 12, &location) == ZANGJULF_PROJECT_NOT_TOML && location.line == 2);
+    static const char stationless[] = "[[slave]]\nstation = 7\n[[slave]]\n";
+    EXPECT(zangjulf_locate((const uint8_t *)stationless, sizeof stationless - 1, &location) == ZANGJULF_PROJECT_MISSING_FIELD);
+    EXPECT(location.place.slave == 1 && location.place.key == ZANGJULF_KEY_STATION && location.place.area == ZANGJULF_NOWHERE && !location.line);
+    EXPECT(!strcmp(zangjulf_name(17), "UNPROGRAMMED") && !strcmp(zangjulf_name(14), "UNKNOWN"));
+    free(out);
 }
 
 static void line_of_slaves(void) {
     struct zangjulf line = {0};
     uint8_t task;
-    EXPECT(zangjulf_open(&line, text, length, &task) == ZANGJULF_DONE);
+    EXPECT(zangjulf_open(&line, text, length, 8, &task) == ZANGJULF_DONE);
     start();
     write_all(&line);
     exchange(&line);
     edit(&line);
     declare(&line);
     /* opened anew in its place, and closed twice */
-    EXPECT(zangjulf_open(&line, text, length, &task) == ZANGJULF_DONE);
+    EXPECT(zangjulf_open(&line, text, length, 8, &task) == ZANGJULF_DONE);
     zangjulf_close(&line);
     zangjulf_close(&line);
 }
@@ -221,7 +290,7 @@ static void refused_openings(void) {
         struct zangjulf line = {0};
         uint8_t task;
         left = growths;
-        unsigned number = zangjulf_open(&line, text, length, &task);
+        unsigned number = zangjulf_open(&line, text, length, 8, &task);
         is_spent = left < 0;
         left = -1;
         EXPECT(number == (is_spent ? ZANGJULF_MEMORY : ZANGJULF_DONE) && line.is_open == !is_spent);
@@ -237,7 +306,7 @@ static void refused_edits(void) {
     struct zangjulf_cost cost;
     uint8_t task;
     uint32_t epoch = 0;
-    EXPECT(zangjulf_open(&line, text, length, &task) == ZANGJULF_DONE);
+    EXPECT(zangjulf_open(&line, text, length, 8, &task) == ZANGJULF_DONE);
     for (long growths = 0;; growths++) {
         left = growths;
         unsigned number = zangjulf_connect(&line, 100, false, &cost);
@@ -258,6 +327,8 @@ int main(int count, char **words) {
     fclose(in);
     closed();
     misused();
+    bits();
+    beside();
     line_of_slaves();
 #ifdef WRAPPED
     refused_openings();

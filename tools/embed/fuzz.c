@@ -1,6 +1,7 @@
 /* Draws calls of the C library: any order, any numbers, any bytes, handles that are open and closed, slices of any length,
  * each of which ends where a page that can't be touched begins, growths that are refused. It ends with status 1 at an answer
- * that include/zangjulf.h doesn't allow, at a slice that was written though the call was refused, at a change that isn't the
+ * that include/zangjulf.h doesn't allow, at a slice that was written though the call was refused, at an outcome, an age, a counter
+ * or an owed block that isn't the plain model's (model.h), at bits that aren't those taken one by one, at a change that isn't the
  * next of what happened, and where memory is live once all handles are closed.
  *
  *     fuzz PROJECT CALLS SEED [FOLDER [declare]]
@@ -18,6 +19,7 @@
 
 #include "draws.h"
 #include "growths.h"
+#include "model.h"
 #include "news.h"
 #include "words.h"
 
@@ -54,11 +56,13 @@ static void expect(unsigned number, bool was_open, const char *allowed) {
     if (!memchr(allowed, (int)number, strlen(allowed + 1) + 1)) fail("not an answer of this call", number);
 }
 
-/* A handle, its news, frames that it sent, most of them as its slaves made of them, and where its commands and their answers
+/* A handle, its model, its news if it keeps changes, frames that it sent, most of them as its slaves made of them, and where its commands and their answers
  * are written, or NULL. */
 struct line {
     struct zangjulf handle;
+    struct model model;
     struct news news;
+    bool keeps_changes;
     uint8_t kept[KEPT][ZANGJULF_FRAME];
     size_t kept_sizes[KEPT], newest;
     FILE *script, *told;
@@ -148,8 +152,11 @@ static void opening(struct line *line) {
     if (size) moved[size - 1] = '\n';
     end_script(line);
     forget_news(&line->news);
-    unsigned number = zangjulf_open(&line->handle, moved, size, &task);
-    if (line->handle.is_open != !number || (number > 12 && number != ZANGJULF_MEMORY)) fail("an opening", number);
+    line->keeps_changes = below(3);
+    unsigned number = zangjulf_open(&line->handle, moved, size, line->keeps_changes ? UINT32_MAX : 0, &task);
+    bool is_fault = number == ZANGJULF_TOO_MANY_DATAGRAMS || number == ZANGJULF_MEMORY || (number > 200 && number <= ZANGJULF_PROJECT_AREA_TOO_BIG);
+    if (line->handle.is_open != !number || (number && !is_fault)) fail("an opening", number);
+    model_opened(&line->model);
     begin_script(line, moved, size, number, task);
 }
 
@@ -184,24 +191,25 @@ static void posting(struct line *line, bool was_open) {
 }
 
 static void writing(struct line *line, bool was_open) {
-    size_t room = below(3) ? 60 : below(70), size = 0;
+    size_t room = below(3) ? 60 : below(70);
+    struct zangjulf_write write = {0, {0, 0, 0}};
     uint64_t serial = 0;
     uint8_t *out = fresh(room);
     zangjulf_next_serial(&line->handle, &serial);
-    unsigned number = zangjulf_next_write(&line->handle, out, room, &size);
+    unsigned number = zangjulf_next_write(&line->handle, out, room, &write);
     expect(number, was_open, "\0\x12\x13\x1d");
     if (number) expect_untouched(out, room, number);
-    else keep(line, out, size);
-    if (number == ZANGJULF_ROOM && (size != 60 || room >= 60)) fail("a write's room", number);
+    else model_sent(&line->model, &line->handle, out), keep(line, out, write.size);
+    if (number == ZANGJULF_ROOM && (write.size != 60 || room >= 60)) fail("a write's room", number);
     if (!is_told(line, number)) return;
     say(line, "write\n");
-    tell_write(line->told, number, serial, out, size);
+    tell_write(line->told, number, serial, out, write.size);
 }
 
 static void sending(struct line *line, bool was_open) {
     uint8_t *tasks = last(&ins, 9);
     size_t count = below(10), room = below(8) ? some_length(30000) : ZANGJULF_FRAMES;
-    struct zangjulf_sent sent = {0, 0};
+    struct zangjulf_sent sent = {0, 0, 0};
     uint64_t serial = 0;
     uint32_t owed = 0;
     for (size_t i = 0; i < count; i++) tasks[i + 9 - count] = below(6) ? (uint8_t)i : (uint8_t)below(10);
@@ -210,19 +218,21 @@ static void sending(struct line *line, bool was_open) {
     zangjulf_next_serial(&line->handle, &serial);
     zangjulf_owed(&line->handle, &owed);
     unsigned number = zangjulf_send(&line->handle, tasks, count, out, room, &sent);
-    expect(number, was_open, "\0\x08\x11\x13\x1c\x1d\xfe");
+    expect(number, was_open, "\0\x08\x11\x13\x1d\xfe");
     if (number) expect_untouched(out, room, number);
+    if (number == ZANGJULF_UNPROGRAMMED && sent.owed != owed) fail("how many blocks are owed", number);
     if (number == ZANGJULF_ROOM && sent.size <= room) fail("a sending's room", number);
     if (is_told(line, number)) {
         say(line, "send");
         for (size_t i = 0; i < count; i++) fprintf(line->script, " %u", tasks[i]);
         fprintf(line->script, "\n");
-        tell_sending(line->told, number, owed, serial, out, &sent);
+        tell_sending(line->told, number, serial, out, &sent);
     }
     const uint8_t *frame = out;
     for (size_t i = 0; !number && i < sent.frames; i++, frame += zangjulf_frame_size(frame)) {
         static uint8_t copy[ZANGJULF_FRAME];
         memcpy(copy, frame, zangjulf_frame_size(frame));
+        model_sent(&line->model, &line->handle, copy);
         keep(line, copy, zangjulf_frame_size(frame));
     }
     if (!number && frame != out + sent.size) fail("frames and their bytes", number);
@@ -230,40 +240,42 @@ static void sending(struct line *line, bool was_open) {
 
 static void arriving(struct line *line, bool was_open) {
     const struct line *from = below(8) ? line : &lines[below(LINES)];
-    size_t i = below(3) ? from->newest : below(KEPT), size = from->kept_sizes[i], count = 0;
+    size_t i = below(3) ? from->newest : below(KEPT), size = from->kept_sizes[i];
     size_t room = line->script ? ZANGJULF_OUTCOMES : some_length(ZANGJULF_OUTCOMES);
     if (!below(10)) size = below(size + 1);
     uint8_t *in = last(&ins, size);
     memcpy(in, from->kept[i], size);
     if (!below(6) && size) in[below(size)] = (uint8_t)draw();
     struct zangjulf_outcome *outcomes = (void *)last(&words, room * sizeof *outcomes);
-    unsigned number = zangjulf_arrive(&line->handle, in, size, outcomes, room, &count);
+    struct zangjulf_arrival arrival = {0, 0, 0, 0};
+    unsigned number = zangjulf_arrive(&line->handle, in, size, outcomes, room, &arrival);
     expect(number, was_open, "\0\x14\x15\x16\x17\x18\x19\x1a\x1b\x1c\x65\x66\x67");
-    if (number && number != ZANGJULF_CLOSED && count) fail("outcomes of no frame of tasks", number);
-    for (size_t k = 0; !number && k < count && k < room; k++)
-        if (outcomes[k].kind < 1 || outcomes[k].kind > 3 || outcomes[k].task > 7 || outcomes[k].datagram > 15) fail("an outcome", number);
-    if (!number) add_answers(&line->news, in, outcomes, count, room);
+    bool is_judged = !number || (number >= ZANGJULF_WRITE_DONE && number <= ZANGJULF_STALE);
+    if (is_judged && !model_arrived(&line->model, in, number, &arrival, outcomes, room)) fail("another arrival than the model's", number);
+    if (!number && line->keeps_changes) add_answers(&line->news, in, outcomes, arrival.datagrams, room);
     if (!size || !is_told(line, number)) return;
     say(line, "arrive ");
     tell_hex(line->script, in, size);
     fprintf(line->script, "\n");
-    tell_arrival(line->told, number, outcomes, count);
+    tell_arrival(line->told, number, outcomes, arrival.datagrams);
 }
 
 static void reading(struct line *line, bool was_open) {
-    size_t room = some_length(ZANGJULF_IMAGE), many = some_length(16), sum = 0;
-    size_t *sizes = (void *)last(&counts, many * sizeof *sizes);
-    struct zangjulf_image image = {0, 0, 0};
+    size_t room = some_length(ZANGJULF_IMAGE), many = some_length(16);
+    uint64_t *serials = (void *)last(&counts, many * sizeof *serials);
+    struct zangjulf_image image = {0, 0, 0, 0};
+    struct zangjulf_part part = {0, 0};
     uint8_t *out = fresh(room), task = (uint8_t)below(9);
-    unsigned number = zangjulf_read(&line->handle, task, out, room, sizes, many, &image);
+    unsigned number = zangjulf_read(&line->handle, task, out, room, serials, many, &image);
     expect(number, was_open, "\0\x08\x1d");
+    zangjulf_part(&line->handle, task, &part);
     if (number) expect_untouched(out, room, number);
-    for (size_t i = 0; !number && i < image.datagrams && i < many; i++) sum += sizes[i];
-    if (!number && (many >= image.datagrams ? sum != image.size : sum > image.size)) fail("sizes of an image", number);
+    if (!number && image.size != (size_t)part.outputs + part.inputs) fail("the bytes of an image", number);
+    if (!number && !model_reads(&line->model, task, &image, serials, many)) fail("another image than the model's", number);
     if (!number) expect_untouched(out + image.size, room - image.size, number);
-    if (many < image.datagrams || !is_told(line, number)) return;
+    if (!is_told(line, number)) return;
     say(line, "read %u\n", task);
-    tell_image(line->told, number, &image, sizes, out);
+    tell_image(line->told, number, &line->handle, task, &image, out);
 }
 
 static void changing(struct line *line, bool was_open) {
@@ -273,7 +285,8 @@ static void changing(struct line *line, bool was_open) {
     unsigned number = zangjulf_next_change(&line->handle, out, room, &change);
     expect(number, was_open, "\0\x1d\x64");
     if (number) expect_untouched(out, room, number);
-    if (was_open && !is_next(&line->news, number, &change, out, room)) fail("not the next change", number);
+    if (was_open && !line->keeps_changes && number != ZANGJULF_NOTHING) fail("a change that wasn't to be kept", number);
+    if (was_open && line->keeps_changes && !is_next(&line->news, number, &change, out, room)) fail("not the next change", number);
 }
 
 static void previewing(struct line *line, bool was_open) {
@@ -320,11 +333,55 @@ static void looking(struct line *line, bool was_open) {
     expect(zangjulf_station(handle, (uint32_t)below(9), &station), was_open, "\0\x64");
 }
 
+/* What the model knows, and the library tells of itself. */
+static void counting(struct line *line, bool was_open) {
+    struct zangjulf_counters counters;
+    uint8_t task = (uint8_t)below(9), datagram = (uint8_t)below(4);
+    unsigned number = zangjulf_counters(&line->handle, task, datagram, &counters);
+    expect(number, was_open, "\0\x64");
+    if (!number && !model_counts(&line->model, task, datagram, &counters)) fail("other counters than the model's", number);
+    if (was_open && !model_owes(&line->model, &line->handle)) fail("other owed blocks than the model's", number);
+}
+
+/* A number in bits of bytes, one bit after another. */
+static uint64_t bits_of(const uint8_t *bytes, size_t bit, size_t bits) {
+    uint64_t value = 0;
+    for (size_t i = 0; i < bits; i++) value |= (uint64_t)(bytes[(bit + i) / 8] >> (bit + i) % 8 & 1) << i;
+    return value;
+}
+
+/* Bits of any bytes, and values of variables, beside those that are taken bit by bit. */
+static void bits(struct line *line, bool was_open) {
+    size_t size = below(24), bit = below(200), count = below(66), run = count && count < 65 && bit + count <= 8 * size;
+    uint8_t *bytes = last(&ins, size), before[24];
+    for (size_t i = 0; i < size; i++) before[i] = bytes[i] = (uint8_t)draw();
+    uint64_t value = 0, put = count && count < 64 && below(8) ? draw() % ((uint64_t)1 << count) : draw();
+    unsigned number = zangjulf_get_bits(bytes, size, bit, (uint8_t)count, &value);
+    if (number != (run ? ZANGJULF_DONE : ZANGJULF_MISUSED) || (run && value != bits_of(before, bit, count))) fail("bits", number);
+    number = zangjulf_put_bits(bytes, size, bit, (uint8_t)count, put);
+    bool is_wide = run && count < 64 && put >> count;
+    if (number != (!run ? ZANGJULF_MISUSED : is_wide ? ZANGJULF_TOO_WIDE : ZANGJULF_DONE)) fail("bits that are put", number);
+    for (size_t i = 0; i < 8 * size; i++) {
+        bool is_new = !number && i >= bit && i < bit + count;
+        if ((bytes[i / 8] >> i % 8 & 1) != (is_new ? (int)(put >> (i - bit) & 1) : before[i / 8] >> i % 8 & 1)) fail("a bit beside", number);
+    }
+    struct zangjulf_place place;
+    uint32_t variable = (uint32_t)below(130);
+    number = zangjulf_get_value(&line->handle, variable, bytes, size, &value);
+    expect(number, was_open, "\0\x64\x1d");
+    if (number) return;
+    zangjulf_place(&line->handle, variable, &place);
+    if (value != bits_of(bytes, place.image_bit, place.bits)) fail("a value", number);
+    number = zangjulf_put_value(&line->handle, variable, ~value & bits_of((const uint8_t *)"\xff\xff\xff\xff\xff\xff\xff\xff", 0, place.bits), bytes, size);
+    if (number != (place.is_input ? ZANGJULF_IS_INPUT : ZANGJULF_DONE)) fail("a value that is put", number);
+    if (!number && bits_of(bytes, place.image_bit, place.bits) == value) fail("a value that wasn't put", number);
+}
+
 /* What an edit was drawn to be. */
 struct edit {
     unsigned kind;
     uint16_t alias, station;
-    uint8_t area, task, fault;
+    uint8_t area, task;
     const uint16_t *pdos;
     size_t count, size;
     const uint8_t *text;
@@ -337,7 +394,7 @@ static unsigned asked_for(struct line *line, struct edit *edit, bool asks, struc
     case 1: return zangjulf_disconnect(handle, edit->alias, asks, cost);
     case 2: return zangjulf_remap(handle, edit->station, edit->area, edit->pdos, edit->count, asks, cost);
     case 3: return zangjulf_move(handle, edit->station, edit->area, edit->task, asks, cost);
-    default: return zangjulf_declare(handle, edit->text, edit->size, asks, &edit->fault, cost);
+    default: return zangjulf_declare(handle, edit->text, edit->size, asks, cost);
     }
 }
 
@@ -355,7 +412,7 @@ static void tell_edited(struct line *line, const struct edit *edit, unsigned num
         say(line, "declare\n");
         fwrite(edit->text, 1, edit->size, line->script);
         fprintf(line->script, "%%%%\n");
-        tell_declaration(line->told, number, edit->fault, cost);
+        tell_declaration(line->told, number, cost);
         return;
     }
     tell_edit(line->told, number, cost);
@@ -378,12 +435,13 @@ static void editing(struct line *line, bool was_open) {
     bool is_left_out = edit.kind == 4 && folder && !declares;
     unsigned number = asked_for(line, &edit, is_left_out, &cost);
     const char *allowed = "\0\x01\x02\x03\x04\x05\x06\x07\x08\x09\x0a\x0b\x0c\x0d\x1c";
-    expect(number, was_open, edit.kind == 4 ? "\0\x0d\x1c\x1f\x20\x21\x22\x23\x68" : allowed);
+    expect(number, was_open, edit.kind == 4 ? "\0\x0d\x1c\x1f\x20\x21\x22\x23\xc9\xca\xcb\xcc\xcd\xce\xcf\xd0\xd1\xd2\xd4" : allowed);
     zangjulf_epoch(&line->handle, &epoch);
     if (was_open && epoch != before + (!number && !is_left_out)) fail("an edit's epoch", number);
     if (asked != ZANGJULF_MEMORY && number != ZANGJULF_MEMORY && (asked != number || would.moved != cost.moved)) fail("what an edit was told to do", number);
     if (is_left_out) return;
-    if (!number) add_edit(&line->news);
+    if (!number) model_edited(&line->model, &line->handle);
+    if (!number && line->keeps_changes) add_edit(&line->news);
     if (is_told(line, number)) tell_edited(line, &edit, number, &cost);
 }
 
@@ -401,6 +459,8 @@ static void call_once(struct line *line) {
     case 9:
         if (!below(3)) call = "edit", editing(line, was_open);
         else if (below(2)) call = "looking", looking(line, was_open);
+        else if (below(2)) call = "counting", counting(line, was_open);
+        else if (below(2)) call = "bits", bits(line, was_open);
         else call = "preview", previewing(line, was_open);
         break;
     default:
@@ -421,7 +481,7 @@ int main(int count, char **arguments) {
     for (calls = 0; calls < most; calls++) call_once(&lines[below(LINES)]);
     left = -1;
     for (int i = 0; i < LINES; i++) closing(&lines[i]);
-    if (live != before) fail("memory is live behind the last close", (unsigned)(live - before));
+    if (live != before) fail("memory is live after the last close", (unsigned)(live - before));
     printf("fuzz: %lu calls drawn, %lu of them written as commands; answers:", calls, commands);
     for (unsigned i = 0; i < 256; i++)
         if (answers[i]) printf(" %u: %lu", i, answers[i]);

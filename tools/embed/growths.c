@@ -3,7 +3,7 @@
 #include <stdbool.h>
 #include <stddef.h>
 
-long live, left = -1;
+long live, taken, left = -1;
 
 void *__real_malloc(size_t size);
 void *__real_realloc(void *old, size_t size);
@@ -13,13 +13,13 @@ static bool is_refused(void) { return left >= 0 && left-- == 0; }
 
 void *__wrap_malloc(size_t size) {
     if (is_refused()) return NULL;
-    live++;
+    live++, taken++;
     return __real_malloc(size);
 }
 
 void *__wrap_realloc(void *old, size_t size) {
     if (is_refused()) return NULL;
-    live += !old;
+    live += !old, taken++;
     return __real_realloc(old, size);
 }
 

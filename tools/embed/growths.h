@@ -5,7 +5,10 @@
 /* How many pieces of memory are live. */
 extern long live;
 
-/* So many growths succeed before one is refused; none is refused where it is below 0, which it is behind the refusal. */
+/* How often memory was taken or grown. */
+extern long taken;
+
+/* So many growths succeed before one is refused; none is refused where it is below 0, which it is after the refusal. */
 extern long left;
 
 #endif

@@ -21,42 +21,41 @@ static unsigned long number_in(const char *word) {
 
 static void write_block(void) {
     uint64_t serial = 0;
-    size_t size = 0;
+    struct zangjulf_write write;
     zangjulf_next_serial(&line, &serial);
-    unsigned number = zangjulf_next_write(&line, out, sizeof out, &size);
-    tell_write(stdout, number, serial, out, size);
+    unsigned number = zangjulf_next_write(&line, out, sizeof out, &write);
+    tell_write(stdout, number, serial, out, write.size);
 }
 
 static void send_tasks(char **words, size_t count) {
     uint8_t tasks[ZANGJULF_TASKS];
     uint64_t serial = 0;
-    uint32_t owed = 0;
-    struct zangjulf_sent sent = {0, 0};
+    struct zangjulf_sent sent = {0, 0, 0};
     if (count > ZANGJULF_TASKS) exit(2);
     for (size_t i = 0; i < count; i++) tasks[i] = (uint8_t)number_in(words[i]);
     zangjulf_next_serial(&line, &serial);
-    zangjulf_owed(&line, &owed);
     unsigned number = zangjulf_send(&line, tasks, count, out, sizeof out, &sent);
-    tell_sending(stdout, number, owed, serial, out, &sent);
+    tell_sending(stdout, number, serial, out, &sent);
 }
 
 static void arrive(const char *word) {
     struct zangjulf_outcome outcomes[ZANGJULF_OUTCOMES];
-    size_t size = strlen(word) / 2, count = 0;
+    struct zangjulf_arrival arrival = {0, 0, 0, 0};
+    size_t size = strlen(word) / 2;
     for (size_t i = 0; i < size; i++) {
         unsigned byte;
         if (sscanf(word + 2 * i, "%2x", &byte) != 1) exit(2);
         out[i] = (uint8_t)byte;
     }
-    unsigned number = zangjulf_arrive(&line, out, size, outcomes, ZANGJULF_OUTCOMES, &count);
-    tell_arrival(stdout, number, outcomes, count);
+    unsigned number = zangjulf_arrive(&line, out, size, outcomes, ZANGJULF_OUTCOMES, &arrival);
+    tell_arrival(stdout, number, outcomes, arrival.datagrams);
 }
 
 static void read_task(unsigned long task) {
-    size_t sizes[ZANGJULF_DATAGRAMS];
-    struct zangjulf_image image = {0, 0, 0};
-    unsigned number = zangjulf_read(&line, (uint8_t)task, out, sizeof out, sizes, ZANGJULF_DATAGRAMS, &image);
-    tell_image(stdout, number, &image, sizes, out);
+    uint64_t serials[ZANGJULF_DATAGRAMS];
+    struct zangjulf_image image = {0, 0, 0, 0};
+    unsigned number = zangjulf_read(&line, (uint8_t)task, out, sizeof out, serials, ZANGJULF_DATAGRAMS, &image);
+    tell_image(stdout, number, &line, (uint8_t)task, &image, out);
 }
 
 static void show(unsigned long task, unsigned long datagram) {
@@ -129,7 +128,7 @@ int main(void) {
     char *end = end_of_project(input);
     if (!end) return 2;
     uint8_t task = 0;
-    unsigned number = zangjulf_open(&line, (const uint8_t *)input, (size_t)(end - input), &task);
+    unsigned number = zangjulf_open(&line, (const uint8_t *)input, (size_t)(end - input), 0, &task);
     if (number) {
         tell_opening(stdout, number, task);
         return 3;

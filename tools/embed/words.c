@@ -16,7 +16,7 @@ static const char *const PROJECT_FAULTS[] = {
 void tell_opening(FILE *to, unsigned number, unsigned task) {
     if (number == ZANGJULF_TOO_MANY_DATAGRAMS) fprintf(to, "open fault 1 %s %u\n", FAULTS[number], task);
     else if (number == ZANGJULF_MEMORY) fprintf(to, "open fault 2 %s\n", FAULTS[number]);
-    else fprintf(to, "project fault %u %s\n", number, PROJECT_FAULTS[number]);
+    else fprintf(to, "project fault %u %s\n", number - 200, PROJECT_FAULTS[number - 200]);
 }
 
 /* The front of a refusal's line. */
@@ -48,8 +48,8 @@ void tell_edit(FILE *to, unsigned number, const struct zangjulf_cost *cost) {
     }
 }
 
-void tell_declaration(FILE *to, unsigned number, unsigned fault, const struct zangjulf_cost *cost) {
-    if (number == ZANGJULF_NO_GROUP) fprintf(to, "declare fault %u %s\n", fault, PROJECT_FAULTS[fault]);
+void tell_declaration(FILE *to, unsigned number, const struct zangjulf_cost *cost) {
+    if (number > 200 && number <= ZANGJULF_PROJECT_NOT_ONE_GROUP) fprintf(to, "declare fault %u %s\n", number - 200, PROJECT_FAULTS[number - 200]);
     else tell_edit(to, number, cost);
 }
 
@@ -58,10 +58,10 @@ void tell_write(FILE *to, unsigned number, uint64_t serial, const uint8_t *frame
     else tell_frame(to, "sent", serial, frame, size);
 }
 
-void tell_sending(FILE *to, unsigned number, uint32_t owed, uint64_t serial, const uint8_t *frames, const struct zangjulf_sent *sent) {
+void tell_sending(FILE *to, unsigned number, uint64_t serial, const uint8_t *frames, const struct zangjulf_sent *sent) {
     if (number == ZANGJULF_UNPROGRAMMED) {
         tell_fault(to, number);
-        fprintf(to, " %u\n", owed);
+        fprintf(to, " %u\n", sent->owed);
     } else if (number) {
         tell_refusal(to, number);
     } else if (!sent->frames) {
@@ -93,18 +93,19 @@ void tell_arrival(FILE *to, unsigned number, const struct zangjulf_outcome *outc
     }
 }
 
-void tell_image(FILE *to, unsigned number, const struct zangjulf_image *image, const size_t *sizes, const uint8_t *data) {
+void tell_image(FILE *to, unsigned number, const struct zangjulf *line, uint8_t task, const struct zangjulf_image *image, const uint8_t *data) {
     if (number) {
         tell_refusal(to, number);
         return;
     }
     fprintf(to, "epoch %u\n", image->epoch);
     for (size_t i = 0; i < image->datagrams; i++) {
+        struct zangjulf_datagram datagram = {0, 0, 0, 0};
+        zangjulf_datagram(line, task, (uint8_t)i, &datagram);
         fprintf(to, "slot %zu ", i);
-        if (!sizes[i]) fprintf(to, "none");
-        tell_hex(to, data, sizes[i]);
+        if (image->has >> i & 1) tell_hex(to, data + datagram.offset, datagram.length);
+        else fprintf(to, "none");
         fprintf(to, "\n");
-        data += sizes[i];
     }
 }
 
@@ -123,7 +124,7 @@ void tell_place(FILE *to, unsigned number, uint32_t variable, const struct zangj
     fprintf(to, "var %u task %u datagram %u bit %u bits %u dir %s\n", variable, place->task, place->datagram, place->bit, place->bits, way);
 }
 
-void tell_layout(FILE *to, struct zangjulf *line) {
+void tell_layout(FILE *to, const struct zangjulf *line) {
     uint32_t epoch = 0;
     zangjulf_epoch(line, &epoch);
     fprintf(to, "epoch %u\n", epoch);
@@ -138,7 +139,7 @@ void tell_layout(FILE *to, struct zangjulf *line) {
     }
 }
 
-void tell_blocks(FILE *to, struct zangjulf *line, uint16_t station) {
+void tell_blocks(FILE *to, const struct zangjulf *line, uint16_t station) {
     uint32_t position = 0;
     unsigned number = zangjulf_position(line, station, &position);
     if (number) {

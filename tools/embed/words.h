@@ -7,7 +7,7 @@
 
 #include "zangjulf.h"
 
-/* A handle that isn't opened: the fault of a project, or the task that needs too many datagrams. */
+/* A handle that isn't opened: the number of a project's fault, or the task that needs too many datagrams. */
 void tell_opening(FILE *to, unsigned number, unsigned task);
 
 /* A refusal that has nothing but its fault. */
@@ -17,19 +17,19 @@ void tell_refusal(FILE *to, unsigned number);
 void tell_edit(FILE *to, unsigned number, const struct zangjulf_cost *cost);
 
 /* The declaration of a group, as it was answered. */
-void tell_declaration(FILE *to, unsigned number, unsigned fault, const struct zangjulf_cost *cost);
+void tell_declaration(FILE *to, unsigned number, const struct zangjulf_cost *cost);
 
 /* A register write, whose frame was sent with a serial. */
 void tell_write(FILE *to, unsigned number, uint64_t serial, const uint8_t *frame, size_t size);
 
-/* Tasks that were sent, from a serial on; `owed` is how many register blocks are owed. */
-void tell_sending(FILE *to, unsigned number, uint32_t owed, uint64_t serial, const uint8_t *frames, const struct zangjulf_sent *sent);
+/* Tasks that were sent, from a serial on. */
+void tell_sending(FILE *to, unsigned number, uint64_t serial, const uint8_t *frames, const struct zangjulf_sent *sent);
 
 /* An arrival. */
 void tell_arrival(FILE *to, unsigned number, const struct zangjulf_outcome *outcomes, size_t count);
 
-/* What a task reads. */
-void tell_image(FILE *to, unsigned number, const struct zangjulf_image *image, const size_t *sizes, const uint8_t *data);
+/* What a task of an open line reads. */
+void tell_image(FILE *to, unsigned number, const struct zangjulf *line, uint8_t task, const struct zangjulf_image *image, const uint8_t *data);
 
 /* The frame of a datagram of a task, as it would be sent next with a serial. */
 void tell_preview(FILE *to, unsigned number, unsigned task, uint64_t serial, const uint8_t *frame, size_t size);
@@ -38,10 +38,10 @@ void tell_preview(FILE *to, unsigned number, unsigned task, uint64_t serial, con
 void tell_place(FILE *to, unsigned number, uint32_t variable, const struct zangjulf_place *place);
 
 /* The layout of an open line. */
-void tell_layout(FILE *to, struct zangjulf *line);
+void tell_layout(FILE *to, const struct zangjulf *line);
 
 /* The register blocks of a slave of an open line. */
-void tell_blocks(FILE *to, struct zangjulf *line, uint16_t station);
+void tell_blocks(FILE *to, const struct zangjulf *line, uint16_t station);
 
 /* Bytes as hexadecimal digits. */
 void tell_hex(FILE *to, const uint8_t *bytes, size_t size);

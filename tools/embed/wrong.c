@@ -5,19 +5,26 @@
 #include "zangjulf.h"
 
 #ifdef WRONG_place /* a bit beside its place */
-uint8_t __real_zangjulf_place(struct zangjulf *handle, uint32_t variable, struct zangjulf_place *place);
-uint8_t __wrap_zangjulf_place(struct zangjulf *handle, uint32_t variable, struct zangjulf_place *place) {
+uint8_t __real_zangjulf_place(const struct zangjulf *handle, uint32_t variable, struct zangjulf_place *place);
+uint8_t __wrap_zangjulf_place(const struct zangjulf *handle, uint32_t variable, struct zangjulf_place *place) {
     unsigned number = __real_zangjulf_place(handle, variable, place);
     if (!number) place->bit++;
     return (uint8_t)number;
 }
 #endif
 
-#ifdef WRONG_read /* another byte in an image */
-uint8_t __real_zangjulf_read(struct zangjulf *handle, uint8_t task, uint8_t *out, size_t length, size_t *sizes, size_t room, struct zangjulf_image *image);
-uint8_t __wrap_zangjulf_read(struct zangjulf *handle, uint8_t task, uint8_t *out, size_t length, size_t *sizes, size_t room, struct zangjulf_image *image) {
-    unsigned number = __real_zangjulf_read(handle, task, out, length, sizes, room, image);
-    if (!number && image->size) out[image->size - 1] ^= 1;
+#ifdef WRONG_read /* another byte in an image, an age of another sending, a datagram that has data though it has none */
+uint8_t __real_zangjulf_read(const struct zangjulf *handle, uint8_t task, uint8_t *out, size_t length, uint64_t *serials, size_t room, struct zangjulf_image *image);
+uint8_t __wrap_zangjulf_read(const struct zangjulf *handle, uint8_t task, uint8_t *out, size_t length, uint64_t *serials, size_t room, struct zangjulf_image *image) {
+    unsigned number = __real_zangjulf_read(handle, task, out, length, serials, room, image);
+    if (number) return (uint8_t)number;
+#if WRONG_read == 2
+    if (room) serials[0]++;
+#elif WRONG_read == 3
+    image->has |= 1;
+#else
+    if (image->size) out[image->size - 1] ^= 1;
+#endif
     return (uint8_t)number;
 }
 #endif
@@ -31,11 +38,16 @@ uint8_t __wrap_zangjulf_connect(struct zangjulf *handle, uint16_t alias, bool as
 }
 #endif
 
-#ifdef WRONG_arrive /* a register write that no slave took is told as done */
-uint8_t __real_zangjulf_arrive(struct zangjulf *handle, const uint8_t *bytes, size_t length, struct zangjulf_outcome *outcomes, size_t room, size_t *count);
-uint8_t __wrap_zangjulf_arrive(struct zangjulf *handle, const uint8_t *bytes, size_t length, struct zangjulf_outcome *outcomes, size_t room, size_t *count) {
-    unsigned number = __real_zangjulf_arrive(handle, bytes, length, outcomes, room, count);
+#ifdef WRONG_arrive /* a register write that no slave took is told as done; an outcome of another datagram */
+uint8_t __real_zangjulf_arrive(struct zangjulf *handle, const uint8_t *bytes, size_t length, struct zangjulf_outcome *outcomes, size_t room, struct zangjulf_arrival *arrival);
+uint8_t __wrap_zangjulf_arrive(struct zangjulf *handle, const uint8_t *bytes, size_t length, struct zangjulf_outcome *outcomes, size_t room, struct zangjulf_arrival *arrival) {
+    unsigned number = __real_zangjulf_arrive(handle, bytes, length, outcomes, room, arrival);
+#if WRONG_arrive == 2
+    if (!number && room && outcomes->kind != ZANGJULF_INPUTS) outcomes->datagram ^= 1;
+    return (uint8_t)number;
+#else
     return number == ZANGJULF_WRITE_MISSED ? ZANGJULF_WRITE_DONE : (uint8_t)number;
+#endif
 }
 #endif
 
@@ -49,17 +61,17 @@ uint8_t __wrap_zangjulf_next_change(struct zangjulf *handle, uint8_t *out, size_
 #endif
 
 #ifdef WRONG_next_write /* a refused write that wrote */
-uint8_t __real_zangjulf_next_write(struct zangjulf *handle, uint8_t *out, size_t length, size_t *size);
-uint8_t __wrap_zangjulf_next_write(struct zangjulf *handle, uint8_t *out, size_t length, size_t *size) {
-    unsigned number = __real_zangjulf_next_write(handle, out, length, size);
+uint8_t __real_zangjulf_next_write(struct zangjulf *handle, uint8_t *out, size_t length, struct zangjulf_write *write);
+uint8_t __wrap_zangjulf_next_write(struct zangjulf *handle, uint8_t *out, size_t length, struct zangjulf_write *write) {
+    unsigned number = __real_zangjulf_next_write(handle, out, length, write);
     if (number == ZANGJULF_ROOM && length) out[length - 1] = 0;
     return (uint8_t)number;
 }
 #endif
 
 #ifdef WRONG_preview /* a byte behind the slice */
-uint8_t __real_zangjulf_preview(struct zangjulf *handle, uint8_t task, uint8_t datagram, uint8_t *out, size_t length, size_t *size);
-uint8_t __wrap_zangjulf_preview(struct zangjulf *handle, uint8_t task, uint8_t datagram, uint8_t *out, size_t length, size_t *size) {
+uint8_t __real_zangjulf_preview(const struct zangjulf *handle, uint8_t task, uint8_t datagram, uint8_t *out, size_t length, size_t *size);
+uint8_t __wrap_zangjulf_preview(const struct zangjulf *handle, uint8_t task, uint8_t datagram, uint8_t *out, size_t length, size_t *size) {
     unsigned number = __real_zangjulf_preview(handle, task, datagram, out, length, size);
     if (number == ZANGJULF_ROOM) *(volatile uint8_t *)(out + length) = 0;
     return (uint8_t)number;
@@ -80,5 +92,39 @@ void __wrap_zangjulf_close(struct zangjulf *handle) {
     static void *lost;
     if (handle->is_open && !lost) lost = malloc(1);
     __real_zangjulf_close(handle);
+}
+#endif
+
+#ifdef WRONG_counters /* good answers that count twice */
+uint8_t __real_zangjulf_counters(const struct zangjulf *handle, uint8_t task, uint8_t datagram, struct zangjulf_counters *counters);
+uint8_t __wrap_zangjulf_counters(const struct zangjulf *handle, uint8_t task, uint8_t datagram, struct zangjulf_counters *counters) {
+    unsigned number = __real_zangjulf_counters(handle, task, datagram, counters);
+    if (!number) counters->good *= 2;
+    return (uint8_t)number;
+}
+#endif
+
+#ifdef WRONG_owed_block /* the first owed block left out */
+uint8_t __real_zangjulf_owed_block(const struct zangjulf *handle, uint32_t index, struct zangjulf_owed_block *block);
+uint8_t __wrap_zangjulf_owed_block(const struct zangjulf *handle, uint32_t index, struct zangjulf_owed_block *block) {
+    return __real_zangjulf_owed_block(handle, index + 1, block);
+}
+#endif
+
+#ifdef WRONG_get_value /* a value from its datagram's place, without the offset of the datagram */
+uint8_t __wrap_zangjulf_get_value(const struct zangjulf *handle, uint32_t variable, const uint8_t *image, size_t length, uint64_t *value) {
+    struct zangjulf_place place;
+    unsigned number = zangjulf_place(handle, variable, &place);
+    if (number) return (uint8_t)number;
+    return zangjulf_get_bits(image, length, place.bit + 1u, place.bits, value) ? ZANGJULF_ROOM : ZANGJULF_DONE;
+}
+#endif
+
+#ifdef WRONG_put_bits /* a bit beside those that are put */
+uint8_t __real_zangjulf_put_bits(uint8_t *bytes, size_t length, size_t bit, uint8_t bits, uint64_t value);
+uint8_t __wrap_zangjulf_put_bits(uint8_t *bytes, size_t length, size_t bit, uint8_t bits, uint64_t value) {
+    unsigned number = __real_zangjulf_put_bits(bytes, length, bit, bits, value);
+    if (!number && bit) bytes[(bit - 1) / 8] ^= (uint8_t)(1 << (bit - 1) % 8);
+    return (uint8_t)number;
 }
 #endif

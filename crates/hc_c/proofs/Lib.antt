@@ -1,6 +1,9 @@
+mod Arrives
 mod Asked
 mod Boxed
 mod Images
+mod InFrame
 mod Projects
 mod Refusals
+mod Returned
 mod Rooms

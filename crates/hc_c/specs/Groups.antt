@@ -6,17 +6,16 @@ use Rattle.hc_records.specs.declared.records.Group.{Group}
 use Rattle.hc_records.specs.ProjectFault.{project_fault_number}
 use Rattle.hc_c.specs.declared.editing.Cost.{Cost}
 use Rattle.hc_c.specs.declared.embedded.Embedded.{Embedded}
-use Rattle.hc_c.specs.declared.numbers.TheConstants.{MEMORY, NO_GROUP}
+use Rattle.hc_c.specs.declared.numbers.TheConstants.{MEMORY, PROJECT}
 use Rattle.hc_c.specs.Edits.{Serves}
 
--- the text is no group's for this fault, which is told, or memory was wanted; nothing changes
-pub record IsNoGroup (fault : ProjectFault) (old new : Embedded) (number cause cause' : ℕ) (before after : Cost) : Type 0 where
-  pub told : number ≢ MEMORY → (number ≡ NO_GROUP) × (cause' ≡ project_fault_number fault)
-  pub unwritten : number ≢ NO_GROUP → cause' ≡ cause
+-- the text is no group's for this fault, which is answered, or a growth was refused; nothing changes
+pub record IsNoGroup (fault : ProjectFault) (old new : Embedded) (number : ℕ) (before after : Cost) : Type 0 where
+  pub told : number ≢ MEMORY → number ≡ PROJECT + project_fault_number fault
   pub kept : new ≡ old
   pub untold : after ≡ before
 
--- the group of a text is declared, judged as any edit; where the text is no group's that is told
-abbrev pub Declares : Result Group ProjectFault → Embedded → Embedded → Bool → ℕ → ℕ → ℕ → Cost → Cost → Type 0
-Declares (Ok group) old new asks number cause cause' before after = Serves old new (Declare group) asks number before after × (cause' ≡ cause)
-Declares (Err fault) old new asks number cause cause' before after = IsNoGroup fault old new number cause cause' before after
+-- the group of a text is declared, judged as any edit; where the text is no group's its fault is answered
+abbrev pub Declares : Result Group ProjectFault → Embedded → Embedded → Bool → ℕ → Cost → Cost → Type 0
+Declares (Ok group) old new asks number before after = Serves old new (Declare group) asks number before after
+Declares (Err fault) old new asks number before after = IsNoGroup fault old new number before after

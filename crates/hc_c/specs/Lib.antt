@@ -1,4 +1,5 @@
 pub mod Held
+pub mod Lending
 pub mod Embedded
 pub mod Numbers
 pub mod Opening
@@ -11,3 +12,7 @@ pub mod Returned
 pub mod Reads
 pub mod Tellings
 pub mod Groups
+pub mod Runs
+pub mod Values
+pub mod Beside
+pub mod Locations

@@ -5,6 +5,7 @@ use Rattle.hc_records.specs.declared.records.Dir.{Dir}
 use Rattle.hc_records.specs.declared.records.Dir.TheVariants.{In, Out}
 use Rattle.hc_records.specs.Image.{VariablePlace}
 use Rattle.hc_records.specs.Variables.{variable_of}
+use Rattle.hc_images.specs.Values.{image_bit}
 use Rattle.hc_registers.specs.Blocks.{RegisterBlock}
 use Rattle.hc_events.specs.Entries.{Record}
 use Rattle.hc_events.specs.Faults.{core_fault_number, edit_refusal}
@@ -34,9 +35,20 @@ abbrev pub is_input : Dir → Bool
 is_input Out = false
 is_input In = true
 
--- where a variable stands, as C is told it
-abbrev pub told_place : VariablePlace → Place
-told_place place = record { task = place.task; datagram = place.datagram; bits = place.bits; is_input = is_input place.dir; bit = place.bit }
+-- the bit of its task's image at which a place of the present line begins
+unfoldable pub image_bit_of : Record → VariablePlace → ℕ
+image_bit_of past place = image_bit (table_of (line_of past)) place 0
+
+-- a place of the present line, as C is told it
+abbrev pub told_place : Record → VariablePlace → Place
+told_place past place = record {
+  task = place.task;
+  datagram = place.datagram;
+  bits = place.bits;
+  is_input = is_input place.dir;
+  bit = place.bit;
+  image_bit = image_bit_of past place;
+}
 
 -- a datagram, as C is told it
 abbrev pub told_datagram : line.Datagram → Datagram

@@ -1,5 +1,5 @@
 -- What opening the project of a text gives.
-use Rattle.std.specs.Prelude.{ℕ, List, [], Option, Some, None, Result, Ok, Err}
+use Rattle.std.specs.Prelude.{ℕ, ◌+◌, List, [], Option, Some, None, Result, Ok, Err}
 use Rattle.hc_records.specs.declared.records.Group.{Group}
 use Rattle.hc_records.specs.declared.faults.ProjectFault.{ProjectFault}
 use Rattle.hc_records.specs.Edits.{crowded_task}
@@ -7,11 +7,11 @@ use Rattle.hc_records.specs.Line.{line, opened}
 use Rattle.hc_records.specs.ProjectFault.{project_fault_number}
 use Rattle.hc_events.specs.Accepted.{just_opened}
 use Rattle.hc_c.specs.declared.embedded.Embedded.{Embedded}
-use Rattle.hc_c.specs.declared.numbers.TheConstants.{CROWDED, DONE}
+use Rattle.hc_c.specs.declared.numbers.TheConstants.{CROWDED, DONE, PROJECT}
 
--- a core in which nothing has happened, with no change to tell
+-- a core in which nothing has happened, with no change to tell and no call that runs
 abbrev pub fresh : List Group → Embedded
-fresh groups = record { core = record { past = just_opened groups; taken = just_opened groups }; untold = [] }
+fresh groups = record { core = record { past = just_opened groups; taken = just_opened groups }; untold = []; spare = tt; calls = record { count = tt } }
 
 -- it, where the text is a project
 abbrev pub opened_by : Result (List Group) ProjectFault → Option Embedded
@@ -28,7 +28,7 @@ abbrev pub crowd_number : Option ℕ → ℕ
 crowd_number None = DONE
 crowd_number (Some task) = CROWDED
 
--- the number of what opening it is answered where memory suffices: the project's fault, 1 to 10, or else as `crowd_number` says
+-- the number of what opening it is answered where memory suffices: the project's fault, 201 to 210, or else as `crowd_number` says
 abbrev pub opening_number : Result (List Group) ProjectFault → ℕ
 opening_number (Ok groups) = crowd_number (crowded_task (line (opened groups)))
-opening_number (Err fault) = project_fault_number fault
+opening_number (Err fault) = PROJECT + project_fault_number fault

@@ -192,3 +192,37 @@ fn arrive(
     put_outcomes(places, list.as_slice(), frame.parts(), outcomes);
     arrived_number(arrived)
 }
+
+/// Bytes arrive, any, without the check sequence. `DONE` where they answer frames of tasks: `outcomes` has of each datagram,
+/// in the frame's order, what it is, as many as there is room for; a frame has at most 115. `WRITE_DONE`, `WRITE_MISSED` or
+/// `STALE`; with these four `arrival` is written, and with `DONE` alone `outcomes`. Else a fault, 20 to 27, with which the
+/// bytes can't be read, or `MEMORY`; or `BUSY` or `CLOSED`; then nothing changed and nothing is written. The answers are this
+/// project's profile over frames of ETG.1000.4, 5.3 and 5.4.
+#[unsafe(no_mangle)]
+pub extern "C" fn zangjulf_arrive(
+    alloc: Global,
+    handle: &mut Handle,
+    bytes: &[u8],
+    outcomes: &mut [Outcome],
+    arrival: &mut Arrival,
+) -> u8
+    ensures told { IfSome handle.old.holding.value (λ old. IfSome handle.new.holding.value (λ new. result ≢ BUSY → Arrives old new bytes.now result outcomes.old outcomes.new arrival.old arrival.new)) }
+    ensures held { is_some handle.new.holding.value ≡ is_some handle.old.holding.value }
+    ensures busy { result ≡ BUSY → (handle.new.holding.value ≡ handle.old.holding.value) × (outcomes.new ≡ outcomes.old) × (arrival.new ≡ arrival.old) }
+    ensures closed { handle.old.holding.value ≡ None → (result ≡ CLOSED) × (outcomes.new ≡ outcomes.old) × (arrival.new ≡ arrival.old) }
+{
+    if let Err(number) = handle.begin_change() {
+        return number;
+    }
+    let own = handle.holding.line_mut();
+    let number = arrive(
+        &mut own.core,
+        alloc,
+        bytes,
+        &mut own.spare.outcomes,
+        outcomes,
+        arrival,
+    );
+    own.calls.end_change();
+    number
+}

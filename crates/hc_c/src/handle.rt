@@ -1,13 +1,14 @@
 //! What C keeps between two calls.
-ghost use Rattle.std.specs.Prelude.{◌≡◌, is_some, IsSome};
+ghost use Rattle.std.specs.Prelude.{◌≡◌, ◌≢◌, Err, IfErr, IfOk, IfSome, IsSome, OnOk, is_some};
 ghost use Rattle.std.specs.declared.option.Option.{Option};
 ghost use Rattle.std.specs.declared.option.Option.TheVariants.{None, Some};
-ghost use Rattle.hc_c.specs.Held.{embedded_coded, in_box, owns_embedded};
+ghost use Rattle.hc_c.specs.Held.{embedded_coded, in_box, owns_embedded, shares_embedded};
 ghost use Rattle.hc_c.specs.declared.embedded.Embedded.{Embedded};
 
 mod unboxed;
 
 use crate::embedded::Embedded;
+use crate::numbers::{BUSY, CLOSED};
 use std::alloc::Global;
 use std::marker::Model;
 use std::mem;
@@ -24,9 +25,14 @@ pub struct Holding {
 
 impl Model for Holding {
     ghost also_owns = { λ holding. owns_embedded holding.alloc holding.at holding.value };
+
+    ghost also_shares = { λ holding _ κ. shares_embedded holding.at holding.value κ };
 }
 
 impl Holding {
+    ghost use types.Logic.{sem};
+    ghost use Rattle.hc_c.specs.Lending.{LendsLine};
+
     fn nothing(alloc: Global) -> Holding
         ensures { result.value ≡ None }
     {
@@ -56,7 +62,28 @@ impl Holding {
             alloc,
         }
     }
+
+    /// The opened line, to be looked at.
+    fn line(&self) -> &Embedded
+        requires { IsSome self.now.value }
+        ensures { self.now.value ≡ Some result.now }
+    {
+        unsafe { &*(self.at as *const Embedded) }
+    }
+
+    /// The opened line, to be changed where it lies: no word of the handle is written.
+    pub fn line_mut(&mut self) -> &mut Embedded
+        requires { IsSome self.old.value }
+        ensures* writes_back { sem 𝓛 (LendsLine self.entry result) }
+        ensures value { self.old.value ≡ Some result.now }
+    {
+        unsafe { &mut *(self.at as *mut Embedded) }
+    }
 }
+
+unsafe impl Send for Holding {}
+
+unsafe impl Sync for Holding {}
 
 /// What C keeps: zeros where no line is open.
 #[repr(C)]
@@ -93,5 +120,56 @@ impl Handle {
         } else {
             None
         }
+    }
+
+    /// A look-up begins, which `Calls::end_look` ends: the opened line. `CLOSED` where there is none, and `BUSY` while a
+    /// change of it runs; then no look-up begins.
+    pub fn begin_look(&self) -> Result<&Embedded, u8>
+        ensures line { IfOk result (λ own. self.now.holding.value ≡ Some own.now) }
+        ensures closed { self.now.holding.value ≡ None → result ≡ Err CLOSED }
+        ensures refused { IfErr result (λ number. number ≢ BUSY → (number ≡ CLOSED) × (self.now.holding.value ≡ None)) }
+    {
+        if !self.is_open {
+            return Err(CLOSED);
+        }
+        let own = self.holding.line();
+        if own.calls.begin_look() {
+            Ok(own)
+        } else {
+            Err(BUSY)
+        }
+    }
+
+    /// A change begins, which `Calls::end_change` ends: of the line that `Holding::line_mut` lends. `CLOSED` where there is
+    /// none, and `BUSY` while another call with the handle runs; then no change begins.
+    pub fn begin_change(&self) -> Result<(), u8>
+        ensures line { OnOk result (IsSome self.now.holding.value) }
+        ensures closed { self.now.holding.value ≡ None → result ≡ Err CLOSED }
+        ensures refused { IfErr result (λ number. number ≢ BUSY → (number ≡ CLOSED) × (self.now.holding.value ≡ None)) }
+    {
+        if !self.is_open {
+            return Err(CLOSED);
+        }
+        if self.holding.line().calls.begin_change() {
+            Ok(())
+        } else {
+            Err(BUSY)
+        }
+    }
+}
+
+/// What may go to another thread, and may be looked at by several at the same time.
+fn crosses<T: Send + Sync>(it: T) -> T
+    ensures { result ≡ it }
+{
+    it
+}
+
+impl Handle {
+    /// A handle may go to another thread between two calls, and several threads may look at it at the same time.
+    pub fn crosses(self) -> Handle
+        ensures { result ≡ self }
+    {
+        crosses(self)
     }
 }

@@ -7,20 +7,27 @@
 #![tactic(auto)]
 
 mod arriving;
+mod beside;
+mod calls;
 mod changing;
 mod declaring;
 mod editing;
 mod embedded;
 mod handle;
+mod laws;
+mod locating;
 mod looking;
 mod numbers;
 mod opening;
 mod posting;
 mod previewing;
 mod reading;
+mod runs;
 mod sending;
 mod slave;
+mod spare;
 mod telling;
 mod too_short;
 mod untold;
+mod values;
 mod writing;

@@ -3,16 +3,16 @@ ghost use Rattle.std.specs.Prelude.{◌≡◌, ◌≢◌, IfSome, MatchOption, N
 ghost use Rattle.hc_events.specs.Points.{line_of, state_of};
 ghost use Rattle.hc_plan.specs.Configuration.{block_at, position_of, station_at};
 ghost use Rattle.hc_c.specs.Embedded.{past_of};
-ghost use Rattle.hc_c.specs.Looks.{TellsBlock, TellsPosition, datagram_at, part_at, place_at, told_datagram, told_part, told_place};
+ghost use Rattle.hc_c.specs.declared.numbers.TheConstants.{BUSY, CLOSED};
+ghost use Rattle.hc_c.specs.Looks.{TellsBlock, TellsPosition, datagram_at, image_bit_of, part_at, place_at, told_datagram, told_part, told_place};
 
 use crate::handle::Handle;
-use crate::numbers::{CLOSED, DONE, NOTHING, ROOM};
+use crate::numbers::{DONE, NOTHING, ROOM};
 use hc_core::keeping::Core;
 use hc_events::faults::CoreFault;
 use hc_places::table::{Datagram as LineDatagram, Place as LinePlace};
 use hc_records::records::{Dir, VarId};
 use hc_registers::blocks::Block as LineBlock;
-use std::alloc::Global;
 
 /// Where a variable stands, as C is told it.
 #[repr(C)]
@@ -28,6 +28,8 @@ pub struct Place {
     is_input: bool,
     /// Its first bit in the datagram's data, counted from the least significant bit of byte 0.
     bit: u16,
+    /// Its first bit in its task's image, counted likewise: of what the task posts, and of what it reads.
+    image_bit: u32,
 }
 
 /// A datagram of a task, as C is told it.
@@ -65,7 +67,7 @@ pub struct Block {
 }
 
 /// The place of the variable with a number in the present line.
-fn place_at(core: &Core, number: u32) -> Option<LinePlace>
+pub fn place_at(core: &Core, number: u32) -> Option<LinePlace>
     ensures { result ≡ place_at core.now.past number }
 {
     match VarId::new(number) {
@@ -88,9 +90,20 @@ fn part_at(core: &Core, task: u8) -> (u16, u16)
     core.plan().places().part(task)
 }
 
-/// What C is told of a place.
-fn told_place(place: LinePlace) -> Place
-    ensures { result ≡ told_place place }
+/// The bit of its task's image at which a place of the present line begins.
+pub fn image_bit_of(core: &Core, place: LinePlace) -> u32
+    ensures { result ≡ image_bit_of core.now.past place }
+{
+    let offset = match datagram_at(core, place.task, place.datagram) {
+        Some(datagram) => datagram.offset,
+        None => 0,
+    };
+    8 * u32::from(offset) + u32::from(place.bit)
+}
+
+/// What C is told of a place of the present line.
+fn told_place(core: &Core, place: LinePlace) -> Place
+    ensures { result ≡ told_place core.now.past place }
 {
     Place {
         task: place.task,
@@ -101,6 +114,7 @@ fn told_place(place: LinePlace) -> Place
             Dir::In => true,
         },
         bit: place.bit,
+        image_bit: image_bit_of(core, place),
     }
 }
 
@@ -116,50 +130,49 @@ fn told_datagram(datagram: LineDatagram) -> Datagram
     }
 }
 
-/// Where a variable stands, 1 to 4,294,967,295: `DONE`; `NOTHING` where the present line has no place for it; or `CLOSED`.
+/// Where a variable stands, 1 to 4,294,967,295: `DONE`; `NOTHING` where the present line has no place for it; `BUSY`
+/// or `CLOSED`.
 #[unsafe(no_mangle)]
 pub extern "C" fn zangjulf_place(
-    alloc: Global,
-    handle: &mut Handle,
+    handle: &Handle,
     variable: u32,
     place: &mut Place,
 ) -> u8
-    ensures told { IfSome handle.old.holding.value (λ old. MatchOption (place_at (past_of old) variable) (result ≡ NOTHING) (λ found. (result ≡ DONE) × (place.new ≡ told_place found))) }
-    ensures kept { handle.new.holding.value ≡ handle.old.holding.value }
+    ensures told { IfSome handle.now.holding.value (λ now. result ≢ BUSY → MatchOption (place_at (past_of now) variable) (result ≡ NOTHING) (λ found. (result ≡ DONE) × (place.new ≡ told_place (past_of now) found))) }
     ensures untouched { result ≢ DONE → place.new ≡ place.old }
-    ensures closed { handle.old.holding.value ≡ None → (result ≡ CLOSED) × (place.new ≡ place.old) }
+    ensures closed { handle.now.holding.value ≡ None → (result ≡ CLOSED) × (place.new ≡ place.old) }
 {
-    let Some(own) = handle.take(alloc) else {
-        return CLOSED;
+    let own = match handle.begin_look() {
+        Ok(own) => own,
+        Err(number) => return number,
     };
     let number = match place_at(&own.core, variable) {
         Some(found) => {
-            *place = told_place(found);
+            *place = told_place(&own.core, found);
             DONE
         }
         None => NOTHING,
     };
-    *handle = Handle::of(own);
+    own.calls.end_look();
     number
 }
 
 /// A datagram of a task, 0 to 7, by its number from 0: `DONE`; `NOTHING` where the task has fewer, or there is no such
-/// task; or `CLOSED`.
+/// task; `BUSY` or `CLOSED`.
 #[unsafe(no_mangle)]
 pub extern "C" fn zangjulf_datagram(
-    alloc: Global,
-    handle: &mut Handle,
+    handle: &Handle,
     task: u8,
     datagram: u8,
     told: &mut Datagram,
 ) -> u8
-    ensures told { IfSome handle.old.holding.value (λ old. MatchOption (datagram_at (past_of old) task datagram) (result ≡ NOTHING) (λ found. (result ≡ DONE) × (told.new ≡ told_datagram found))) }
-    ensures kept { handle.new.holding.value ≡ handle.old.holding.value }
+    ensures told { IfSome handle.now.holding.value (λ now. result ≢ BUSY → MatchOption (datagram_at (past_of now) task datagram) (result ≡ NOTHING) (λ found. (result ≡ DONE) × (told.new ≡ told_datagram found))) }
     ensures untouched { result ≢ DONE → told.new ≡ told.old }
-    ensures closed { handle.old.holding.value ≡ None → (result ≡ CLOSED) × (told.new ≡ told.old) }
+    ensures closed { handle.now.holding.value ≡ None → (result ≡ CLOSED) × (told.new ≡ told.old) }
 {
-    let Some(own) = handle.take(alloc) else {
-        return CLOSED;
+    let own = match handle.begin_look() {
+        Ok(own) => own,
+        Err(number) => return number,
     };
     let number = match datagram_at(&own.core, task, datagram) {
         Some(found) => {
@@ -168,42 +181,42 @@ pub extern "C" fn zangjulf_datagram(
         }
         None => NOTHING,
     };
-    *handle = Handle::of(own);
+    own.calls.end_look();
     number
 }
 
-/// The bytes of a task's image, 0 and 0 where there is no such task: `DONE`, or `CLOSED`.
+/// The bytes of a task's image, 0 and 0 where there is no such task: `DONE`, `BUSY` or `CLOSED`.
 #[unsafe(no_mangle)]
-pub extern "C" fn zangjulf_part(alloc: Global, handle: &mut Handle, task: u8, part: &mut Part) -> u8
-    ensures told { IfSome handle.old.holding.value (λ old. (result ≡ DONE) × (part.new ≡ told_part (part_at (past_of old) task))) }
-    ensures kept { handle.new.holding.value ≡ handle.old.holding.value }
-    ensures closed { handle.old.holding.value ≡ None → (result ≡ CLOSED) × (part.new ≡ part.old) }
+pub extern "C" fn zangjulf_part(handle: &Handle, task: u8, part: &mut Part) -> u8
+    ensures told { IfSome handle.now.holding.value (λ now. result ≢ BUSY → (result ≡ DONE) × (part.new ≡ told_part (part_at (past_of now) task))) }
+    ensures busy { result ≡ BUSY → part.new ≡ part.old }
+    ensures closed { handle.now.holding.value ≡ None → (result ≡ CLOSED) × (part.new ≡ part.old) }
 {
-    let Some(own) = handle.take(alloc) else {
-        return CLOSED;
+    let own = match handle.begin_look() {
+        Ok(own) => own,
+        Err(number) => return number,
     };
     let (outputs, inputs) = part_at(&own.core, task);
     *part = Part { outputs, inputs };
-    *handle = Handle::of(own);
+    own.calls.end_look();
     DONE
 }
 
 /// The station address of the slave at a position of the present line, from 0: `DONE`; `NOTHING` where the line is
-/// shorter; or `CLOSED`.
+/// shorter; `BUSY` or `CLOSED`.
 #[unsafe(no_mangle)]
 pub extern "C" fn zangjulf_station(
-    alloc: Global,
-    handle: &mut Handle,
+    handle: &Handle,
     position: u32,
     station: &mut u16,
 ) -> u8
-    ensures told { IfSome handle.old.holding.value (λ old. MatchOption (station_at (line_of (past_of old)) position) (result ≡ NOTHING) (λ found. (result ≡ DONE) × (station.new ≡ found))) }
-    ensures kept { handle.new.holding.value ≡ handle.old.holding.value }
+    ensures told { IfSome handle.now.holding.value (λ now. result ≢ BUSY → MatchOption (station_at (line_of (past_of now)) position) (result ≡ NOTHING) (λ found. (result ≡ DONE) × (station.new ≡ found))) }
     ensures untouched { result ≢ DONE → station.new ≡ station.old }
-    ensures closed { handle.old.holding.value ≡ None → (result ≡ CLOSED) × (station.new ≡ station.old) }
+    ensures closed { handle.now.holding.value ≡ None → (result ≡ CLOSED) × (station.new ≡ station.old) }
 {
-    let Some(own) = handle.take(alloc) else {
-        return CLOSED;
+    let own = match handle.begin_look() {
+        Ok(own) => own,
+        Err(number) => return number,
     };
     let number = match own.core.plan().station(position) {
         Some(found) => {
@@ -212,26 +225,25 @@ pub extern "C" fn zangjulf_station(
         }
         None => NOTHING,
     };
-    *handle = Handle::of(own);
+    own.calls.end_look();
     number
 }
 
 /// The position in the present line, from 0, of the slave with a station address: `DONE`; fault 5 where no declared slave
-/// has it; 6 where that slave's group isn't present; or `CLOSED`.
+/// has it; 6 where that slave's group isn't present; `BUSY` or `CLOSED`.
 #[unsafe(no_mangle)]
 pub extern "C" fn zangjulf_position(
-    alloc: Global,
-    handle: &mut Handle,
+    handle: &Handle,
     station: u16,
     position: &mut u32,
 ) -> u8
-    ensures told { IfSome handle.old.holding.value (λ old. TellsPosition (position_of (state_of (past_of old)) station) result position.new) }
-    ensures kept { handle.new.holding.value ≡ handle.old.holding.value }
+    ensures told { IfSome handle.now.holding.value (λ now. result ≢ BUSY → TellsPosition (position_of (state_of (past_of now)) station) result position.new) }
     ensures untouched { result ≢ DONE → position.new ≡ position.old }
-    ensures closed { handle.old.holding.value ≡ None → (result ≡ CLOSED) × (position.new ≡ position.old) }
+    ensures closed { handle.now.holding.value ≡ None → (result ≡ CLOSED) × (position.new ≡ position.old) }
 {
-    let Some(own) = handle.take(alloc) else {
-        return CLOSED;
+    let own = match handle.begin_look() {
+        Ok(own) => own,
+        Err(number) => return number,
     };
     let number = match own.core.plan().position(station) {
         Ok(found) => {
@@ -240,7 +252,7 @@ pub extern "C" fn zangjulf_position(
         }
         Err(fault) => CoreFault::from(fault).number(),
     };
-    *handle = Handle::of(own);
+    own.calls.end_look();
     number
 }
 
@@ -263,28 +275,28 @@ fn tell_block(found: &LineBlock, out: &mut [u8], block: &mut Block) -> u8
 /// The register block with a number, from 0, in the order of the slave with a station address: for each area in record
 /// order its sync manager block, then its FMMU block. `DONE`, and its bytes stand at the front of `out`; `NOTHING` where no
 /// such slave is present or it has fewer blocks; `ROOM` where `out` has fewer than `block.size` bytes, and is as it was;
-/// or `CLOSED`. With `NOTHING` and `CLOSED` `block` is as it was.
+/// `BUSY` or `CLOSED`. With `NOTHING`, `BUSY` and `CLOSED` `block` is as it was.
 #[unsafe(no_mangle)]
 pub extern "C" fn zangjulf_block(
-    alloc: Global,
-    handle: &mut Handle,
+    handle: &Handle,
     station: u16,
     number: u8,
     out: &mut [u8],
     block: &mut Block,
 ) -> u8
-    ensures told { IfSome handle.old.holding.value (λ old. MatchOption (block_at (line_of (past_of old)) station number) ((result ≡ NOTHING) × (block.new ≡ block.old)) (λ found. TellsBlock found result block.new out.old out.new)) }
-    ensures kept { handle.new.holding.value ≡ handle.old.holding.value }
+    ensures told { IfSome handle.now.holding.value (λ now. result ≢ BUSY → MatchOption (block_at (line_of (past_of now)) station number) ((result ≡ NOTHING) × (block.new ≡ block.old)) (λ found. TellsBlock found result block.new out.old out.new)) }
     ensures untouched { result ≢ DONE → out.new ≡ out.old }
-    ensures closed { handle.old.holding.value ≡ None → (result ≡ CLOSED) × (block.new ≡ block.old) }
+    ensures busy { result ≡ BUSY → block.new ≡ block.old }
+    ensures closed { handle.now.holding.value ≡ None → (result ≡ CLOSED) × (block.new ≡ block.old) }
 {
-    let Some(own) = handle.take(alloc) else {
-        return CLOSED;
+    let own = match handle.begin_look() {
+        Ok(own) => own,
+        Err(number) => return number,
     };
     let told = match own.core.plan().block(station, number) {
         Some(found) => tell_block(&found, out, block),
         None => NOTHING,
     };
-    *handle = Handle::of(own);
+    own.calls.end_look();
     told
 }

@@ -23,8 +23,17 @@ pub const WRITE_MISSED: u8 = 102;
 /// An arrival answered nothing that is awaited.
 pub const STALE: u8 = 103;
 
-/// A text that is to be declared is no group's.
-pub const NO_GROUP: u8 = 104;
+/// The variable is an input: no value is put into it.
+pub const IS_INPUT: u8 = 105;
+
+/// The value needs more bits than there are.
+pub const TOO_WIDE: u8 = 106;
+
+/// The numbers of a project's faults, 1 to 12, count from here.
+pub const PROJECT: u8 = 200;
+
+/// Another call with the handle runs, which this one may not meet.
+pub const BUSY: u8 = 253;
 
 /// What the call asks of its caller doesn't hold.
 pub const MISUSED: u8 = 254;

@@ -5,9 +5,11 @@ ghost use Rattle.hc_records.specs.Line.{line, opened};
 ghost use Rattle.hc_project.specs.Text.{project_in};
 ghost use Rattle.hc_c.specs.Opening.{crowded_in, fresh, opened_by, opening_number};
 
+use crate::calls::Calls;
 use crate::embedded::Embedded;
 use crate::handle::Handle;
-use crate::numbers::{CROWDED, DONE, MEMORY};
+use crate::numbers::{CROWDED, DONE, MEMORY, PROJECT};
+use crate::spare::Spare;
 use crate::untold::Untold;
 use hc_core::keeping::Core;
 use hc_project::read_project;
@@ -31,15 +33,23 @@ fn open_project(alloc: Global, project: Project, task: &mut u8) -> Result<Box<Em
         }
         Err(_) => return Err(MEMORY),
     };
-    let untold = Untold::nothing(alloc);
-    match Box::new(alloc, Embedded { core, untold }) {
+    let Ok(spare) = Spare::new(alloc) else {
+        return Err(MEMORY);
+    };
+    let line = Embedded {
+        core,
+        untold: Untold::nothing(alloc),
+        spare,
+        calls: Calls::none(),
+    };
+    match Box::new(alloc, line) {
         Ok(own) => Ok(own),
         Err(_) => Err(MEMORY),
     }
 }
 
 /// Opens the project of a text in place of what the handle held, and answers `DONE`: the mandatory group alone is present,
-/// and nothing has happened. Otherwise the handle is closed, and the answer is the project's fault, 1 to 10, the lowest
+/// and nothing has happened. Otherwise the handle is closed, and the answer is the project's fault, 201 to 210, the lowest
 /// whose condition holds; `CROWDED` where a task of the opening line needs more than 16 datagrams, and `task` is the lowest
 /// such; or `MEMORY`. With every answer but `CROWDED` `task` is as it was.
 #[unsafe(no_mangle)]
@@ -60,7 +70,7 @@ pub extern "C" fn zangjulf_open(
     let project = match read_project(alloc, text) {
         Ok(project) => project,
         Err(ProjectFault::Memory) => return MEMORY,
-        Err(fault) => return fault.number(),
+        Err(fault) => return PROJECT + fault.number(),
     };
     match open_project(alloc, project, task) {
         Ok(own) => {

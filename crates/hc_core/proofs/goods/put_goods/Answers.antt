@@ -17,7 +17,7 @@ loop-outcome-init c =
     let same = ap (goods_in c.args.outcomes.now) back in
     record {
       same = λ task d below. ap (fold (renewed task d) (data_of c.args.inputs.now task d)) same;
-      dated_so = λ task d below. ap (fold (dated c.serial.result task d) (serial_of c.args.serials.now task d)) same;
+      dated_so = λ task d below. ap (fold (dated c.serial-serial.result task d) (serial_of c.args.serials.now task d)) same;
       fit = subst (All FitsImage) (sym same) c.requires;
     }
 
@@ -30,9 +30,9 @@ returns-in_default-clause-slots c = λ task d below.
 
 pub returns-in_default-clause-serials : goal.returns-in_default-clause-serials
 returns-in_default-clause-serials c = λ task d below.
-    sym (ap (fold (dated c.serial.result task d) (serial_of c.loop-outcome.serials task d)) (goods-short (drop c.loop-outcome.outcome-index c.args.outcomes.now) c.loop-outcome.parts c.in_default.ensures.steps.0))
+    sym (ap (fold (dated c.serial-serial.result task d) (serial_of c.loop-outcome.serials task d)) (goods-short (drop c.loop-outcome.outcome-index c.args.outcomes.now) c.loop-outcome.parts c.in_default.ensures.steps.0))
     ∙ c.loop-outcome.invariant.dated_so task d below
-    ∙ ap (λ serial. fold (dated serial task d) (serial_of c.args.serials.now task d) (goods_in c.args.outcomes.now c.args.arrival.now.parts)) c.serial.ensures.value
+    ∙ ap (λ serial. fold (dated serial task d) (serial_of c.args.serials.now task d) (goods_in c.args.outcomes.now c.args.arrival.now.parts)) c.serial-serial.ensures.value
 
 pub returns-clause-slots : goal.returns-clause-slots
 returns-clause-slots c = λ task d below.
@@ -41,9 +41,9 @@ returns-clause-slots c = λ task d below.
 
 pub returns-clause-serials : goal.returns-clause-serials
 returns-clause-serials c = λ task d below.
-    sym (ap (fold (dated c.serial.result task d) (serial_of c.loop-outcome.serials task d)) (goods-over c.args.outcomes.now c.loop-outcome.outcome-index c.loop-outcome.parts c.loop-outcome-test.false))
+    sym (ap (fold (dated c.serial-serial.result task d) (serial_of c.loop-outcome.serials task d)) (goods-over c.args.outcomes.now c.loop-outcome.outcome-index c.loop-outcome.parts c.loop-outcome-test.false))
     ∙ c.loop-outcome.invariant.dated_so task d below
-    ∙ ap (λ serial. fold (dated serial task d) (serial_of c.args.serials.now task d) (goods_in c.args.outcomes.now c.args.arrival.now.parts)) c.serial.ensures.value
+    ∙ ap (λ serial. fold (dated serial task d) (serial_of c.args.serials.now task d) (goods_in c.args.outcomes.now c.args.arrival.now.parts)) c.serial-serial.ensures.value
 
 pub put_good-requires : goal.put_good-requires
 put_good-requires c =
@@ -66,9 +66,9 @@ loop-outcome-preserved c =
           ∙ sym (ap (fold (renewed task d) (data_of c.loop-outcome.inputs task d)) split)
           ∙ c.loop-outcome.invariant.same task d below;
       dated_so = λ task d below.
-          ap (λ start. fold (dated c.serial.result task d) start rest) (c.put_good.ensures.serials task d below)
-          ∙ sym (fold-append (dated c.serial.result task d) (serial_of c.loop-outcome.serials task d) first rest)
-          ∙ sym (ap (fold (dated c.serial.result task d) (serial_of c.loop-outcome.serials task d)) split)
+          ap (λ start. fold (dated c.serial-serial.result task d) start rest) (c.put_good.ensures.serials task d below)
+          ∙ sym (fold-append (dated c.serial-serial.result task d) (serial_of c.loop-outcome.serials task d) first rest)
+          ∙ sym (ap (fold (dated c.serial-serial.result task d) (serial_of c.loop-outcome.serials task d)) split)
           ∙ c.loop-outcome.invariant.dated_so task d below;
       fit = All-append_right FitsImage first rest (subst (All FitsImage) split c.loop-outcome.invariant.fit);
     }

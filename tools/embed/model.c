@@ -1,0 +1,193 @@
+#include "model.h"
+
+#include <string.h>
+
+static uint32_t number_at(const uint8_t *bytes, int count) {
+    uint32_t value = 0;
+    for (int i = 0; i < count; i++) value |= (uint32_t)bytes[i] << 8 * i;
+    return value;
+}
+
+static uint64_t serial_of(const uint8_t *frame) {
+    uint64_t serial = 0;
+    for (int i = 7; i < 12; i++) serial = serial << 8 | frame[i];
+    return serial;
+}
+
+/* The datagrams of a frame that can be read, with the bytes at which each one's data begin; how many. */
+static size_t heads_of(const uint8_t *frame, struct head *heads, size_t *places) {
+    size_t count = 0, at = 16;
+    for (bool more = true; more && count < ZANGJULF_OUTCOMES; count++) {
+        uint16_t field = (uint16_t)number_at(frame + at + 6, 2);
+        heads[count] = (struct head){frame[at], number_at(frame + at + 2, 4), field & 0x7ff, 0};
+        places[count] = at + 10;
+        more = field & 0x8000;
+        at += 12u + heads[count].length;
+    }
+    return count;
+}
+
+static uint8_t task_of(const struct head *head) { return (uint8_t)((head->address >> 24) - 1); }
+
+static uint8_t datagram_of(const struct head *head) { return head->address >> 11 & 15; }
+
+void model_opened(struct model *model) { memset(model, 0, sizeof *model); }
+
+void model_edited(struct model *model, const struct zangjulf *line) {
+    size_t left = 0;
+    for (size_t i = 0; i < MODEL_SENDINGS; i++) model->sendings[i].is_open = false;
+    for (int task = 0; task < ZANGJULF_TASKS; task++)
+        for (int d = 0; d < ZANGJULF_DATAGRAMS; d++) model->tasks[task][d].has_data = false;
+    for (size_t i = 0; i < model->known_count; i++) {
+        uint32_t position;
+        if (!zangjulf_position(line, model->known[i].station, &position)) model->known[left++] = model->known[i];
+    }
+    model->known_count = left;
+}
+
+/* The block of a slave that begins at a register; its bytes and its number. */
+static bool block_at(const struct zangjulf *line, struct sending *sending) {
+    struct zangjulf_block block;
+    for (sending->number = 0; !zangjulf_block(line, sending->station, sending->number, sending->bytes, 16, &block); sending->number++)
+        if (block.start == sending->start) return true;
+    return false;
+}
+
+static struct known *known_of(struct model *model, uint16_t station, uint8_t number) {
+    for (size_t i = 0; i < model->known_count; i++)
+        if (model->known[i].station == station && model->known[i].number == number) return &model->known[i];
+    return NULL;
+}
+
+static void wrote(struct model *model, const struct zangjulf *line, struct sending *sending) {
+    struct head *head = &sending->heads[0];
+    sending->station = (uint16_t)head->address, sending->start = (uint16_t)(head->address >> 16);
+    head->expected = 1;
+    block_at(line, sending);
+    struct known *known = known_of(model, sending->station, sending->number);
+    if (!known && model->known_count < MODEL_BLOCKS) known = &model->known[model->known_count++];
+    if (!known) return;
+    *known = (struct known){.station = sending->station, .number = sending->number, .size = (uint8_t)head->length, .serial = sending->serial};
+    memcpy(known->bytes, sending->bytes, head->length);
+}
+
+void model_sent(struct model *model, const struct zangjulf *line, const uint8_t *frame) {
+    size_t places[ZANGJULF_OUTCOMES];
+    uint64_t serial = serial_of(frame);
+    struct sending *sending = &model->sendings[serial % MODEL_SENDINGS];
+    memset(sending, 0, sizeof *sending);
+    sending->serial = serial, sending->is_open = true;
+    sending->count = heads_of(frame, sending->heads, places);
+    if (sending->heads[0].command == 5) wrote(model, line, sending);
+    else for (size_t i = 0; i < sending->count; i++) {
+        struct head *head = &sending->heads[i];
+        struct zangjulf_datagram datagram = {0, 0, 0, 0};
+        struct history *history = &model->tasks[task_of(head)][datagram_of(head)];
+        zangjulf_datagram(line, task_of(head), datagram_of(head), &datagram);
+        head->expected = datagram.expected;
+        history->sent = serial, history->was_sent = true;
+        history->counters.sent++;
+    }
+}
+
+/* The sending that a frame answers, or NULL; it is answered then. */
+static struct sending *answered_by(struct model *model, const uint8_t *frame, const struct head *came, size_t count) {
+    uint64_t serial = serial_of(frame);
+    struct sending *sending = &model->sendings[serial % MODEL_SENDINGS];
+    if (!sending->is_open || sending->serial != serial || sending->count != count) return NULL;
+    for (size_t i = 0; i < count; i++) {
+        const struct head *head = &sending->heads[i];
+        if (head->command != came[i].command || head->address != came[i].address || head->length != came[i].length) return NULL;
+    }
+    sending->is_open = false;
+    return sending;
+}
+
+/* The answer to a register write that came back with a working counter. */
+static unsigned write_answer(struct model *model, const struct sending *sending, uint16_t got) {
+    struct known *known = known_of(model, sending->station, sending->number);
+    if (!known || known->serial != sending->serial) return ZANGJULF_STALE;
+    if (got == 1) known->is_confirmed = true;
+    return got == 1 ? ZANGJULF_WRITE_DONE : ZANGJULF_WRITE_MISSED;
+}
+
+/* What a datagram's outcome is; it is counted by `judged`. */
+static struct zangjulf_outcome outcome_of(struct model *model, const struct sending *sending, size_t i, size_t place, uint16_t got) {
+    const struct head *head = &sending->heads[i];
+    const struct history *history = &model->tasks[task_of(head)][datagram_of(head)];
+    bool is_again = history->sent != sending->serial;
+    struct zangjulf_outcome outcome;
+    memset(&outcome, 0, sizeof outcome);
+    outcome.kind = is_again ? ZANGJULF_SENT_AGAIN : got == head->expected ? ZANGJULF_INPUTS : ZANGJULF_WRONG_COUNT;
+    outcome.task = task_of(head), outcome.datagram = datagram_of(head);
+    outcome.expected = head->expected, outcome.got = got;
+    outcome.at = (uint16_t)place, outcome.length = head->length;
+    return outcome;
+}
+
+static void judged(struct model *model, const struct zangjulf_outcome *outcome, uint64_t serial) {
+    struct history *history = &model->tasks[outcome->task][outcome->datagram];
+    if (outcome->kind == ZANGJULF_SENT_AGAIN) history->counters.again++;
+    else if (outcome->kind == ZANGJULF_WRONG_COUNT) history->counters.wrong++;
+    else history->counters.good++, history->has_data = true, history->data = serial;
+}
+
+static bool is_same(const struct zangjulf_outcome *a, const struct zangjulf_outcome *b) {
+    return a->kind == b->kind && a->task == b->task && a->datagram == b->datagram && a->expected == b->expected && a->got == b->got &&
+           a->at == b->at && a->length == b->length;
+}
+
+bool model_arrived(struct model *model, const uint8_t *frame, unsigned number, const struct zangjulf_arrival *arrival,
+                   const struct zangjulf_outcome *outcomes, size_t room) {
+    struct head came[ZANGJULF_OUTCOMES];
+    struct zangjulf_outcome expected[ZANGJULF_OUTCOMES];
+    size_t places[ZANGJULF_OUTCOMES], count = heads_of(frame, came, places);
+    const struct sending *sending = answered_by(model, frame, came, count);
+    if (!sending) return number == ZANGJULF_STALE;
+    if (came[0].command == 5) {
+        unsigned wanted = write_answer(model, sending, (uint16_t)number_at(frame + places[0] + came[0].length, 2));
+        if (number != wanted) return false;
+        return number == ZANGJULF_STALE || (arrival->station == sending->station && arrival->start == sending->start && arrival->serial == sending->serial);
+    }
+    bool is_news = false;
+    for (size_t i = 0; i < count; i++) {
+        expected[i] = outcome_of(model, sending, i, places[i], (uint16_t)number_at(frame + places[i] + came[i].length, 2));
+        is_news |= expected[i].kind != ZANGJULF_SENT_AGAIN;
+    }
+    if (!is_news) return number == ZANGJULF_STALE;
+    if (number || arrival->datagrams != count || arrival->serial != sending->serial) return false;
+    for (size_t i = 0; i < count; i++) {
+        judged(model, &expected[i], sending->serial);
+        if (i < room && !is_same(&outcomes[i], &expected[i])) return false;
+    }
+    return true;
+}
+
+bool model_reads(const struct model *model, uint8_t task, const struct zangjulf_image *image, const uint64_t *serials, size_t room) {
+    for (size_t d = 0; d < image->datagrams; d++) {
+        const struct history *history = &model->tasks[task][d];
+        if ((image->has >> d & 1) != history->has_data) return false;
+        if (d < room && serials[d] != (history->has_data ? history->data : 0)) return false;
+    }
+    return image->datagrams == 16 || image->has >> image->datagrams == 0;
+}
+
+bool model_counts(const struct model *model, uint8_t task, uint8_t datagram, const struct zangjulf_counters *counters) {
+    return !memcmp(&model->tasks[task][datagram].counters, counters, sizeof *counters);
+}
+
+bool model_owes(const struct model *model, const struct zangjulf *line) {
+    struct zangjulf_owed_block owed;
+    struct zangjulf_block block;
+    uint32_t index = 0;
+    uint16_t station;
+    uint8_t bytes[16];
+    for (uint32_t position = 0; !zangjulf_station(line, position, &station); position++)
+        for (uint8_t number = 0; !zangjulf_block(line, station, number, bytes, sizeof bytes, &block); number++) {
+            const struct known *known = known_of((struct model *)model, station, number);
+            if (known && known->is_confirmed && known->size == block.size && !memcmp(known->bytes, bytes, block.size)) continue;
+            if (zangjulf_owed_block(line, index++, &owed)) return false;
+            if (owed.station != station || owed.start != block.start || owed.size != block.size) return false;
+        }
+    return zangjulf_owed_block(line, index, &owed) == ZANGJULF_NOTHING;
+}

@@ -1,0 +1,77 @@
+/* A plain model of what a line tells of its sendings: of each arrival the outcomes with their names, counts and places in the
+ * frame; how old each datagram's data are; the counters; which register blocks are owed. It knows the frames and the answers
+ * that were accepted, and of the library only its configuration (datagrams, blocks, stations). */
+#ifndef MODEL_H
+#define MODEL_H
+
+#include <stdbool.h>
+#include <stddef.h>
+#include <stdint.h>
+
+#include "zangjulf.h"
+
+#define MODEL_SENDINGS 4096
+#define MODEL_BLOCKS 1024
+
+/* A datagram of a frame that was sent. */
+struct head {
+    uint8_t command;
+    uint32_t address;
+    uint16_t length, expected;
+};
+
+/* A sending: no arrival answers it once one has fitted it, or an edit was accepted. */
+struct sending {
+    uint64_t serial;
+    bool is_open;
+    uint16_t station, start; /* of a register write */
+    uint8_t number, bytes[16];
+    size_t count;
+    struct head heads[ZANGJULF_OUTCOMES];
+};
+
+/* The last write of a block since its slave was connected. */
+struct known {
+    uint16_t station;
+    uint8_t number, size, bytes[16];
+    uint64_t serial;
+    bool is_confirmed;
+};
+
+/* Of a datagram of a task the serial of its last sending and of its data, and what was counted. */
+struct history {
+    bool was_sent, has_data;
+    uint64_t sent, data;
+    struct zangjulf_counters counters;
+};
+
+struct model {
+    struct sending sendings[MODEL_SENDINGS];
+    struct history tasks[ZANGJULF_TASKS][ZANGJULF_DATAGRAMS];
+    struct known known[MODEL_BLOCKS];
+    size_t known_count;
+};
+
+/* A line was opened. */
+void model_opened(struct model *model);
+
+/* An edit was accepted: after it the line has other datagrams and blocks, and slaves may have gone. */
+void model_edited(struct model *model, const struct zangjulf *line);
+
+/* A frame of tasks, or of a register write, was sent. */
+void model_sent(struct model *model, const struct zangjulf *line, const uint8_t *frame);
+
+/* Whether an arrival is answered as the model says: with this number, and with these outcomes, as many as there was room for. */
+bool model_arrived(struct model *model, const uint8_t *frame, unsigned number, const struct zangjulf_arrival *arrival,
+                   const struct zangjulf_outcome *outcomes, size_t room);
+
+/* Whether a task's datagrams have data as a read says, and of these sendings. */
+bool model_reads(const struct model *model, uint8_t task, const struct zangjulf_image *image, const uint64_t *serials, size_t room);
+
+/* Whether the counters of a datagram are these. */
+bool model_counts(const struct model *model, uint8_t task, uint8_t datagram, const struct zangjulf_counters *counters);
+
+/* Whether these blocks are owed, in this order, and no other one. */
+bool model_owes(const struct model *model, const struct zangjulf *line);
+
+#endif

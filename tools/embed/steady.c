@@ -1,0 +1,101 @@
+/* A cycle takes no memory: 10,000 cycles of one task and of eight, each with posts, a sending, the arrival of what was sent, a
+ * read and look-ups, are counted once three cycles have run. It ends with status 1 where one of them took or grew memory, or
+ * isn't answered as it should be. */
+#include <stdio.h>
+#include <stdlib.h>
+#include <string.h>
+
+#include "growths.h"
+#include "zangjulf.h"
+
+#define CYCLES 10000
+#define FIRST 3
+
+static uint8_t frames[ZANGJULF_FRAMES];
+
+static void expect(unsigned number, unsigned wanted, const char *call) {
+    if (number == wanted) return;
+    printf("steady: %s is answered %u, %s\n", call, number, zangjulf_name((uint8_t)number));
+    exit(1);
+}
+
+/* A project in which each task has an output and an input of 32 bits. */
+static size_t write_project(char *text, size_t room) {
+    size_t size = 0;
+    for (unsigned task = 0; task < ZANGJULF_TASKS; task++)
+        size += (size_t)snprintf(text + size, room - size,
+                                 "[[slave]]\nstation = %u\n"
+                                 "[[slave.area]]\nsm = 0\ndir = \"out\"\nphys = 0x1000\ntask = %u\nassigned = [1]\n"
+                                 "pdo = [{ index = 1, entries = [[%u, 32]] }]\n"
+                                 "[[slave.area]]\nsm = 1\ndir = \"in\"\nphys = 0x1100\ntask = %u\nassigned = [1]\n"
+                                 "pdo = [{ index = 1, entries = [[%u, 32]] }]\n",
+                                 1001 + task, task, 1 + 2 * task, task, 2 + 2 * task);
+    return size;
+}
+
+static void program(struct zangjulf *line) {
+    uint8_t frame[ZANGJULF_FRAME];
+    struct zangjulf_write write;
+    struct zangjulf_outcome outcome;
+    struct zangjulf_arrival arrival;
+    while (!zangjulf_next_write(line, frame, sizeof frame, &write)) {
+        frame[26 + frame[22]] = 1;
+        expect(zangjulf_arrive(line, frame, write.size, &outcome, 1, &arrival), ZANGJULF_WRITE_DONE, "arrive");
+    }
+}
+
+/* Sets the working counter of each datagram of a frame to what is expected. */
+static void answer(const struct zangjulf *line, uint8_t *frame, size_t size) {
+    struct zangjulf_datagram datagram;
+    for (size_t at = 16; at + 12 <= size;) {
+        uint32_t address = frame[at + 2] | frame[at + 3] << 8 | frame[at + 4] << 16 | (uint32_t)frame[at + 5] << 24;
+        size_t length = (frame[at + 6] | frame[at + 7] << 8) & 0x7ff;
+        if (zangjulf_datagram(line, (uint8_t)((address >> 24) - 1), address >> 11 & 15, &datagram)) return;
+        memset(frame + at + 10 + 4, 7, length - 4);
+        frame[at + 10 + length] = (uint8_t)datagram.expected;
+        if (!(frame[at + 7] & 0x80)) return;
+        at += 12 + length;
+    }
+}
+
+static void cycle(struct zangjulf *line, const uint8_t *tasks, size_t count, uint32_t value) {
+    struct zangjulf_outcome outcomes[ZANGJULF_OUTCOMES];
+    struct zangjulf_arrival arrival;
+    struct zangjulf_sent sent;
+    struct zangjulf_image told;
+    uint64_t serials[ZANGJULF_DATAGRAMS], read;
+    uint8_t image[ZANGJULF_IMAGE], outputs[4] = {0};
+    for (size_t i = 0; i < count; i++) {
+        expect(zangjulf_put_value(line, 1 + 2u * tasks[i], value, outputs, sizeof outputs), ZANGJULF_DONE, "put_value");
+        expect(zangjulf_post(line, tasks[i], 0, outputs, sizeof outputs), ZANGJULF_DONE, "post");
+    }
+    expect(zangjulf_send(line, tasks, count, frames, sizeof frames, &sent), ZANGJULF_DONE, "send");
+    for (uint8_t *frame = frames; frame < frames + sent.size; frame += zangjulf_frame_size(frame)) {
+        answer(line, frame, zangjulf_frame_size(frame));
+        expect(zangjulf_arrive(line, frame, zangjulf_frame_size(frame), outcomes, ZANGJULF_OUTCOMES, &arrival), ZANGJULF_DONE, "arrive");
+        for (size_t i = 0; i < arrival.datagrams; i++) expect(outcomes[i].kind, ZANGJULF_INPUTS, "an outcome");
+    }
+    for (size_t i = 0; i < count; i++) {
+        expect(zangjulf_read(line, tasks[i], image, sizeof image, serials, ZANGJULF_DATAGRAMS, &told), ZANGJULF_DONE, "read");
+        expect(zangjulf_get_value(line, 2 + 2u * tasks[i], image, told.size, &read), ZANGJULF_DONE, "get_value");
+        expect(read == 0x07070707, 1, "a value");
+    }
+}
+
+int main(void) {
+    static const uint8_t tasks[ZANGJULF_TASKS] = {0, 1, 2, 3, 4, 5, 6, 7};
+    char text[8192];
+    uint8_t crowded;
+    for (size_t count = 1; count <= ZANGJULF_TASKS; count += ZANGJULF_TASKS - 1) {
+        struct zangjulf line = {0};
+        expect(zangjulf_open(&line, (const uint8_t *)text, write_project(text, sizeof text), 0, &crowded), ZANGJULF_DONE, "open");
+        program(&line);
+        for (uint32_t i = 0; i < FIRST; i++) cycle(&line, tasks, count, i);
+        long before = taken;
+        for (uint32_t i = 0; i < CYCLES; i++) cycle(&line, tasks, count, i);
+        printf("steady: %d cycles of %zu tasks took or grew memory %ld times\n", CYCLES, count, taken - before);
+        if (taken != before) return 1;
+        zangjulf_close(&line);
+    }
+    return live != 0;
+}
