@@ -1,34 +1,76 @@
 -- What a read is answered.
-use Rattle.std.proofs.Common.{◌≡◌, ℕ, ◌<◌, ◌≤◌, ◌∙◌, true, not, cond, nat_lt, List, length, Some, None, ap, sym, arith}
+use Rattle.std.proofs.Common.{◌≡◌, ℕ, zero, suc, ◌+◌, ◌*◌, ◌^◌, ◌<◌, ◌≤◌, ◌∙◌, true, not, cond, nat_lt, List, [], ◌∷◌, length, get_or, Option, Some, None, ap, sym, subst, arith, refl}
+use Rattle.std.specs.Prelude.{IfSome}
 use Rattle.std.proofs.lemmas.Bool.Decides.{nat_tests}
 use Rattle.hc_records.specs.declared.limits.TheConstants.{TASKS}
-use Rattle.hc_records.specs.Image.{datagram_count, task_places}
-use Rattle.hc_records.specs.Line.{State, groups_of, line}
+use Rattle.hc_records.specs.Line.{Member, State, groups_of, line}
 use Rattle.hc_records.specs.Project.{lowest_fault}
 use Rattle.hc_places.specs.declared.table.Datagram.{Datagram}
 use Rattle.hc_places.specs.Table.{Table, datagrams_in, table_of}
-use Rattle.hc_events.specs.declared.answer.Answer.TheVariants.{Image}
 use Rattle.hc_events.specs.declared.faults.CoreFault.TheVariants.{NoSuchTask}
 use Rattle.hc_events.specs.Entries.{Record}
-use Rattle.hc_events.specs.Points.{epoch_of, line_of, state_of}
+use Rattle.hc_events.specs.Images.{slot_of}
+use Rattle.hc_events.specs.Points.{line_of, state_of}
+use Rattle.hc_events.specs.Sendings.{length_of}
 use Rattle.hc_events.specs.Steps.{Reads, answer_to, image_of, unless}
-use Rattle.hc_sendings.proofs.lemmas.Listed.{listed-count}
-use Rattle.hc_c.specs.Reads.{slots_from}
+use Rattle.hc_events.proofs.lemmas.Slots.{slots-fit}
+use Rattle.hc_sendings.proofs.lemmas.Listed.{listed-length}
+use Rattle.hc_c.specs.Pieces.{HaveLengths}
+use Rattle.hc_c.specs.Reads.{datagrams_of, fit_number, image_number}
 
 lower : (task : ℕ) → task < TASKS → nat_lt task TASKS ≡ true
 lower task low = grind (arith, nat_tests)
 
--- a task reads the slots of all its datagrams
-task_read : (past : Record) (task count : ℕ) → task < TASKS → count ≡ datagram_count (task_places task (line_of past))
-    → answer_to past (Reads task) ≡ Image (epoch_of past) (slots_from past task 0 count)
-task_read past task count low counted =
-    ap (λ is. unless (cond (not is) (Some NoSuchTask) None) (image_of past task)) (lower task low)
-    ∙ ap (λ n. Image (epoch_of past) (slots_from past task 0 n)) (sym counted)
+-- a task below 8 is never refused
+pub read-numbered : (past : Record) (task size room : ℕ) → task < TASKS → image_number (answer_to past (Reads task)) size room ≡ fit_number size room
+read-numbered past task size room low = ap (λ is. image_number (unless (cond (not is) (Some NoSuchTask) None) (image_of past task)) size room) (lower task low)
 
--- of a task whose datagrams a plan of the line lists
-pub listed_read : (past : Record) (plan : State) (table : Table) (task : ℕ) (datagrams : List Datagram) → plan ≡ state_of past → lowest_fault (groups_of plan.groups) ≡ None
-    → table ≡ table_of (line plan) → datagrams ≡ datagrams_in table task → task < TASKS
-    → answer_to past (Reads task) ≡ Image (epoch_of past) (slots_from past task 0 (length datagrams))
-listed_read past plan table task datagrams state kept same are low =
-    let count = listed-count plan task datagrams kept (are ∙ ap (λ (it : Table). datagrams_in it task) same) in
-    task_read past task (length datagrams) low (count ∙ ap (λ (it : State). datagram_count (task_places task (line it))) state)
+-- the datagrams that a plan of the line lists
+pub listed-here : (past : Record) (plan : State) (table : Table) (task : ℕ) (datagrams : List Datagram) → plan ≡ state_of past → table ≡ table_of (line plan) → datagrams ≡ datagrams_in table task
+    → datagrams ≡ datagrams_of past task
+listed-here past plan table task datagrams state same are =
+    are ∙ ap (λ (it : Table). datagrams_in it task) same ∙ ap (λ (it : State). datagrams_in (table_of (line it)) task) state
+
+-- they have the line's lengths
+
+lengths_from : (members : List Member) (task number : ℕ) (datagrams : List Datagram) (other : Datagram)
+    → ((i n : ℕ) → i < length datagrams → n ≡ number + i → (get_or datagrams i other).length ≡ length_of members (task, n)) → HaveLengths members task number datagrams
+lengths_from members task number [] other each = tt
+lengths_from members task number (datagram ∷ datagrams) other each =
+    (each 0 number (omega arith) (omega arith), lengths_from members task (number + 1) datagrams other (λ i n low is. each (suc i) n (omega (arith, low)) (omega (arith, is))))
+
+blank : Datagram
+blank = record { address = 0; length = 0; expected = 0; offset = 0 }
+
+pub listed-lengths : (past : Record) (plan : State) (table : Table) (task : ℕ) (datagrams : List Datagram) → plan ≡ state_of past → lowest_fault (groups_of plan.groups) ≡ None → table ≡ table_of (line plan)
+    → datagrams ≡ datagrams_in table task → HaveLengths (line_of past) task 0 datagrams
+listed-lengths past plan table task datagrams state kept same are =
+    let here = are ∙ ap (λ (it : Table). datagrams_in it task) same in
+    subst (λ (it : State). HaveLengths (line it) task 0 datagrams) state
+    (lengths_from (line plan) task 0 datagrams blank
+    (λ i n low is. listed-length plan task i datagrams blank kept here low ∙ ap (λ (m : ℕ). length_of (line plan) (task, m)) (sym is)))
+
+-- so what a task reads of one has them too
+pub slot-fits : (past : Record) (task number size : ℕ) (slot : Option (List ℕ)) → slot ≡ slot_of past task number → size ≡ length_of (line_of past) (task, number) → IfSome slot (λ bytes. length bytes ≡ size)
+slot-fits past task number size None is long = tt
+slot-fits past task number size (Some bytes) is long = slots-fit past task number bytes (sym is) ∙ sym long
+
+-- sixteen bits are enough
+pub few-bits : (count : ℕ) → count < 16 → 2 ^ count ≤ 32768
+few-bits zero low = omega arith
+few-bits (suc zero) low = omega arith
+few-bits (suc (suc zero)) low = omega arith
+few-bits (suc (suc (suc zero))) low = omega arith
+few-bits (suc (suc (suc (suc zero)))) low = omega arith
+few-bits (suc (suc (suc (suc (suc zero))))) low = omega arith
+few-bits (suc (suc (suc (suc (suc (suc zero)))))) low = omega arith
+few-bits (suc (suc (suc (suc (suc (suc (suc zero))))))) low = omega arith
+few-bits (suc (suc (suc (suc (suc (suc (suc (suc zero)))))))) low = omega arith
+few-bits (suc (suc (suc (suc (suc (suc (suc (suc (suc zero))))))))) low = omega arith
+few-bits (suc (suc (suc (suc (suc (suc (suc (suc (suc (suc zero)))))))))) low = omega arith
+few-bits (suc (suc (suc (suc (suc (suc (suc (suc (suc (suc (suc zero))))))))))) low = omega arith
+few-bits (suc (suc (suc (suc (suc (suc (suc (suc (suc (suc (suc (suc zero)))))))))))) low = omega arith
+few-bits (suc (suc (suc (suc (suc (suc (suc (suc (suc (suc (suc (suc (suc zero))))))))))))) low = omega arith
+few-bits (suc (suc (suc (suc (suc (suc (suc (suc (suc (suc (suc (suc (suc (suc zero)))))))))))))) low = omega arith
+few-bits (suc (suc (suc (suc (suc (suc (suc (suc (suc (suc (suc (suc (suc (suc (suc zero))))))))))))))) low = omega arith
+few-bits (suc (suc (suc (suc (suc (suc (suc (suc (suc (suc (suc (suc (suc (suc (suc (suc more)))))))))))))))) low = absurd (omega (arith, low))

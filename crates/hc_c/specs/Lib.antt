@@ -10,6 +10,7 @@ pub mod Sends
 pub mod Arrivals
 pub mod Returned
 pub mod Reads
+pub mod Pieces
 pub mod Tellings
 pub mod Groups
 pub mod Runs

@@ -1,47 +1,66 @@
--- What C is told of a task's input image.
-use Rattle.std.specs.Prelude.{◌≡◌, ℕ, if◌then◌else◌, nat_le, List, [], ◌++◌, length, map, sum_by, drop, Option, Some, None}
-use Rattle.std.specs.List.{flat_map, range_with_len}
+-- What C is told of a task's image.
+use Rattle.std.specs.Prelude.{◌≡◌, ℕ, ◌+◌, ◌*◌, if◌then◌else◌, nat_le, Bool, List, [], ◌∷◌, ◌++◌, length, map, sum_by, drop, is_some, replicate, unwrap_or, Option, Some, None}
+use Rattle.std.specs.List.{range_with_len}
+use Rattle.hc_places.specs.declared.table.Datagram.{Datagram}
+use Rattle.hc_places.specs.Table.{datagrams_in, table_of}
 use Rattle.hc_events.specs.declared.answer.Answer.{Answer}
 use Rattle.hc_events.specs.declared.answer.Answer.TheVariants as answer
+use Rattle.hc_events.specs.Ages.{data_serial}
 use Rattle.hc_events.specs.Entries.{Record}
 use Rattle.hc_events.specs.Faults.{core_fault_number}
 use Rattle.hc_events.specs.Images.{slot_of}
+use Rattle.hc_events.specs.Points.{epoch_of, line_of}
 use Rattle.hc_c.specs.declared.numbers.TheConstants.{DONE, NOTHING, ROOM}
 use Rattle.hc_c.specs.declared.reading.Image.{Image}
 use Rattle.hc_c.specs.Lists.{put}
 
--- what a task reads of so many of its datagrams, from one on
-abbrev pub slots_from : Record → ℕ → ℕ → ℕ → List (Option (List ℕ))
-slots_from past task number count = map (slot_of past task) (range_with_len number count)
+-- the datagrams of a task in the present line, in order
+abbrev pub datagrams_of : Record → ℕ → List Datagram
+datagrams_of past task = datagrams_in (table_of (line_of past)) task
 
--- the data of a datagram; none where it has none
-abbrev pub data_of : Option (List ℕ) → List ℕ
-data_of None = []
-data_of (Some bytes) = bytes
+-- the bytes of datagrams
+abbrev pub image_size : List Datagram → ℕ
+image_size datagrams = sum_by (λ datagram. datagram.length) datagrams
 
--- their bytes
-abbrev pub size_of : Option (List ℕ) → ℕ
-size_of slot = length (data_of slot)
+-- the data of a datagram with so many bytes; where it has none, as many zeros
+abbrev pub data_or_zeros : ℕ → Option (List ℕ) → List ℕ
+data_or_zeros size None = replicate size 0
+data_or_zeros size (Some bytes) = bytes
 
--- 0 where the data of all datagrams fit a slice of so many bytes, else the number of one that is too short
-abbrev pub fit_number : List (Option (List ℕ)) → ℕ → ℕ
-fit_number slots room = if nat_le (sum_by size_of slots) room then DONE else ROOM
+-- what a task's datagrams have, from a number on: each with as many bytes as the line says, so that its data begin at its offset
+abbrev pub image_from : Record → ℕ → ℕ → List Datagram → List ℕ
+image_from past task number [] = []
+image_from past task number (datagram ∷ datagrams) =
+    data_or_zeros datagram.length (slot_of past task number) ++ image_from past task (number + 1) datagrams
 
--- the number of what a task reads, in a slice of so many bytes: as `fit_number` says, or that of a refusal
-abbrev pub image_number : Answer → ℕ → ℕ
-image_number (answer.Image epoch slots) room = fit_number slots room
-image_number (answer.Refused fault) room = core_fault_number fault
-image_number _ room = NOTHING
+-- the number whose bits, from the least significant one on, say so
+abbrev pub mask_of : List Bool → ℕ
+mask_of [] = 0
+mask_of (bit ∷ bits) = (if bit then 1 else 0) + 2 * mask_of bits
 
--- the number of datagrams and their bytes; the data of all in front of what the slice had behind them, and each one's bytes, as many as there is room for
-pub record HoldsSlots (epoch : ℕ) (slots : List (Option (List ℕ))) (image : Image) (before after : List ℕ) (sizes sizes' : List ℕ) : Type 0 where
-  pub epoch_of : image.epoch ≡ epoch
-  pub counted : image.datagrams ≡ length slots
-  pub size : image.size ≡ sum_by size_of slots
-  pub bytes : after ≡ flat_map data_of slots ++ drop (sum_by size_of slots) before
-  pub told_sizes : sizes' ≡ put (map size_of slots) sizes
+-- of so many datagrams of a task, from a number on, whether each has data
+abbrev pub have_data : Record → ℕ → ℕ → ℕ → List Bool
+have_data past task number count = map (λ d. is_some (slot_of past task d)) (range_with_len number count)
 
--- the epoch and the data of what a task reads; nothing else holds an image
-abbrev pub HoldsImage : Answer → Image → List ℕ → List ℕ → List ℕ → List ℕ → Type 0
-HoldsImage (answer.Image epoch slots) image before after sizes sizes' = HoldsSlots epoch slots image before after sizes sizes'
-HoldsImage _ image before after sizes sizes' = ⊥
+-- of so many datagrams of a task, from a number on, the serial of the sending that each one's data answer; 0 where it has none
+abbrev pub serials_from : Record → ℕ → ℕ → ℕ → List ℕ
+serials_from past task number count = map (λ d. unwrap_or (data_serial past task d) 0) (range_with_len number count)
+
+-- 0 where so many bytes fit a slice of so many, else the number of one that is too short
+abbrev pub fit_number : ℕ → ℕ → ℕ
+fit_number size room = if nat_le size room then DONE else ROOM
+
+-- the number of what a task reads, with an image of so many bytes, in a slice of so many: as `fit_number` says, or that of a refusal
+abbrev pub image_number : Answer → ℕ → ℕ → ℕ
+image_number (answer.Image epoch slots) size room = fit_number size room
+image_number (answer.Refused fault) size room = core_fault_number fault
+image_number _ size room = NOTHING
+
+-- what a task reads of these datagrams: the epoch, their number and their bytes; those with data by their bits; the bytes of all before what the slice had after them; and each one's serial, as many as there is room for
+pub record HoldsImage (past : Record) (task : ℕ) (datagrams : List Datagram) (image : Image) (before after serials serials' : List ℕ) : Type 0 where
+  pub epoch_is : image.epoch ≡ epoch_of past
+  pub counted : image.datagrams ≡ length datagrams
+  pub size : image.size ≡ image_size datagrams
+  pub has : image.has ≡ mask_of (have_data past task 0 (length datagrams))
+  pub bytes : after ≡ image_from past task 0 datagrams ++ drop (image_size datagrams) before
+  pub told_serials : serials' ≡ put (serials_from past task 0 (length datagrams)) serials

@@ -1,14 +1,16 @@
 //! What tasks read.
-ghost use Rattle.std.specs.Prelude.{◌≡◌, ◌≢◌, ◌+◌, ◌<◌, ◌≤◌, ◌++◌, IfSome, None, drop, length, map, nat_le, sum_by};
-ghost use Rattle.std.specs.List.{flat_map};
+ghost use Rattle.std.specs.Prelude.{◌≡◌, ◌≢◌, ◌+◌, ◌^◌, ◌<◌, ◌≤◌, ◌++◌, IfSome, None, drop, is_some, length, nat_le};
+ghost use Rattle.std.specs.Option.{option_copied};
 ghost use Rattle.hc_records.specs.declared.limits.TheConstants.{MOST_DATAGRAMS};
+ghost use Rattle.hc_events.specs.Accepted.{IsReachable};
 ghost use Rattle.hc_events.specs.Images.{slot_of};
-ghost use Rattle.hc_events.specs.Points.{epoch_of};
+ghost use Rattle.hc_events.specs.Points.{line_of};
 ghost use Rattle.hc_events.specs.Steps.{Reads, answer_to};
 ghost use Rattle.hc_c.specs.Embedded.{past_of};
 ghost use Rattle.hc_c.specs.Lists.{put};
+ghost use Rattle.hc_c.specs.Pieces.{HaveLengths};
 ghost use Rattle.hc_c.specs.declared.numbers.TheConstants.{BUSY, CLOSED};
-ghost use Rattle.hc_c.specs.Reads.{HoldsImage, HoldsSlots, data_of, fit_number, image_number, size_of, slots_from};
+ghost use Rattle.hc_c.specs.Reads.{HoldsImage, data_or_zeros, datagrams_of, fit_number, have_data, image_from, image_number, image_size, mask_of, serials_from};
 
 use crate::handle::Handle;
 use crate::numbers::{DONE, ROOM};
@@ -16,9 +18,8 @@ use hc_core::keeping::Core;
 use hc_events::faults::CoreFault;
 use hc_places::table::Datagram;
 use hc_records::limits::TASKS;
-use hc_records::task::Task;
 
-/// A task's input image, as C is told it.
+/// A task's image, as C is told it.
 #[repr(C)]
 #[derive(Clone, Copy)]
 pub struct Image {
@@ -26,132 +27,154 @@ pub struct Image {
     epoch: u32,
     /// The task's datagrams, at most 16.
     datagrams: usize,
-    /// The bytes of all their data, at most 23,776.
+    /// The bytes of the image, outputs and inputs, at most 23,776.
     size: usize,
+    /// Bit d is 1 where datagram d has data in this epoch.
+    has: u16,
 }
 
-/// The data of a datagram of a task; none where it has none.
-fn data_of(core: &Core, task: Task, number: u8) -> &[u8]
-    requires { number < MOST_DATAGRAMS }
-    ensures { result.now ≡ data_of (slot_of core.now.past task number) }
+/// The bytes of the datagrams of a task. A task has 16 datagrams at most, so deep is this recursion.
+fn image_size(datagrams: &[Datagram]) -> usize
+    requires { length datagrams.now ≤ MOST_DATAGRAMS }
+    ensures size { result ≡ image_size datagrams.now }
+    ensures most { result ≤ 65535 * length datagrams.now }
 {
-    match core.data(task.number(), number) {
-        Some(bytes) => bytes,
-        None => &[],
+    match datagrams {
+        [] => 0,
+        [first, rest @ ..] => usize::from(first.length) + image_size(rest),
     }
 }
 
-/// Whether the data of a task's datagrams from one on have room in so many bytes. A task has 16 datagrams at most, so deep
-/// is this recursion.
-fn fit(core: &Core, task: Task, number: u8, datagrams: &[Datagram], room: usize) -> bool
-    requires { number + length datagrams.now ≤ MOST_DATAGRAMS }
-    ensures { result ≡ nat_le (sum_by size_of (slots_from core.now.past task number (length datagrams.now))) room }
+/// Puts the data of a datagram, or zeros where it has none.
+fn put_slot(slot: Option<&[u8]>, out: &mut [u8])
+    requires { IfSome (option_copied slot) (λ bytes. length bytes ≡ length out.old) }
+    ensures { out.new ≡ data_or_zeros (length out.old) (option_copied slot) }
+{
+    match slot {
+        Some(bytes) => out.copy_from_slice(bytes),
+        None => out.fill(0),
+    }
+}
+
+/// Puts what these datagrams have one after another. So deep is this recursion too.
+fn put_data(core: &Core, task: u8, number: u8, datagrams: &[Datagram], out: &mut [u8])
+    requires task { task < TASKS }
+    requires few { number + length datagrams.now ≤ MOST_DATAGRAMS }
+    requires lengths { HaveLengths (line_of core.now.past) task number datagrams.now }
+    requires room { image_size datagrams.now ≤ length out.old }
+    ensures { out.new ≡ image_from core.now.past task number datagrams.now ++ drop (image_size datagrams.now) out.old }
+{
+    let Some((first, rest)) = datagrams.split_first() else {
+        return;
+    };
+    let (own, others) = out.split_at_mut(usize::from(first.length));
+    put_slot(core.data(task, number), own);
+    put_data(core, task, number + 1, rest, others);
+}
+
+/// The bits of those that have data, the first one's the least significant. So deep is this recursion too.
+fn mask(core: &Core, task: u8, number: u8, datagrams: &[Datagram]) -> u16
+    requires task { task < TASKS }
+    requires few { number + length datagrams.now ≤ MOST_DATAGRAMS }
+    ensures mask { result ≡ mask_of (have_data core.now.past task number (length datagrams.now)) }
+    ensures below { result < 2 ^ length datagrams.now }
 {
     match datagrams {
-        [] => true,
+        [] => 0,
         [_, rest @ ..] => {
-            let size = data_of(core, task, number).len();
-            size <= room && fit(core, task, number + 1, rest, room - size)
+            let own = u16::from(core.data(task, number).is_some());
+            own + 2 * mask(core, task, number + 1, rest)
         }
     }
 }
 
-/// Puts the data of these datagrams one after another, and answers their bytes. So deep is this recursion too.
-fn put_data(core: &Core, task: Task, number: u8, datagrams: &[Datagram], out: &mut [u8]) -> usize
+/// Tells the serial of each, as many as there is room for. So deep is this recursion too.
+fn put_serials(core: &Core, task: u8, number: u8, datagrams: &[Datagram], serials: &mut [u64])
+    requires task { task < TASKS }
     requires few { number + length datagrams.now ≤ MOST_DATAGRAMS }
-    requires room { sum_by size_of (slots_from core.now.past task number (length datagrams.now)) ≤ length out.old }
-    ensures bytes { out.new ≡ flat_map data_of (slots_from core.now.past task number (length datagrams.now)) ++ drop (sum_by size_of (slots_from core.now.past task number (length datagrams.now))) out.old }
-    ensures size { result ≡ sum_by size_of (slots_from core.now.past task number (length datagrams.now)) }
-{
-    let Some((_, rest)) = datagrams.split_first() else {
-        return 0;
-    };
-    let bytes = data_of(core, task, number);
-    let (first, others) = out.split_at_mut(bytes.len());
-    first.copy_from_slice(bytes);
-    bytes.len() + put_data(core, task, number + 1, rest, others)
-}
-
-/// Tells the bytes of the data of each of them, as many as there is room for. So deep is this recursion too.
-fn put_sizes(core: &Core, task: Task, number: u8, datagrams: &[Datagram], sizes: &mut [usize])
-    requires { number + length datagrams.now ≤ MOST_DATAGRAMS }
-    ensures { sizes.new ≡ put (map size_of (slots_from core.now.past task number (length datagrams.now))) sizes.old }
+    ensures { serials.new ≡ put (serials_from core.now.past task number (length datagrams.now)) serials.old }
 {
     let Some((_, rest)) = datagrams.split_first() else {
         return;
     };
-    let Some((first, others)) = sizes.split_first_mut() else {
+    let Some((first, others)) = serials.split_first_mut() else {
         return;
     };
-    *first = data_of(core, task, number).len();
-    put_sizes(core, task, number + 1, rest, others);
+    *first = core.data_serial(task, number).unwrap_or(0);
+    put_serials(core, task, number + 1, rest, others);
 }
 
 /// Tells what a task reads of its datagrams: `DONE`, or `ROOM` where `out` is too short.
 fn tell_slots(
     core: &Core,
-    task: Task,
+    task: u8,
     datagrams: &[Datagram],
     out: &mut [u8],
-    sizes: &mut [usize],
+    serials: &mut [u64],
     image: &mut Image,
 ) -> u8
-    requires { length datagrams.now ≤ MOST_DATAGRAMS }
-    ensures number { result ≡ fit_number (slots_from core.now.past task 0 (length datagrams.now)) (length out.old) }
-    ensures image { result ≡ DONE → HoldsSlots (epoch_of core.now.past) (slots_from core.now.past task 0 (length datagrams.now)) image.new out.old out.new sizes.old sizes.new }
+    requires task { task < TASKS }
+    requires few { length datagrams.now ≤ MOST_DATAGRAMS }
+    requires lengths { HaveLengths (line_of core.now.past) task 0 datagrams.now }
+    ensures number { result ≡ fit_number (image_size datagrams.now) (length out.old) }
+    ensures image { result ≡ DONE → HoldsImage core.now.past task datagrams.now image.new out.old out.new serials.old serials.new }
     ensures untouched { result ≢ DONE → out.new ≡ out.old }
-    ensures unwritten { result ≢ DONE → (sizes.new ≡ sizes.old) × (image.new ≡ image.old) }
+    ensures unwritten { result ≢ DONE → (serials.new ≡ serials.old) × (image.new ≡ image.old) }
 {
-    if !fit(core, task, 0, datagrams, out.len()) {
+    let size = image_size(datagrams);
+    if out.len() < size {
         return ROOM;
     }
-    put_sizes(core, task, 0, datagrams, sizes);
+    put_data(core, task, 0, datagrams, out);
+    put_serials(core, task, 0, datagrams, serials);
     *image = Image {
         epoch: core.plan().epoch(),
         datagrams: datagrams.len(),
-        size: put_data(core, task, 0, datagrams, out),
+        size,
+        has: mask(core, task, 0, datagrams),
     };
     DONE
 }
 
 /// Tells an image: `DONE`, or `ROOM` where `out` is too short, or why it was refused.
-fn tell_image(core: &Core, task: u8, out: &mut [u8], sizes: &mut [usize], image: &mut Image) -> u8
-    ensures number { result ≡ image_number (answer_to core.now.past (Reads task)) (length out.old) }
-    ensures image { result ≡ DONE → HoldsImage (answer_to core.now.past (Reads task)) image.new out.old out.new sizes.old sizes.new }
+fn tell_image(core: &Core, task: u8, out: &mut [u8], serials: &mut [u64], image: &mut Image) -> u8
+    ensures number { result ≡ image_number (answer_to core.now.past (Reads task)) (image_size (datagrams_of core.now.past task)) (length out.old) }
+    ensures image { result ≡ DONE → HoldsImage core.now.past task (datagrams_of core.now.past task) image.new out.old out.new serials.old serials.new }
     ensures untouched { result ≢ DONE → out.new ≡ out.old }
-    ensures unwritten { result ≢ DONE → (sizes.new ≡ sizes.old) × (image.new ≡ image.old) }
+    ensures unwritten { result ≢ DONE → (serials.new ≡ serials.old) × (image.new ≡ image.old) }
 {
     if task >= TASKS {
         return CoreFault::NoSuchTask.number();
     }
     let datagrams = core.plan().places().datagrams(task);
-    tell_slots(core, Task(task), datagrams, out, sizes, image)
+    tell_slots(core, task, datagrams, out, serials, image)
 }
 
 /// What a task reads: of each of its datagrams the data of the last good answer in the present epoch, or none. `DONE`: the
-/// data stand at the front of `out` one after another, in the datagrams' order, and those that have none leave no gap;
-/// `sizes` has the bytes of each, 0 where it has none, as many as there is room for. Else fault 8 where the task is over 7,
-/// `ROOM` where `out` is too short, which 23,776 bytes never are, `BUSY` or `CLOSED`; `out`, `sizes` and `image` are then as they
-/// were. Nothing changes. It takes no memory.
+/// data of each stand in `out` at the datagram's offset in the task's image, outputs and inputs, and those of one without data
+/// are zeros; `serials` has of each, in the datagrams' order, the serial of the sending that its data answer, 0 where it has
+/// none, as many as there is room for; `image.has` tells which have data. Else fault 8 where the task is over 7, `ROOM` where
+/// `out` is shorter than the image, which 23,776 bytes never are, `BUSY` or `CLOSED`; `out`, `serials` and `image` are then as
+/// they were. Nothing changes. It takes no memory.
 #[unsafe(no_mangle)]
 pub extern "C" fn zangjulf_read(
     handle: &Handle,
     task: u8,
     out: &mut [u8],
-    sizes: &mut [usize],
+    serials: &mut [u64],
     image: &mut Image,
 ) -> u8
-    ensures told { IfSome handle.now.holding.value (λ now. result ≢ BUSY → result ≡ image_number (answer_to (past_of now) (Reads task)) (length out.old)) }
-    ensures image { result ≡ DONE → IfSome handle.now.holding.value (λ now. HoldsImage (answer_to (past_of now) (Reads task)) image.new out.old out.new sizes.old sizes.new) }
+    ensures told { IfSome handle.now.holding.value (λ now. result ≢ BUSY → result ≡ image_number (answer_to (past_of now) (Reads task)) (image_size (datagrams_of (past_of now) task)) (length out.old)) }
+    ensures image { result ≡ DONE → IfSome handle.now.holding.value (λ now. HoldsImage (past_of now) task (datagrams_of (past_of now) task) image.new out.old out.new serials.old serials.new) }
     ensures untouched { result ≢ DONE → out.new ≡ out.old }
-    ensures unwritten { result ≢ DONE → (sizes.new ≡ sizes.old) × (image.new ≡ image.old) }
+    ensures unwritten { result ≢ DONE → (serials.new ≡ serials.old) × (image.new ≡ image.old) }
     ensures closed { handle.now.holding.value ≡ None → result ≡ CLOSED }
 {
     let own = match handle.begin_look() {
         Ok(own) => own,
         Err(number) => return number,
     };
-    let number = tell_image(&own.core, task, out, sizes, image);
+    let number = tell_image(&own.core, task, out, serials, image);
     own.calls.end_look();
     number
 }

@@ -18,8 +18,5 @@ pub fn named_by(part: &Part<'_>) -> (u8, u8)
 pub fn written_by(part: &Part<'_>) -> (u16, u16)
     ensures { result ≡ written_at part.now.carried.address }
 {
-    (
-        (part.address % 65536) as u16,
-        (part.address / 65536) as u16,
-    )
+    ((part.address % 65536) as u16, (part.address / 65536) as u16)
 }

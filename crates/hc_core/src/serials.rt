@@ -66,6 +66,7 @@ impl Serials {
         requires { number < MOST_DATAGRAMS }
         ensures { result ≡ serial_of self.now task number }
     {
-        self.serials[slot_number(task.number(), number)]
+        let slot = slot_number(task.number(), number);
+        self.serials[slot]
     }
 }

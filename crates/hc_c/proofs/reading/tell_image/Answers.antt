@@ -1,15 +1,20 @@
-use Rattle.std.proofs.Common.{◌∙◌, ap, length, subst, sym}
-use Rattle.hc_events.specs.declared.answer.Answer.{Answer}
-use Rattle.hc_c.specs.Reads.{HoldsImage, image_number}
-use Rattle.hc_c.proofs.Images.{listed_read}
+use Rattle.std.proofs.Common.{◌∙◌, List, ap, length, subst, sym}
+use Rattle.hc_places.specs.declared.table.Datagram.{Datagram}
+use Rattle.hc_c.specs.Reads.{HoldsImage, fit_number, image_size}
+use Rattle.hc_c.proofs.Images.{listed-here, listed-lengths, read-numbered}
 use Rattle.hc_c.proofs.reading.tell_image.Goals as goal
+
+pub tell_slots-requires-clause-lengths : goal.tell_slots-requires-clause-lengths
+tell_slots-requires-clause-lengths c =
+    listed-lengths c.args.core.now.past c.plan.result.now c.places.result.now c.args.task c.datagrams-datagrams.result.now c.plan.ensures.state c.places.ensures.kept c.places.ensures.table c.datagrams-datagrams.ensures.datagrams
 
 pub returns-clause-number : goal.returns-clause-number
 returns-clause-number c =
-    let same = listed_read c.args.core.now.past c.plan.result.now c.places.result.now c.args.task c.datagrams-datagrams.result.now c.plan.ensures.state c.places.ensures.kept c.places.ensures.table c.datagrams-datagrams.ensures.datagrams c.if-task-ge-TASKS.false in
-    c.tell_slots.ensures.number ∙ sym (ap (λ (answer : Answer). image_number answer (length c.args.out.now)) same)
+    let here = listed-here c.args.core.now.past c.plan.result.now c.places.result.now c.args.task c.datagrams-datagrams.result.now c.plan.ensures.state c.places.ensures.table c.datagrams-datagrams.ensures.datagrams in
+    c.tell_slots.ensures.number ∙ ap (λ (all : List Datagram). fit_number (image_size all) (length c.args.out.now)) here
+    ∙ sym (read-numbered c.args.core.now.past c.args.task (image_size _) (length c.args.out.now) c.if-task-ge-TASKS.false)
 
 pub returns-clause-image : goal.returns-clause-image
 returns-clause-image c done =
-    let same = listed_read c.args.core.now.past c.plan.result.now c.places.result.now c.args.task c.datagrams-datagrams.result.now c.plan.ensures.state c.places.ensures.kept c.places.ensures.table c.datagrams-datagrams.ensures.datagrams c.if-task-ge-TASKS.false in
-    subst (λ (answer : Answer). HoldsImage answer c.tell_slots.new.image c.args.out.now c.tell_slots.new.out c.args.sizes.now c.tell_slots.new.sizes) (sym same) (c.tell_slots.ensures.image done)
+    let here = listed-here c.args.core.now.past c.plan.result.now c.places.result.now c.args.task c.datagrams-datagrams.result.now c.plan.ensures.state c.places.ensures.table c.datagrams-datagrams.ensures.datagrams in
+    subst (λ (all : List Datagram). HoldsImage c.args.core.now.past c.args.task all c.tell_slots.new.image c.args.out.now c.tell_slots.new.out c.args.serials.now c.tell_slots.new.serials) here (c.tell_slots.ensures.image done)
