@@ -1,5 +1,5 @@
 //! The first owed register block.
-ghost use Rattle.std.specs.Prelude.{◌≡◌, [], MatchOption};
+ghost use Rattle.std.specs.Prelude.{◌≡◌, [], MatchOption, slice_get};
 ghost use Rattle.hc_events.specs.Owed.{owed_blocks};
 ghost use Rattle.hc_core.specs.Firsts.{IsFirstOwed};
 
@@ -25,5 +25,14 @@ impl Core {
                 block,
             },
         ))
+    }
+
+    /// The first owed block in line order and block order, which the next register write carries; none where nothing is
+    /// owed. It takes no memory.
+    pub fn next_block(&self) -> Option<LineBlock>
+        ensures { result ≡ slice_get (owed_blocks self.now.past) 0 }
+    {
+        let found = self.first_block()?;
+        Some(found.1)
     }
 }
