@@ -135,22 +135,23 @@ fn tell_image(core: &Core, task: u8, out: &mut [u8], sizes: &mut [usize], image:
 /// were. Nothing changes. It takes no memory.
 #[unsafe(no_mangle)]
 pub extern "C" fn zangjulf_read(
-    handle: &Handle,
+    handle: &mut Handle,
     task: u8,
     out: &mut [u8],
     sizes: &mut [usize],
     image: &mut Image,
 ) -> u8
-    ensures told { IfSome handle.now.holding.value (λ now. result ≢ BUSY → result ≡ image_number (answer_to (past_of now) (Reads task)) (length out.old)) }
-    ensures image { result ≡ DONE → IfSome handle.now.holding.value (λ now. HoldsImage (answer_to (past_of now) (Reads task)) image.new out.old out.new sizes.old sizes.new) }
+    ensures told { IfSome handle.old.holding.value (λ old. result ≢ BUSY → result ≡ image_number (answer_to (past_of old) (Reads task)) (length out.old)) }
+    ensures kept { handle.new.holding.value ≡ handle.old.holding.value }
+    ensures image { result ≡ DONE → IfSome handle.old.holding.value (λ old. HoldsImage (answer_to (past_of old) (Reads task)) image.new out.old out.new sizes.old sizes.new) }
     ensures untouched { result ≢ DONE → out.new ≡ out.old }
     ensures unwritten { result ≢ DONE → (sizes.new ≡ sizes.old) × (image.new ≡ image.old) }
-    ensures closed { handle.now.holding.value ≡ None → result ≡ CLOSED }
+    ensures closed { handle.old.holding.value ≡ None → result ≡ CLOSED }
 {
-    let own = match handle.begin_look() {
-        Ok(own) => own,
-        Err(number) => return number,
-    };
+    if let Err(number) = handle.begin_look() {
+        return number;
+    }
+    let own = handle.holding.line_mut();
     let number = tell_image(&own.core, task, out, sizes, image);
     own.calls.end_look();
     number
