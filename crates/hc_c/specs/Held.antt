@@ -1,9 +1,7 @@
--- What C's handle owns: what a box of the opened line owns, or nothing. And what is lent to whoever looks at it.
-use base.Fml.{Fml, Lft, ftrue}
+-- What C's handle owns: what a box of the opened line owns, or nothing.
+use base.Fml.{Fml, ftrue}
 use base.Stored.{Coded}
 use denote.RawPtr.{Ptr}
-use denote.Sharing.{nothing}
-use denote.Struct.Lending.{lent_at}
 use Rattle.std.specs.Box.Ownership.{box_owns}
 use Rattle.std.specs.Coded.{coded_option}
 use Rattle.std.specs.Global.{Global}
@@ -17,11 +15,6 @@ use Rattle.hc_c.specs.contracts.embedded.Embedded.{the_row}
 abbrev pub owns_embedded : Global → Ptr → Option the_row.Denot → Fml
 owns_embedded alloc at None = ftrue
 owns_embedded alloc at (Some value) = box_owns (ghosts.dealloc_token alloc) the_row at value
-
--- where there is a line, a `&` to it
-abbrev pub shares_embedded : Ptr → Option the_row.Denot → Lft → Fml
-shares_embedded at None = nothing
-shares_embedded at (Some value) = lent_at the_row at value
 
 -- how the logic stores it
 abbrev pub embedded_coded : Coded (Option the_row.Denot)

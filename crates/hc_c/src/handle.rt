@@ -2,7 +2,7 @@
 ghost use Rattle.std.specs.Prelude.{◌≡◌, ◌≢◌, Err, IfErr, IfOk, IfSome, IsSome, OnOk, is_some};
 ghost use Rattle.std.specs.declared.option.Option.{Option};
 ghost use Rattle.std.specs.declared.option.Option.TheVariants.{None, Some};
-ghost use Rattle.hc_c.specs.Held.{embedded_coded, in_box, owns_embedded, shares_embedded};
+ghost use Rattle.hc_c.specs.Held.{embedded_coded, in_box, owns_embedded};
 ghost use Rattle.hc_c.specs.declared.embedded.Embedded.{Embedded};
 
 mod unboxed;
@@ -25,8 +25,6 @@ pub struct Holding {
 
 impl Model for Holding {
     ghost also_owns = { λ holding. owns_embedded holding.alloc holding.at holding.value };
-
-    ghost also_shares = { λ holding _ κ. shares_embedded holding.at holding.value κ };
 }
 
 impl Holding {
@@ -63,15 +61,7 @@ impl Holding {
         }
     }
 
-    /// The opened line, to be looked at.
-    fn line(&self) -> &Embedded
-        requires { IsSome self.now.value }
-        ensures { self.now.value ≡ Some result.now }
-    {
-        unsafe { &*(self.at as *const Embedded) }
-    }
-
-    /// The opened line, to be changed where it lies: no word of the handle is written.
+    /// The opened line, where it lies: no word of the handle is written.
     pub fn line_mut(&mut self) -> &mut Embedded
         requires { IsSome self.old.value }
         ensures* writes_back { sem 𝓛 (LendsLine self.entry result) }
@@ -82,8 +72,6 @@ impl Holding {
 }
 
 unsafe impl Send for Holding {}
-
-unsafe impl Sync for Holding {}
 
 /// What C keeps: zeros where no line is open.
 #[repr(C)]
@@ -122,19 +110,19 @@ impl Handle {
         }
     }
 
-    /// A look-up begins, which `Calls::end_look` ends: the opened line. `CLOSED` where there is none, and `BUSY` while a
-    /// change of it runs; then no look-up begins.
-    pub fn begin_look(&self) -> Result<&Embedded, u8>
-        ensures line { IfOk result (λ own. self.now.holding.value ≡ Some own.now) }
-        ensures closed { self.now.holding.value ≡ None → result ≡ Err CLOSED }
-        ensures refused { IfErr result (λ number. number ≢ BUSY → (number ≡ CLOSED) × (self.now.holding.value ≡ None)) }
+    /// A look-up begins, which `Calls::end_look` ends: of the line that `Holding::line_mut` lends. `CLOSED` where there is
+    /// none, and `BUSY` while a change of it runs; then no look-up begins.
+    pub fn begin_look(&mut self) -> Result<(), u8>
+        ensures line { OnOk result (IsSome self.new.holding.value) }
+        ensures kept { self.new.holding.value ≡ self.old.holding.value }
+        ensures closed { self.old.holding.value ≡ None → result ≡ Err CLOSED }
+        ensures refused { IfErr result (λ number. number ≢ BUSY → (number ≡ CLOSED) × (self.old.holding.value ≡ None)) }
     {
         if !self.is_open {
             return Err(CLOSED);
         }
-        let own = self.holding.line();
-        if own.calls.begin_look() {
-            Ok(own)
+        if self.holding.line_mut().calls.begin_look() {
+            Ok(())
         } else {
             Err(BUSY)
         }
@@ -142,15 +130,16 @@ impl Handle {
 
     /// A change begins, which `Calls::end_change` ends: of the line that `Holding::line_mut` lends. `CLOSED` where there is
     /// none, and `BUSY` while another call with the handle runs; then no change begins.
-    pub fn begin_change(&self) -> Result<(), u8>
-        ensures line { OnOk result (IsSome self.now.holding.value) }
-        ensures closed { self.now.holding.value ≡ None → result ≡ Err CLOSED }
-        ensures refused { IfErr result (λ number. number ≢ BUSY → (number ≡ CLOSED) × (self.now.holding.value ≡ None)) }
+    pub fn begin_change(&mut self) -> Result<(), u8>
+        ensures line { OnOk result (IsSome self.new.holding.value) }
+        ensures kept { self.new.holding.value ≡ self.old.holding.value }
+        ensures closed { self.old.holding.value ≡ None → result ≡ Err CLOSED }
+        ensures refused { IfErr result (λ number. number ≢ BUSY → (number ≡ CLOSED) × (self.old.holding.value ≡ None)) }
     {
         if !self.is_open {
             return Err(CLOSED);
         }
-        if self.holding.line().calls.begin_change() {
+        if self.holding.line_mut().calls.begin_change() {
             Ok(())
         } else {
             Err(BUSY)
@@ -158,15 +147,15 @@ impl Handle {
     }
 }
 
-/// What may go to another thread, and may be looked at by several at the same time.
-fn crosses<T: Send + Sync>(it: T) -> T
+/// What may go to another thread.
+fn crosses<T: Send>(it: T) -> T
     ensures { result ≡ it }
 {
     it
 }
 
 impl Handle {
-    /// A handle may go to another thread between two calls, and several threads may look at it at the same time.
+    /// A handle may go to another thread between two calls.
     pub fn crosses(self) -> Handle
         ensures { result ≡ self }
     {

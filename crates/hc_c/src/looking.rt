@@ -133,15 +133,20 @@ fn told_datagram(datagram: LineDatagram) -> Datagram
 /// Where a variable stands, 1 to 4,294,967,295: `DONE`; `NOTHING` where the present line has no place for it; `BUSY`
 /// or `CLOSED`.
 #[unsafe(no_mangle)]
-pub extern "C" fn zangjulf_place(handle: &Handle, variable: u32, place: &mut Place) -> u8
-    ensures told { IfSome handle.now.holding.value (λ now. result ≢ BUSY → MatchOption (place_at (past_of now) variable) (result ≡ NOTHING) (λ found. (result ≡ DONE) × (place.new ≡ told_place (past_of now) found))) }
+pub extern "C" fn zangjulf_place(
+    handle: &mut Handle,
+    variable: u32,
+    place: &mut Place,
+) -> u8
+    ensures told { IfSome handle.old.holding.value (λ old. result ≢ BUSY → MatchOption (place_at (past_of old) variable) (result ≡ NOTHING) (λ found. (result ≡ DONE) × (place.new ≡ told_place (past_of old) found))) }
+    ensures kept { handle.new.holding.value ≡ handle.old.holding.value }
     ensures untouched { result ≢ DONE → place.new ≡ place.old }
-    ensures closed { handle.now.holding.value ≡ None → (result ≡ CLOSED) × (place.new ≡ place.old) }
+    ensures closed { handle.old.holding.value ≡ None → (result ≡ CLOSED) × (place.new ≡ place.old) }
 {
-    let own = match handle.begin_look() {
-        Ok(own) => own,
-        Err(number) => return number,
-    };
+    if let Err(number) = handle.begin_look() {
+        return number;
+    }
+    let own = handle.holding.line_mut();
     let number = match place_at(&own.core, variable) {
         Some(found) => {
             *place = told_place(&own.core, found);
@@ -157,19 +162,20 @@ pub extern "C" fn zangjulf_place(handle: &Handle, variable: u32, place: &mut Pla
 /// task; `BUSY` or `CLOSED`.
 #[unsafe(no_mangle)]
 pub extern "C" fn zangjulf_datagram(
-    handle: &Handle,
+    handle: &mut Handle,
     task: u8,
     datagram: u8,
     told: &mut Datagram,
 ) -> u8
-    ensures told { IfSome handle.now.holding.value (λ now. result ≢ BUSY → MatchOption (datagram_at (past_of now) task datagram) (result ≡ NOTHING) (λ found. (result ≡ DONE) × (told.new ≡ told_datagram found))) }
+    ensures told { IfSome handle.old.holding.value (λ old. result ≢ BUSY → MatchOption (datagram_at (past_of old) task datagram) (result ≡ NOTHING) (λ found. (result ≡ DONE) × (told.new ≡ told_datagram found))) }
+    ensures kept { handle.new.holding.value ≡ handle.old.holding.value }
     ensures untouched { result ≢ DONE → told.new ≡ told.old }
-    ensures closed { handle.now.holding.value ≡ None → (result ≡ CLOSED) × (told.new ≡ told.old) }
+    ensures closed { handle.old.holding.value ≡ None → (result ≡ CLOSED) × (told.new ≡ told.old) }
 {
-    let own = match handle.begin_look() {
-        Ok(own) => own,
-        Err(number) => return number,
-    };
+    if let Err(number) = handle.begin_look() {
+        return number;
+    }
+    let own = handle.holding.line_mut();
     let number = match datagram_at(&own.core, task, datagram) {
         Some(found) => {
             *told = told_datagram(found);
@@ -183,15 +189,16 @@ pub extern "C" fn zangjulf_datagram(
 
 /// The bytes of a task's image, 0 and 0 where there is no such task: `DONE`, `BUSY` or `CLOSED`.
 #[unsafe(no_mangle)]
-pub extern "C" fn zangjulf_part(handle: &Handle, task: u8, part: &mut Part) -> u8
-    ensures told { IfSome handle.now.holding.value (λ now. result ≢ BUSY → (result ≡ DONE) × (part.new ≡ told_part (part_at (past_of now) task))) }
+pub extern "C" fn zangjulf_part(handle: &mut Handle, task: u8, part: &mut Part) -> u8
+    ensures told { IfSome handle.old.holding.value (λ old. result ≢ BUSY → (result ≡ DONE) × (part.new ≡ told_part (part_at (past_of old) task))) }
+    ensures kept { handle.new.holding.value ≡ handle.old.holding.value }
     ensures busy { result ≡ BUSY → part.new ≡ part.old }
-    ensures closed { handle.now.holding.value ≡ None → (result ≡ CLOSED) × (part.new ≡ part.old) }
+    ensures closed { handle.old.holding.value ≡ None → (result ≡ CLOSED) × (part.new ≡ part.old) }
 {
-    let own = match handle.begin_look() {
-        Ok(own) => own,
-        Err(number) => return number,
-    };
+    if let Err(number) = handle.begin_look() {
+        return number;
+    }
+    let own = handle.holding.line_mut();
     let (outputs, inputs) = part_at(&own.core, task);
     *part = Part { outputs, inputs };
     own.calls.end_look();
@@ -201,15 +208,20 @@ pub extern "C" fn zangjulf_part(handle: &Handle, task: u8, part: &mut Part) -> u
 /// The station address of the slave at a position of the present line, from 0: `DONE`; `NOTHING` where the line is
 /// shorter; `BUSY` or `CLOSED`.
 #[unsafe(no_mangle)]
-pub extern "C" fn zangjulf_station(handle: &Handle, position: u32, station: &mut u16) -> u8
-    ensures told { IfSome handle.now.holding.value (λ now. result ≢ BUSY → MatchOption (station_at (line_of (past_of now)) position) (result ≡ NOTHING) (λ found. (result ≡ DONE) × (station.new ≡ found))) }
+pub extern "C" fn zangjulf_station(
+    handle: &mut Handle,
+    position: u32,
+    station: &mut u16,
+) -> u8
+    ensures told { IfSome handle.old.holding.value (λ old. result ≢ BUSY → MatchOption (station_at (line_of (past_of old)) position) (result ≡ NOTHING) (λ found. (result ≡ DONE) × (station.new ≡ found))) }
+    ensures kept { handle.new.holding.value ≡ handle.old.holding.value }
     ensures untouched { result ≢ DONE → station.new ≡ station.old }
-    ensures closed { handle.now.holding.value ≡ None → (result ≡ CLOSED) × (station.new ≡ station.old) }
+    ensures closed { handle.old.holding.value ≡ None → (result ≡ CLOSED) × (station.new ≡ station.old) }
 {
-    let own = match handle.begin_look() {
-        Ok(own) => own,
-        Err(number) => return number,
-    };
+    if let Err(number) = handle.begin_look() {
+        return number;
+    }
+    let own = handle.holding.line_mut();
     let number = match own.core.plan().station(position) {
         Some(found) => {
             *station = found;
@@ -224,15 +236,20 @@ pub extern "C" fn zangjulf_station(handle: &Handle, position: u32, station: &mut
 /// The position in the present line, from 0, of the slave with a station address: `DONE`; fault 5 where no declared slave
 /// has it; 6 where that slave's group isn't present; `BUSY` or `CLOSED`.
 #[unsafe(no_mangle)]
-pub extern "C" fn zangjulf_position(handle: &Handle, station: u16, position: &mut u32) -> u8
-    ensures told { IfSome handle.now.holding.value (λ now. result ≢ BUSY → TellsPosition (position_of (state_of (past_of now)) station) result position.new) }
+pub extern "C" fn zangjulf_position(
+    handle: &mut Handle,
+    station: u16,
+    position: &mut u32,
+) -> u8
+    ensures told { IfSome handle.old.holding.value (λ old. result ≢ BUSY → TellsPosition (position_of (state_of (past_of old)) station) result position.new) }
+    ensures kept { handle.new.holding.value ≡ handle.old.holding.value }
     ensures untouched { result ≢ DONE → position.new ≡ position.old }
-    ensures closed { handle.now.holding.value ≡ None → (result ≡ CLOSED) × (position.new ≡ position.old) }
+    ensures closed { handle.old.holding.value ≡ None → (result ≡ CLOSED) × (position.new ≡ position.old) }
 {
-    let own = match handle.begin_look() {
-        Ok(own) => own,
-        Err(number) => return number,
-    };
+    if let Err(number) = handle.begin_look() {
+        return number;
+    }
+    let own = handle.holding.line_mut();
     let number = match own.core.plan().position(station) {
         Ok(found) => {
             *position = found;
@@ -266,21 +283,22 @@ fn tell_block(found: &LineBlock, out: &mut [u8], block: &mut Block) -> u8
 /// `BUSY` or `CLOSED`. With `NOTHING`, `BUSY` and `CLOSED` `block` is as it was.
 #[unsafe(no_mangle)]
 pub extern "C" fn zangjulf_block(
-    handle: &Handle,
+    handle: &mut Handle,
     station: u16,
     number: u8,
     out: &mut [u8],
     block: &mut Block,
 ) -> u8
-    ensures told { IfSome handle.now.holding.value (λ now. result ≢ BUSY → MatchOption (block_at (line_of (past_of now)) station number) ((result ≡ NOTHING) × (block.new ≡ block.old)) (λ found. TellsBlock found result block.new out.old out.new)) }
+    ensures told { IfSome handle.old.holding.value (λ old. result ≢ BUSY → MatchOption (block_at (line_of (past_of old)) station number) ((result ≡ NOTHING) × (block.new ≡ block.old)) (λ found. TellsBlock found result block.new out.old out.new)) }
+    ensures kept { handle.new.holding.value ≡ handle.old.holding.value }
     ensures untouched { result ≢ DONE → out.new ≡ out.old }
     ensures busy { result ≡ BUSY → block.new ≡ block.old }
-    ensures closed { handle.now.holding.value ≡ None → (result ≡ CLOSED) × (block.new ≡ block.old) }
+    ensures closed { handle.old.holding.value ≡ None → (result ≡ CLOSED) × (block.new ≡ block.old) }
 {
-    let own = match handle.begin_look() {
-        Ok(own) => own,
-        Err(number) => return number,
-    };
+    if let Err(number) = handle.begin_look() {
+        return number;
+    }
+    let own = handle.holding.line_mut();
     let told = match own.core.plan().block(station, number) {
         Some(found) => tell_block(&found, out, block),
         None => NOTHING,

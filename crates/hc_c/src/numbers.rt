@@ -5,6 +5,9 @@ pub const DONE: u8 = 0;
 /// A task of the opening line needs more than 16 datagrams.
 pub const CROWDED: u8 = 12;
 
+/// Register blocks are owed: no task is sent before they are written.
+pub const UNPROGRAMMED: u8 = 17;
+
 /// A growth was refused.
 pub const MEMORY: u8 = 28;
 

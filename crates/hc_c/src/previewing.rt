@@ -45,21 +45,22 @@ fn tell_preview(core: &Core, task: u8, datagram: u8, out: &mut [u8], size: &mut 
 /// or `CLOSED`. With `NOTHING`, `BUSY` and `CLOSED` `size` is as it was. It takes no memory.
 #[unsafe(no_mangle)]
 pub extern "C" fn zangjulf_preview(
-    handle: &Handle,
+    handle: &mut Handle,
     task: u8,
     datagram: u8,
     out: &mut [u8],
     size: &mut usize,
 ) -> u8
-    ensures told { IfSome handle.now.holding.value (λ now. result ≢ BUSY → MatchOption (preview (past_of now) task datagram) ((result ≡ NOTHING) × (size.new ≡ size.old)) (λ frame. TellsPreview (past_of now) frame result size.new out.old out.new)) }
+    ensures told { IfSome handle.old.holding.value (λ old. result ≢ BUSY → MatchOption (preview (past_of old) task datagram) ((result ≡ NOTHING) × (size.new ≡ size.old)) (λ frame. TellsPreview (past_of old) frame result size.new out.old out.new)) }
+    ensures kept { handle.new.holding.value ≡ handle.old.holding.value }
     ensures untouched { result ≢ DONE → out.new ≡ out.old }
     ensures busy { result ≡ BUSY → size.new ≡ size.old }
-    ensures closed { handle.now.holding.value ≡ None → (result ≡ CLOSED) × (size.new ≡ size.old) }
+    ensures closed { handle.old.holding.value ≡ None → (result ≡ CLOSED) × (size.new ≡ size.old) }
 {
-    let own = match handle.begin_look() {
-        Ok(own) => own,
-        Err(number) => return number,
-    };
+    if let Err(number) = handle.begin_look() {
+        return number;
+    }
+    let own = handle.holding.line_mut();
     let told = tell_preview(&own.core, task, datagram, out, size);
     own.calls.end_look();
     told

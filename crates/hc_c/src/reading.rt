@@ -2,7 +2,6 @@
 ghost use Rattle.std.specs.Prelude.{◌≡◌, ◌≢◌, ◌+◌, ◌^◌, ◌<◌, ◌≤◌, ◌++◌, IfSome, None, drop, is_some, length, nat_le};
 ghost use Rattle.std.specs.Option.{option_copied};
 ghost use Rattle.hc_records.specs.declared.limits.TheConstants.{MOST_DATAGRAMS};
-ghost use Rattle.hc_events.specs.Accepted.{IsReachable};
 ghost use Rattle.hc_events.specs.Images.{slot_of};
 ghost use Rattle.hc_events.specs.Points.{line_of};
 ghost use Rattle.hc_events.specs.Steps.{Reads, answer_to};
@@ -158,22 +157,23 @@ fn tell_image(core: &Core, task: u8, out: &mut [u8], serials: &mut [u64], image:
 /// they were. Nothing changes. It takes no memory.
 #[unsafe(no_mangle)]
 pub extern "C" fn zangjulf_read(
-    handle: &Handle,
+    handle: &mut Handle,
     task: u8,
     out: &mut [u8],
     serials: &mut [u64],
     image: &mut Image,
 ) -> u8
-    ensures told { IfSome handle.now.holding.value (λ now. result ≢ BUSY → result ≡ image_number (answer_to (past_of now) (Reads task)) (image_size (datagrams_of (past_of now) task)) (length out.old)) }
-    ensures image { result ≡ DONE → IfSome handle.now.holding.value (λ now. HoldsImage (past_of now) task (datagrams_of (past_of now) task) image.new out.old out.new serials.old serials.new) }
+    ensures told { IfSome handle.old.holding.value (λ old. result ≢ BUSY → result ≡ image_number (answer_to (past_of old) (Reads task)) (image_size (datagrams_of (past_of old) task)) (length out.old)) }
+    ensures kept { handle.new.holding.value ≡ handle.old.holding.value }
+    ensures image { result ≡ DONE → IfSome handle.old.holding.value (λ old. HoldsImage (past_of old) task (datagrams_of (past_of old) task) image.new out.old out.new serials.old serials.new) }
     ensures untouched { result ≢ DONE → out.new ≡ out.old }
     ensures unwritten { result ≢ DONE → (serials.new ≡ serials.old) × (image.new ≡ image.old) }
-    ensures closed { handle.now.holding.value ≡ None → result ≡ CLOSED }
+    ensures closed { handle.old.holding.value ≡ None → result ≡ CLOSED }
 {
-    let own = match handle.begin_look() {
-        Ok(own) => own,
-        Err(number) => return number,
-    };
+    if let Err(number) = handle.begin_look() {
+        return number;
+    }
+    let own = handle.holding.line_mut();
     let number = tell_image(&own.core, task, out, serials, image);
     own.calls.end_look();
     number

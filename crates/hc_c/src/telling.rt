@@ -10,15 +10,16 @@ use crate::numbers::DONE;
 
 /// The epoch, which is the number of accepted edits: `DONE`, `BUSY` or `CLOSED`.
 #[unsafe(no_mangle)]
-pub extern "C" fn zangjulf_epoch(handle: &Handle, epoch: &mut u32) -> u8
-    ensures told { IfSome handle.now.holding.value (λ now. result ≢ BUSY → (result ≡ DONE) × (epoch.new ≡ epoch_of (past_of now))) }
+pub extern "C" fn zangjulf_epoch(handle: &mut Handle, epoch: &mut u32) -> u8
+    ensures told { IfSome handle.old.holding.value (λ old. result ≢ BUSY → (result ≡ DONE) × (epoch.new ≡ epoch_of (past_of old))) }
+    ensures kept { handle.new.holding.value ≡ handle.old.holding.value }
     ensures busy { result ≡ BUSY → epoch.new ≡ epoch.old }
-    ensures closed { handle.now.holding.value ≡ None → (result ≡ CLOSED) × (epoch.new ≡ epoch.old) }
+    ensures closed { handle.old.holding.value ≡ None → (result ≡ CLOSED) × (epoch.new ≡ epoch.old) }
 {
-    let own = match handle.begin_look() {
-        Ok(own) => own,
-        Err(number) => return number,
-    };
+    if let Err(number) = handle.begin_look() {
+        return number;
+    }
+    let own = handle.holding.line_mut();
     *epoch = own.core.plan().epoch();
     own.calls.end_look();
     DONE
@@ -26,15 +27,16 @@ pub extern "C" fn zangjulf_epoch(handle: &Handle, epoch: &mut u32) -> u8
 
 /// The serial of the next sending, which is the number of sendings before it: `DONE`, `BUSY` or `CLOSED`.
 #[unsafe(no_mangle)]
-pub extern "C" fn zangjulf_next_serial(handle: &Handle, serial: &mut u64) -> u8
-    ensures told { IfSome handle.now.holding.value (λ now. result ≢ BUSY → (result ≡ DONE) × (serial.new ≡ next_serial (past_of now))) }
+pub extern "C" fn zangjulf_next_serial(handle: &mut Handle, serial: &mut u64) -> u8
+    ensures told { IfSome handle.old.holding.value (λ old. result ≢ BUSY → (result ≡ DONE) × (serial.new ≡ next_serial (past_of old))) }
+    ensures kept { handle.new.holding.value ≡ handle.old.holding.value }
     ensures busy { result ≡ BUSY → serial.new ≡ serial.old }
-    ensures closed { handle.now.holding.value ≡ None → (result ≡ CLOSED) × (serial.new ≡ serial.old) }
+    ensures closed { handle.old.holding.value ≡ None → (result ≡ CLOSED) × (serial.new ≡ serial.old) }
 {
-    let own = match handle.begin_look() {
-        Ok(own) => own,
-        Err(number) => return number,
-    };
+    if let Err(number) = handle.begin_look() {
+        return number;
+    }
+    let own = handle.holding.line_mut();
     *serial = own.core.next_serial();
     own.calls.end_look();
     DONE
@@ -42,15 +44,16 @@ pub extern "C" fn zangjulf_next_serial(handle: &Handle, serial: &mut u64) -> u8
 
 /// How many register blocks of the present line are owed: `DONE`, `BUSY` or `CLOSED`.
 #[unsafe(no_mangle)]
-pub extern "C" fn zangjulf_owed(handle: &Handle, count: &mut u32) -> u8
-    ensures told { IfSome handle.now.holding.value (λ now. result ≢ BUSY → (result ≡ DONE) × (count.new ≡ length (owed_blocks (past_of now)))) }
+pub extern "C" fn zangjulf_owed(handle: &mut Handle, count: &mut u32) -> u8
+    ensures told { IfSome handle.old.holding.value (λ old. result ≢ BUSY → (result ≡ DONE) × (count.new ≡ length (owed_blocks (past_of old)))) }
+    ensures kept { handle.new.holding.value ≡ handle.old.holding.value }
     ensures busy { result ≡ BUSY → count.new ≡ count.old }
-    ensures closed { handle.now.holding.value ≡ None → (result ≡ CLOSED) × (count.new ≡ count.old) }
+    ensures closed { handle.old.holding.value ≡ None → (result ≡ CLOSED) × (count.new ≡ count.old) }
 {
-    let own = match handle.begin_look() {
-        Ok(own) => own,
-        Err(number) => return number,
-    };
+    if let Err(number) = handle.begin_look() {
+        return number;
+    }
+    let own = handle.holding.line_mut();
     *count = own.core.owed();
     own.calls.end_look();
     DONE
