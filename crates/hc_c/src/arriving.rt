@@ -106,7 +106,7 @@ fn told_part(places: &Places, outcome: &CoreOutcome, part: &Part<'_>) -> Outcome
 /// Tells outcomes one after another, as many as there is room for. A frame has 115 at most, so deep is this recursion.
 fn put_outcomes(places: &Places, outcomes: &[CoreOutcome], parts: Parts<'_>, out: &mut [Outcome])
     requires { All IsInFrame parts }
-    ensures { out.new ≡ put (told_parts places.now outcomes.now parts) out.old }
+    ensures { out.new ≡ put (told_parts places.now outcomes.now parts.entry) out.old }
 {
     let Some((outcome, rest)) = outcomes.split_first() else {
         return;

@@ -1,5 +1,5 @@
 //! What tasks read.
-ghost use Rattle.std.specs.Prelude.{◌≡◌, ◌≢◌, ◌+◌, ◌^◌, ◌<◌, ◌≤◌, ◌++◌, IfSome, None, drop, is_some, length, nat_le};
+ghost use Rattle.std.specs.Prelude.{◌≡◌, ◌≢◌, ◌+◌, ◌*◌, ◌^◌, ◌<◌, ◌≤◌, ◌++◌, IfSome, None, drop, is_some, length, nat_le};
 ghost use Rattle.std.specs.Option.{option_copied};
 ghost use Rattle.hc_records.specs.declared.limits.TheConstants.{MOST_DATAGRAMS};
 ghost use Rattle.hc_events.specs.Images.{slot_of};
@@ -47,7 +47,7 @@ fn image_size(datagrams: &[Datagram]) -> usize
 /// Puts the data of a datagram, or zeros where it has none.
 fn put_slot(slot: Option<&[u8]>, out: &mut [u8])
     requires { IfSome (option_copied slot) (λ bytes. length bytes ≡ length out.old) }
-    ensures { out.new ≡ data_or_zeros (length out.old) (option_copied slot) }
+    ensures { out.new ≡ data_or_zeros (length out.old) (option_copied slot.entry) }
 {
     match slot {
         Some(bytes) => out.copy_from_slice(bytes),

@@ -1,11 +1,12 @@
 -- The first owed block, by what is kept of the line's blocks.
-use Rattle.std.proofs.Common.{◌≡◌, ℕ, ◌<◌, true, List, ◌∷◌, length, subst, Some, None, rules}
-use Rattle.std.specs.Prelude.{All}
+use Rattle.std.proofs.Common.{◌≡◌, ℕ, zero, suc, ◌<◌, true, List, [], ◌∷◌, length, subst, Some, None, rules}
+use Rattle.std.specs.Prelude.{All, Contains, slice_get}
 use Rattle.std.proofs.lemmas.List.{length-map}
-use Rattle.std.proofs.lemmas.List.Elements.{All-head, filter_passes}
-use Rattle.std.proofs.lemmas.Option.{slice_get_within}
+use Rattle.std.proofs.lemmas.List.Elements.{All-contains_itself, All-head, All-tail, filter_passes}
+use Rattle.std.proofs.lemmas.Option.{same_Some, slice_get_within}
 use Rattle.hc_records.specs.Line.{groups_of}
 use Rattle.hc_records.specs.Project.{lowest_fault}
+use Rattle.hc_records.proofs.lemmas.Lists.{All-passing}
 use Rattle.hc_records.proofs.lemmas.Stations.{project-distinct}
 use Rattle.hc_registers.specs.Blocks.{LineBlock, line_blocks}
 use Rattle.hc_plan.proofs.lemmas.Configured.{configured-block}
@@ -37,3 +38,19 @@ first-within kept past taken n block agree first = search (rules, slice_get_with
 -- what is kept stands at its place
 pub first-kept : (kept : CoreParts) (past taken : Record) (n : ℕ) (block : LineBlock) → Agree kept past taken → IsFirstOwed past n block → owed.IsKeptAt kept.owed n (known_bytes past) (state_of past) block
 first-kept kept past taken n block agree first = record { right = agree.known; project = agree.project; stands = first.at }
+
+-- so it does with each owed one
+
+each_is : (P : LineBlock → Type 0) (blocks : List LineBlock) (index : ℕ) (block : LineBlock) → All P blocks → slice_get blocks index ≡ Some block → P block
+each_is P [] index block all is = cc
+each_is P (first ∷ blocks) zero block all is = subst P (same_Some first block is) (All-head P first blocks all)
+each_is P (first ∷ blocks) (suc index) block all is = each_is P blocks index block (All-tail P first blocks all) is
+
+owed_among : (past : Record) → All (Contains (line_blocks (line_of past))) (owed_blocks past)
+owed_among past = All-passing (Contains (line_blocks (line_of past))) (is_owed past) (line_blocks (line_of past)) (λ k d within passes. All-contains_itself (line_blocks (line_of past)) k d within)
+
+pub owed-configured : (past : Record) (index : ℕ) (block : LineBlock) → lowest_fault (groups_of (state_of past).groups) ≡ None → slice_get (owed_blocks past) index ≡ Some block
+    → block_at (line_of past) block.station block.number ≡ Some block.block
+owed-configured past index block project is =
+    let inside = each_is (Contains (line_blocks (line_of past))) (owed_blocks past) index block (owed_among past) is in
+    search (rules, configured-block, project-distinct)

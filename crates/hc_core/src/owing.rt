@@ -1,4 +1,4 @@
-//! The first owed register block.
+//! The owed register blocks.
 ghost use Rattle.std.specs.Prelude.{◌≡◌, [], MatchOption, slice_get};
 ghost use Rattle.hc_events.specs.Owed.{owed_blocks};
 ghost use Rattle.hc_core.specs.Firsts.{IsFirstOwed};
@@ -27,12 +27,19 @@ impl Core {
         ))
     }
 
-    /// The first owed block in line order and block order, which the next register write carries; none where nothing is
+    /// The owed block with an index, from 0, in line order and block order, in which they are written; none where fewer are
     /// owed. It takes no memory.
-    pub fn next_block(&self) -> Option<LineBlock>
-        ensures { result ≡ slice_get (owed_blocks self.now.past) 0 }
+    pub fn owed_block(&self, index: u32) -> Option<LineBlock>
+        ensures { result ≡ slice_get (owed_blocks self.now.past) index }
     {
-        let found = self.first_block()?;
-        Some(found.1)
+        let found = self.owed.nth(index)?;
+        let Some(block) = self.plan.block(found.station, found.number) else {
+            return None;
+        };
+        Some(LineBlock {
+            station: found.station,
+            number: found.number,
+            block,
+        })
     }
 }

@@ -1,7 +1,7 @@
 -- Flags in words.
 use Rattle.std.proofs.Common.{◌≡◌, ℕ, zero, suc, ◌+◌, ◌*◌, ◌<◌, ◌≤◌, ◌==◌, Bool, true, false, cond, List, [], ◌∷◌, ◌++◌, length, take, drop, ◌⊎◌, refl, sym, ap, ◌∙◌, arith, rules}
 use Rattle.std.proofs.lemmas.Bool.{cases_lt}
-use Rattle.std.proofs.lemmas.List.{get_or_append_left, take-append-le}
+use Rattle.std.proofs.lemmas.List.{drop_all, get_or_append_left, take-append-le}
 use Rattle.std.proofs.lemmas.Iterator.Adapters.{position_from-zero}
 use Rattle.std.proofs.lemmas.Nat.Bits.{bit_at-zero}
 use Rattle.std.proofs.Math.Seq.{take-length}
@@ -9,7 +9,7 @@ use Rattle.std.specs.Int.{bit_at}
 use Rattle.std.specs.Prelude.{slice_get, slice_index, ◌/◌, ◌%◌, position, Some, None, Option}
 use Rattle.std.specs.List.{position_from}
 use Rattle.hc_records.specs.Lists.{changed_at}
-use Rattle.hc_owed.specs.Flags.{Flags, IsLowestIn, SetsFlag, flag, flags_from, one, set_count}
+use Rattle.hc_owed.specs.Flags.{Flags, IsLowestIn, SetsFlag, flag, flags_from, nth_set, one, set_count}
 
 abbrev pub flags_of : List Bool → ℕ → Flags
 flags_of list room = record { list = list; room = room }
@@ -160,3 +160,29 @@ one-le flag = search rules
 pub count-le : (flags : List Bool) → set_count flags ≤ length flags
 count-le [] = omega arith
 count-le (f ∷ flags) = search (rules, one-le, count-le flags)
+
+-- the set flag with an index, of flags of which the first ones are passed
+
+add_one : (n : ℕ) → n + 1 ≡ suc n
+add_one n = omega arith
+
+drop_at : (flags : List Bool) (n : ℕ) (flag : Bool) → slice_get flags n ≡ Some flag → drop n flags ≡ flag ∷ drop (suc n) flags
+drop_at [] n flag is = cc
+drop_at (f ∷ flags) zero flag is = cc
+drop_at (f ∷ flags) (suc n) flag is = drop_at flags n flag is
+
+pub nth-here : (flags : List Bool) (n : ℕ) → slice_get flags n ≡ Some true → nth_set 0 n (drop n flags) ≡ Some n
+nth-here flags n is = ap (nth_set 0 n) (drop_at flags n true is)
+
+pub nth-passed : (flags : List Bool) (n left less : ℕ) → slice_get flags n ≡ Some true → left ≡ suc less → nth_set left n (drop n flags) ≡ nth_set less (n + 1) (drop (n + 1) flags)
+nth-passed flags n left less is one =
+    ap (λ (m : ℕ). nth_set m n (drop n flags)) one ∙ ap (nth_set (suc less) n) (drop_at flags n true is)
+    ∙ ap (λ (m : ℕ). nth_set less (n + 1) (drop m flags)) (sym (add_one n))
+
+pub nth-cleared : (flags : List Bool) (n left : ℕ) → slice_get flags n ≡ Some false → nth_set left n (drop n flags) ≡ nth_set left (n + 1) (drop (n + 1) flags)
+nth-cleared flags n zero is = ap (nth_set zero n) (drop_at flags n false is) ∙ ap (λ (m : ℕ). nth_set zero (n + 1) (drop m flags)) (sym (add_one n))
+nth-cleared flags n (suc left) is = ap (nth_set (suc left) n) (drop_at flags n false is) ∙ ap (λ (m : ℕ). nth_set (suc left) (n + 1) (drop m flags)) (sym (add_one n))
+
+pub nth-over : (flags : List Bool) (n left : ℕ) → length flags ≤ n → nth_set left n (drop n flags) ≡ None
+nth-over flags n zero over = ap (nth_set zero n) (drop_all n flags over)
+nth-over flags n (suc left) over = ap (nth_set (suc left) n) (drop_all n flags over)

@@ -1,5 +1,5 @@
 -- The set flags tell the owed blocks of the line: their number, and the first one.
-use Rattle.std.proofs.Common.{◌≡◌, ℕ, suc, ◌+◌, Bool, cond, List, [], ◌∷◌, length, map, refl, sym, ap, ◌∙◌, arith, rules}
+use Rattle.std.proofs.Common.{◌≡◌, ℕ, zero, suc, ◌+◌, Bool, true, false, cond, subst, List, [], ◌∷◌, length, map, refl, sym, ap, ◌∙◌, arith, rules}
 use Rattle.std.specs.Prelude.{MatchOption, None, Some, Option, filter, position, slice_get}
 use Rattle.std.specs.List.{position_from}
 use Rattle.std.proofs.lemmas.Iterator.Adapters.{position_from-zero}
@@ -10,7 +10,7 @@ use Rattle.hc_registers.specs.RankLaws.{standing}
 use Rattle.hc_registers.specs.RankPlaces.{places}
 use Rattle.hc_registers.proofs.lemmas.RanksGapless.{places-hold}
 use Rattle.hc_owed.specs.Board.{Knowledge, lacks, owed_in}
-use Rattle.hc_owed.specs.Flags.{one, set_count}
+use Rattle.hc_owed.specs.Flags.{nth_set, one, set_count}
 use Rattle.hc_owed.specs.Laws.{owed_blocks}
 
 abbrev lacking : Knowledge → List (Option LineBlock) → List LineBlock
@@ -73,3 +73,69 @@ first-owed known state found project is = from-line found (rw is (rw (position_f
       stands = ap (slice_get (places state)) (let is = found.is in omega (arith, is)) ∙ found.stands;
       first = ap (filter (lacks known)) (sym (places-hold state project)) ∙ found.first;
     }
+
+-- the set flag with an index, counted from a number on
+record NthFrom (known : Knowledge) (all : List (Option LineBlock)) (index at n : ℕ) : Type 0 where
+  place : ℕ
+  is_at : n ≡ at + place
+  block : LineBlock
+  stands : slice_get all place ≡ Some (Some block)
+  is : slice_get (lacking known all) index ≡ Some block
+
+abbrev Nths : Knowledge → List (Option LineBlock) → ℕ → ℕ → Option ℕ → Type 0
+Nths known all index at found = MatchOption found (slice_get (lacking known all) index ≡ None) (NthFrom known all index at)
+
+-- it lies behind a place whose block is none or isn't counted
+nth_later : (known : Knowledge) (slot : Option LineBlock) (all : List (Option LineBlock)) (index index' at : ℕ) (found : Option ℕ)
+    → slice_get (lacking known (slot ∷ all)) index ≡ slice_get (lacking known all) index' → Nths known all index' (at + 1) found → Nths known (slot ∷ all) index at found
+nth_later known slot all index index' at None same none = same ∙ none
+nth_later known slot all index index' at (Some n) same found =
+    let is = found.is_at in
+    record { place = suc found.place; is_at = omega (arith, is); block = found.block; stands = found.stands; is = same ∙ found.is }
+
+nth_here : (known : Knowledge) (block : LineBlock) (all : List (Option LineBlock)) (at : ℕ) → lacks known block ≡ true → NthFrom known (Some block ∷ all) 0 at at
+nth_here known block all at t = record {
+  place = 0;
+  is_at = omega arith;
+  block = block;
+  stands = refl;
+  is = ap (λ (b : Bool). slice_get (cond b (block ∷ lacking known all) (lacking known all)) 0) t;
+}
+
+unlacking : (known : Knowledge) (block : LineBlock) (all : List (Option LineBlock)) (index : ℕ) → lacks known block ≡ false → slice_get (lacking known (Some block ∷ all)) index ≡ slice_get (lacking known all) index
+unlacking known block all index t = ap (λ (b : Bool). slice_get (cond b (block ∷ lacking known all) (lacking known all)) index) t
+
+one_less : (known : Knowledge) (block : LineBlock) (all : List (Option LineBlock)) (index : ℕ) → lacks known block ≡ true → slice_get (lacking known (Some block ∷ all)) (suc index) ≡ slice_get (lacking known all) index
+one_less known block all index t = ap (λ (b : Bool). slice_get (cond b (block ∷ lacking known all) (lacking known all)) (suc index)) t
+
+nth_by : (known : Knowledge) (block : LineBlock) (all : List (Option LineBlock)) (index at : ℕ) (t : Bool) → lacks known block ≡ t
+    → ((other : ℕ) → Nths known all other (at + 1) (nth_set other (at + 1) (map (owed_in known) all))) → Nths known (Some block ∷ all) index at (nth_set index at (t ∷ map (owed_in known) all))
+nth_by known block all index at false is behind =
+    nth_later known (Some block) all index index at (nth_set index (at + 1) (map (owed_in known) all)) (unlacking known block all index is) (behind index)
+nth_by known block all zero at true is behind = nth_here known block all at is
+nth_by known block all (suc index) at true is behind =
+    nth_later known (Some block) all (suc index) index at (nth_set index (at + 1) (map (owed_in known) all)) (one_less known block all index is) (behind index)
+
+nths : (known : Knowledge) (all : List (Option LineBlock)) (index at : ℕ) → Nths known all index at (nth_set index at (map (owed_in known) all))
+nths known [] index at = refl
+nths known (None ∷ all) index at = nth_later known None all index index at (nth_set index (at + 1) (map (owed_in known) all)) refl (nths known all index (at + 1))
+nths known (Some block ∷ all) index at = nth_by known block all index at (lacks known block) refl (λ other. nths known all other (at + 1))
+
+-- the block at that place is the owed one with the index
+pub record IsNthAt (known : Knowledge) (state : State) (index n : ℕ) : Type 0 where
+  pub block : LineBlock
+  pub stands : slice_get (places state) n ≡ Some (Some block)
+  pub is : slice_get (owed_blocks known state) index ≡ Some block
+
+nth_of_line : (known : Knowledge) (state : State) (index : ℕ) (found : Option ℕ) → lowest_fault (groups_of state.groups) ≡ None → Nths known (places state) index 0 found
+    → MatchOption found (slice_get (owed_blocks known state) index ≡ None) (IsNthAt known state index)
+nth_of_line known state index None project none = ap (λ (blocks : List LineBlock). slice_get (filter (lacks known) blocks) index) (sym (places-hold state project)) ∙ none
+nth_of_line known state index (Some n) project found = record {
+  block = found.block;
+  stands = ap (slice_get (places state)) found.is_at ∙ found.stands;
+  is = ap (λ (blocks : List LineBlock). slice_get (filter (lacks known) blocks) index) (sym (places-hold state project)) ∙ found.is;
+}
+
+pub nth-owed : (known : Knowledge) (state : State) (index : ℕ) (found : Option ℕ) → lowest_fault (groups_of state.groups) ≡ None → found ≡ nth_set index 0 (map (owed_in known) (places state))
+    → MatchOption found (slice_get (owed_blocks known state) index ≡ None) (IsNthAt known state index)
+nth-owed known state index found project is = nth_of_line known state index found project (subst (Nths known (places state) index 0) (sym is) (nths known (places state) index 0))

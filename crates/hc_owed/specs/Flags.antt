@@ -1,5 +1,5 @@
 -- Bits in words of 64, the lowest bit of a word first, and their count.
-use Rattle.std.specs.Prelude.{◌≡◌, ℕ, zero, suc, ◌+◌, ◌<◌, ◌/◌, ◌%◌, ◌==◌, ◌≢◌, Bool, if◌then◌else◌, List, [], ◌∷◌, length, slice_index}
+use Rattle.std.specs.Prelude.{◌≡◌, ℕ, zero, suc, ◌+◌, ◌<◌, ◌/◌, ◌%◌, ◌==◌, ◌≢◌, Bool, true, false, if◌then◌else◌, List, [], ◌∷◌, length, slice_index, Option, Some, None}
 use Rattle.std.specs.Int.{bit_at}
 
 -- flags, and for how many there's room
@@ -15,6 +15,13 @@ one flag = if flag then 1 else 0
 abbrev pub set_count : List Bool → ℕ
 set_count [] = 0
 set_count (flag ∷ flags) = one flag + set_count flags
+
+-- of flags that are counted from a number on, the number of the one that is set after so many others that are; none where fewer are set
+abbrev pub nth_set : ℕ → ℕ → List Bool → Option ℕ
+nth_set index at [] = None
+nth_set index at (false ∷ flags) = nth_set index (at + 1) flags
+nth_set zero at (true ∷ flags) = Some at
+nth_set (suc index) at (true ∷ flags) = nth_set index (at + 1) flags
 
 -- the bit with a number
 abbrev pub flag : List ℕ → ℕ → Bool

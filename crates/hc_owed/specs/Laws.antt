@@ -25,6 +25,14 @@ pub record IsFirstOwed (known : Knowledge) (state : State) (found : OwedBlock) :
   pub number : found.number ≡ block.number
   pub first : owed_blocks known state ≡ block ∷ rest
 
+-- a block that stands at its place, told by its name, is the one with an index, from 0, of those that are lacking
+pub record IsOwedAt (known : Knowledge) (state : State) (index : ℕ) (found : OwedBlock) : Type 0 where
+  pub block : LineBlock
+  pub stands : slice_get (places state) found.place ≡ Some (Some block)
+  pub station : found.station ≡ block.station
+  pub number : found.number ≡ block.number
+  pub is : slice_get (owed_blocks known state) index ≡ Some block
+
 -- two names of blocks have the same station address and the same number
 abbrev pub same_name : ℕ × ℕ → ℕ × ℕ → Bool
 same_name a b = (a.0 == b.0) && (a.1 == b.1)

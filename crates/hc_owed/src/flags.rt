@@ -91,7 +91,7 @@ impl Model for Flags {
 impl Flags {
     ghost use Rattle.std.specs.Prelude.{◌≡◌, ◌+◌, ◌*◌, ◌≤◌, ◌<◌, ◌^◌, [], ◌∷◌, ◌++◌, false, length, position, replicate, slice_get, IfOk, IfSome, Some};
     ghost use Rattle.hc_records.specs.Lists.{changed_at};
-    ghost use Rattle.hc_owed.specs.Flags.{set_count};
+    ghost use Rattle.hc_owed.specs.Flags.{nth_set, set_count};
 
     /// No flag, with room for so many, fewer than 2^32. `AllocError` where a growth was refused.
     pub(crate) fn with_room(alloc: Global, room: usize) -> Result<Flags, AllocError>
@@ -177,6 +177,24 @@ impl Flags {
     {
         let word = self.words[n / WORD_BITS];
         word >> (n % WORD_BITS) & 1 == 1
+    }
+
+    /// The index of the flag that is set after so many others that are; none where fewer are set. It looks at each flag
+    /// up to it.
+    pub(crate) fn nth(&self, index: usize) -> Option<usize>
+        ensures value { result ≡ nth_set index 0 self.now.list }
+        ensures low { IfSome result (λ n. n < length self.now.list) }
+    {
+        let mut left = index;
+        for n in 0..self.len {
+            if self.get(n) {
+                if left == 0 {
+                    return Some(n);
+                }
+                left -= 1;
+            }
+        }
+        None
     }
 
     /// The index of the first flag that is set; none where none is.

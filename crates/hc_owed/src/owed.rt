@@ -53,14 +53,14 @@ impl Model for Owed {
 }
 
 impl Owed {
-    ghost use Rattle.std.specs.Prelude.{◌≡◌, ◌+◌, ◌*◌, ◌<◌, ◌≤◌, All, IfOk, MatchOption, None, Some, [], length, option_map, true};
+    ghost use Rattle.std.specs.Prelude.{◌≡◌, ◌+◌, ◌*◌, ◌<◌, ◌≤◌, All, IfOk, MatchOption, None, Some, [], length, option_map, slice_get, true};
     ghost use Rattle.hc_records.specs.Line.{State, groups_of};
     ghost use Rattle.hc_records.specs.Project.{lowest_fault};
     ghost use Rattle.hc_registers.specs.Blocks.{LineBlock};
     ghost use Rattle.hc_registers.specs.RankDifferences.{block_place, first_gone};
     ghost use Rattle.hc_plan.specs.Reports.{name_of};
     ghost use Rattle.hc_owed.specs.Board.{Knowledge, kept_of, lacks, nothing_known};
-    ghost use Rattle.hc_owed.specs.Laws.{IsEdited, IsFirstOwed, IsKeptAt, known_over, known_with, owed_blocks};
+    ghost use Rattle.hc_owed.specs.Laws.{IsEdited, IsFirstOwed, IsKeptAt, IsOwedAt, known_over, known_with, owed_blocks};
     ghost use Rattle.hc_owed.specs.Steps.{cleared, compared, compared_all, emptied, judged, learnt};
 
     /// What is kept of a line whose slaves were just connected: nothing is known of any block, and every block is
@@ -95,6 +95,22 @@ impl Owed {
             place: place as u32,
             station: self.stations[place / 16],
             number: (place % 16) as u8,
+        })
+    }
+
+    /// The owed block with an index, from 0, in line and block order; none where fewer are owed. It looks at each place up
+    /// to it.
+    pub fn nth(&self, index: u32) -> Option<OwedBlock>
+        ensures { (known : Knowledge) (state : State) → lowest_fault (groups_of state.groups) ≡ None → self.now ≡ kept_of known state → MatchOption result (slice_get (owed_blocks known state) index ≡ None) (IsOwedAt known state index) }
+    {
+        let place = self.owed.nth(index as usize)?;
+        let station = self.stations[place / 16];
+        let number = (place % 16) as u8;
+        let place = place as u32;
+        Some(OwedBlock {
+            place,
+            station,
+            number,
         })
     }
 
