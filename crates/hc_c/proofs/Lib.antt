@@ -1,6 +1,5 @@
 mod Asked
 mod Boxed
 mod Images
-mod Projects
 mod Refusals
 mod Rooms
