@@ -7,8 +7,16 @@
  * The handle. A `struct zangjulf` is set to zeros before its first call (`struct zangjulf line = {0};`), and from then on
  * nothing but these calls writes it: it isn't copied, and not written by hand. It belongs to whoever declares it;
  * `zangjulf_close` frees what it holds, and a handle that is dropped without it leaks. Handles are independent of one
- * another. A handle is given to one call at a time; it may move from one thread to another between two calls where one
- * happens before the other, as by a lock, a join, or an atomic that is released and acquired.
+ * another.
+ *
+ * Threads. A call that takes a `const struct zangjulf *` is a look-up: it changes nothing, and writes no word of the handle.
+ * Several threads may make look-ups with one handle at the same time. Every other call is a change, and is meant to be made
+ * while no other call with the handle runs. Where a change meets another call, one of the two is answered ZANGJULF_BUSY: it
+ * does nothing, writes nothing, and may be made again; below, this answer isn't named call by call. No call waits for another.
+ * `zangjulf_open` and `zangjulf_close` take the line's memory and give it back, and never answer ZANGJULF_BUSY: the program
+ * itself sees to it that no other call with the handle runs then. A handle may move from one thread to another between two
+ * calls where one happens before the other, as by a lock, a join, or an atomic that is released and acquired.
+ * docs/EMBEDDING.md says what of this is proved.
  *
  * Slices. A pointer and a length stand for so many elements, which the call reads, or writes where the pointer isn't const,
  * and never looks beyond. No pointer is NULL: no slice's, also where the length is 0, and none by which something is told.
@@ -28,7 +36,7 @@
  *   _move                                   12: `cost->crowded`
  *   zangjulf_next_write                     29: `write->size`
  *   zangjulf_preview                        29: `*size`
- *   zangjulf_send                           29: `sent->size`
+ *   zangjulf_send                           29: `sent->size`; 17: `sent->owed`
  *   zangjulf_next_change                    29: `*change`
  */
 #ifndef ZANGJULF_H
@@ -148,6 +156,11 @@ uint8_t zangjulf_open(struct zangjulf *handle, const uint8_t *text, size_t lengt
 
 /* Frees what the handle holds; it is closed then, and may be opened anew. Also a closed handle may be closed. */
 void zangjulf_close(struct zangjulf *handle);
+
+/* The same, and does nothing where the handle is NULL, as `free` does. */
+static inline void zangjulf_free(struct zangjulf *handle) {
+    if (handle) zangjulf_close(handle);
+}
 
 /* A place of a project's text. Indexes count from 0 in the order of the text, and are ZANGJULF_NOWHERE where the place lies in
  * none. */

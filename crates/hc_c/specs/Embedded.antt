@@ -1,4 +1,4 @@
--- What an open handle holds, as contracts see it: `core`, the core's two records, and `untold`, the changes that were taken from it and that C wasn't told yet.
+-- What an open handle holds, as contracts see it: `core`, the core's two records, `untold`, the changes that were taken from it and that C wasn't told yet; of `spare` and `calls` contracts see nothing.
 use Rattle.hc_events.specs.Entries.{Record}
 use Rattle.hc_c.specs.declared.embedded.Embedded.{Embedded}
 

@@ -1,4 +1,5 @@
 pub mod Held
+pub mod Lending
 pub mod Embedded
 pub mod Numbers
 pub mod Opening

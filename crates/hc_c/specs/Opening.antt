@@ -9,9 +9,9 @@ use Rattle.hc_events.specs.Accepted.{just_opened}
 use Rattle.hc_c.specs.declared.embedded.Embedded.{Embedded}
 use Rattle.hc_c.specs.declared.numbers.TheConstants.{CROWDED, DONE, PROJECT}
 
--- a core in which nothing has happened, with no change to tell
+-- a core in which nothing has happened, with no change to tell and no call that runs
 abbrev pub fresh : List Group → Embedded
-fresh groups = record { core = record { past = just_opened groups; taken = just_opened groups }; untold = [] }
+fresh groups = record { core = record { past = just_opened groups; taken = just_opened groups }; untold = []; spare = tt; calls = record { count = tt } }
 
 -- it, where the text is a project
 abbrev pub opened_by : Result (List Group) ProjectFault → Option Embedded

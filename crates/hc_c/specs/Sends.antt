@@ -8,10 +8,11 @@ use Rattle.hc_events.specs.Steps.{proposal, sent_text}
 use Rattle.hc_c.specs.declared.numbers.TheConstants.{DONE, ROOM}
 use Rattle.hc_c.specs.declared.sending.Sent.{Sent}
 
--- the frames of these tasks, one after another, in front of what the slice had behind them, their bytes, and how many they are
+-- the frames of these tasks, one after another, followed by what the slice had after them, their bytes, and how many they are; no block is owed
 pub record HoldsFrames (past : Record) (tasks before after : List ℕ) (sent : Sent) : Type 0 where
   pub size : sent.size ≡ frames_size past tasks
   pub frames : sent.frames ≡ length (proposal past tasks)
+  pub owed : sent.owed ≡ 0
   pub texts : after ≡ flat_map (sent_text past) (proposal past tasks) ++ drop (frames_size past tasks) before
 
 -- a frame's bytes are counted; its text stands in front of what the slice had behind it, where it has room there

@@ -1,10 +1,11 @@
 //! Frames arrive.
-ghost use Rattle.std.specs.Prelude.{◌≡◌, IfSome, None, is_some, map};
+ghost use Rattle.std.specs.Prelude.{◌≡◌, ◌≢◌, IfSome, None, is_some, map};
 ghost use Rattle.hc_c.specs.Arrivals.{Arrives, number_of, outcome_of, outcomes_in};
 ghost use Rattle.hc_c.specs.Lists.{put};
+ghost use Rattle.hc_c.specs.declared.numbers.TheConstants.{BUSY, CLOSED};
 
 use crate::handle::Handle;
-use crate::numbers::{CLOSED, DONE, STALE, WRITE_DONE, WRITE_MISSED};
+use crate::numbers::{DONE, STALE, WRITE_DONE, WRITE_MISSED};
 use hc_events::answer::{Answer, Outcome as CoreOutcome};
 use hc_events::event::Event;
 use std::alloc::Global;
@@ -103,7 +104,7 @@ fn number_of(told: &Answer) -> u8
 /// Bytes arrive, any. `DONE` where they answer frames of tasks: `count` is of how many datagrams, in the frame's order,
 /// and the outcomes of the first of them stand in `outcomes`, as many as there is room for; a frame has at most 115.
 /// `WRITE_DONE`, `WRITE_MISSED` or `STALE`; else a fault, 20 to 27, with which they can't be read, or `MEMORY`, and
-/// nothing changed; or `CLOSED`. Of these `count` is 0, but of `CLOSED`, which writes nothing.
+/// nothing changed; `BUSY` or `CLOSED`. Of these `count` is 0, but of `BUSY` and `CLOSED`, which write nothing.
 #[unsafe(no_mangle)]
 pub extern "C" fn zangjulf_arrive(
     alloc: Global,
@@ -112,16 +113,18 @@ pub extern "C" fn zangjulf_arrive(
     outcomes: &mut [Outcome],
     count: &mut usize,
 ) -> u8
-    ensures told { IfSome handle.old.holding.value (λ old. IfSome handle.new.holding.value (λ new. Arrives old new bytes.now result outcomes.old outcomes.new count.new)) }
+    ensures told { IfSome handle.old.holding.value (λ old. IfSome handle.new.holding.value (λ new. result ≢ BUSY → Arrives old new bytes.now result outcomes.old outcomes.new count.new)) }
     ensures held { is_some handle.new.holding.value ≡ is_some handle.old.holding.value }
+    ensures busy { result ≡ BUSY → (handle.new.holding.value ≡ handle.old.holding.value) × (outcomes.new ≡ outcomes.old) × (count.new ≡ count.old) }
     ensures closed { handle.old.holding.value ≡ None → (result ≡ CLOSED) × (outcomes.new ≡ outcomes.old) × (count.new ≡ count.old) }
 {
-    let Some(mut own) = handle.take(alloc) else {
-        return CLOSED;
-    };
+    if let Err(number) = handle.begin_change() {
+        return number;
+    }
+    let own = handle.holding.line_mut();
     let told = own.core.step(alloc, Event::Arrive(bytes));
     put_outcomes(outcomes_in(&told), outcomes);
     *count = outcomes_in(&told).len();
-    *handle = Handle::of(own);
+    own.calls.end_change();
     number_of(&told)
 }

@@ -1,11 +1,12 @@
 //! What is news, told change by change.
 ghost use Rattle.std.specs.Prelude.{◌≡◌, ◌≢◌, ◌++◌, ◌≤◌, ◌⊎◌, ◌↔◌, IfSome, IsSome, IsTrue, None, drop, false, is_some, length, true};
 ghost use Rattle.hc_records.specs.declared.limits.TheConstants.{MOST_DATAGRAM_BYTES};
+ghost use Rattle.hc_c.specs.declared.numbers.TheConstants.{BUSY, CLOSED};
 ghost use Rattle.hc_c.specs.Tellings.{AreNext, HasToldAll, Keeps, Tells, carried_by, core_behind, told_of};
 
 use crate::embedded::Embedded;
 use crate::handle::Handle;
-use crate::numbers::{CLOSED, DONE, NOTHING, ROOM};
+use crate::numbers::{DONE, NOTHING, ROOM};
 use crate::untold::Untold;
 use hc_events::change::Change;
 use std::alloc::Global;
@@ -107,7 +108,7 @@ fn tell_next(own: &mut Embedded, alloc: Global, out: &mut [u8], told: &mut Told)
 
 /// The next change that C wasn't told yet, in the order in which they came: `DONE`, and its data stand at the front of
 /// `out`; `NOTHING` where there is none; `ROOM` where `out` is shorter than `told.size`, and the change is told again;
-/// or `CLOSED`. Only with `DONE` `out` is written, and `told` only with `DONE` and `ROOM`. With each answer but `CLOSED` the
+/// `BUSY` or `CLOSED`. Only with `DONE` `out` is written, and `told` only with `DONE` and `ROOM`. With each other answer the
 /// changes that were news are taken from the core, and the handle keeps those that weren't told. It takes no memory.
 #[unsafe(no_mangle)]
 pub extern "C" fn zangjulf_next_change(
@@ -119,16 +120,18 @@ pub extern "C" fn zangjulf_next_change(
     ensures done { result ≡ DONE → IfSome handle.old.holding.value (λ old. IfSome handle.new.holding.value (λ new. Tells old new told.new out.old out.new)) }
     ensures nothing { result ≡ NOTHING → IfSome handle.old.holding.value (λ old. IfSome handle.new.holding.value (λ new. HasToldAll old new)) }
     ensures room { result ≡ ROOM → IfSome handle.old.holding.value (λ old. IfSome handle.new.holding.value (λ new. Keeps old new told.new (length out.old))) }
-    ensures one { IsSome handle.old.holding.value → (result ≡ DONE) ⊎ ((result ≡ NOTHING) ⊎ (result ≡ ROOM)) }
+    ensures one { IsSome handle.old.holding.value → result ≢ BUSY → (result ≡ DONE) ⊎ ((result ≡ NOTHING) ⊎ (result ≡ ROOM)) }
     ensures held { is_some handle.new.holding.value ≡ is_some handle.old.holding.value }
     ensures untouched { result ≢ DONE → out.new ≡ out.old }
     ensures unwritten { result ≡ NOTHING → told.new ≡ told.old }
+    ensures busy { result ≡ BUSY → (handle.new.holding.value ≡ handle.old.holding.value) × (told.new ≡ told.old) }
     ensures closed { handle.old.holding.value ≡ None → (result ≡ CLOSED) × (told.new ≡ told.old) }
 {
-    let Some(mut own) = handle.take(alloc) else {
-        return CLOSED;
-    };
-    let number = tell_next(&mut own, alloc, out, told);
-    *handle = Handle::of(own);
+    if let Err(number) = handle.begin_change() {
+        return number;
+    }
+    let own = handle.holding.line_mut();
+    let number = tell_next(own, alloc, out, told);
+    own.calls.end_change();
     number
 }

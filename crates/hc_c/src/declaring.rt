@@ -1,12 +1,13 @@
 //! Groups that are declared while the line runs.
-ghost use Rattle.std.specs.Prelude.{◌≡◌, IfSome, None, is_some};
+ghost use Rattle.std.specs.Prelude.{◌≡◌, ◌≢◌, IfSome, None, is_some};
 ghost use Rattle.hc_project.specs.Text.{group_in};
 ghost use Rattle.hc_c.specs.Groups.{Declares};
+ghost use Rattle.hc_c.specs.declared.numbers.TheConstants.{BUSY, CLOSED};
 
 use crate::editing::{Cost, serve};
 use crate::embedded::Embedded;
 use crate::handle::Handle;
-use crate::numbers::{CLOSED, MEMORY, PROJECT};
+use crate::numbers::{MEMORY, PROJECT};
 use hc_project::read_group;
 use hc_records::edit::Edit;
 use hc_records::faults::ProjectFault;
@@ -32,8 +33,8 @@ fn serve_text(
 /// The group of a text is declared after the others, and is absent; where `asks`, it is only told whether it
 /// could. The text is a project's with exactly one group and no mandatory slave. `DONE`, and `cost` tells the epoch that
 /// begins with it; else the lowest of the faults 13 and 31 to 35 that holds; or why the text is no group's: the lowest of a
-/// project's faults, 201 to 210, or after these 212 where it is another project's; `MEMORY` or `CLOSED`. Unless it is done
-/// nothing changed, and `cost` is as it was.
+/// project's faults, 201 to 210, or after these 212 where it is another project's; `MEMORY`, `BUSY` or `CLOSED`. Unless it is
+/// done nothing changed, and `cost` is as it was.
 #[unsafe(no_mangle)]
 pub extern "C" fn zangjulf_declare(
     alloc: Global,
@@ -42,14 +43,16 @@ pub extern "C" fn zangjulf_declare(
     asks: bool,
     cost: &mut Cost,
 ) -> u8
-    ensures serves { IfSome handle.old.holding.value (λ old. IfSome handle.new.holding.value (λ new. Declares (group_in text.now) old new asks result cost.old cost.new)) }
+    ensures serves { IfSome handle.old.holding.value (λ old. IfSome handle.new.holding.value (λ new. result ≢ BUSY → Declares (group_in text.now) old new asks result cost.old cost.new)) }
     ensures held { is_some handle.new.holding.value ≡ is_some handle.old.holding.value }
+    ensures busy { result ≡ BUSY → (handle.new.holding.value ≡ handle.old.holding.value) × (cost.new ≡ cost.old) }
     ensures closed { handle.old.holding.value ≡ None → (result ≡ CLOSED) × (cost.new ≡ cost.old) }
 {
-    let Some(mut own) = handle.take(alloc) else {
-        return CLOSED;
-    };
-    let number = serve_text(&mut own, alloc, text, asks, cost);
-    *handle = Handle::of(own);
+    if let Err(number) = handle.begin_change() {
+        return number;
+    }
+    let own = handle.holding.line_mut();
+    let number = serve_text(own, alloc, text, asks, cost);
+    own.calls.end_change();
     number
 }

@@ -9,12 +9,12 @@ ghost use Rattle.hc_events.specs.Faults.{core_fault_number, edit_refusal};
 ghost use Rattle.hc_events.specs.Points.{state_of};
 ghost use Rattle.hc_plan.specs.Prepared.{IsPrepared};
 ghost use Rattle.hc_c.specs.Embedded.{past_of, with_past};
-ghost use Rattle.hc_c.specs.declared.numbers.TheConstants.{CROWDED};
+ghost use Rattle.hc_c.specs.declared.numbers.TheConstants.{BUSY, CLOSED, CROWDED};
 ghost use Rattle.hc_c.specs.Edits.{IsCost, Serves};
 
 use crate::embedded::Embedded;
 use crate::handle::Handle;
-use crate::numbers::{CLOSED, DONE, MEMORY};
+use crate::numbers::{DONE, MEMORY};
 use hc_core::prepared::CoreEdit;
 use hc_events::faults::CoreFault;
 use hc_groups::faults::remap_fault;
@@ -190,8 +190,8 @@ fn serve_remap(
 }
 
 /// The group with an alias joins the line; where `asks`, it is only told what that would cost. `DONE`, and `cost` tells
-/// what it does; else the lowest of the faults 1, 2, 12 and 13 that holds, `MEMORY`, but never in the place of 1 or 2, or
-/// `CLOSED`, and nothing changed: of `cost` only `crowded` is told, with 12.
+/// what it does; else the lowest of the faults 1, 2, 12 and 13 that holds, `MEMORY`, but never in the place of 1 or 2,
+/// `BUSY` or `CLOSED`, and nothing changed: of `cost` only `crowded` is told, with 12.
 #[unsafe(no_mangle)]
 pub extern "C" fn zangjulf_connect(
     alloc: Global,
@@ -200,22 +200,24 @@ pub extern "C" fn zangjulf_connect(
     asks: bool,
     cost: &mut Cost,
 ) -> u8
-    ensures serves { IfSome handle.old.holding.value (λ old. IfSome handle.new.holding.value (λ new. Serves old new (Connect alias) asks result cost.old cost.new)) }
+    ensures serves { IfSome handle.old.holding.value (λ old. IfSome handle.new.holding.value (λ new. result ≢ BUSY → Serves old new (Connect alias) asks result cost.old cost.new)) }
     ensures held { is_some handle.new.holding.value ≡ is_some handle.old.holding.value }
+    ensures busy { result ≡ BUSY → (handle.new.holding.value ≡ handle.old.holding.value) × (cost.new ≡ cost.old) }
     ensures closed { handle.old.holding.value ≡ None → (result ≡ CLOSED) × (cost.new ≡ cost.old) }
 {
-    let Some(mut own) = handle.take(alloc) else {
-        return CLOSED;
-    };
+    if let Err(number) = handle.begin_change() {
+        return number;
+    }
+    let own = handle.holding.line_mut();
     let edit = Edit::Connect(alias);
-    let number = serve(&mut own, alloc, &edit, asks, cost);
-    *handle = Handle::of(own);
+    let number = serve(own, alloc, &edit, asks, cost);
+    own.calls.end_change();
     number
 }
 
 /// The group with an alias leaves the line; where `asks`, it is only told what that would cost. `DONE`, and `cost` tells
 /// what it does; else the lowest of the faults 1, 3, 4, 12 and 13 that holds, `MEMORY`, but never in the place of 1, 3 or 4,
-/// or `CLOSED`, and nothing changed: of `cost` only `crowded` is told, with 12.
+/// `BUSY` or `CLOSED`, and nothing changed: of `cost` only `crowded` is told, with 12.
 #[unsafe(no_mangle)]
 pub extern "C" fn zangjulf_disconnect(
     alloc: Global,
@@ -224,22 +226,24 @@ pub extern "C" fn zangjulf_disconnect(
     asks: bool,
     cost: &mut Cost,
 ) -> u8
-    ensures serves { IfSome handle.old.holding.value (λ old. IfSome handle.new.holding.value (λ new. Serves old new (Disconnect alias) asks result cost.old cost.new)) }
+    ensures serves { IfSome handle.old.holding.value (λ old. IfSome handle.new.holding.value (λ new. result ≢ BUSY → Serves old new (Disconnect alias) asks result cost.old cost.new)) }
     ensures held { is_some handle.new.holding.value ≡ is_some handle.old.holding.value }
+    ensures busy { result ≡ BUSY → (handle.new.holding.value ≡ handle.old.holding.value) × (cost.new ≡ cost.old) }
     ensures closed { handle.old.holding.value ≡ None → (result ≡ CLOSED) × (cost.new ≡ cost.old) }
 {
-    let Some(mut own) = handle.take(alloc) else {
-        return CLOSED;
-    };
+    if let Err(number) = handle.begin_change() {
+        return number;
+    }
+    let own = handle.holding.line_mut();
     let edit = Edit::Disconnect(alias);
-    let number = serve(&mut own, alloc, &edit, asks, cost);
-    *handle = Handle::of(own);
+    let number = serve(own, alloc, &edit, asks, cost);
+    own.calls.end_change();
     number
 }
 
 /// An area, counted from 0, of the present slave with a station address gets the PDOs with these indexes assigned, in this
 /// order; where `asks`, it is only told what that would cost. `DONE`, and `cost` tells what it does; else the lowest of the
-/// faults 5 to 7 and 9 to 13 that holds, `MEMORY`, but never in the place of 5 to 11, or `CLOSED`, and nothing changed: of
+/// faults 5 to 7 and 9 to 13 that holds, `MEMORY`, but never in the place of 5 to 11, `BUSY` or `CLOSED`, and nothing changed: of
 /// `cost` only `crowded` is told, with 12.
 #[unsafe(no_mangle)]
 pub extern "C" fn zangjulf_remap(
@@ -251,21 +255,23 @@ pub extern "C" fn zangjulf_remap(
     asks: bool,
     cost: &mut Cost,
 ) -> u8
-    ensures serves { IfSome handle.old.holding.value (λ old. IfSome handle.new.holding.value (λ new. Serves old new (Remap station area pdos.now) asks result cost.old cost.new)) }
+    ensures serves { IfSome handle.old.holding.value (λ old. IfSome handle.new.holding.value (λ new. result ≢ BUSY → Serves old new (Remap station area pdos.now) asks result cost.old cost.new)) }
     ensures held { is_some handle.new.holding.value ≡ is_some handle.old.holding.value }
+    ensures busy { result ≡ BUSY → (handle.new.holding.value ≡ handle.old.holding.value) × (cost.new ≡ cost.old) }
     ensures closed { handle.old.holding.value ≡ None → (result ≡ CLOSED) × (cost.new ≡ cost.old) }
 {
-    let Some(mut own) = handle.take(alloc) else {
-        return CLOSED;
-    };
-    let number = serve_remap(&mut own, alloc, station, area, pdos, asks, cost);
-    *handle = Handle::of(own);
+    if let Err(number) = handle.begin_change() {
+        return number;
+    }
+    let own = handle.holding.line_mut();
+    let number = serve_remap(own, alloc, station, area, pdos, asks, cost);
+    own.calls.end_change();
     number
 }
 
 /// An area, counted from 0, of the present slave with a station address moves to a task; where `asks`, it is only told what
 /// that would cost. `DONE`, and `cost` tells what it does; else the lowest of the faults 5 to 8, 12 and 13 that holds,
-/// `MEMORY`, but never in the place of 5 to 8, or `CLOSED`, and nothing changed: of `cost` only `crowded` is told, with 12.
+/// `MEMORY`, but never in the place of 5 to 8, `BUSY` or `CLOSED`, and nothing changed: of `cost` only `crowded` is told, with 12.
 #[unsafe(no_mangle)]
 pub extern "C" fn zangjulf_move(
     alloc: Global,
@@ -276,19 +282,21 @@ pub extern "C" fn zangjulf_move(
     asks: bool,
     cost: &mut Cost,
 ) -> u8
-    ensures serves { IfSome handle.old.holding.value (λ old. IfSome handle.new.holding.value (λ new. Serves old new (Move station area task) asks result cost.old cost.new)) }
+    ensures serves { IfSome handle.old.holding.value (λ old. IfSome handle.new.holding.value (λ new. result ≢ BUSY → Serves old new (Move station area task) asks result cost.old cost.new)) }
     ensures held { is_some handle.new.holding.value ≡ is_some handle.old.holding.value }
+    ensures busy { result ≡ BUSY → (handle.new.holding.value ≡ handle.old.holding.value) × (cost.new ≡ cost.old) }
     ensures closed { handle.old.holding.value ≡ None → (result ≡ CLOSED) × (cost.new ≡ cost.old) }
 {
-    let Some(mut own) = handle.take(alloc) else {
-        return CLOSED;
-    };
+    if let Err(number) = handle.begin_change() {
+        return number;
+    }
+    let own = handle.holding.line_mut();
     let edit = Edit::Move {
         station,
         area,
         task,
     };
-    let number = serve(&mut own, alloc, &edit, asks, cost);
-    *handle = Handle::of(own);
+    let number = serve(own, alloc, &edit, asks, cost);
+    own.calls.end_change();
     number
 }

@@ -1,5 +1,5 @@
 //! What C keeps between two calls.
-ghost use Rattle.std.specs.Prelude.{◌≡◌, is_some, IsSome};
+ghost use Rattle.std.specs.Prelude.{◌≡◌, ◌≢◌, Err, IfErr, IfOk, IfSome, IsSome, OnOk, is_some};
 ghost use Rattle.std.specs.declared.option.Option.{Option};
 ghost use Rattle.std.specs.declared.option.Option.TheVariants.{None, Some};
 ghost use Rattle.hc_c.specs.Held.{embedded_coded, in_box, owns_embedded};
@@ -8,6 +8,7 @@ ghost use Rattle.hc_c.specs.declared.embedded.Embedded.{Embedded};
 mod unboxed;
 
 use crate::embedded::Embedded;
+use crate::numbers::{BUSY, CLOSED};
 use std::alloc::Global;
 use std::marker::Model;
 use std::mem;
@@ -27,6 +28,9 @@ impl Model for Holding {
 }
 
 impl Holding {
+    ghost use types.Logic.{sem};
+    ghost use Rattle.hc_c.specs.Lending.{LendsLine};
+
     fn nothing(alloc: Global) -> Holding
         ensures { result.value ≡ None }
     {
@@ -56,7 +60,18 @@ impl Holding {
             alloc,
         }
     }
+
+    /// The opened line, where it lies: no word of the handle is written.
+    pub fn line_mut(&mut self) -> &mut Embedded
+        requires { IsSome self.old.value }
+        ensures* writes_back { sem 𝓛 (LendsLine self.entry result) }
+        ensures value { self.old.value ≡ Some result.now }
+    {
+        unsafe { &mut *(self.at as *mut Embedded) }
+    }
 }
+
+unsafe impl Send for Holding {}
 
 /// What C keeps: zeros where no line is open.
 #[repr(C)]
@@ -93,5 +108,57 @@ impl Handle {
         } else {
             None
         }
+    }
+
+    /// A look-up begins, which `Calls::end_look` ends: of the line that `Holding::line_mut` lends. `CLOSED` where there is
+    /// none, and `BUSY` while a change of it runs; then no look-up begins.
+    pub fn begin_look(&mut self) -> Result<(), u8>
+        ensures line { OnOk result (IsSome self.new.holding.value) }
+        ensures kept { self.new.holding.value ≡ self.old.holding.value }
+        ensures closed { self.old.holding.value ≡ None → result ≡ Err CLOSED }
+        ensures refused { IfErr result (λ number. number ≢ BUSY → (number ≡ CLOSED) × (self.old.holding.value ≡ None)) }
+    {
+        if !self.is_open {
+            return Err(CLOSED);
+        }
+        if self.holding.line_mut().calls.begin_look() {
+            Ok(())
+        } else {
+            Err(BUSY)
+        }
+    }
+
+    /// A change begins, which `Calls::end_change` ends: of the line that `Holding::line_mut` lends. `CLOSED` where there is
+    /// none, and `BUSY` while another call with the handle runs; then no change begins.
+    pub fn begin_change(&mut self) -> Result<(), u8>
+        ensures line { OnOk result (IsSome self.new.holding.value) }
+        ensures kept { self.new.holding.value ≡ self.old.holding.value }
+        ensures closed { self.old.holding.value ≡ None → result ≡ Err CLOSED }
+        ensures refused { IfErr result (λ number. number ≢ BUSY → (number ≡ CLOSED) × (self.old.holding.value ≡ None)) }
+    {
+        if !self.is_open {
+            return Err(CLOSED);
+        }
+        if self.holding.line_mut().calls.begin_change() {
+            Ok(())
+        } else {
+            Err(BUSY)
+        }
+    }
+}
+
+/// What may go to another thread.
+fn crosses<T: Send>(it: T) -> T
+    ensures { result ≡ it }
+{
+    it
+}
+
+impl Handle {
+    /// A handle may go to another thread between two calls.
+    pub fn crosses(self) -> Handle
+        ensures { result ≡ self }
+    {
+        crosses(self)
     }
 }

@@ -8,6 +8,7 @@
 
 mod arriving;
 mod beside;
+mod calls;
 mod changing;
 mod declaring;
 mod editing;
@@ -24,6 +25,7 @@ mod reading;
 mod runs;
 mod sending;
 mod slave;
+mod spare;
 mod telling;
 mod too_short;
 mod untold;

@@ -3,16 +3,16 @@ ghost use Rattle.std.specs.Prelude.{◌≡◌, ◌≢◌, IfSome, MatchOption, N
 ghost use Rattle.hc_events.specs.Points.{line_of, state_of};
 ghost use Rattle.hc_plan.specs.Configuration.{block_at, position_of, station_at};
 ghost use Rattle.hc_c.specs.Embedded.{past_of};
+ghost use Rattle.hc_c.specs.declared.numbers.TheConstants.{BUSY, CLOSED};
 ghost use Rattle.hc_c.specs.Looks.{TellsBlock, TellsPosition, datagram_at, image_bit_of, part_at, place_at, told_datagram, told_part, told_place};
 
 use crate::handle::Handle;
-use crate::numbers::{CLOSED, DONE, NOTHING, ROOM};
+use crate::numbers::{DONE, NOTHING, ROOM};
 use hc_core::keeping::Core;
 use hc_events::faults::CoreFault;
 use hc_places::table::{Datagram as LineDatagram, Place as LinePlace};
 use hc_records::records::{Dir, VarId};
 use hc_registers::blocks::Block as LineBlock;
-use std::alloc::Global;
 
 /// Where a variable stands, as C is told it.
 #[repr(C)]
@@ -131,22 +131,23 @@ fn told_datagram(datagram: LineDatagram) -> Datagram
     }
 }
 
-/// Where a variable stands, 1 to 4,294,967,295: `DONE`; `NOTHING` where the present line has no place for it; or `CLOSED`.
+/// Where a variable stands, 1 to 4,294,967,295: `DONE`; `NOTHING` where the present line has no place for it; `BUSY`
+/// or `CLOSED`.
 #[unsafe(no_mangle)]
 pub extern "C" fn zangjulf_place(
-    alloc: Global,
     handle: &mut Handle,
     variable: u32,
     place: &mut Place,
 ) -> u8
-    ensures told { IfSome handle.old.holding.value (λ old. MatchOption (place_at (past_of old) variable) (result ≡ NOTHING) (λ found. (result ≡ DONE) × (place.new ≡ told_place (past_of old) found))) }
+    ensures told { IfSome handle.old.holding.value (λ old. result ≢ BUSY → MatchOption (place_at (past_of old) variable) (result ≡ NOTHING) (λ found. (result ≡ DONE) × (place.new ≡ told_place (past_of old) found))) }
     ensures kept { handle.new.holding.value ≡ handle.old.holding.value }
     ensures untouched { result ≢ DONE → place.new ≡ place.old }
     ensures closed { handle.old.holding.value ≡ None → (result ≡ CLOSED) × (place.new ≡ place.old) }
 {
-    let Some(own) = handle.take(alloc) else {
-        return CLOSED;
-    };
+    if let Err(number) = handle.begin_look() {
+        return number;
+    }
+    let own = handle.holding.line_mut();
     let number = match place_at(&own.core, variable) {
         Some(found) => {
             *place = told_place(&own.core, found);
@@ -154,28 +155,28 @@ pub extern "C" fn zangjulf_place(
         }
         None => NOTHING,
     };
-    *handle = Handle::of(own);
+    own.calls.end_look();
     number
 }
 
 /// A datagram of a task, 0 to 7, by its number from 0: `DONE`; `NOTHING` where the task has fewer, or there is no such
-/// task; or `CLOSED`.
+/// task; `BUSY` or `CLOSED`.
 #[unsafe(no_mangle)]
 pub extern "C" fn zangjulf_datagram(
-    alloc: Global,
     handle: &mut Handle,
     task: u8,
     datagram: u8,
     told: &mut Datagram,
 ) -> u8
-    ensures told { IfSome handle.old.holding.value (λ old. MatchOption (datagram_at (past_of old) task datagram) (result ≡ NOTHING) (λ found. (result ≡ DONE) × (told.new ≡ told_datagram found))) }
+    ensures told { IfSome handle.old.holding.value (λ old. result ≢ BUSY → MatchOption (datagram_at (past_of old) task datagram) (result ≡ NOTHING) (λ found. (result ≡ DONE) × (told.new ≡ told_datagram found))) }
     ensures kept { handle.new.holding.value ≡ handle.old.holding.value }
     ensures untouched { result ≢ DONE → told.new ≡ told.old }
     ensures closed { handle.old.holding.value ≡ None → (result ≡ CLOSED) × (told.new ≡ told.old) }
 {
-    let Some(own) = handle.take(alloc) else {
-        return CLOSED;
-    };
+    if let Err(number) = handle.begin_look() {
+        return number;
+    }
+    let own = handle.holding.line_mut();
     let number = match datagram_at(&own.core, task, datagram) {
         Some(found) => {
             *told = told_datagram(found);
@@ -183,43 +184,45 @@ pub extern "C" fn zangjulf_datagram(
         }
         None => NOTHING,
     };
-    *handle = Handle::of(own);
+    own.calls.end_look();
     number
 }
 
-/// The bytes of a task's image, 0 and 0 where there is no such task: `DONE`, or `CLOSED`.
+/// The bytes of a task's image, 0 and 0 where there is no such task: `DONE`, `BUSY` or `CLOSED`.
 #[unsafe(no_mangle)]
-pub extern "C" fn zangjulf_part(alloc: Global, handle: &mut Handle, task: u8, part: &mut Part) -> u8
-    ensures told { IfSome handle.old.holding.value (λ old. (result ≡ DONE) × (part.new ≡ told_part (part_at (past_of old) task))) }
+pub extern "C" fn zangjulf_part(handle: &mut Handle, task: u8, part: &mut Part) -> u8
+    ensures told { IfSome handle.old.holding.value (λ old. result ≢ BUSY → (result ≡ DONE) × (part.new ≡ told_part (part_at (past_of old) task))) }
     ensures kept { handle.new.holding.value ≡ handle.old.holding.value }
+    ensures busy { result ≡ BUSY → part.new ≡ part.old }
     ensures closed { handle.old.holding.value ≡ None → (result ≡ CLOSED) × (part.new ≡ part.old) }
 {
-    let Some(own) = handle.take(alloc) else {
-        return CLOSED;
-    };
+    if let Err(number) = handle.begin_look() {
+        return number;
+    }
+    let own = handle.holding.line_mut();
     let (outputs, inputs) = part_at(&own.core, task);
     *part = Part { outputs, inputs };
-    *handle = Handle::of(own);
+    own.calls.end_look();
     DONE
 }
 
 /// The station address of the slave at a position of the present line, from 0: `DONE`; `NOTHING` where the line is
-/// shorter; or `CLOSED`.
+/// shorter; `BUSY` or `CLOSED`.
 #[unsafe(no_mangle)]
 pub extern "C" fn zangjulf_station(
-    alloc: Global,
     handle: &mut Handle,
     position: u32,
     station: &mut u16,
 ) -> u8
-    ensures told { IfSome handle.old.holding.value (λ old. MatchOption (station_at (line_of (past_of old)) position) (result ≡ NOTHING) (λ found. (result ≡ DONE) × (station.new ≡ found))) }
+    ensures told { IfSome handle.old.holding.value (λ old. result ≢ BUSY → MatchOption (station_at (line_of (past_of old)) position) (result ≡ NOTHING) (λ found. (result ≡ DONE) × (station.new ≡ found))) }
     ensures kept { handle.new.holding.value ≡ handle.old.holding.value }
     ensures untouched { result ≢ DONE → station.new ≡ station.old }
     ensures closed { handle.old.holding.value ≡ None → (result ≡ CLOSED) × (station.new ≡ station.old) }
 {
-    let Some(own) = handle.take(alloc) else {
-        return CLOSED;
-    };
+    if let Err(number) = handle.begin_look() {
+        return number;
+    }
+    let own = handle.holding.line_mut();
     let number = match own.core.plan().station(position) {
         Some(found) => {
             *station = found;
@@ -227,27 +230,27 @@ pub extern "C" fn zangjulf_station(
         }
         None => NOTHING,
     };
-    *handle = Handle::of(own);
+    own.calls.end_look();
     number
 }
 
 /// The position in the present line, from 0, of the slave with a station address: `DONE`; fault 5 where no declared slave
-/// has it; 6 where that slave's group isn't present; or `CLOSED`.
+/// has it; 6 where that slave's group isn't present; `BUSY` or `CLOSED`.
 #[unsafe(no_mangle)]
 pub extern "C" fn zangjulf_position(
-    alloc: Global,
     handle: &mut Handle,
     station: u16,
     position: &mut u32,
 ) -> u8
-    ensures told { IfSome handle.old.holding.value (λ old. TellsPosition (position_of (state_of (past_of old)) station) result position.new) }
+    ensures told { IfSome handle.old.holding.value (λ old. result ≢ BUSY → TellsPosition (position_of (state_of (past_of old)) station) result position.new) }
     ensures kept { handle.new.holding.value ≡ handle.old.holding.value }
     ensures untouched { result ≢ DONE → position.new ≡ position.old }
     ensures closed { handle.old.holding.value ≡ None → (result ≡ CLOSED) × (position.new ≡ position.old) }
 {
-    let Some(own) = handle.take(alloc) else {
-        return CLOSED;
-    };
+    if let Err(number) = handle.begin_look() {
+        return number;
+    }
+    let own = handle.holding.line_mut();
     let number = match own.core.plan().position(station) {
         Ok(found) => {
             *position = found;
@@ -255,7 +258,7 @@ pub extern "C" fn zangjulf_position(
         }
         Err(fault) => CoreFault::from(fault).number(),
     };
-    *handle = Handle::of(own);
+    own.calls.end_look();
     number
 }
 
@@ -278,28 +281,29 @@ fn tell_block(found: &LineBlock, out: &mut [u8], block: &mut Block) -> u8
 /// The register block with a number, from 0, in the order of the slave with a station address: for each area in record
 /// order its sync manager block, then its FMMU block. `DONE`, and its bytes stand at the front of `out`; `NOTHING` where no
 /// such slave is present or it has fewer blocks; `ROOM` where `out` has fewer than `block.size` bytes, and is as it was;
-/// or `CLOSED`. With `NOTHING` and `CLOSED` `block` is as it was.
+/// `BUSY` or `CLOSED`. With `NOTHING`, `BUSY` and `CLOSED` `block` is as it was.
 #[unsafe(no_mangle)]
 pub extern "C" fn zangjulf_block(
-    alloc: Global,
     handle: &mut Handle,
     station: u16,
     number: u8,
     out: &mut [u8],
     block: &mut Block,
 ) -> u8
-    ensures told { IfSome handle.old.holding.value (λ old. MatchOption (block_at (line_of (past_of old)) station number) ((result ≡ NOTHING) × (block.new ≡ block.old)) (λ found. TellsBlock found result block.new out.old out.new)) }
+    ensures told { IfSome handle.old.holding.value (λ old. result ≢ BUSY → MatchOption (block_at (line_of (past_of old)) station number) ((result ≡ NOTHING) × (block.new ≡ block.old)) (λ found. TellsBlock found result block.new out.old out.new)) }
     ensures kept { handle.new.holding.value ≡ handle.old.holding.value }
     ensures untouched { result ≢ DONE → out.new ≡ out.old }
+    ensures busy { result ≡ BUSY → block.new ≡ block.old }
     ensures closed { handle.old.holding.value ≡ None → (result ≡ CLOSED) × (block.new ≡ block.old) }
 {
-    let Some(own) = handle.take(alloc) else {
-        return CLOSED;
-    };
+    if let Err(number) = handle.begin_look() {
+        return number;
+    }
+    let own = handle.holding.line_mut();
     let told = match own.core.plan().block(station, number) {
         Some(found) => tell_block(&found, out, block),
         None => NOTHING,
     };
-    *handle = Handle::of(own);
+    own.calls.end_look();
     told
 }

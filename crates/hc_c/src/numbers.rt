@@ -5,6 +5,9 @@ pub const DONE: u8 = 0;
 /// A task of the opening line needs more than 16 datagrams.
 pub const CROWDED: u8 = 12;
 
+/// Register blocks are owed: no task is sent before they are written.
+pub const UNPROGRAMMED: u8 = 17;
+
 /// A growth was refused.
 pub const MEMORY: u8 = 28;
 
@@ -31,6 +34,9 @@ pub const TOO_WIDE: u8 = 106;
 
 /// The numbers of a project's faults, 1 to 12, count from here.
 pub const PROJECT: u8 = 200;
+
+/// Another call with the handle runs, which this one may not meet.
+pub const BUSY: u8 = 253;
 
 /// What the call asks of its caller doesn't hold.
 pub const MISUSED: u8 = 254;

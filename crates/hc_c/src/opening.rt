@@ -5,9 +5,11 @@ ghost use Rattle.hc_records.specs.Line.{line, opened};
 ghost use Rattle.hc_project.specs.Text.{project_in};
 ghost use Rattle.hc_c.specs.Opening.{crowded_in, fresh, opened_by, opening_number};
 
+use crate::calls::Calls;
 use crate::embedded::Embedded;
 use crate::handle::Handle;
 use crate::numbers::{CROWDED, DONE, MEMORY, PROJECT};
+use crate::spare::Spare;
 use crate::untold::Untold;
 use hc_core::keeping::Core;
 use hc_project::read_project;
@@ -31,8 +33,16 @@ fn open_project(alloc: Global, project: Project, task: &mut u8) -> Result<Box<Em
         }
         Err(_) => return Err(MEMORY),
     };
-    let untold = Untold::nothing(alloc);
-    match Box::new(alloc, Embedded { core, untold }) {
+    let Ok(spare) = Spare::new(alloc) else {
+        return Err(MEMORY);
+    };
+    let line = Embedded {
+        core,
+        untold: Untold::nothing(alloc),
+        spare,
+        calls: Calls::none(),
+    };
+    match Box::new(alloc, line) {
         Ok(own) => Ok(own),
         Err(_) => Err(MEMORY),
     }

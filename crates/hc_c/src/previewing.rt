@@ -5,13 +5,13 @@ ghost use Rattle.hc_events.specs.Calls.{preview};
 ghost use Rattle.hc_events.specs.Sendings.{size_of};
 ghost use Rattle.hc_events.specs.Steps.{sent_text};
 ghost use Rattle.hc_c.specs.Embedded.{past_of};
+ghost use Rattle.hc_c.specs.declared.numbers.TheConstants.{BUSY, CLOSED};
 ghost use Rattle.hc_c.specs.Sends.{TellsPreview};
 
 use crate::handle::Handle;
-use crate::numbers::{CLOSED, DONE, NOTHING, ROOM};
+use crate::numbers::{DONE, NOTHING, ROOM};
 use hc_core::keeping::Core;
 use hc_events::sending::Sending;
-use std::alloc::Global;
 
 /// Fills a frame at the front of a slice that has room for it.
 fn fill_frame(core: &Core, frame: &Sending, out: &mut [u8])
@@ -41,26 +41,27 @@ fn tell_preview(core: &Core, task: u8, datagram: u8, out: &mut [u8], size: &mut 
 
 /// The frame of one datagram of a task alone, as it would be sent next, whether or not blocks are owed; nothing is sent by
 /// it. `DONE`, and it stands at the front of `out`, its bytes in `size`; `NOTHING` where the task has no such datagram,
-/// there is no such task, or no serial is left; `ROOM` where `out` has fewer than `size` bytes, and is as it was; or
-/// `CLOSED`. With `NOTHING` and `CLOSED` `size` is as it was. It takes no memory.
+/// there is no such task, or no serial is left; `ROOM` where `out` has fewer than `size` bytes, and is as it was; `BUSY`
+/// or `CLOSED`. With `NOTHING`, `BUSY` and `CLOSED` `size` is as it was. It takes no memory.
 #[unsafe(no_mangle)]
 pub extern "C" fn zangjulf_preview(
-    alloc: Global,
     handle: &mut Handle,
     task: u8,
     datagram: u8,
     out: &mut [u8],
     size: &mut usize,
 ) -> u8
-    ensures told { IfSome handle.old.holding.value (λ old. MatchOption (preview (past_of old) task datagram) ((result ≡ NOTHING) × (size.new ≡ size.old)) (λ frame. TellsPreview (past_of old) frame result size.new out.old out.new)) }
+    ensures told { IfSome handle.old.holding.value (λ old. result ≢ BUSY → MatchOption (preview (past_of old) task datagram) ((result ≡ NOTHING) × (size.new ≡ size.old)) (λ frame. TellsPreview (past_of old) frame result size.new out.old out.new)) }
     ensures kept { handle.new.holding.value ≡ handle.old.holding.value }
     ensures untouched { result ≢ DONE → out.new ≡ out.old }
+    ensures busy { result ≡ BUSY → size.new ≡ size.old }
     ensures closed { handle.old.holding.value ≡ None → (result ≡ CLOSED) × (size.new ≡ size.old) }
 {
-    let Some(own) = handle.take(alloc) else {
-        return CLOSED;
-    };
+    if let Err(number) = handle.begin_look() {
+        return number;
+    }
+    let own = handle.holding.line_mut();
     let told = tell_preview(&own.core, task, datagram, out, size);
-    *handle = Handle::of(own);
+    own.calls.end_look();
     told
 }

@@ -7,16 +7,16 @@ ghost use Rattle.hc_events.specs.Points.{epoch_of};
 ghost use Rattle.hc_events.specs.Steps.{Reads, answer_to};
 ghost use Rattle.hc_c.specs.Embedded.{past_of};
 ghost use Rattle.hc_c.specs.Lists.{put};
+ghost use Rattle.hc_c.specs.declared.numbers.TheConstants.{BUSY, CLOSED};
 ghost use Rattle.hc_c.specs.Reads.{HoldsImage, HoldsSlots, data_of, fit_number, image_number, size_of, slots_from};
 
 use crate::handle::Handle;
-use crate::numbers::{CLOSED, DONE, ROOM};
+use crate::numbers::{DONE, ROOM};
 use hc_core::keeping::Core;
 use hc_events::faults::CoreFault;
 use hc_places::table::Datagram;
 use hc_records::limits::TASKS;
 use hc_records::task::Task;
-use std::alloc::Global;
 
 /// A task's input image, as C is told it.
 #[repr(C)]
@@ -131,28 +131,28 @@ fn tell_image(core: &Core, task: u8, out: &mut [u8], sizes: &mut [usize], image:
 /// What a task reads: of each of its datagrams the data of the last good answer in the present epoch, or none. `DONE`: the
 /// data stand at the front of `out` one after another, in the datagrams' order, and those that have none leave no gap;
 /// `sizes` has the bytes of each, 0 where it has none, as many as there is room for. Else fault 8 where the task is over 7,
-/// `ROOM` where `out` is too short, which 23,776 bytes never are, or `CLOSED`; `out`, `sizes` and `image` are then as they
+/// `ROOM` where `out` is too short, which 23,776 bytes never are, `BUSY` or `CLOSED`; `out`, `sizes` and `image` are then as they
 /// were. Nothing changes. It takes no memory.
 #[unsafe(no_mangle)]
 pub extern "C" fn zangjulf_read(
-    alloc: Global,
     handle: &mut Handle,
     task: u8,
     out: &mut [u8],
     sizes: &mut [usize],
     image: &mut Image,
 ) -> u8
-    ensures told { IfSome handle.old.holding.value (λ old. result ≡ image_number (answer_to (past_of old) (Reads task)) (length out.old)) }
+    ensures told { IfSome handle.old.holding.value (λ old. result ≢ BUSY → result ≡ image_number (answer_to (past_of old) (Reads task)) (length out.old)) }
+    ensures kept { handle.new.holding.value ≡ handle.old.holding.value }
     ensures image { result ≡ DONE → IfSome handle.old.holding.value (λ old. HoldsImage (answer_to (past_of old) (Reads task)) image.new out.old out.new sizes.old sizes.new) }
     ensures untouched { result ≢ DONE → out.new ≡ out.old }
     ensures unwritten { result ≢ DONE → (sizes.new ≡ sizes.old) × (image.new ≡ image.old) }
-    ensures kept { handle.new.holding.value ≡ handle.old.holding.value }
     ensures closed { handle.old.holding.value ≡ None → result ≡ CLOSED }
 {
-    let Some(own) = handle.take(alloc) else {
-        return CLOSED;
-    };
+    if let Err(number) = handle.begin_look() {
+        return number;
+    }
+    let own = handle.holding.line_mut();
     let number = tell_image(&own.core, task, out, sizes, image);
-    *handle = Handle::of(own);
+    own.calls.end_look();
     number
 }

@@ -3,18 +3,20 @@ ghost use Rattle.std.specs.Prelude.{◌≡◌, ◌≢◌, IfSome, None, Some, le
 ghost use Rattle.hc_records.specs.Lists.{lowest};
 ghost use Rattle.hc_core.specs.Early.{early_fault};
 ghost use Rattle.hc_events.specs.Calls.{AreSentTogether, frames_size, send_into_faults};
+ghost use Rattle.hc_events.specs.declared.faults.CoreFault.TheVariants.{Room};
 ghost use Rattle.hc_events.specs.Faults.{core_fault_number};
+ghost use Rattle.hc_events.specs.Owed.{owed_blocks};
 ghost use Rattle.hc_events.specs.Steps.{SendsTasks, entries_after};
 ghost use Rattle.hc_c.specs.Embedded.{past_of, with_past};
 ghost use Rattle.hc_c.specs.Numbers.{number_of};
-ghost use Rattle.hc_c.specs.declared.numbers.TheConstants.{MEMORY, ROOM};
+ghost use Rattle.hc_c.specs.declared.numbers.TheConstants.{BUSY, CLOSED, MEMORY, ROOM};
 ghost use Rattle.hc_c.specs.Sends.{HoldsFrames};
 
 use crate::handle::Handle;
-use crate::numbers::{CLOSED, DONE, MISUSED};
+use crate::numbers::{DONE, MISUSED, UNPROGRAMMED};
 use crate::too_short::refuse;
+use hc_events::faults::CoreFault;
 use hc_events::together::Together;
-use std::alloc::Global;
 
 /// What was sent, as C is told it.
 #[repr(C)]
@@ -24,52 +26,73 @@ pub struct Sent {
     size: usize,
     /// How many frames there are, at most 128.
     frames: usize,
+    /// Of a sending that is refused because register blocks are owed, how many; 0 of one that is done.
+    owed: u32,
+}
+
+/// The number of a refusal: with `ROOM` the bytes that are needed are told, and with `UNPROGRAMMED` how many blocks are owed.
+#[tactic(auto, using(crate::proofs::Rooms::room_alone))]
+fn refuse_frames(fault: CoreFault, owed: u32, sent: &mut Sent) -> u8
+    ensures number { result ≡ core_fault_number fault }
+    ensures room { result ≡ ROOM → (fault ≡ Room sent.new.size) × (sent.new ≡ record sent.old { size = sent.new.size }) }
+    ensures owed { result ≡ UNPROGRAMMED → sent.new ≡ record sent.old { owed = owed } }
+    ensures unwritten { result ≢ ROOM → result ≢ UNPROGRAMMED → sent.new ≡ sent.old }
+{
+    let number = refuse(fault, &mut sent.size);
+    if number == UNPROGRAMMED {
+        sent.owed = owed;
+    }
+    number
 }
 
 /// Tasks are sent, in their order: the frames stand at the front of `out` one after another, each of its own size, and
 /// `sent` tells their bytes and their number, which is 0 where the tasks have no datagram. `DONE`; else the first of the
-/// faults 8, 17, 19 and 29 that holds, `MEMORY`, `MISUSED` where they aren't 1 to 8 tasks, none twice, or `CLOSED`; and
-/// nothing is sent, and nothing changed, `out` neither. With 29 `sent.size` is the bytes that are needed; all else of `sent` is
-/// as it was. That there is no such task (8) and that blocks are owed (17) is answered whatever memory does.
+/// faults 8, 17, 19 and 29 that holds, `MEMORY`, `MISUSED` where they aren't 1 to 8 tasks, none twice, `BUSY` or `CLOSED`; and
+/// nothing is sent, and nothing changed, `out` neither. With 29 `sent.size` is the bytes that are needed, and with 17
+/// `sent.owed` how many blocks are owed; all else of `sent` is as it was. That there is no such task (8) and that blocks are
+/// owed (17) is answered whatever memory does. The list of the frames has had its room since the opening.
 #[tactic(auto, using(crate::proofs::Rooms::frames_need))]
 #[unsafe(no_mangle)]
 pub extern "C" fn zangjulf_send(
-    alloc: Global,
     handle: &mut Handle,
     tasks: &[u8],
     out: &mut [u8],
     sent: &mut Sent,
 ) -> u8
-    ensures told { IfSome handle.old.holding.value (λ old. AreSentTogether tasks.now → result ≢ MEMORY → result ≡ number_of (lowest (send_into_faults (past_of old) tasks.now (length out.old)))) }
-    ensures early { IfSome handle.old.holding.value (λ old. AreSentTogether tasks.now → IfSome (early_fault (past_of old) (SendsTasks tasks.now)) (λ fault. result ≡ core_fault_number fault)) }
+    ensures told { IfSome handle.old.holding.value (λ old. result ≢ BUSY → AreSentTogether tasks.now → result ≢ MEMORY → result ≡ number_of (lowest (send_into_faults (past_of old) tasks.now (length out.old)))) }
+    ensures early { IfSome handle.old.holding.value (λ old. result ≢ BUSY → AreSentTogether tasks.now → IfSome (early_fault (past_of old) (SendsTasks tasks.now)) (λ fault. result ≡ core_fault_number fault)) }
     ensures sent { result ≡ DONE → IfSome handle.old.holding.value (λ old. HoldsFrames (past_of old) tasks.now out.old out.new sent.new) }
     ensures entries { result ≡ DONE → IfSome handle.old.holding.value (λ old. handle.new.holding.value ≡ Some (with_past old (entries_after (past_of old) (SendsTasks tasks.now)))) }
     ensures needed { result ≡ ROOM → IfSome handle.old.holding.value (λ old. sent.new ≡ record sent.old { size = frames_size (past_of old) tasks.now }) }
-    ensures unwritten { result ≢ DONE → result ≢ ROOM → sent.new ≡ sent.old }
-    ensures misused { IfSome handle.old.holding.value (λ old. ¬ AreSentTogether tasks.now → result ≡ MISUSED) }
+    ensures owed { result ≡ UNPROGRAMMED → IfSome handle.old.holding.value (λ old. sent.new ≡ record sent.old { owed = length (owed_blocks (past_of old)) }) }
+    ensures unwritten { result ≢ DONE → result ≢ ROOM → result ≢ UNPROGRAMMED → sent.new ≡ sent.old }
+    ensures misused { IfSome handle.old.holding.value (λ old. result ≢ BUSY → ¬ AreSentTogether tasks.now → result ≡ MISUSED) }
     ensures unchanged { result ≢ DONE → handle.new.holding.value ≡ handle.old.holding.value }
     ensures untouched { result ≢ DONE → out.new ≡ out.old }
     ensures closed { handle.old.holding.value ≡ None → (result ≡ CLOSED) × (sent.new ≡ sent.old) }
 {
-    let Some(mut own) = handle.take(alloc) else {
-        return CLOSED;
-    };
+    if let Err(number) = handle.begin_change() {
+        return number;
+    }
+    let own = handle.holding.line_mut();
+    let owed = own.core.owed();
     let number = match Together::of(tasks) {
         Some(_) => {
-            let mut frames = Vec::new(alloc);
-            match own.core.send_into(tasks, out, &mut frames) {
+            let frames = &mut own.spare.frames;
+            match own.core.send_into(tasks, out, frames) {
                 Ok(size) => {
                     *sent = Sent {
                         size,
                         frames: frames.len(),
+                        owed: 0,
                     };
                     DONE
                 }
-                Err(fault) => refuse(fault, &mut sent.size),
+                Err(fault) => refuse_frames(fault, owed, sent),
             }
         }
         None => MISUSED,
     };
-    *handle = Handle::of(own);
+    own.calls.end_change();
     number
 }

@@ -1,54 +1,60 @@
 //! What a core tells of itself.
-ghost use Rattle.std.specs.Prelude.{◌≡◌, IfSome, None, length};
+ghost use Rattle.std.specs.Prelude.{◌≡◌, ◌≢◌, IfSome, None, length};
 ghost use Rattle.hc_events.specs.Owed.{owed_blocks};
 ghost use Rattle.hc_events.specs.Points.{epoch_of, next_serial};
 ghost use Rattle.hc_c.specs.Embedded.{past_of};
+ghost use Rattle.hc_c.specs.declared.numbers.TheConstants.{BUSY, CLOSED};
 
 use crate::handle::Handle;
-use crate::numbers::{CLOSED, DONE};
-use std::alloc::Global;
+use crate::numbers::DONE;
 
-/// The epoch, which is the number of accepted edits: `DONE`, or `CLOSED`.
+/// The epoch, which is the number of accepted edits: `DONE`, `BUSY` or `CLOSED`.
 #[unsafe(no_mangle)]
-pub extern "C" fn zangjulf_epoch(alloc: Global, handle: &mut Handle, epoch: &mut u32) -> u8
-    ensures told { IfSome handle.old.holding.value (λ old. (result ≡ DONE) × (epoch.new ≡ epoch_of (past_of old))) }
+pub extern "C" fn zangjulf_epoch(handle: &mut Handle, epoch: &mut u32) -> u8
+    ensures told { IfSome handle.old.holding.value (λ old. result ≢ BUSY → (result ≡ DONE) × (epoch.new ≡ epoch_of (past_of old))) }
     ensures kept { handle.new.holding.value ≡ handle.old.holding.value }
+    ensures busy { result ≡ BUSY → epoch.new ≡ epoch.old }
     ensures closed { handle.old.holding.value ≡ None → (result ≡ CLOSED) × (epoch.new ≡ epoch.old) }
 {
-    let Some(own) = handle.take(alloc) else {
-        return CLOSED;
-    };
+    if let Err(number) = handle.begin_look() {
+        return number;
+    }
+    let own = handle.holding.line_mut();
     *epoch = own.core.plan().epoch();
-    *handle = Handle::of(own);
+    own.calls.end_look();
     DONE
 }
 
-/// The serial of the next sending, which is the number of sendings before it: `DONE`, or `CLOSED`.
+/// The serial of the next sending, which is the number of sendings before it: `DONE`, `BUSY` or `CLOSED`.
 #[unsafe(no_mangle)]
-pub extern "C" fn zangjulf_next_serial(alloc: Global, handle: &mut Handle, serial: &mut u64) -> u8
-    ensures told { IfSome handle.old.holding.value (λ old. (result ≡ DONE) × (serial.new ≡ next_serial (past_of old))) }
+pub extern "C" fn zangjulf_next_serial(handle: &mut Handle, serial: &mut u64) -> u8
+    ensures told { IfSome handle.old.holding.value (λ old. result ≢ BUSY → (result ≡ DONE) × (serial.new ≡ next_serial (past_of old))) }
     ensures kept { handle.new.holding.value ≡ handle.old.holding.value }
+    ensures busy { result ≡ BUSY → serial.new ≡ serial.old }
     ensures closed { handle.old.holding.value ≡ None → (result ≡ CLOSED) × (serial.new ≡ serial.old) }
 {
-    let Some(own) = handle.take(alloc) else {
-        return CLOSED;
-    };
+    if let Err(number) = handle.begin_look() {
+        return number;
+    }
+    let own = handle.holding.line_mut();
     *serial = own.core.next_serial();
-    *handle = Handle::of(own);
+    own.calls.end_look();
     DONE
 }
 
-/// How many register blocks of the present line are owed: `DONE`, or `CLOSED`.
+/// How many register blocks of the present line are owed: `DONE`, `BUSY` or `CLOSED`.
 #[unsafe(no_mangle)]
-pub extern "C" fn zangjulf_owed(alloc: Global, handle: &mut Handle, count: &mut u32) -> u8
-    ensures told { IfSome handle.old.holding.value (λ old. (result ≡ DONE) × (count.new ≡ length (owed_blocks (past_of old)))) }
+pub extern "C" fn zangjulf_owed(handle: &mut Handle, count: &mut u32) -> u8
+    ensures told { IfSome handle.old.holding.value (λ old. result ≢ BUSY → (result ≡ DONE) × (count.new ≡ length (owed_blocks (past_of old)))) }
     ensures kept { handle.new.holding.value ≡ handle.old.holding.value }
+    ensures busy { result ≡ BUSY → count.new ≡ count.old }
     ensures closed { handle.old.holding.value ≡ None → (result ≡ CLOSED) × (count.new ≡ count.old) }
 {
-    let Some(own) = handle.take(alloc) else {
-        return CLOSED;
-    };
+    if let Err(number) = handle.begin_look() {
+        return number;
+    }
+    let own = handle.holding.line_mut();
     *count = own.core.owed();
-    *handle = Handle::of(own);
+    own.calls.end_look();
     DONE
 }

@@ -69,19 +69,20 @@ fn get_value(core: &Core, variable: u32, image: &[u8], value: &mut u64) -> u8
 /// ends before the place does; `BUSY` or `CLOSED`. Unless it is done the slice is as it was. It takes no memory.
 #[unsafe(no_mangle)]
 pub extern "C" fn zangjulf_put_value(
-    handle: &Handle,
+    handle: &mut Handle,
     variable: u32,
     value: u64,
     outputs: &mut [u8],
 ) -> u8
-    ensures told { IfSome handle.now.holding.value (λ own. result ≢ BUSY → MatchOption (place_at (past_of own) variable) (result ≡ NOTHING) (λ place. PutsValue place (image_bit_of (past_of own) place) value result outputs.old outputs.new)) }
+    ensures told { IfSome handle.old.holding.value (λ old. result ≢ BUSY → MatchOption (place_at (past_of old) variable) (result ≡ NOTHING) (λ place. PutsValue place (image_bit_of (past_of old) place) value result outputs.old outputs.new)) }
+    ensures kept { handle.new.holding.value ≡ handle.old.holding.value }
     ensures untouched { result ≢ DONE → outputs.new ≡ outputs.old }
-    ensures closed { handle.now.holding.value ≡ None → result ≡ CLOSED }
+    ensures closed { handle.old.holding.value ≡ None → result ≡ CLOSED }
 {
-    let own = match handle.begin_look() {
-        Ok(own) => own,
-        Err(number) => return number,
-    };
+    if let Err(number) = handle.begin_look() {
+        return number;
+    }
+    let own = handle.holding.line_mut();
     let number = put_value(&own.core, variable, value, outputs);
     own.calls.end_look();
     number
@@ -93,19 +94,20 @@ pub extern "C" fn zangjulf_put_value(
 /// mask. It takes no memory.
 #[unsafe(no_mangle)]
 pub extern "C" fn zangjulf_get_value(
-    handle: &Handle,
+    handle: &mut Handle,
     variable: u32,
     image: &[u8],
     value: &mut u64,
 ) -> u8
-    ensures told { IfSome handle.now.holding.value (λ own. result ≢ BUSY → MatchOption (place_at (past_of own) variable) (result ≡ NOTHING) (λ place. GetsValue place (image_bit_of (past_of own) place) image.now result value.old value.new)) }
+    ensures told { IfSome handle.old.holding.value (λ old. result ≢ BUSY → MatchOption (place_at (past_of old) variable) (result ≡ NOTHING) (λ place. GetsValue place (image_bit_of (past_of old) place) image.now result value.old value.new)) }
+    ensures kept { handle.new.holding.value ≡ handle.old.holding.value }
     ensures unwritten { result ≢ DONE → value.new ≡ value.old }
-    ensures closed { handle.now.holding.value ≡ None → result ≡ CLOSED }
+    ensures closed { handle.old.holding.value ≡ None → result ≡ CLOSED }
 {
-    let own = match handle.begin_look() {
-        Ok(own) => own,
-        Err(number) => return number,
-    };
+    if let Err(number) = handle.begin_look() {
+        return number;
+    }
+    let own = handle.holding.line_mut();
     let number = get_value(&own.core, variable, image, value);
     own.calls.end_look();
     number
