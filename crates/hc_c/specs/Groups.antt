@@ -1,5 +1,5 @@
 -- What C is told of a text whose group is to be declared.
-use Rattle.std.specs.Prelude.{◌≡◌, ◌≢◌, ℕ, Bool, Result, Ok, Err}
+use Rattle.std.specs.Prelude.{◌≡◌, ◌≢◌, ℕ, ◌+◌, Bool, Result, Ok, Err}
 use Rattle.hc_records.specs.declared.edit.Edit.TheVariants.{Declare}
 use Rattle.hc_records.specs.declared.faults.ProjectFault.{ProjectFault}
 use Rattle.hc_records.specs.declared.records.Group.{Group}

@@ -91,6 +91,7 @@ fn part_at(core: &Core, task: u8) -> (u16, u16)
 }
 
 /// The bit of its task's image at which a place of the present line begins.
+#[tactic(auto, unfolding(crate::specs::Looks::image_bit_of, crate::specs::Looks::datagram_at))]
 pub fn image_bit_of(core: &Core, place: LinePlace) -> u32
     ensures { result ≡ image_bit_of core.now.past place }
 {

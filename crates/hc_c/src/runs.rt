@@ -1,5 +1,5 @@
 //! Runs of bits in bytes that C keeps: those that it posts, and those that it reads.
-ghost use Rattle.std.specs.Prelude.{◌≡◌, ◌≢◌, ◌+◌, ◌<◌, ◌^◌, false, length, true};
+ghost use Rattle.std.specs.Prelude.{◌≡◌, ◌≢◌, ℕ, ◌+◌, ◌<◌, ◌≤◌, ◌^◌, if◌then◌else◌, length};
 ghost use Rattle.std.specs.Int.{bit_at};
 ghost use Rattle.hc_bits.specs.Bits.{ReplacesRun, bit_of};
 ghost use Rattle.hc_c.specs.Runs.{is_run, is_too_wide, put_number};

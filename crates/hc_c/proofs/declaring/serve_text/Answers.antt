@@ -9,25 +9,22 @@ use Rattle.hc_c.specs.Groups.{Declares}
 use Rattle.hc_c.proofs.declaring.serve_text.Goals as goal
 
 -- where memory is wanted nothing is told
-untold : (found : Result Group ProjectFault) (own : Embedded) (asks : Bool) (cause : ℕ) (cost : Cost) → Declares found own own asks MEMORY cause cause cost cost
-untold (Ok group) own asks cause cost = (
-  record {
-    told = λ other. absurd (other refl);
-    own = tt;
-    cost = λ is. absurd (omega arith);
-    carried = λ is it. absurd (omega arith);
-    asked = λ is. refl;
-    refused = λ other. refl;
-    unwritten = λ other crowds. refl;
-    crowds = λ task other is. absurd (other refl);
-  },
-  refl,
-)
-untold (Err fault) own asks cause cost = record { told = λ other. absurd (other refl); unwritten = λ other. refl; kept = refl; untold = refl }
+untold : (found : Result Group ProjectFault) (own : Embedded) (asks : Bool) (cost : Cost) → Declares found own own asks MEMORY cost cost
+untold (Ok group) own asks cost = record {
+  told = λ other. absurd (other refl);
+  own = tt;
+  cost = λ is. absurd (omega arith);
+  carried = λ is it. absurd (omega arith);
+  asked = λ is. refl;
+  refused = λ other. refl;
+  unwritten = λ other crowds. refl;
+  crowds = λ task other is. absurd (other refl);
+}
+untold (Err fault) own asks cost = record { told = λ other. absurd (other refl); kept = refl; untold = refl }
 
 pub returns-in-Ok : goal.returns-in-Ok
 returns-in-Ok c =
-    subst (λ (found : Result Group ProjectFault). Declares found c.args.own.now c.serve.new.own c.args.asks c.serve.result c.args.fault.now c.args.fault.now c.args.cost.now c.serve.new.cost) (sym c.in-Ok.ensures.group) (c.serve.ensures, refl)
+    subst (λ (found : Result Group ProjectFault). Declares found c.args.own.now c.serve.new.own c.args.asks c.serve.result c.args.cost.now c.serve.new.cost) (sym c.in-Ok.ensures.group) c.serve.ensures
 
 pub returns-in-Err-Memory : goal.returns-in-Err-Memory
-returns-in-Err-Memory c = untold (group_in c.args.text.now) c.args.own.now c.args.asks c.args.fault.now c.args.cost.now
+returns-in-Err-Memory c = untold (group_in c.args.text.now) c.args.own.now c.args.asks c.args.cost.now
