@@ -39,6 +39,9 @@ lengths_from members task number [] other each = tt
 lengths_from members task number (datagram ∷ datagrams) other each =
     (each 0 number (omega arith) (omega arith), lengths_from members task (number + 1) datagrams other (λ i n low is. each (suc i) n (omega (arith, low)) (omega (arith, is))))
 
+same_index : (i n : ℕ) → n ≡ 0 + i → i ≡ n
+same_index i n is = omega (arith, is)
+
 blank : Datagram
 blank = record { address = 0; length = 0; expected = 0; offset = 0 }
 
@@ -48,7 +51,7 @@ listed-lengths past plan table task datagrams state kept same are =
     let here = are ∙ ap (λ (it : Table). datagrams_in it task) same in
     subst (λ (it : State). HaveLengths (line it) task 0 datagrams) state
     (lengths_from (line plan) task 0 datagrams blank
-    (λ i n low is. listed-length plan task i datagrams blank kept here low ∙ ap (λ (m : ℕ). length_of (line plan) (task, m)) (sym is)))
+    (λ i n low is. listed-length plan task i datagrams blank kept here low ∙ ap (λ (m : ℕ). length_of (line plan) (task, m)) (same_index i n is)))
 
 -- so what a task reads of one has them too
 pub slot-fits : (past : Record) (task number size : ℕ) (slot : Option (List ℕ)) → slot ≡ slot_of past task number → size ≡ length_of (line_of past) (task, number) → IfSome slot (λ bytes. length bytes ≡ size)

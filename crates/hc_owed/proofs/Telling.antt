@@ -132,7 +132,7 @@ nth_of_line : (known : Knowledge) (state : State) (index : ℕ) (found : Option 
 nth_of_line known state index None project none = ap (λ (blocks : List LineBlock). slice_get (filter (lacks known) blocks) index) (sym (places-hold state project)) ∙ none
 nth_of_line known state index (Some n) project found = record {
   block = found.block;
-  stands = ap (slice_get (places state)) found.is_at ∙ found.stands;
+  stands = ap (slice_get (places state)) (let is = found.is_at in omega (arith, is)) ∙ found.stands;
   is = ap (λ (blocks : List LineBlock). slice_get (filter (lacks known) blocks) index) (sym (places-hold state project)) ∙ found.is;
 }
 

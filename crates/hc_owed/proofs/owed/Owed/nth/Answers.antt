@@ -17,5 +17,5 @@ returns c = λ known state project right.
     let found = nth-owed known state c.args.index (Some place) project (c.in_ok-place.ensures.value ∙ ap (λ (b : Board). nth_set c.args.index 0 b.owed) same) in
     let name = name-at state place found.block found.stands in
     let low : place / 16 < length c.self.inside.stations.items = omega (arith, c.in_ok-place.ensures.low, c.self.invariant.1) in
-    let read = slice_get_read c.self.inside.stations.items (length c.self.inside.stations.items) (place / 16) c.index.result.now refl low c.index.ensures in
+    let read = slice_get_read c.self.inside.stations.items (length c.self.inside.stations.items) (place / 16) c.index-station.result.now refl low c.index-station.ensures in
     search (rules, same_Some)
