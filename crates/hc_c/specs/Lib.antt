@@ -11,6 +11,7 @@ pub mod Arrivals
 pub mod Returned
 pub mod Reads
 pub mod Pieces
+pub mod Owings
 pub mod Tellings
 pub mod Groups
 pub mod Runs

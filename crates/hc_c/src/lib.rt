@@ -19,6 +19,7 @@ mod locating;
 mod looking;
 mod numbers;
 mod opening;
+mod owing;
 mod posting;
 mod previewing;
 mod reading;

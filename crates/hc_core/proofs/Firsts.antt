@@ -41,10 +41,10 @@ first-kept kept past taken n block agree first = record { right = agree.known; p
 
 -- so it does with each owed one
 
-each_is : (P : LineBlock → Type 0) (blocks : List LineBlock) (index : ℕ) (block : LineBlock) → All P blocks → slice_get blocks index ≡ Some block → P block
-each_is P [] index block all is = cc
-each_is P (first ∷ blocks) zero block all is = subst P (same_Some first block is) (All-head P first blocks all)
-each_is P (first ∷ blocks) (suc index) block all is = each_is P blocks index block (All-tail P first blocks all) is
+pub each-is : (P : LineBlock → Type 0) (blocks : List LineBlock) (index : ℕ) (block : LineBlock) → All P blocks → slice_get blocks index ≡ Some block → P block
+each-is P [] index block all is = cc
+each-is P (first ∷ blocks) zero block all is = subst P (same_Some first block is) (All-head P first blocks all)
+each-is P (first ∷ blocks) (suc index) block all is = each-is P blocks index block (All-tail P first blocks all) is
 
 owed_among : (past : Record) → All (Contains (line_blocks (line_of past))) (owed_blocks past)
 owed_among past = All-passing (Contains (line_blocks (line_of past))) (is_owed past) (line_blocks (line_of past)) (λ k d within passes. All-contains_itself (line_blocks (line_of past)) k d within)
@@ -52,5 +52,5 @@ owed_among past = All-passing (Contains (line_blocks (line_of past))) (is_owed p
 pub owed-configured : (past : Record) (index : ℕ) (block : LineBlock) → lowest_fault (groups_of (state_of past).groups) ≡ None → slice_get (owed_blocks past) index ≡ Some block
     → block_at (line_of past) block.station block.number ≡ Some block.block
 owed-configured past index block project is =
-    let inside = each_is (Contains (line_blocks (line_of past))) (owed_blocks past) index block (owed_among past) is in
+    let inside = each-is (Contains (line_blocks (line_of past))) (owed_blocks past) index block (owed_among past) is in
     search (rules, configured-block, project-distinct)

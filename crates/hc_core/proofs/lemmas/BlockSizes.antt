@@ -1,6 +1,6 @@
 -- A register block has 8 or 16 bytes, so that the frame that writes it has 60: zeros fill it up.
-use Rattle.std.proofs.Common.{◌≡◌, ◌≤◌, ℕ, Bool, false, List, [], ◌∷◌, get_or, rules}
-use Rattle.std.specs.Prelude.{All, nat_lt}
+use Rattle.std.proofs.Common.{◌≡◌, ◌≤◌, ℕ, Bool, false, List, [], ◌∷◌, get_or, Some, rules}
+use Rattle.std.specs.Prelude.{All, nat_lt, slice_get}
 use Rattle.std.specs.List.{enumerate_from}
 use Rattle.std.proofs.lemmas.Bool.{le-ltb}
 use Rattle.std.proofs.lemmas.List.Elements.{All-contains, All-filter, All-head, All-map}
@@ -17,6 +17,7 @@ use Rattle.hc_events.specs.Points.{line_of}
 use Rattle.hc_events.specs.Steps.{write_faults}
 use Rattle.hc_events.proofs.lemmas.Answers.{owed-in_line}
 use Rattle.hc_core.specs.Firsts.{HasBytes, IsFirstOwed}
+use Rattle.hc_core.proofs.Firsts.{each-is}
 
 area_has : (line : List Member) (rank : ℕ) (e : ℕ × Area) → All HasBytes (area_blocks line rank e)
 area_has line rank e = search rules
@@ -51,3 +52,8 @@ same-fault none spent room needed fits = search rules
 -- a slice of 60 bytes is never too short: the write is refused as the event is
 pub write-has-room : (past : Record) → lowest (write_into_faults past 60) ≡ lowest (write_faults past (owed_blocks past))
 write-has-room past = same-fault _ _ (nat_lt 60 (write_size (owed_blocks past))) (write_size (owed_blocks past)) (le-ltb 60 (write_size (owed_blocks past)) (write-fits past))
+
+-- so has each owed block
+pub owed-bytes : (past : Record) (index : ℕ) (block : LineBlock) → slice_get (owed_blocks past) index ≡ Some block → HasBytes block.block
+owed-bytes past index block is =
+    each-is Has (owed_blocks past) index block (All-filter (is_owed past) Has (line_blocks (line_of past)) (line_has (line_of past))) is
