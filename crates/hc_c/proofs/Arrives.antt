@@ -84,11 +84,11 @@ memory-told old new bytes before after whole whole' none same untouched unwritte
 
 -- what was read
 
-pub record IsDone (old new : Record) (bytes : List ℕ) (arrived : Arrived) (list : List core.Outcome) (state : State) : Type 0 where
+pub record IsDone (old new : Record) (bytes : List ℕ) (which : Arrived) (list : List core.Outcome) (state : State) : Type 0 where
   pub none : fault_in bytes ≡ None
-  pub told : told_with arrived list ≡ answer_to old (Arrives bytes)
+  pub told : told_with which list ≡ answer_to old (Arrives bytes)
   pub entries : new ≡ entries_after old (Arrives bytes)
-  pub empty : arrived ≢ arrived.Answered → list ≡ []
+  pub empty : which ≢ arrived.Answered → list ≡ []
   pub reachable : IsReachable new
   pub state_is : state ≡ state_of new
   pub project : lowest_fault (groups_of state.groups) ≡ None
@@ -109,8 +109,8 @@ reachable_before old new bytes none grown reachable =
 state_before : (old new : Record) (bytes : List ℕ) → fault_in bytes ≡ None → new ≡ entries_after old (Arrives bytes) → state_of new ≡ state_of old
 state_before old new bytes none grown = ap state_of (grown ∙ ap (with_arrival old) (read_ok bytes none))
 
-outcomes_put : (old new : Record) (bytes : List ℕ) (arrived : Arrived) (list : List core.Outcome) (state : State) (before after : List Outcome) → IsDone old new bytes arrived list state
-    → after ≡ put (told_parts (table_of (line state)) list (placed_from 16 (reading_of bytes).parts)) before → after ≡ put (outcomes_in (told_with arrived list) (judged_by old (reading_of bytes))) before
+outcomes_put : (old new : Record) (bytes : List ℕ) (which : Arrived) (list : List core.Outcome) (state : State) (before after : List Outcome) → IsDone old new bytes which list state
+    → after ≡ put (told_parts (table_of (line state)) list (placed_from 16 (reading_of bytes).parts)) before → after ≡ put (outcomes_in (told_with which list) (judged_by old (reading_of bytes))) before
 outcomes_put old new bytes arrived.Answered list state before after done is =
     is ∙ ap (λ (told : List Outcome). put told before)
     (outcomes-told old state (reading_of bytes) list (reachable_before old new bytes done.none done.entries done.reachable) (done.state_is ∙ state_before old new bytes done.none done.entries) done.project done.uncrowded
@@ -131,8 +131,8 @@ whole_write serial first other same = ap (λ (one : ℕ × ℕ). let told : Arri
 no_stale : (told other : Answer) → told ≡ other → other ≢ answer.Stale → told ≢ answer.Stale
 no_stale told other is apart e = apart (sym is ∙ e)
 
-whole_is : (old new : Record) (bytes : List ℕ) (arrived : Arrived) (list : List core.Outcome) (state : State) (whole : Arrival) → IsDone old new bytes arrived list state
-    → told_arrival arrived (length list) (reading_of bytes) ≡ arrival_of (told_with arrived list) (reading_of bytes).serial (judged_by old (reading_of bytes)) whole
+whole_is : (old new : Record) (bytes : List ℕ) (which : Arrived) (list : List core.Outcome) (state : State) (whole : Arrival) → IsDone old new bytes which list state
+    → told_arrival which (length list) (reading_of bytes) ≡ arrival_of (told_with which list) (reading_of bytes).serial (judged_by old (reading_of bytes)) whole
 whole_is old new bytes arrived.Answered list state whole done = refl
 whole_is old new bytes arrived.Stale list state whole done = refl
 whole_is old new bytes arrived.WriteDone list state whole done =
@@ -142,17 +142,17 @@ whole_is old new bytes arrived.WriteMissed list state whole done =
     whole_write (reading_of bytes).serial (first_written (reading_of bytes).parts) (written_in (judged_by old (reading_of bytes)))
     (written-told old (reading_of bytes) (no_stale (told_of (judged_by old (reading_of bytes))) answer.WriteMissed (told_read old bytes answer.WriteMissed done.none done.told) (λ e. cc)))
 
-numbered_by : (arrived : Arrived) (list : List core.Outcome) → arrived_number arrived ≡ number_of (told_with arrived list)
+numbered_by : (which : Arrived) (list : List core.Outcome) → arrived_number which ≡ number_of (told_with which list)
 numbered_by arrived.Answered list = refl
 numbered_by arrived.WriteDone list = refl
 numbered_by arrived.WriteMissed list = refl
 numbered_by arrived.Stale list = refl
 
-pub done-told : (old new : Record) (bytes : List ℕ) (arrived : Arrived) (list : List core.Outcome) (state : State) (number : ℕ) (before after : List Outcome) (whole whole' : Arrival) → IsDone old new bytes arrived list state
-    → number ≡ arrived_number arrived → after ≡ put (told_parts (table_of (line state)) list (placed_from 16 (reading_of bytes).parts)) before → whole' ≡ told_arrival arrived (length list) (reading_of bytes)
+pub done-told : (old new : Record) (bytes : List ℕ) (which : Arrived) (list : List core.Outcome) (state : State) (number : ℕ) (before after : List Outcome) (whole whole' : Arrival) → IsDone old new bytes which list state
+    → number ≡ arrived_number which → after ≡ put (told_parts (table_of (line state)) list (placed_from 16 (reading_of bytes).parts)) before → whole' ≡ told_arrival which (length list) (reading_of bytes)
     → Tells old new bytes number before after whole whole'
-done-told old new bytes arrived list state number before after whole whole' done numbered puts writes =
-    let told = told_with arrived list in
+done-told old new bytes which list state number before after whole whole' done numbered puts writes =
+    let told = told_with which list in
     let read = read_ok bytes done.none in
     let may : MayAnswer old (Arrives bytes) told new = inl (record { answer = done.told; entries = done.entries }) in
     record {
@@ -160,9 +160,9 @@ done-told old new bytes arrived list state number before after whole whole' done
       may = may;
       early = never_early told (fault_in bytes) done.none;
       stale = stale-leaves old new (Arrives bytes) told may;
-      numbered = numbered ∙ numbered_by arrived list;
-      outcomes = outcomes_put old new bytes arrived list state before after done puts
+      numbered = numbered ∙ numbered_by which list;
+      outcomes = outcomes_put old new bytes which list state before after done puts
           ∙ ap (λ (one : Result frame.Arrival FrameFault). put (outcomes_in told (judged_in old one)) before) (sym read);
-      arrival_is = writes ∙ whole_is old new bytes arrived list state whole done
+      arrival_is = writes ∙ whole_is old new bytes which list state whole done
           ∙ ap (λ (one : Result frame.Arrival FrameFault). arrival_of told (serial_in one) (judged_in old one) whole) (sym read);
     }

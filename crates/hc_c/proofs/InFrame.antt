@@ -20,7 +20,8 @@ here : (start size limit long : ℕ) (bytes : List ℕ) → length bytes ≡ siz
 here start size limit long bytes is fits ends = omega (arith, is, fits, ends)
 
 within : (n start limit : ℕ) (bytes : List ℕ) → length bytes ≤ n → list_all is_whole (datagrams_in bytes) ≡ true → start + length bytes ≤ limit → All (Within limit) (placed_from start (map carried (datagrams_in bytes)))
-within n start limit [] short whole ends = All-nil (Within limit)
+within n start limit [] short whole ends =
+    subst (λ (ds : List (List ℕ)). All (Within limit) (placed_from start (map carried ds))) (sym (datagrams-none [] refl)) (All-nil (Within limit))
 within zero start limit (b ∷ bytes) short whole ends = absurd (omega (arith, short))
 within (suc n) start limit (b ∷ bytes) short whole ends =
     let some : 0 < length (b ∷ bytes) = omega arith in

@@ -85,39 +85,23 @@ same_expected state named project stands =
     let task = standing-task state named.0 named.1 project stands in
     ap (λ (row : Option Datagram). option_map_or (λ (datagram : Datagram). datagram.expected) row 0) (row_at (line state) named.0 named.1 task stands)
 
-record Alike (one other : Outcome) : Type 0 where
-  kind : one.kind ≡ other.kind
-  task : one.task ≡ other.task
-  datagram : one.datagram ≡ other.datagram
-  expected : one.expected ≡ other.expected
-  got : one.got ≡ other.got
-  at : one.at ≡ other.at
-  length : one.length ≡ other.length
-
-alike : (one other : Outcome) → Alike one other → one ≡ other
-alike one other same =
-    let kind = same.kind in
-    let task = same.task in
-    let datagram = same.datagram in
-    let expected = same.expected in
-    let got = same.got in
-    let at = same.at in
-    let length = same.length in
-    cc
+abbrev built : ℕ → Named → ℕ → ℕ → ℕ → ℕ → Outcome
+built kind named expected got at size = record { kind = kind; task = named.0; datagram = named.1; expected = expected; got = got; at = at; length = size }
 
 part_told : (state : State) (start at : ℕ) (datagram : Judged) → lowest_fault (groups_of state.groups) ≡ None → IsNamed (line state) datagram → at ≡ start + 10
     → told_part (table_of (line state)) (outcome_for datagram) (record { start = start; carried = datagram.part }) ≡ told.outcome_of at datagram
 part_told state start at datagram project is from =
-    let item = ap (λ (head : Head). told.name_of head.item) is.head in
-    alike (told_part (table_of (line state)) (outcome_for datagram) (record { start = start; carried = datagram.part })) (told.outcome_of at datagram) (record {
-      kind = same_kind (line state) is.named datagram.head datagram.part datagram.verdict is.head;
-      task = ap (λ (named : Named). named.0) (is.names ∙ sym item);
-      datagram = ap (λ (named : Named). named.1) (is.names ∙ sym item);
-      expected = ap (expected_in (table_of (line state))) is.names ∙ same_expected state is.named project is.stands ∙ sym (ap (λ (head : Head). head.expected) is.head);
-      got = refl;
-      at = sym from;
-      length = refl;
-    })
+    let table = table_of (line state) in
+    let named = named_at datagram.part.address in
+    let got = datagram.part.counter in
+    let size = length datagram.part.bytes in
+    let item : told.name_of datagram.head.item ≡ is.named = ap (λ (head : Head). told.name_of head.item) is.head in
+    let expected : expected_in table named ≡ datagram.head.expected =
+    ap (expected_in table) is.names ∙ same_expected state is.named project is.stands ∙ sym (ap (λ (head : Head). head.expected) is.head) in
+    ap (λ (kind : ℕ). built kind named (expected_in table named) got (start + 10) size) (same_kind (line state) is.named datagram.head datagram.part datagram.verdict is.head)
+    ∙ ap (λ (one : ℕ). built (kind_of datagram.verdict) named one got (start + 10) size) expected
+    ∙ ap (λ (one : Named). built (kind_of datagram.verdict) one datagram.head.expected got (start + 10) size) (is.names ∙ sym item)
+    ∙ ap (λ (one : ℕ). built (kind_of datagram.verdict) (told.name_of datagram.head.item) datagram.head.expected got one size) (sym from)
 
 -- all of them, one after another
 

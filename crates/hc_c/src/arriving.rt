@@ -183,8 +183,9 @@ fn arrive(
         return MEMORY;
     };
     let places = core.plan().places();
-    *arrival = told_arrival(arrived, list.len(), &frame);
-    put_outcomes(places, list.as_slice(), frame.parts(), outcomes);
+    let told = list.as_slice();
+    *arrival = told_arrival(arrived, told.len(), &frame);
+    put_outcomes(places, told, frame.parts(), outcomes);
     arrived_number(arrived)
 }
 

@@ -1,7 +1,8 @@
 //! What tasks read.
-ghost use Rattle.std.specs.Prelude.{◌≡◌, ◌≢◌, ◌+◌, ◌*◌, ◌^◌, ◌<◌, ◌≤◌, ◌++◌, IfSome, None, drop, is_some, length, nat_le};
+ghost use Rattle.std.specs.Prelude.{◌≡◌, ◌≢◌, ◌+◌, ◌*◌, ◌^◌, ◌<◌, ◌≤◌, ◌++◌, All, IfSome, None, drop, is_some, length, nat_le};
 ghost use Rattle.std.specs.Option.{option_copied};
 ghost use Rattle.hc_records.specs.declared.limits.TheConstants.{MOST_DATAGRAMS};
+ghost use Rattle.hc_places.specs.Ranges.{IsDatagram};
 ghost use Rattle.hc_events.specs.Images.{slot_of};
 ghost use Rattle.hc_events.specs.Points.{line_of};
 ghost use Rattle.hc_events.specs.Steps.{Reads, answer_to};
@@ -34,9 +35,10 @@ pub struct Image {
 
 /// The bytes of the datagrams of a task. A task has 16 datagrams at most, so deep is this recursion.
 fn image_size(datagrams: &[Datagram]) -> usize
-    requires { length datagrams.now ≤ MOST_DATAGRAMS }
+    requires few { length datagrams.now ≤ MOST_DATAGRAMS }
+    requires ranges { All IsDatagram datagrams.now }
     ensures size { result ≡ image_size datagrams.now }
-    ensures most { result ≤ 65535 * length datagrams.now }
+    ensures most { result ≤ 1486 * length datagrams.now }
 {
     match datagrams {
         [] => 0,
@@ -114,6 +116,7 @@ fn tell_slots(
 ) -> u8
     requires task { task < TASKS }
     requires few { length datagrams.now ≤ MOST_DATAGRAMS }
+    requires ranges { All IsDatagram datagrams.now }
     requires lengths { HaveLengths (line_of core.now.past) task 0 datagrams.now }
     ensures number { result ≡ fit_number (image_size datagrams.now) (length out.old) }
     ensures image { result ≡ DONE → HoldsImage core.now.past task datagrams.now image.new out.old out.new serials.old serials.new }
