@@ -14,13 +14,7 @@ use hc_records::faults::ProjectFault;
 use std::alloc::Global;
 
 /// Declares the group of a text, where C doesn't only ask: `DONE`, why it is refused, or the fault of the text.
-fn serve_text(
-    own: &mut Embedded,
-    alloc: Global,
-    text: &[u8],
-    asks: bool,
-    cost: &mut Cost,
-) -> u8
+fn serve_text(own: &mut Embedded, alloc: Global, text: &[u8], asks: bool, cost: &mut Cost) -> u8
     ensures { Declares (group_in text.now) own.old own.new asks result cost.old cost.new }
 {
     match read_group(alloc, text) {

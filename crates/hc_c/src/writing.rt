@@ -18,11 +18,7 @@ use crate::too_short::refuse;
 /// With 29 `size` is the bytes that are needed, with every other refusal as it was. It takes no memory.
 #[tactic(auto, using(crate::proofs::Rooms::write_needs))]
 #[unsafe(no_mangle)]
-pub extern "C" fn zangjulf_next_write(
-    handle: &mut Handle,
-    out: &mut [u8],
-    size: &mut usize,
-) -> u8
+pub extern "C" fn zangjulf_next_write(handle: &mut Handle, out: &mut [u8], size: &mut usize) -> u8
     ensures told { IfSome handle.old.holding.value (λ old. result ≢ BUSY → result ≡ number_of (lowest (write_into_faults (past_of old) (length out.old)))) }
     ensures written { result ≡ DONE → IfSome handle.old.holding.value (λ old. HoldsWrite (past_of old) out.old out.new size.new) }
     ensures entries { result ≡ DONE → IfSome handle.old.holding.value (λ old. handle.new.holding.value ≡ Some (with_past old (entries_after (past_of old) SendsWrite))) }
