@@ -151,7 +151,9 @@ struct zangjulf {
 /* Opens the project of a text (docs/PROJECT_TEXT.md) in place of what the handle held: the mandatory group alone is present,
  * epoch and serial are 0, each register block is owed. ZANGJULF_DONE; a project's fault, 201 to 210, the lowest;
  * ZANGJULF_TOO_MANY_DATAGRAMS, and `*task` is the lowest task, 0 to 7, that needs more than 16; or ZANGJULF_MEMORY. Unless it
- * is done the handle is closed. Takes memory. */
+ * is done the handle is closed. With `changes` 0 the line keeps no changes for `zangjulf_next_change`, which then always answers
+ * ZANGJULF_NOTHING; with any other number it keeps all of them until they are asked for, and takes memory for them. Takes
+ * memory. */
 uint8_t zangjulf_open(struct zangjulf *handle, const uint8_t *text, size_t length, uint32_t changes, uint8_t *task);
 
 /* Frees what the handle holds; it is closed then, and may be opened anew. Also a closed handle may be closed. */
@@ -351,7 +353,7 @@ struct zangjulf_sent {
 /* Tasks are sent, 1 to 8 and none twice, in this order: their frames stand at the front of `out` one after another, each of its
  * own size (`zangjulf_frame_size`). ZANGJULF_DONE; 8, 17, 19, or 29 with the bytes needed in `sent->size`; ZANGJULF_MISUSED
  * where there is no task, more than 8 or one twice; ZANGJULF_MEMORY or ZANGJULF_CLOSED. Unless it is done nothing is sent and
- * nothing changed, `out` neither. Takes memory. */
+ * nothing changed, `out` neither. Takes no memory: the list of its frames has had its room since the opening. */
 uint8_t zangjulf_send(struct zangjulf *handle, const uint8_t *tasks, size_t count, uint8_t *out, size_t length,
                       struct zangjulf_sent *sent);
 
@@ -441,9 +443,9 @@ struct zangjulf_change {
 };
 
 /* The next change that wasn't told yet, in the order in which they came. ZANGJULF_DONE, and a good answer's data stand at the
- * front of `out`; ZANGJULF_NOTHING where there is none; 29 where `out` is shorter than `change->size`, and the same change is
- * told again; or ZANGJULF_CLOSED. Unless it is done `out` is as it was. Changes that nobody asks for are kept until the handle
- * is closed. Takes no memory. */
+ * front of `out`; ZANGJULF_NOTHING where there is none, and always where the line was opened to keep none; 29 where `out` is
+ * shorter than `change->size`, and the same change is told again; or ZANGJULF_CLOSED. Unless it is done `out` is as it was. A
+ * line that keeps changes keeps those that nobody asks for until the handle is closed. Takes no memory. */
 uint8_t zangjulf_next_change(struct zangjulf *handle, uint8_t *out, size_t length, struct zangjulf_change *change);
 
 /* Bits of bytes that the caller keeps, counted from the least significant bit of the first byte. None takes memory. */

@@ -71,6 +71,16 @@ edges() {
     [ $status -eq 0 ] || cat "$scratch/printed"
 }
 
+# threads LABEL FLAGS..: threads that look at one handle and change it
+threads() {
+    label=$1
+    shift
+    compiled threads -D_POSIX_C_SOURCE=200809L -pthread "$@" && timeout 60 "$scratch/threads" examples/tool_changer.toml >"$scratch/printed" 2>&1
+    status=$?
+    tell $status "$label"
+    [ $status -eq 0 ] || cat "$scratch/printed"
+}
+
 # same_inside PROGRAM..: whether each script that was drawn is answered by the program as it was by the library
 same_inside() {
     for script in "$scratch"/drawn/*.in; do
@@ -232,6 +242,8 @@ if has gcc; then
     edges "growths refused to a C caller" -DWRAPPED tools/embed/growths.c $wrapped
     compiled steady tools/embed/growths.c $wrapped && timeout 60 "$scratch/steady"
     tell $? "a cycle that takes memory"
+    threads "threads that meet at one handle" -O2
+    threads "threads that meet at one handle, under the thread sanitizer" -fsanitize=thread
     compiled_fuzz && timeout 900 "$scratch/fuzz" examples/tool_changer.toml 2000000 1
     tell $? "two million drawn calls from C"
     if has rustc && rustc -O --edition 2021 -o "$scratch/wrong" compare/wrong_program.rs; then

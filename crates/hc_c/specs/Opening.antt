@@ -1,5 +1,5 @@
 -- What opening the project of a text gives.
-use Rattle.std.specs.Prelude.{ℕ, ◌+◌, List, [], Option, Some, None, Result, Ok, Err}
+use Rattle.std.specs.Prelude.{ℕ, Bool, ◌+◌, List, [], Option, Some, None, Result, Ok, Err}
 use Rattle.hc_records.specs.declared.records.Group.{Group}
 use Rattle.hc_records.specs.declared.faults.ProjectFault.{ProjectFault}
 use Rattle.hc_records.specs.Edits.{crowded_task}
@@ -9,14 +9,14 @@ use Rattle.hc_events.specs.Accepted.{just_opened}
 use Rattle.hc_c.specs.declared.embedded.Embedded.{Embedded}
 use Rattle.hc_c.specs.declared.numbers.TheConstants.{CROWDED, DONE, PROJECT}
 
--- a core in which nothing has happened, with no change to tell and no call that runs
-abbrev pub fresh : List Group → Embedded
-fresh groups = record { core = record { past = just_opened groups; taken = just_opened groups }; untold = []; spare = tt; calls = record { count = tt } }
+-- a core in which nothing has happened, with no change to tell and no call that runs; who opens it says whether changes are kept
+abbrev pub fresh : Bool → List Group → Embedded
+fresh keeps groups = record { core = record { past = just_opened groups; taken = just_opened groups }; untold = []; keeps_changes = keeps; spare = tt; calls = record { count = tt } }
 
 -- it, where the text is a project
-abbrev pub opened_by : Result (List Group) ProjectFault → Option Embedded
-opened_by (Ok groups) = Some (fresh groups)
-opened_by (Err fault) = None
+abbrev pub opened_by : Bool → Result (List Group) ProjectFault → Option Embedded
+opened_by keeps (Ok groups) = Some (fresh keeps groups)
+opened_by keeps (Err fault) = None
 
 -- the lowest task of the opening line that needs more than 16 datagrams
 abbrev pub crowded_in : Result (List Group) ProjectFault → Option ℕ

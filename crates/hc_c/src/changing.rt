@@ -88,12 +88,16 @@ fn refill(own: &mut Embedded, alloc: Global)
 /// Tells the next change: `DONE`, or `NOTHING` where there is none, or `ROOM` where its data don't fit `out`.
 fn tell_next(own: &mut Embedded, alloc: Global, out: &mut [u8], told: &mut Told) -> u8
     ensures done { result ≡ DONE → Tells own.old own.new told.new out.old out.new }
-    ensures nothing { result ≡ NOTHING → HasToldAll own.old own.new }
+    ensures nothing { result ≡ NOTHING → own.old.keeps_changes ≡ true → HasToldAll own.old own.new }
+    ensures none { own.old.keeps_changes ≡ false → (result ≡ NOTHING) × (own.new ≡ own.old) }
     ensures room { result ≡ ROOM → Keeps own.old own.new told.new (length out.old) }
     ensures one { (result ≡ DONE) ⊎ ((result ≡ NOTHING) ⊎ (result ≡ ROOM)) }
     ensures untouched { result ≢ DONE → out.new ≡ out.old }
     ensures unwritten { result ≡ NOTHING → told.new ≡ told.old }
 {
+    if !own.keeps_changes {
+        return NOTHING;
+    }
     refill(own, alloc);
     let Some(change) = own.untold.first() else {
         return NOTHING;
@@ -107,9 +111,9 @@ fn tell_next(own: &mut Embedded, alloc: Global, out: &mut [u8], told: &mut Told)
 }
 
 /// The next change that C wasn't told yet, in the order in which they came: `DONE`, and its data stand at the front of
-/// `out`; `NOTHING` where there is none; `ROOM` where `out` is shorter than `told.size`, and the change is told again;
-/// `BUSY` or `CLOSED`. Only with `DONE` `out` is written, and `told` only with `DONE` and `ROOM`. With each other answer the
-/// changes that were news are taken from the core, and the handle keeps those that weren't told. It takes no memory.
+/// `out`; `NOTHING` where there is none, and always where the line was opened to keep none; `ROOM` where `out` is shorter than `told.size`, and the change is told again;
+/// `BUSY` or `CLOSED`. Only with `DONE` `out` is written, and `told` only with `DONE` and `ROOM`. With each other answer of
+/// a line that keeps changes those that were news are taken from the core, and the handle keeps those that weren't told. It takes no memory.
 #[unsafe(no_mangle)]
 pub extern "C" fn zangjulf_next_change(
     alloc: Global,
@@ -118,7 +122,8 @@ pub extern "C" fn zangjulf_next_change(
     told: &mut Told,
 ) -> u8
     ensures done { result ≡ DONE → IfSome handle.old.holding.value (λ old. IfSome handle.new.holding.value (λ new. Tells old new told.new out.old out.new)) }
-    ensures nothing { result ≡ NOTHING → IfSome handle.old.holding.value (λ old. IfSome handle.new.holding.value (λ new. HasToldAll old new)) }
+    ensures nothing { result ≡ NOTHING → IfSome handle.old.holding.value (λ old. IfSome handle.new.holding.value (λ new. old.keeps_changes ≡ true → HasToldAll old new)) }
+    ensures none { IfSome handle.old.holding.value (λ old. old.keeps_changes ≡ false → result ≢ BUSY → (result ≡ NOTHING) × (handle.new.holding.value ≡ handle.old.holding.value)) }
     ensures room { result ≡ ROOM → IfSome handle.old.holding.value (λ old. IfSome handle.new.holding.value (λ new. Keeps old new told.new (length out.old))) }
     ensures one { IsSome handle.old.holding.value → result ≢ BUSY → (result ≡ DONE) ⊎ ((result ≡ NOTHING) ⊎ (result ≡ ROOM)) }
     ensures held { is_some handle.new.holding.value ≡ is_some handle.old.holding.value }

@@ -71,8 +71,6 @@ impl Holding {
     }
 }
 
-unsafe impl Send for Holding {}
-
 /// What C keeps: zeros where no line is open.
 #[repr(C)]
 #[derive(Drop)]
@@ -154,11 +152,10 @@ fn crosses<T: Send>(it: T) -> T
     it
 }
 
-impl Handle {
-    /// A handle may go to another thread between two calls.
-    pub fn crosses(self) -> Handle
-        ensures { result ≡ self }
-    {
-        crosses(self)
-    }
+/// The line that a handle holds may go to another thread between two calls, and its memory may be given back there: its type
+/// is `Send`.
+pub fn line_crosses(own: Box<Embedded, Global>) -> Box<Embedded, Global>
+    ensures { result ≡ own }
+{
+    crosses(own)
 }

@@ -134,11 +134,7 @@ fn told_datagram(datagram: LineDatagram) -> Datagram
 /// Where a variable stands, 1 to 4,294,967,295: `DONE`; `NOTHING` where the present line has no place for it; `BUSY`
 /// or `CLOSED`.
 #[unsafe(no_mangle)]
-pub extern "C" fn zangjulf_place(
-    handle: &mut Handle,
-    variable: u32,
-    place: &mut Place,
-) -> u8
+pub extern "C" fn zangjulf_place(handle: &mut Handle, variable: u32, place: &mut Place) -> u8
     ensures told { IfSome handle.old.holding.value (λ old. result ≢ BUSY → MatchOption (place_at (past_of old) variable) (result ≡ NOTHING) (λ found. (result ≡ DONE) × (place.new ≡ told_place (past_of old) found))) }
     ensures kept { handle.new.holding.value ≡ handle.old.holding.value }
     ensures untouched { result ≢ DONE → place.new ≡ place.old }
@@ -209,11 +205,7 @@ pub extern "C" fn zangjulf_part(handle: &mut Handle, task: u8, part: &mut Part) 
 /// The station address of the slave at a position of the present line, from 0: `DONE`; `NOTHING` where the line is
 /// shorter; `BUSY` or `CLOSED`.
 #[unsafe(no_mangle)]
-pub extern "C" fn zangjulf_station(
-    handle: &mut Handle,
-    position: u32,
-    station: &mut u16,
-) -> u8
+pub extern "C" fn zangjulf_station(handle: &mut Handle, position: u32, station: &mut u16) -> u8
     ensures told { IfSome handle.old.holding.value (λ old. result ≢ BUSY → MatchOption (station_at (line_of (past_of old)) position) (result ≡ NOTHING) (λ found. (result ≡ DONE) × (station.new ≡ found))) }
     ensures kept { handle.new.holding.value ≡ handle.old.holding.value }
     ensures untouched { result ≢ DONE → station.new ≡ station.old }
@@ -237,11 +229,7 @@ pub extern "C" fn zangjulf_station(
 /// The position in the present line, from 0, of the slave with a station address: `DONE`; fault 5 where no declared slave
 /// has it; 6 where that slave's group isn't present; `BUSY` or `CLOSED`.
 #[unsafe(no_mangle)]
-pub extern "C" fn zangjulf_position(
-    handle: &mut Handle,
-    station: u16,
-    position: &mut u32,
-) -> u8
+pub extern "C" fn zangjulf_position(handle: &mut Handle, station: u16, position: &mut u32) -> u8
     ensures told { IfSome handle.old.holding.value (λ old. result ≢ BUSY → TellsPosition (position_of (state_of (past_of old)) station) result position.new) }
     ensures kept { handle.new.holding.value ≡ handle.old.holding.value }
     ensures untouched { result ≢ DONE → position.new ≡ position.old }

@@ -24,7 +24,7 @@ pub fn is_too_wide(value: u64, bits: u8) -> bool
     requires { bits ≤ 64 }
     ensures { result ≡ is_too_wide value bits }
 {
-    bits < 64 && value >> bits != 0
+    bits < 64 && value >= 1 << bits
 }
 
 /// The bits of a slice from bit `bit` on, 1 to 64 of them, as a number whose least significant bit is the first one. Bits are

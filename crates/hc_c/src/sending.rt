@@ -7,16 +7,18 @@ ghost use Rattle.hc_events.specs.declared.faults.CoreFault.TheVariants.{Room};
 ghost use Rattle.hc_events.specs.Faults.{core_fault_number};
 ghost use Rattle.hc_events.specs.Owed.{owed_blocks};
 ghost use Rattle.hc_events.specs.Steps.{SendsTasks, entries_after};
-ghost use Rattle.hc_c.specs.Embedded.{past_of, with_past};
+ghost use Rattle.hc_c.specs.Embedded.{past_of, settled, with_past};
 ghost use Rattle.hc_c.specs.Numbers.{number_of};
 ghost use Rattle.hc_c.specs.declared.numbers.TheConstants.{BUSY, CLOSED, MEMORY, ROOM};
 ghost use Rattle.hc_c.specs.Sends.{HoldsFrames};
 
+use crate::embedded::Embedded;
 use crate::handle::Handle;
 use crate::numbers::{DONE, MISUSED, UNPROGRAMMED};
 use crate::too_short::refuse;
 use hc_events::faults::CoreFault;
 use hc_events::together::Together;
+use std::alloc::Global;
 
 /// What was sent, as C is told it.
 #[repr(C)]
@@ -45,15 +47,52 @@ fn refuse_frames(fault: CoreFault, owed: u32, sent: &mut Sent) -> u8
     number
 }
 
+/// Sends tasks that can be sent together: `DONE`, or why they are refused.
+#[tactic(auto, using(crate::proofs::Rooms::frames_need))]
+fn send_tasks(
+    own: &mut Embedded,
+    alloc: Global,
+    tasks: &[u8],
+    out: &mut [u8],
+    sent: &mut Sent,
+) -> u8
+    requires { AreSentTogether tasks.now }
+    ensures told { result ≢ MEMORY → result ≡ number_of (lowest (send_into_faults (past_of own.old) tasks.now (length out.old))) }
+    ensures early { IfSome (early_fault (past_of own.old) (SendsTasks tasks.now)) (λ fault. result ≡ core_fault_number fault) }
+    ensures sent { result ≡ DONE → HoldsFrames (past_of own.old) tasks.now out.old out.new sent.new }
+    ensures entries { result ≡ DONE → own.new ≡ settled (with_past own.old (entries_after (past_of own.old) (SendsTasks tasks.now))) }
+    ensures needed { result ≡ ROOM → sent.new ≡ record sent.old { size = frames_size (past_of own.old) tasks.now } }
+    ensures owed { result ≡ UNPROGRAMMED → sent.new ≡ record sent.old { owed = length (owed_blocks (past_of own.old)) } }
+    ensures unwritten { result ≢ DONE → result ≢ ROOM → result ≢ UNPROGRAMMED → sent.new ≡ sent.old }
+    ensures unchanged { result ≢ DONE → own.new ≡ own.old }
+    ensures untouched { result ≢ DONE → out.new ≡ out.old }
+{
+    let owed = own.core.owed();
+    let frames = &mut own.spare.frames;
+    match own.core.send_into(tasks, out, frames) {
+        Ok(size) => {
+            *sent = Sent {
+                size,
+                frames: frames.len(),
+                owed: 0,
+            };
+            own.settle(alloc);
+            DONE
+        }
+        Err(fault) => refuse_frames(fault, owed, sent),
+    }
+}
+
 /// Tasks are sent, in their order: the frames stand at the front of `out` one after another, each of its own size, and
 /// `sent` tells their bytes and their number, which is 0 where the tasks have no datagram. `DONE`; else the first of the
 /// faults 8, 17, 19 and 29 that holds, `MEMORY`, `MISUSED` where they aren't 1 to 8 tasks, none twice, `BUSY` or `CLOSED`; and
 /// nothing is sent, and nothing changed, `out` neither. With 29 `sent.size` is the bytes that are needed, and with 17
 /// `sent.owed` how many blocks are owed; all else of `sent` is as it was. That there is no such task (8) and that blocks are
-/// owed (17) is answered whatever memory does. The list of the frames has had its room since the opening.
-#[tactic(auto, using(crate::proofs::Rooms::frames_need))]
+/// owed (17) is answered whatever memory does. The list of the frames has had its room since the opening. Where the line keeps
+/// no changes, those that came are let go with a sending that is done.
 #[unsafe(no_mangle)]
 pub extern "C" fn zangjulf_send(
+    alloc: Global,
     handle: &mut Handle,
     tasks: &[u8],
     out: &mut [u8],
@@ -62,7 +101,7 @@ pub extern "C" fn zangjulf_send(
     ensures told { IfSome handle.old.holding.value (λ old. result ≢ BUSY → AreSentTogether tasks.now → result ≢ MEMORY → result ≡ number_of (lowest (send_into_faults (past_of old) tasks.now (length out.old)))) }
     ensures early { IfSome handle.old.holding.value (λ old. result ≢ BUSY → AreSentTogether tasks.now → IfSome (early_fault (past_of old) (SendsTasks tasks.now)) (λ fault. result ≡ core_fault_number fault)) }
     ensures sent { result ≡ DONE → IfSome handle.old.holding.value (λ old. HoldsFrames (past_of old) tasks.now out.old out.new sent.new) }
-    ensures entries { result ≡ DONE → IfSome handle.old.holding.value (λ old. handle.new.holding.value ≡ Some (with_past old (entries_after (past_of old) (SendsTasks tasks.now)))) }
+    ensures entries { result ≡ DONE → IfSome handle.old.holding.value (λ old. handle.new.holding.value ≡ Some (settled (with_past old (entries_after (past_of old) (SendsTasks tasks.now))))) }
     ensures needed { result ≡ ROOM → IfSome handle.old.holding.value (λ old. sent.new ≡ record sent.old { size = frames_size (past_of old) tasks.now }) }
     ensures owed { result ≡ UNPROGRAMMED → IfSome handle.old.holding.value (λ old. sent.new ≡ record sent.old { owed = length (owed_blocks (past_of old)) }) }
     ensures unwritten { result ≢ DONE → result ≢ ROOM → result ≢ UNPROGRAMMED → sent.new ≡ sent.old }
@@ -75,22 +114,8 @@ pub extern "C" fn zangjulf_send(
         return number;
     }
     let own = handle.holding.line_mut();
-    let owed = own.core.owed();
     let number = match Together::of(tasks) {
-        Some(_) => {
-            let frames = &mut own.spare.frames;
-            match own.core.send_into(tasks, out, frames) {
-                Ok(size) => {
-                    *sent = Sent {
-                        size,
-                        frames: frames.len(),
-                        owed: 0,
-                    };
-                    DONE
-                }
-                Err(fault) => refuse_frames(fault, owed, sent),
-            }
-        }
+        Some(_) => send_tasks(own, alloc, tasks, out, sent),
         None => MISUSED,
     };
     own.calls.end_change();

@@ -1,5 +1,6 @@
 //! Memory that an opened line takes at its opening and its calls use again, so that none is taken in a cycle.
 use hc_events::answer::Outcome;
+use hc_events::change::Change;
 use hc_events::sending::Sending;
 use hc_records::limits::{MOST_DATAGRAMS, TASKS};
 use std::alloc::{AllocError, Global};
@@ -12,13 +13,15 @@ const MOST_FRAMES: usize = MOST_DATAGRAMS * TASKS as usize;
 /// 5.4).
 const MOST_OUTCOMES: usize = 115;
 
-/// A list for the frames of a sending, and one for what an arrival is for each datagram. Contracts see nothing of what they
-/// hold.
+/// A list for the frames of a sending, one for what an arrival is for each datagram, and one for changes that are let go.
+/// Contracts see nothing of what they hold.
 pub struct Spare {
     /// Room for the frames of any sending.
     pub frames: Vec<Sending>,
     /// Room for what any arrival is.
     pub outcomes: Vec<Outcome>,
+    /// Room for changes, as many as came at a time.
+    pub changes: Vec<Change>,
 }
 
 impl Drop for Spare {
@@ -26,6 +29,7 @@ impl Drop for Spare {
         let Spare {
             frames: _,
             outcomes: _,
+            changes: _,
         } = self;
     }
 }
@@ -37,11 +41,13 @@ impl Model for Spare {
 }
 
 impl Spare {
-    /// Empty lists, each with room for the most that it may hold. `AllocError` where memory was refused.
+    /// Empty lists, those of frames and of outcomes with room for the most that they may hold. `AllocError` where memory was
+    /// refused.
     pub fn new(alloc: Global) -> Result<Spare, AllocError> {
         Ok(Spare {
             frames: Vec::with_capacity(alloc, MOST_FRAMES)?,
             outcomes: Vec::with_capacity(alloc, MOST_OUTCOMES)?,
+            changes: Vec::new(alloc),
         })
     }
 }

@@ -61,5 +61,5 @@ returns-clause-tells c =
     ∙ ap (λ (one : List core.Outcome). put (told_parts table one c.parts.result) before) c.as_slice-told.ensures.value
     ∙ ap (λ (one : List Placed). put (told_parts table list one) before) parts)
     (c.told_arrival.ensures
-    ∙ ap (λ n. told_arrival which n c.in-Ok.frame) (c.len.ensures ∙ ap length c.as_slice-told.ensures.value)
+    ∙ ap (λ n. told_arrival which n c.in-Ok.frame) (ap length c.as_slice-told.ensures.value)
     ∙ ap (λ (one : Reading). told_arrival which (length list) one) frame)

@@ -1,4 +1,4 @@
-use Rattle.std.proofs.Common.{◌≡◌, ℕ, Bool, Result, Ok, Err, refl, subst, sym, arith}
+use Rattle.std.proofs.Common.{Bool, Result, Ok, Err, refl, subst, sym, arith}
 use Rattle.hc_records.specs.declared.faults.ProjectFault.{ProjectFault}
 use Rattle.hc_records.specs.declared.records.Group.{Group}
 use Rattle.hc_project.specs.Text.{group_in}

@@ -8,8 +8,7 @@ use mir.Raw.{raw as bare}
 use mir.Syntax.{Body, named, seq, assign, return, place, copy, rv_opd}
 use mir.Val.{Val, vptr}
 use base.Logic.{SProp, ent, sep, snd∗, id⊢}
-use base.Fml.{Lft, GName, Share, Fml, ftrue, fsep, flft}
-use prog.Wp.{WpFn}
+use base.Fml.{GName, Fml, ftrue, fsep, flft}
 use types.Logic.{Logic, sem}
 use contract.Monad.{fact, fact_use}
 use contract.Running.{tables}
