@@ -40,10 +40,10 @@ fn image_size(datagrams: &[Datagram]) -> usize
     ensures size { result ≡ image_size datagrams.now }
     ensures most { result ≤ 1486 * length datagrams.now }
 {
-    match datagrams {
-        [] => 0,
-        [first, rest @ ..] => usize::from(first.length) + image_size(rest),
-    }
+    let Some((first, rest)) = datagrams.split_first() else {
+        return 0;
+    };
+    usize::from(first.length) + image_size(rest)
 }
 
 /// Puts the data of a datagram, or zeros where it has none.
