@@ -388,21 +388,22 @@ struct zangjulf_outcome {
 
 /* What an arrival answers. */
 struct zangjulf_arrival {
-    uint64_t serial;  /* of the sending that it answers */
-    size_t datagrams; /* how many datagrams of tasks it has; 0 of a register write */
-    uint16_t station; /* of a register write the slave's station address; else 0 */
-    uint16_t start;   /* of a register write the register at which its block begins; else 0 */
+    uint64_t serial;  /* the serial that the frame bears: of the sending that it answers, unless it is stale */
+    size_t datagrams; /* where it answers frames of tasks, how many datagrams it has; else 0 */
+    uint16_t station; /* where it answers a register write, the slave's station address; else 0 */
+    uint16_t start;   /* where it answers a register write, the register at which its block begins; else 0 */
 };
 
 /* A frame arrives: any bytes, without the check sequence. ZANGJULF_DONE where they answer frames of tasks, and the outcomes of
  * the first datagrams stand in `outcomes`, as many as there is room for. ZANGJULF_WRITE_DONE or ZANGJULF_WRITE_MISSED of a
- * register write, and `*arrival` names it. ZANGJULF_STALE; or nothing changed: 20 to 27 where they can't be read,
- * ZANGJULF_CHANGES_FULL, ZANGJULF_MEMORY, or ZANGJULF_CLOSED; then `*arrival` is as it was. Takes memory only where changes are
- * kept, and after an edit. */
+ * register write, and `*arrival` names it. ZANGJULF_STALE, and `*arrival` tells its serial. Or nothing changed: 20
+ * to 27 where they can't be read, ZANGJULF_MEMORY, ZANGJULF_BUSY or ZANGJULF_CLOSED; then `*arrival` is as it was. Only with
+ * ZANGJULF_DONE `outcomes` is written. Takes memory for the data of good answers, unless some came back, and where the list of
+ * changes grows. */
 uint8_t zangjulf_arrive(struct zangjulf *handle, const uint8_t *bytes, size_t length, struct zangjulf_outcome *outcomes,
                         size_t room, struct zangjulf_arrival *arrival);
 
-/* A task's input image. */
+/* A task's image. */
 struct zangjulf_image {
     uint32_t epoch;   /* whose places the data are in */
     size_t datagrams; /* how many the task has, at most 16 */
