@@ -46,8 +46,14 @@
 #include <stddef.h>
 #include <stdint.h>
 
-/* The version of this header and of the library that is built with it; docs/EMBEDDING.md says what its numbers promise. */
+/* The version of this header, and the number of its binary interface (ABI), which grows with each release in which a call or a
+ * struct is another one, or gone; the shared object's name has it, libzangjulf.so.0. docs/EMBEDDING.md says what they promise.
+ * `zangjulf_version` and `zangjulf_abi` answer those of the library that is loaded. */
 #define ZANGJULF_VERSION "0.1.0"
+#define ZANGJULF_VERSION_MAJOR 0
+#define ZANGJULF_VERSION_MINOR 1
+#define ZANGJULF_VERSION_PATCH 0
+#define ZANGJULF_ABI 0
 
 #ifdef __cplusplus
 extern "C" {
@@ -145,6 +151,15 @@ struct zangjulf {
     bool is_open;
     void *at;
 };
+
+/* The library itself. Neither call takes a handle, or memory. */
+
+/* The number of the library's binary interface. A program that loads the library compares it with ZANGJULF_ABI before any other
+ * call, and goes on only where they are the same. */
+uint32_t zangjulf_abi(void);
+
+/* The three numbers of the library's version are written. */
+void zangjulf_version(uint32_t *major, uint32_t *minor, uint32_t *patch);
 
 /* Opening and closing. */
 

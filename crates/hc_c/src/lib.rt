@@ -31,4 +31,5 @@ mod telling;
 mod too_short;
 mod untold;
 mod values;
+mod version;
 mod writing;
