@@ -1,33 +1,39 @@
 #!/bin/sh
-# Installs the library below a folder: tools/install.sh PREFIX. There stand then the header, the archive, the shared object,
-# what pkg-config and CMake find it by, and the licences. The library is what tools/library.sh has left in build/; where it
-# isn't there, it is built first. The version is the header's. It wants what tools/library.sh wants.
+# Installs the library below a folder: tools/install.sh PREFIX [FOLDER]. The folder then has the header, the archive, the shared
+# object, what pkg-config and CMake find it by, the verdict and the licences; the whole may be moved afterwards. The library is
+# what tools/library.sh has left in the folder, build/ where none is named; where it isn't there, it is built into build/ first.
+# The version is that of tools/package/version. It wants what tools/library.sh wants.
 set -eu
-if [ $# -ne 1 ]; then
-    echo "usage: tools/install.sh PREFIX" >&2
+if [ $# -ne 1 ] && [ $# -ne 2 ]; then
+    echo "usage: tools/install.sh PREFIX [FOLDER]" >&2
     exit 2
 fi
 mkdir -p "$1"
 prefix=$(cd "$1" && pwd)
+folder=${2:+$(cd "$2" && pwd)}
 cd "$(dirname "$0")/.."
-[ -e build/libzangjulf.so ] || tools/library.sh
-version=$(sed -n 's/^#define ZANGJULF_VERSION "\(.*\)"$/\1/p' include/zangjulf.h)
+folder=${folder:-$PWD/build}
+[ -e "$folder/libzangjulf.so" ] || tools/library.sh x86_64-v2 "$folder"
+. tools/package/version
 major=${version%%.*}
+minor=${version#*.}
+minor=${minor%%.*}
 
-# filled TEMPLATE FILE: a file of tools/package with the prefix and the version in place
+# filled TEMPLATE FILE: a file of tools/package with the version in place
 filled() {
-    sed "s|@PREFIX@|$prefix|; s|@VERSION@|$version|; s|@MAJOR@|$major|" "tools/package/$1" >"$2"
+    sed "s|@VERSION@|$version|; s|@MAJOR@|$major|; s|@MINOR@|$minor|; s|@ABI@|$abi|" "tools/package/$1" >"$2"
 }
 
 cmake=$prefix/lib/cmake/Zangjulf
-mkdir -p "$prefix/include" "$prefix/lib/pkgconfig" "$cmake" "$prefix/share/doc/zangjulf"
+about=$prefix/share/doc/zangjulf
+mkdir -p "$prefix/include" "$prefix/lib/pkgconfig" "$cmake" "$about"
 cp include/zangjulf.h "$prefix/include/"
-cp build/libzangjulf.a "$prefix/lib/"
-cp build/libzangjulf.so "$prefix/lib/libzangjulf.so.$version"
-ln -sf "libzangjulf.so.$version" "$prefix/lib/libzangjulf.so.$major"
-ln -sf "libzangjulf.so.$major" "$prefix/lib/libzangjulf.so"
+cp "$folder/libzangjulf.a" "$prefix/lib/"
+cp "$folder/libzangjulf.so" "$prefix/lib/libzangjulf.so.$version"
+ln -sf "libzangjulf.so.$version" "$prefix/lib/libzangjulf.so.$abi"
+ln -sf "libzangjulf.so.$abi" "$prefix/lib/libzangjulf.so"
 filled zangjulf.pc.in "$prefix/lib/pkgconfig/zangjulf.pc"
 filled ZangjulfConfig.cmake.in "$cmake/ZangjulfConfig.cmake"
 filled ZangjulfConfigVersion.cmake.in "$cmake/ZangjulfConfigVersion.cmake"
-cp LICENSE-MIT LICENSE-APACHE "$prefix/share/doc/zangjulf/"
+cp "$folder/verdict.txt" CHANGELOG.md LICENSE-MIT LICENSE-APACHE "$about/"
 echo "zangjulf $version is installed below $prefix"

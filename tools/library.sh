@@ -1,44 +1,86 @@
 #!/bin/sh
-# Builds the library for other languages: build/libzangjulf.a to link, build/libzangjulf.so to load, and the header beside
-# them. hc_c is checked by it and the libraries below it aren't, where `rt ci` or another check has left them; where one is
-# missing, `rt lib` proves them all. It wants the Rattle kit, gcc and ar.
+# Builds the library for other languages: tools/library.sh [TARGET [FOLDER]] leaves libzangjulf.a to link, libzangjulf.so to load,
+# the header, and verdict.txt, what the prover says of the archive, in the folder, which is build/ where none is named. Targets are
+#
+#   x86_64      every processor of x86-64
+#   x86_64-v2   those since about 2009, with SSE4.2 and POPCNT; it is built where no target is named
+#   aarch64     every 64-bit processor of ARM
+#
+# each of Linux with glibc. hc_c is checked by it and the libraries below it aren't, where `rt ci` or another check has left them;
+# where one is missing, `rt lib` proves them all. It wants the Rattle kit, gcc and ar, and those of the target.
 set -eu
 cd "$(dirname "$0")/.."
-for needed in rt gcc ar; do
+target=${1:-x86_64-v2}
+mkdir -p "${2:-build}"
+folder=$(cd "${2:-build}" && pwd)
+case $target in
+x86_64) cc=gcc ar=ar flags="--cpu x86-64" ;;
+x86_64-v2) cc=gcc ar=ar flags="--cpu x86-64-v2" ;;
+aarch64) cc=aarch64-linux-gnu-gcc ar=aarch64-linux-gnu-ar flags="--target aarch64-unknown-linux-gnu" ;;
+*)
+    echo "library: $target is no target: x86_64, x86_64-v2 and aarch64 are" >&2
+    exit 2
+    ;;
+esac
+for needed in rt $cc $ar; do
     command -v "$needed" >/dev/null || { echo "library: $needed is missing"; exit 1; }
 done
 kit=$(dirname "$(dirname "$(readlink -f "$(command -v rt)")")")
+. tools/package/version
 
-# build_over_what_stands: the archive over the libraries that stand; fails where one is missing.
-build_over_what_stands() {
+# are_below: whether the libraries are there over which hc_c is built
+are_below() {
+    for library in $(sed -n 's/^hc_c staticlib: *//p' ../../crates.txt); do
+        [ ! -d "../$library" ] || [ -e "../$library/out/rlib/$library.rlib" ] || return 1
+    done
+}
+
+# build_over_them: the archive over the libraries that are there
+build_over_them() {
     set -- --crate-name hc_c src/lib.rt --crate-type staticlib --links hc_c= -L "dependency=$kit/rlibs"
     for library in std $(sed -n 's/^hc_c staticlib: *//p' ../../crates.txt); do
         place=$kit/rlibs/$library.rlib
         [ ! -d "../$library" ] || place=../$library/out/rlib/$library.rlib
-        [ -e "$place" ] || return 1
         set -- "$@" --extern "$library=$place"
     done
-    for folder in ../*/out/rlib; do
-        set -- "$@" -L "dependency=$folder"
+    for below in ../*/out/rlib; do
+        set -- "$@" -L "dependency=$below"
     done
-    set -- "$@" --antt-project "$kit/rattle/logic/antt-project.json" --logic-built "$kit/logic_built"
+    # a first check is shared among four processors at most; later ones find in out/incremental what earlier ones kept
+    jobs=1
+    [ -d out/incremental ] || jobs=$(nproc)
+    [ "$jobs" -le 4 ] || jobs=4
     mkdir -p out
-    "$kit/bin/rattle" build "$@" --jobs 1 --incremental out/incremental --toolchain "$kit/toolchain" --backend llvm -o out/libhc_c.a
+    "$kit/bin/rattle" build "$@" --antt-project "$kit/rattle/logic/antt-project.json" --logic-built "$kit/logic_built" \
+        --jobs "$jobs" --incremental out/incremental --toolchain "$kit/toolchain" --backend llvm $flags -o "$folder/libhc_c.a"
 }
 
-(cd crates/hc_c && { build_over_what_stands || rt lib; })
-mkdir -p build
-ar -M <<EOF
-create build/libzangjulf.a
-addlib crates/hc_c/out/libhc_c.a
-addlib $kit/c/liblibc_c.a
+(cd crates/hc_c && { are_below || rt lib; } && build_over_them) >"$folder/said.txt" 2>&1 ||
+    { cat "$folder/said.txt"; exit 1; }
+grep -E '^(axioms|logic=)' "$folder/said.txt" >"$folder/verdict.txt"
+cat "$folder/verdict.txt"
+# the functions round malloc: the kit's own, where it has them for the processor
+heap=$kit/c/liblibc_c.a
+if [ "$target" = aarch64 ]; then
+    heap=$folder/libheap.a
+    $cc -std=c11 -O2 -fPIC -Wall -Wextra -Werror -c tools/package/heap.c -o "$folder/heap.o"
+    rm -f "$heap"
+    $ar rcD "$heap" "$folder/heap.o"
+fi
+(
+    cd "$folder"
+    $ar -M <<END
+create libzangjulf.a
+addlib libhc_c.a
+addlib $heap
 save
 end
-EOF
-# The code is position independent, so the archive makes a shared object. It exports the header's calls and nothing else,
-# and its name has the first number of the header's version: programs look for it by that name.
-major=$(sed -n 's/^#define ZANGJULF_VERSION "\([0-9]*\)\..*"$/\1/p' include/zangjulf.h)
-gcc -shared -Wl,-z,text,-z,relro,-z,now,-z,noexecstack -Wl,-soname,libzangjulf.so."$major" \
-    -Wl,--version-script=tools/package/zangjulf.map \
-    -Wl,--whole-archive build/libzangjulf.a -Wl,--no-whole-archive -o build/libzangjulf.so
-cp include/zangjulf.h build/
+END
+)
+# The code is position independent, so the archive makes a shared object. It exports the header's calls and nothing else, and its
+# name has the number of the binary interface: programs look for it by that name.
+sed "s|@ABI@|$abi|" tools/package/zangjulf.map.in >"$folder/zangjulf.map"
+$cc -shared -Wl,-z,text,-z,relro,-z,now,-z,noexecstack -Wl,-soname,"libzangjulf.so.$abi" \
+    -Wl,--version-script="$folder/zangjulf.map" \
+    -Wl,--whole-archive "$folder/libzangjulf.a" -Wl,--no-whole-archive -o "$folder/libzangjulf.so"
+cp include/zangjulf.h "$folder/"
