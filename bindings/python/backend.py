@@ -49,6 +49,9 @@ def files(version, carried, tag):
     held = {f"zangjulf/{file.name}": file.read_bytes() for file in sorted((HERE / "zangjulf").glob("*")) if file.is_file()}
     if carried:
         held["zangjulf/libzangjulf.so"] = carried.read_bytes()
+        verdict = carried.parent / "verdict.txt"
+        if verdict.exists():
+            held["zangjulf/verdict.txt"] = verdict.read_bytes()
     about = f"zangjulf-{version}.dist-info"
     for name in ("LICENSE-MIT", "LICENSE-APACHE"):
         held[f"{about}/licenses/{name}"] = (TOP / name).read_bytes()

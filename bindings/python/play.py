@@ -54,17 +54,30 @@ def write(line):
 
 
 def arrive(line, data):
-    told = line.arrive(data)
-    for it in told if isinstance(told, list) else [told]:
-        word = {zangjulf.Inputs: "inputs", zangjulf.WrongCount: "wrong count"}.get(type(it))
-        print(word, *it) if word else print(it)
+    arrival = line.arrive(data)
+    words = {zangjulf.Arrived.WRITE_DONE: "write done", zangjulf.Arrived.WRITE_MISSED: "write missed", zangjulf.Arrived.STALE: "stale"}
+    if arrival.answers in words:
+        print(words[arrival.answers])
+    for it in arrival.outcomes:
+        if it.kind is zangjulf.OutcomeKind.INPUTS:
+            print("inputs", it.task, it.datagram)
+        elif it.kind is zangjulf.OutcomeKind.WRONG_COUNT:
+            print("wrong count", it.expected, it.got)
+        else:
+            print("stale")
 
 
 def read(line, task):
     image = line.read(task)
     print("epoch", image.epoch)
-    for number, data in enumerate(image.slots):
-        print("slot", number, "none" if data is None else data.hex())
+    for number, serial in enumerate(image.serials):
+        it = line.datagram(task, number)
+        print("slot", number, "none" if serial is None else image.data[it.offset : it.offset + it.length].hex())
+
+
+def refused(fault):
+    detail = [] if fault.detail is None or isinstance(fault, zangjulf.Room) else [fault.detail]
+    print("refused", fault.number, type(fault).__name__, *detail)
 
 
 def edit(name):
@@ -74,7 +87,7 @@ def edit(name):
         call = getattr(line, name)
         asked = call(*arguments, asks=True)
         cost = call(*arguments)
-        assert asked == cost, "an edit does what it was told to cost"
+        assert asked == cost, "an edit does what its cost says"
         print("epoch", cost.epoch, "recut", cost.recut, "moved", cost.moved)
 
     return run
@@ -95,7 +108,7 @@ def main():
             try:
                 COMMANDS[name](line, *arguments)
             except zangjulf.Fault as fault:
-                print("refused", fault)
+                refused(fault)
 
 
 main()

@@ -1,4 +1,4 @@
-//! Finds libzangjulf.a: in the folder that pkg-config tells, in the one that ZANGJULF_LIB_DIR names, or in the repository's
+//! Finds libzangjulf.a: in the folder that ZANGJULF_LIB_DIR names, where pkg-config finds an installed one, or in the repository's
 //! build folder, where tools/library.sh leaves it.
 use std::env;
 use std::path::PathBuf;
@@ -8,9 +8,9 @@ const ARCHIVE: &str = "libzangjulf.a";
 
 /// The folder of an installed library (tools/install.sh), if pkg-config finds one.
 fn installed() -> Option<PathBuf> {
-    let told = Command::new("pkg-config").args(["--variable=libdir", "zangjulf"]).output().ok()?;
-    let folder = String::from_utf8(told.stdout).ok()?;
-    (told.status.success() && !folder.trim().is_empty()).then(|| PathBuf::from(folder.trim()))
+    let found = Command::new("pkg-config").args(["--variable=libdir", "zangjulf"]).output().ok()?;
+    let folder = String::from_utf8(found.stdout).ok()?;
+    (found.status.success() && !folder.trim().is_empty()).then(|| PathBuf::from(folder.trim()))
 }
 
 fn main() {
@@ -19,9 +19,9 @@ fn main() {
     }
     let built = PathBuf::from(env!("CARGO_MANIFEST_DIR")).join("../../build");
     let named = env::var_os("ZANGJULF_LIB_DIR").map(PathBuf::from);
-    let folders = [installed(), named, Some(built)];
+    let folders = [named, installed(), Some(built)];
     let Some(folder) = folders.into_iter().flatten().find(|folder| folder.join(ARCHIVE).exists()) else {
-        panic!("{ARCHIVE} isn't found: install it below PKG_CONFIG_PATH, name its folder in ZANGJULF_LIB_DIR, or run tools/library.sh");
+        panic!("{ARCHIVE} isn't found: name its folder in ZANGJULF_LIB_DIR, install it below PKG_CONFIG_PATH, or run tools/library.sh");
     };
     println!("cargo:rerun-if-changed={}", folder.join(ARCHIVE).display());
     println!("cargo:rustc-link-search=native={}", folder.display());

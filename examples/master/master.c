@@ -84,8 +84,9 @@ static const uint32_t BITS[][2] = {{41, 51}, {42, 52}, {43, 53}, {101, 111}, {10
 #define PAIRS 5
 
 static struct zangjulf line;
-static uint8_t frames[ZANGJULF_FRAMES], image[ZANGJULF_IMAGE], posted[14], posted_before[14];
-static bool bits[PAIRS], bits_before[PAIRS], is_known[PAIRS];
+static uint8_t frames[ZANGJULF_FRAMES], data[ZANGJULF_IMAGE], posted[14], posted_before[14];
+static uint64_t bits[PAIRS], bits_before[PAIRS];
+static bool is_known[PAIRS];
 static unsigned long cycles, wrong, stale;
 static long longest_edit, longest_cycle;
 static int device;
@@ -93,6 +94,13 @@ static FILE *capture;
 
 static void fail(const char *what) {
     printf("master: cycle %lu: %s\n", cycles, what);
+    exit(1);
+}
+
+/* Ends the run unless a call is done. */
+static void expect(uint8_t answer, const char *what) {
+    if (!answer) return;
+    printf("master: cycle %lu: %s: %u %s: %s\n", cycles, what, answer, zangjulf_name(answer), zangjulf_text(answer));
     exit(1);
 }
 
@@ -119,10 +127,10 @@ static void record(const uint8_t *frame, size_t size) {
 }
 
 /* Sends a frame and hands in what returns. */
-static unsigned pass(const uint8_t *frame, size_t size) {
+static uint8_t pass(const uint8_t *frame, size_t size) {
     uint8_t returned[ZANGJULF_FRAME];
     struct zangjulf_outcome outcomes[ZANGJULF_OUTCOMES];
-    size_t count = 0;
+    struct zangjulf_arrival arrival;
     record(frame, size);
     if (send(device, frame, size, 0) < 0) fail("a frame can't be sent");
     size_t came;
@@ -132,16 +140,18 @@ static unsigned pass(const uint8_t *frame, size_t size) {
     } while (ether_type(returned) != ether_type(frame)); /* the system has a word to say on a new device too */
     record(returned, came);
     if (ether_type(frame) != ETHERCAT) return ZANGJULF_DONE;
-    unsigned number = zangjulf_arrive(&line, returned, came, outcomes, ZANGJULF_OUTCOMES, &count);
-    stale += number == ZANGJULF_STALE;
-    for (size_t i = 0; i < count; i++) wrong += outcomes[i].kind == ZANGJULF_WRONG_COUNT;
-    return number;
+    uint8_t answer = zangjulf_arrive(&line, returned, came, outcomes, ZANGJULF_OUTCOMES, &arrival);
+    stale += answer == ZANGJULF_STALE;
+    for (size_t i = 0; !answer && i < arrival.datagrams; i++) wrong += outcomes[i].kind == ZANGJULF_WRONG_COUNT;
+    return answer;
 }
 
 static void write_blocks(void) {
-    size_t size = 0;
-    while (!zangjulf_next_write(&line, frames, sizeof frames, &size))
-        if (pass(frames, size) != ZANGJULF_WRITE_DONE) fail("a register block isn't taken");
+    struct zangjulf_write write;
+    uint8_t answer;
+    while (!(answer = zangjulf_next_write(&line, frames, sizeof frames, &write)))
+        if (pass(frames, write.size) != ZANGJULF_WRITE_DONE) fail("a register block isn't taken");
+    if (answer != ZANGJULF_NOTHING_OWED) expect(answer, "a register write");
 }
 
 /* Tells the slaves whether the gripper is there. */
@@ -155,9 +165,9 @@ static void change_tool(bool comes) {
     struct zangjulf_cost cost;
     if (comes) set_presence(true);
     long start = now();
-    unsigned number = comes ? zangjulf_connect(&line, GRIPPER, false, &cost) : zangjulf_disconnect(&line, GRIPPER, false, &cost);
+    uint8_t answer = comes ? zangjulf_connect(&line, GRIPPER, false, &cost) : zangjulf_disconnect(&line, GRIPPER, false, &cost);
     long took = now() - start;
-    if (number) fail("the edit is refused");
+    expect(answer, "an edit");
     if (took > longest_edit) longest_edit = took;
     if (!comes) set_presence(false);
     write_blocks();
@@ -166,33 +176,42 @@ static void change_tool(bool comes) {
 
 /* What the tasks post in a cycle. */
 static void post(void) {
-    struct zangjulf_part part = {0, 0};
-    struct zangjulf_place place;
-    uint8_t bytes[16] = {0};
-    uint32_t epoch = 0;
-    zangjulf_epoch(&line, &epoch);
-    zangjulf_part(&line, 1, &part);
+    struct zangjulf_part part;
+    uint8_t outputs[16] = {0};
+    uint32_t epoch;
+    expect(zangjulf_epoch(&line, &epoch), "the epoch");
+    expect(zangjulf_part(&line, 1, &part), "the bytes of task 1");
     for (size_t i = 0; i < sizeof posted; i++) posted[i] = (uint8_t)(cycles * 7 + i * 31);
     posted[7] = 0; /* a gap */
     for (int i = 0; i < PAIRS; i++) {
         bits[i] = (cycles >> i) % 2;
-        if (!zangjulf_place(&line, BITS[i][0], &place)) bytes[place.bit / 8] |= (uint8_t)(bits[i] << place.bit % 8);
+        uint8_t answer = zangjulf_put_value(&line, BITS[i][0], bits[i], outputs, sizeof outputs);
+        if (answer != ZANGJULF_NOTHING) expect(answer, "an output"); /* the gripper's have no place while it is away */
     }
-    if (zangjulf_post(&line, 0, epoch, posted, sizeof posted) || zangjulf_post(&line, 1, epoch, bytes, part.outputs)) fail("a post is refused");
+    expect(zangjulf_post(&line, 0, epoch, posted, sizeof posted), "task 0 posts");
+    expect(zangjulf_post(&line, 1, epoch, outputs, part.outputs), "task 1 posts");
+}
+
+/* Reads a task into `data`; each of its datagrams has data of this cycle's sending. */
+static void read_task(uint8_t task, uint64_t first_serial) {
+    struct zangjulf_image image;
+    uint64_t serials[ZANGJULF_DATAGRAMS];
+    expect(zangjulf_read(&line, task, data, sizeof data, serials, ZANGJULF_DATAGRAMS, &image), "a task reads");
+    for (size_t i = 0; i < image.datagrams; i++)
+        if (!(image.has >> i & 1) || serials[i] < first_serial) fail("a task reads an older answer");
 }
 
 /* Each task reads what its slaves had from the cycle before. */
-static void check(void) {
-    struct zangjulf_image told = {0, 0, 0};
-    struct zangjulf_place place;
-    size_t sizes[ZANGJULF_DATAGRAMS];
-    if (zangjulf_read(&line, 0, image, sizeof image, sizes, ZANGJULF_DATAGRAMS, &told) || sizes[0] != 26) fail("task 0 reads nothing");
-    if (cycles && memcmp(image + 14, posted_before, 12)) fail("an axis reads another value");
-    if (zangjulf_read(&line, 1, image, sizeof image, sizes, ZANGJULF_DATAGRAMS, &told) || !sizes[0]) fail("task 1 reads nothing");
+static void check(uint64_t first_serial) {
+    uint64_t bit = 0;
+    read_task(0, first_serial);
+    if (cycles && memcmp(data + 14, posted_before, 12)) fail("an axis reads another value");
+    read_task(1, first_serial);
     for (int i = 0; i < PAIRS; i++) {
-        bool is_placed = !zangjulf_place(&line, BITS[i][1], &place);
-        if (is_placed && is_known[i] && (image[place.bit / 8] >> place.bit % 8) % 2 != bits_before[i]) fail("a bit is another");
-        is_known[i] = is_placed;
+        uint8_t answer = zangjulf_get_value(&line, BITS[i][1], data, sizeof data, &bit);
+        if (answer != ZANGJULF_NOTHING) expect(answer, "an input");
+        if (!answer && is_known[i] && bit != bits_before[i]) fail("a bit is another");
+        is_known[i] = !answer;
     }
     memcpy(posted_before, posted, sizeof posted);
     memcpy(bits_before, bits, sizeof bits);
@@ -200,16 +219,16 @@ static void check(void) {
 
 static void cycle(void) {
     const uint8_t tasks[] = {0, 1};
-    struct zangjulf_sent sent = {0, 0};
-    struct zangjulf_change change;
+    struct zangjulf_sent sent;
+    uint64_t first_serial;
     long start = now();
     post();
-    if (zangjulf_send(&line, tasks, 2, frames, sizeof frames, &sent)) fail("the tasks aren't sent");
+    expect(zangjulf_next_serial(&line, &first_serial), "the serial");
+    expect(zangjulf_send(&line, tasks, 2, frames, sizeof frames, &sent), "a sending");
     const uint8_t *frame = frames;
     for (size_t i = 0; i < sent.frames; i++, frame += zangjulf_frame_size(frame))
         if (pass(frame, zangjulf_frame_size(frame))) fail("a frame answers nothing");
-    check();
-    while (!zangjulf_next_change(&line, image, sizeof image, &change)) continue;
+    check(first_serial);
     long took = now() - start;
     if (took > longest_cycle) longest_cycle = took;
 }
@@ -242,7 +261,7 @@ int main(int count, char **words) {
     device = open_device("ecat0");
     usleep(200000); /* the devices come up, and what the system says of itself on them passes */
     while (receive(device, frames, 0)) continue;
-    if (zangjulf_open(&line, text, size, &task)) fail("the project isn't opened");
+    expect(zangjulf_open(&line, text, size, 0, &task), "the project isn't opened");
     if (count == 5) open_capture(words[4]);
     set_presence(false);
     write_blocks();

@@ -54,11 +54,15 @@ def run(line, it, cycles):
         assert line.write_all(pass_frame), "a register block isn't taken"
         posted = bytes(0 if i == 7 else (cycle * 7 + i) % 256 for i in range(line.part(0).outputs))
         line.post(0, line.epoch, posted)
-        told = line.exchange((0, 1), pass_frame)
-        assert told == [zangjulf.Inputs(0, 0), zangjulf.Inputs(1, 0)], "a wrong counter or a stale frame"
-        assert not cycle or line.read(0).slots[0][14:] == before[:12], "an axis reads another value"
-        assert line.changes(), "nothing is news"
+        serial = line.next_serial
+        came = [outcome for arrival in line.exchange((0, 1), pass_frame) for outcome in arrival.outcomes]
+        assert [it.kind for it in came] == [zangjulf.OutcomeKind.INPUTS] * 2, "a wrong counter or a stale frame"
+        image = line.read(0)
+        assert image.serials == [serial], "an older answer"
+        assert not cycle or image.data[14:] == before[:12], "an axis reads another value"
         before, longest = posted, max(longest, time.monotonic() - began)
+    counters = line.counters(0, 0)
+    assert counters.sent == counters.good == cycles, "the counters"
     print(f"cycles {cycles}, longest edit {max(edits) * 1e6:.0f} us, longest cycle {longest * 1e6:.0f} us")
 
 

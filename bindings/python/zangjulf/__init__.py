@@ -4,33 +4,43 @@
         while line.owed:
             frame = line.next_write()
 
-A call of the C library (include/zangjulf.h) stands behind each method. What the library refuses is raised as an exception
-with the fault's name, as `zangjulf.Unprogrammed`; nothing changed then. A number that the library's type doesn't hold is a
-`ValueError`. A line is used by one thread at a time. Bytes are handed in as `bytes`, `bytearray` or `memoryview`, without a
-copy where they can be written; frames come as `bytes`.
+Each method is a call of the C library (include/zangjulf.h). What the library refuses is raised as an exception with the fault's
+name, as `zangjulf.Unprogrammed`; nothing changed then. A number that the library's type doesn't hold is a `ValueError`. Calls hold
+Python's lock, so that threads may share a line: their calls come one after the other. A line is neither copied nor pickled. Bytes
+are handed in as `bytes`, `bytearray` or `memoryview`, without a copy where they can be written; frames come as `bytes`.
 """
 
+from .answers import (
+    Arrival, Arrived, Block, Cost, Counters, Datagram, Good, Image, Location, Outcome, OutcomeKind, OwedBlock, Part,
+    Place, Spot, Swapped,
+)
 from .faults import (
-    FAULTS, Fault, Unopened,
+    FAULTS, Fault, FrameFault, ProjectFault,
     UnknownAlias, AlreadyPresent, NotPresent, Mandatory, UnknownStation, Absent, NoSuchArea, NoSuchTask, UnknownPdo,
     RepeatedPdo, AreaTooBig, TooManyDatagrams, EpochsSpent, StalePost, PostLength, Unprogrammed, NothingOwed,
     SerialsSpent, Short, NotEtherCat, BadType, BadLength, Circulating, MoreFollows, UnknownCommand, IndexMismatch,
-    Memory, Room, AliasTaken, StationTaken, VariableTaken, TooManyGroups, TooManySlaves, NoGroup, Misused, Closed,
+    Memory, Room, AliasTaken, StationTaken, VariableTaken, TooManyGroups, TooManySlaves, Nothing, IsInput, TooWide,
+    ProjectNotToml, ProjectMissingField, ProjectOutOfRange, ProjectRepeatedAlias, ProjectRepeatedStation,
+    ProjectRepeatedSyncManager, ProjectOverlappingAreas, ProjectRepeatedVariable, ProjectUnknownPdo,
+    ProjectAreaTooBig, ProjectNotOneGroup, ChangesFull, Busy, Misused, Closed,
 )
-from .library import library_path
-from .line import (
-    FRAMES, IMAGE, STALE, SWAPPED, WRITE_DONE, WRITE_MISSED,
-    Block, Cost, Datagram, Good, Image, Inputs, Line, Part, Place, WrongCount,
-)
+from .library import library_path, library_version
+from .line import FRAMES, IMAGE, Line
 from .slave import SLAVE_MEMORY, Slave
+from .values import OTHER_SOURCE, alias_read, get_bits, is_mine, locate, put_bits, station_write
 from .version import VERSION as __version__
 
 __all__ = [
-    "Absent", "AliasTaken", "AlreadyPresent", "AreaTooBig", "BadLength", "BadType", "Block", "Circulating", "Closed",
-    "Cost", "Datagram", "EpochsSpent", "FAULTS", "FRAMES", "Fault", "Good", "IMAGE", "Image", "IndexMismatch",
-    "Inputs", "Line", "Mandatory", "Memory", "Misused", "MoreFollows", "NoGroup", "NoSuchArea", "NoSuchTask",
-    "NotEtherCat", "NotPresent", "NothingOwed", "Part", "Place", "PostLength", "RepeatedPdo", "Room", "SLAVE_MEMORY",
-    "STALE", "SWAPPED", "SerialsSpent", "Short", "Slave", "StalePost", "StationTaken", "TooManyDatagrams",
-    "TooManyGroups", "TooManySlaves", "UnknownAlias", "UnknownCommand", "UnknownPdo", "UnknownStation", "Unopened",
-    "Unprogrammed", "VariableTaken", "WRITE_DONE", "WRITE_MISSED", "WrongCount", "__version__", "library_path",
+    "Absent", "AliasTaken", "AlreadyPresent", "AreaTooBig", "Arrival", "Arrived", "BadLength", "BadType", "Block",
+    "Busy", "ChangesFull", "Circulating", "Closed", "Cost", "Counters", "Datagram", "EpochsSpent", "FAULTS", "FRAMES",
+    "Fault", "FrameFault", "Good", "IMAGE", "Image", "IndexMismatch", "IsInput", "Line", "Location", "Mandatory",
+    "Memory", "Misused", "MoreFollows", "NoSuchArea", "NoSuchTask", "NotEtherCat", "NotPresent", "Nothing",
+    "NothingOwed", "OTHER_SOURCE", "Outcome", "OutcomeKind", "OwedBlock", "Part", "Place", "PostLength",
+    "ProjectAreaTooBig", "ProjectFault", "ProjectMissingField", "ProjectNotOneGroup", "ProjectNotToml",
+    "ProjectOutOfRange", "ProjectOverlappingAreas", "ProjectRepeatedAlias", "ProjectRepeatedStation",
+    "ProjectRepeatedSyncManager", "ProjectRepeatedVariable", "ProjectUnknownPdo", "RepeatedPdo", "Room",
+    "SLAVE_MEMORY", "SerialsSpent", "Short", "Slave", "Spot", "StalePost", "StationTaken", "Swapped",
+    "TooManyDatagrams", "TooManyGroups", "TooManySlaves", "TooWide", "UnknownAlias", "UnknownCommand", "UnknownPdo",
+    "UnknownStation", "Unprogrammed", "VariableTaken", "__version__", "alias_read", "get_bits", "is_mine",
+    "library_path", "library_version", "locate", "put_bits", "station_write",
 ]

@@ -2,7 +2,7 @@
 
 from pathlib import Path
 
-from . import __version__, library_path
+from . import __version__, library_path, library_version
 
 #: what tools/release.sh writes beside the library: the kit, the program logic and what each crate was proved with
 VERDICT = "verdict.txt"
@@ -18,5 +18,5 @@ def verdict(library: Path) -> str:
 
 library = library_path()
 print("zangjulf", __version__)
-print("library", library)
+print("library", library, "of version", library_version())
 print(verdict(Path(library)))

@@ -1,4 +1,4 @@
-"""Finds the shared object, and tells ctypes the calls of include/zangjulf.h."""
+"""Finds the shared object, and declares to ctypes the calls of include/zangjulf.h."""
 
 from __future__ import annotations
 
@@ -11,29 +11,18 @@ from typing import Any
 
 SHARED_OBJECT = "libzangjulf.so"
 
+#: the number of the binary interface that is declared here
+ABI = 0
+
 
 class Handle(ctypes.Structure):
     _fields_ = [("is_open", c_bool), ("at", c_void_p)]
 
 
-class Sent(ctypes.Structure):
-    _fields_ = [("size", c_size_t), ("frames", c_size_t)]
-
-
-class Outcome(ctypes.Structure):
-    _fields_ = [("kind", c_uint8), ("task", c_uint8), ("datagram", c_uint8), ("expected", c_uint16), ("got", c_uint16)]
-
-
-class Image(ctypes.Structure):
-    _fields_ = [("epoch", c_uint32), ("datagrams", c_size_t), ("size", c_size_t)]
-
-
-class Change(ctypes.Structure):
-    _fields_ = [("kind", c_uint8), ("task", c_uint8), ("datagram", c_uint8), ("size", c_uint16)]
-
-
 class Place(ctypes.Structure):
-    _fields_ = [("task", c_uint8), ("datagram", c_uint8), ("bits", c_uint8), ("is_input", c_bool), ("bit", c_uint16)]
+    _fields_ = [
+        ("task", c_uint8), ("datagram", c_uint8), ("bits", c_uint8), ("is_input", c_bool), ("bit", c_uint16), ("image_bit", c_uint32),
+    ]
 
 
 class Datagram(ctypes.Structure):
@@ -48,38 +37,99 @@ class Block(ctypes.Structure):
     _fields_ = [("start", c_uint16), ("size", c_size_t)]
 
 
+class OwedBlock(ctypes.Structure):
+    _fields_ = [("station", c_uint16), ("start", c_uint16), ("size", c_uint8)]
+
+
+class Write(ctypes.Structure):
+    _fields_ = [("size", c_size_t), ("block", OwedBlock)]
+
+
 class Cost(ctypes.Structure):
     _fields_ = [("epoch", c_uint32), ("recut", c_uint32), ("moved", c_uint32), ("places", c_uint32), ("crowded", c_uint8)]
 
 
-_MOST = {c_uint8: 0xFF, c_uint16: 0xFFFF, c_uint32: 0xFFFFFFFF}
+class Sent(ctypes.Structure):
+    _fields_ = [("size", c_size_t), ("frames", c_size_t), ("owed", c_uint32)]
+
+
+class Outcome(ctypes.Structure):
+    _fields_ = [
+        ("kind", c_uint8), ("task", c_uint8), ("datagram", c_uint8),
+        ("expected", c_uint16), ("got", c_uint16), ("at", c_uint16), ("length", c_uint16),
+    ]
+
+
+class Arrival(ctypes.Structure):
+    _fields_ = [("serial", c_uint64), ("datagrams", c_size_t), ("station", c_uint16), ("start", c_uint16)]
+
+
+class Image(ctypes.Structure):
+    _fields_ = [("epoch", c_uint32), ("datagrams", c_size_t), ("size", c_size_t), ("has", c_uint16)]
+
+
+class Counters(ctypes.Structure):
+    _fields_ = [("sent", c_uint64), ("good", c_uint64), ("wrong", c_uint64), ("again", c_uint64)]
+
+
+class Change(ctypes.Structure):
+    _fields_ = [("kind", c_uint8), ("task", c_uint8), ("datagram", c_uint8), ("size", c_uint16)]
+
+
+class Spot(ctypes.Structure):
+    _fields_ = [
+        ("group", c_size_t), ("slave", c_size_t), ("area", c_size_t), ("pdo", c_size_t), ("item", c_size_t),
+        ("alias", c_uint16), ("station", c_uint16), ("key", c_uint8),
+    ]
+
+
+class Location(ctypes.Structure):
+    _fields_ = [("line", c_size_t), ("column", c_size_t), ("place", Spot), ("first", Spot)]
+
+
+_MOST = {c_uint8: 0xFF, c_uint16: 0xFFFF, c_uint32: 0xFFFFFFFF, c_uint64: 0xFFFFFFFFFFFFFFFF, c_size_t: 0xFFFFFFFFFFFFFFFF}
 _BYTES = POINTER(c_uint8)
 _SLICE = (_BYTES, c_size_t)
 
-#: what each call takes after the handle
-CALLS: dict[str, tuple[Any, ...]] = {
-    "open": (*_SLICE, POINTER(c_uint8)),
+#: what each call of a line takes after the handle
+LINE_CALLS: dict[str, tuple[Any, ...]] = {
+    "open": (*_SLICE, c_uint32, POINTER(c_uint8)),
     "epoch": (POINTER(c_uint32),),
     "next_serial": (POINTER(c_uint64),),
     "owed": (POINTER(c_uint32),),
-    "next_write": (*_SLICE, POINTER(c_size_t)),
-    "post": (c_uint8, c_uint32, *_SLICE),
-    "send": (*_SLICE, *_SLICE, POINTER(Sent)),
-    "arrive": (*_SLICE, POINTER(Outcome), c_size_t, POINTER(c_size_t)),
-    "read": (c_uint8, *_SLICE, POINTER(c_size_t), c_size_t, POINTER(Image)),
-    "next_change": (*_SLICE, POINTER(Change)),
+    "owed_block": (c_uint32, POINTER(OwedBlock)),
     "place": (c_uint32, POINTER(Place)),
     "datagram": (c_uint8, c_uint8, POINTER(Datagram)),
     "part": (c_uint8, POINTER(Part)),
     "station": (c_uint32, POINTER(c_uint16)),
     "position": (c_uint16, POINTER(c_uint32)),
     "block": (c_uint16, c_uint8, *_SLICE, POINTER(Block)),
-    "preview": (c_uint8, c_uint8, *_SLICE, POINTER(c_size_t)),
     "connect": (c_uint16, c_bool, POINTER(Cost)),
     "disconnect": (c_uint16, c_bool, POINTER(Cost)),
     "remap": (c_uint16, c_uint8, POINTER(c_uint16), c_size_t, c_bool, POINTER(Cost)),
     "move": (c_uint16, c_uint8, c_uint8, c_bool, POINTER(Cost)),
-    "declare": (*_SLICE, c_bool, POINTER(c_uint8), POINTER(Cost)),
+    "declare": (*_SLICE, c_bool, POINTER(Cost)),
+    "next_write": (*_SLICE, POINTER(Write)),
+    "post": (c_uint8, c_uint32, *_SLICE),
+    "send": (*_SLICE, *_SLICE, POINTER(Sent)),
+    "preview": (c_uint8, c_uint8, *_SLICE, POINTER(c_size_t)),
+    "arrive": (*_SLICE, POINTER(Outcome), c_size_t, POINTER(Arrival)),
+    "read": (c_uint8, *_SLICE, POINTER(c_uint64), c_size_t, POINTER(Image)),
+    "counters": (c_uint8, c_uint8, POINTER(Counters)),
+    "next_change": (*_SLICE, POINTER(Change)),
+    "put_value": (c_uint32, c_uint64, *_SLICE),
+    "get_value": (c_uint32, *_SLICE, POINTER(c_uint64)),
+}
+
+#: what each call without a line takes
+CALLS: dict[str, tuple[Any, ...]] = {
+    "locate": (*_SLICE, POINTER(Location)),
+    "get_bits": (*_SLICE, c_size_t, c_uint8, POINTER(c_uint64)),
+    "put_bits": (*_SLICE, c_size_t, c_uint8, c_uint64),
+    "alias_read": (c_uint16, *_SLICE, POINTER(c_size_t)),
+    "station_write": (c_uint16, c_uint16, *_SLICE, POINTER(c_size_t)),
+    "slave_start": (*_SLICE, c_uint16),
+    "slave_process": (*_SLICE, *_SLICE),
 }
 
 
@@ -99,22 +149,36 @@ def library_path() -> str:
     return found
 
 
-def _load() -> ctypes.CDLL:
-    found = ctypes.CDLL(library_path())
-    for name, arguments in CALLS.items():
+def _load() -> ctypes.PyDLL:
+    # PyDLL holds Python's lock in each call, so that calls of two threads with one line come one after the other
+    found = ctypes.PyDLL(library_path())
+    found.zangjulf_abi.argtypes, found.zangjulf_abi.restype = (), c_uint32
+    if found.zangjulf_abi() != ABI:
+        raise OSError(f"{library_path()} has another binary interface, {found.zangjulf_abi()}: {ABI} is wanted")
+    for name, arguments in LINE_CALLS.items():
         call = getattr(found, f"zangjulf_{name}")
         call.argtypes, call.restype = (POINTER(Handle), *arguments), c_uint8
+    for name, arguments in CALLS.items():
+        call = getattr(found, f"zangjulf_{name}")
+        call.argtypes, call.restype = arguments, c_uint8
     found.zangjulf_close.argtypes, found.zangjulf_close.restype = (POINTER(Handle),), None
-    found.zangjulf_slave_start.argtypes, found.zangjulf_slave_start.restype = (*_SLICE, c_uint16), c_uint8
-    found.zangjulf_slave_process.argtypes, found.zangjulf_slave_process.restype = (*_SLICE, *_SLICE), c_uint8
+    found.zangjulf_is_mine.argtypes, found.zangjulf_is_mine.restype = _SLICE, c_bool
+    found.zangjulf_version.argtypes, found.zangjulf_version.restype = (POINTER(c_uint32),) * 3, None
     return found
 
 
 library = _load()
 
 
+def library_version() -> str:
+    """The version of the library that is loaded."""
+    numbers = [c_uint32(), c_uint32(), c_uint32()]
+    library.zangjulf_version(*map(ctypes.byref, numbers))
+    return ".".join(str(number.value) for number in numbers)
+
+
 def slice_of(data: Any) -> tuple[Any, int]:
-    """A pointer and a length of bytes: where they stand if they can be written, else of a copy."""
+    """A pointer and a length of bytes: where they are if they can be written, else of a copy."""
     view = memoryview(data).cast("B")
     if view.readonly or not len(view):
         held = (c_uint8 * max(len(view), 1)).from_buffer_copy(bytes(view) or b"\0")
@@ -128,3 +192,8 @@ def held(value: Any, kind: Any) -> Any:
     if kind in _MOST and not 0 <= value <= _MOST[kind]:
         raise ValueError(f"{value} isn't 0 to {_MOST[kind]}")
     return value
+
+
+def call(name: str, *arguments: Any) -> int:
+    """Calls the library without a line."""
+    return getattr(library, f"zangjulf_{name}")(*map(held, arguments, CALLS[name]))

@@ -15,14 +15,14 @@ class Slave:
 
     def __init__(self, alias: int = 0, station: int = 0) -> None:
         self.memory = bytearray(SLAVE_MEMORY)
-        c.library.zangjulf_slave_start(*c.slice_of(self.memory), c.held(alias, c_uint16))
+        c.call("slave_start", *c.slice_of(self.memory), alias)
         self.memory[0x10:0x12] = c.held(station, c_uint16).to_bytes(2, "little")
 
     def process(self, frame: bytearray | memoryview) -> None:
         """It does with a frame what a slave does, in the frame's place: a `bytearray`, or what else can be written. `Misused`
         where `memory` has another size."""
         if memoryview(frame).readonly:
-            raise TypeError("a frame is served where it stands: hand in a bytearray")
-        number = c.library.zangjulf_slave_process(*c.slice_of(self.memory), *c.slice_of(frame))
+            raise TypeError("a frame is served where it is: hand in a bytearray")
+        number = c.call("slave_process", *c.slice_of(self.memory), *c.slice_of(frame))
         if number:
             raise FAULTS[number]()

@@ -8,10 +8,10 @@ from pathlib import Path
 
 
 def header_version(header: Path) -> str:
-    """The version that a header of the library tells."""
+    """The version in a header of the library."""
     found = re.search(r'^#define ZANGJULF_VERSION "(.*)"$', header.read_text(encoding="utf-8"), re.MULTILINE)
     if found is None:
-        raise ValueError(f"{header} tells no version")
+        raise ValueError(f"{header} has no version")
     return found.group(1)
 
 

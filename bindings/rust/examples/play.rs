@@ -3,7 +3,7 @@
 
 use std::error::Error;
 use std::io::{self, Read, Write};
-use zangjulf::{Arrival, Dir, Edit, Fault, Line, Outcome, FRAMES};
+use zangjulf::{Arrival, Dir, Edit, Fault, Line, Outcome, OutcomeKind, FRAMES, IMAGE};
 
 type Told = Result<(), Box<dyn Error>>;
 
@@ -23,7 +23,7 @@ fn bytes_in(word: &str) -> Result<Vec<u8>, Box<dyn Error>> {
     Ok(pairs.collect::<Result<_, _>>()?)
 }
 
-fn layout(line: &mut Line, out: &mut impl Write) -> Told {
+fn layout(line: &Line, out: &mut impl Write) -> Told {
     writeln!(out, "epoch {}", line.epoch())?;
     for task in 0..8 {
         let mut number = 0;
@@ -40,7 +40,7 @@ fn layout(line: &mut Line, out: &mut impl Write) -> Told {
     Ok(())
 }
 
-fn regs(line: &mut Line, station: u16, out: &mut impl Write) -> Told {
+fn regs(line: &Line, station: u16, out: &mut impl Write) -> Told {
     line.position(station)?;
     let mut bytes = [0; 16];
     for number in 0.. {
@@ -59,7 +59,7 @@ fn regs(line: &mut Line, station: u16, out: &mut impl Write) -> Told {
     Ok(())
 }
 
-fn place(line: &mut Line, variable: u32, out: &mut impl Write) -> Told {
+fn place(line: &Line, variable: u32, out: &mut impl Write) -> Told {
     let Some(place) = line.place(variable) else { return Ok(writeln!(out, "none")?) };
     let dir = if place.dir == Dir::In { "in" } else { "out" };
     let (task, datagram, bit, bits) = (place.task, place.datagram, place.bit, place.bits);
@@ -74,34 +74,49 @@ fn edit(line: &mut Line, edit: Edit<'_>, out: &mut impl Write) -> Told {
     Ok(writeln!(out, "epoch {} recut {} moved {}", cost.epoch, cost.recut, cost.moved)?)
 }
 
+fn outcome(it: Outcome, out: &mut impl Write) -> Told {
+    match it.kind {
+        OutcomeKind::Inputs => writeln!(out, "inputs {} {}", it.task, it.datagram)?,
+        OutcomeKind::WrongCount => writeln!(out, "wrong count {} {}", it.expected, it.got)?,
+        OutcomeKind::SentAgain => writeln!(out, "stale")?,
+    }
+    Ok(())
+}
+
 fn arrive(line: &mut Line, bytes: &[u8], out: &mut impl Write) -> Told {
     match line.arrive(bytes)? {
-        Arrival::WriteDone => writeln!(out, "write done")?,
-        Arrival::WriteMissed => writeln!(out, "write missed")?,
+        Arrival::WriteDone(_) => writeln!(out, "write done")?,
+        Arrival::WriteMissed(_) => writeln!(out, "write missed")?,
         Arrival::Stale => writeln!(out, "stale")?,
-        Arrival::Answered(outcomes) => {
-            for outcome in outcomes {
-                match outcome {
-                    Outcome::Inputs { task, datagram } => writeln!(out, "inputs {task} {datagram}")?,
-                    Outcome::WrongCount { expected, got } => writeln!(out, "wrong count {expected} {got}")?,
-                    Outcome::Stale => writeln!(out, "stale")?,
-                }
-            }
+        Arrival::Answered { mut outcomes, .. } => outcomes.try_for_each(|it| outcome(it, out))?,
+    }
+    Ok(())
+}
+
+fn read(line: &Line, task: u8, out: &mut impl Write) -> Told {
+    let mut data = vec![0; IMAGE];
+    let image = line.read(task, &mut data)?;
+    writeln!(out, "epoch {}", image.epoch)?;
+    for number in 0..image.datagrams as u8 {
+        let datagram = line.datagram(task, number).ok_or("a datagram is missing")?;
+        let at = usize::from(datagram.offset);
+        match image.serial(number) {
+            Some(_) => writeln!(out, "slot {number} {}", hex(&image.bytes[at..at + usize::from(datagram.length)]))?,
+            None => writeln!(out, "slot {number} none")?,
         }
     }
     Ok(())
 }
 
-fn read(line: &mut Line, task: u8, out: &mut impl Write) -> Told {
-    let image = line.read(task)?;
-    writeln!(out, "epoch {}", image.epoch)?;
-    for (number, slot) in image.slots.iter().enumerate() {
-        match slot {
-            Some(bytes) => writeln!(out, "slot {number} {}", hex(bytes))?,
-            None => writeln!(out, "slot {number} none")?,
-        }
+/// A refusal, as the program prints it.
+fn refused(fault: &Fault, out: &mut impl Write) -> Told {
+    write!(out, "refused {} {}", fault.number(), fault.name())?;
+    match fault {
+        Fault::TooManyDatagrams(task) => write!(out, " {task}")?,
+        Fault::Unprogrammed(owed) => write!(out, " {owed}")?,
+        _ => {}
     }
-    Ok(())
+    Ok(writeln!(out)?)
 }
 
 fn run(line: &mut Line, words: &[&str], frames: &mut [u8], out: &mut impl Write) -> Told {
@@ -125,7 +140,7 @@ fn run(line: &mut Line, words: &[&str], frames: &mut [u8], out: &mut impl Write)
             let (station, area, task) = (number(station)? as u16, number(area)? as u8, number(task)? as u8);
             edit(line, Edit::Move { station, area, task }, out)
         }
-        ["write"] => Ok(writeln!(out, "sent {serial}: {}", hex(line.next_write(frames)?))?),
+        ["write"] => Ok(writeln!(out, "sent {serial}: {}", hex(line.next_write(frames)?.frame))?),
         ["send", tasks @ ..] => {
             let tasks = tasks.iter().map(|task| Ok(number(task)? as u8)).collect::<Result<Vec<_>, Box<dyn Error>>>()?;
             let sent = line.send(&tasks, frames)?;
@@ -156,9 +171,8 @@ fn main() -> Told {
         if words.is_empty() {
             continue;
         }
-        match run(&mut line, &words, &mut frames, &mut out) {
-            Err(refused) if refused.is::<Fault>() => writeln!(out, "refused {refused}")?,
-            told => told?,
+        if let Err(error) = run(&mut line, &words, &mut frames, &mut out) {
+            refused(error.downcast_ref::<Fault>().ok_or_else(|| error.to_string())?, &mut out)?;
         }
     }
     Ok(())

@@ -3,198 +3,147 @@
 use std::error::Error;
 use std::fmt;
 
-/// Why a call is refused. Numbers and names are those of the program's printed words.
-#[derive(Clone, Copy, Debug, PartialEq, Eq)]
-pub enum Fault {
-    /// No declared group has the alias.
-    UnknownAlias,
-    /// The group is in the line already.
-    AlreadyPresent,
-    /// The group isn't in the line.
-    NotPresent,
-    /// The mandatory group stays.
-    Mandatory,
-    /// No declared slave has the station address.
-    UnknownStation,
-    /// The slave's group isn't in the line.
-    Absent,
-    /// The slave has no such area.
-    NoSuchArea,
-    /// Tasks are 0 to 7.
-    NoSuchTask,
-    /// The area doesn't offer one of the PDOs.
-    UnknownPdo,
-    /// A PDO is named twice.
-    RepeatedPdo,
-    /// The area would have more bits than a datagram.
-    AreaTooBig,
-    /// This task would need more than 16 datagrams.
-    TooManyDatagrams(u8),
-    /// The epoch is the last one.
-    EpochsSpent,
-    /// The post was made for another epoch.
-    StalePost,
-    /// The post hasn't the task's number of output bytes.
-    PostLength,
-    /// So many register blocks are owed.
-    Unprogrammed(u32),
-    /// No register block is owed.
-    NothingOwed,
-    /// Too few serials are left.
-    SerialsSpent,
-    /// The frame has fewer bytes than the shortest one.
-    Short,
-    /// The frame has another EtherType.
-    NotEtherCat,
-    /// The frame's EtherCAT header has another type.
-    BadType,
-    /// The frame's lengths don't fit one another.
-    BadLength,
-    /// A datagram has come round a second time.
-    Circulating,
-    /// The last datagram says that another one follows.
-    MoreFollows,
-    /// A datagram has a command that isn't used.
-    UnknownCommand,
-    /// A datagram's index isn't that of the frame's serial.
-    IndexMismatch,
-    /// A growth of memory was refused.
-    Memory,
-    /// A slice is too short: so many bytes are needed.
-    Room(usize),
-    /// A declared group has the alias.
-    AliasTaken,
-    /// A declared slave has one of the station addresses.
-    StationTaken,
-    /// A declared slave offers one of the variables.
-    VariableTaken,
-    /// More than 512 groups would be declared.
-    TooManyGroups,
-    /// More than 2,048 slaves would be declared.
-    TooManySlaves,
-    /// The text is no group's: the number of its lowest fault, 1 to 10, or 12 of another project's text.
-    NoGroup(u8),
-    /// What the call asks of its caller doesn't hold.
-    Misused,
+/// Declares the faults: name, what goes with it, number, and text, as include/zangjulf.h has them.
+macro_rules! faults {
+    ($($name:ident $(($kind:ty))? = $number:literal, $text:literal;)*) => {
+        /// Why a call is refused; nothing changed then. Numbers and texts are those of `include/zangjulf.h`.
+        #[derive(Clone, Copy, Debug, PartialEq, Eq)]
+        pub enum Fault {
+            $(#[doc = $text] $name $(($kind))?,)*
+        }
+
+        impl Fault {
+            /// The fault of a number, and what goes with it.
+            pub(crate) fn of(number: u8, detail: usize) -> Fault {
+                match number {
+                    $($number => Fault::$name $((detail as $kind))?,)*
+                    other => unreachable!("no call answers {other}"),
+                }
+            }
+
+            /// Its number.
+            pub fn number(self) -> u8 {
+                match self {
+                    $(Fault::$name { .. } => $number,)*
+                }
+            }
+
+            /// Its name, as `Unprogrammed`.
+            pub fn name(self) -> &'static str {
+                match self {
+                    $(Fault::$name { .. } => stringify!($name),)*
+                }
+            }
+
+            /// What it says.
+            pub fn text(self) -> &'static str {
+                match self {
+                    $(Fault::$name { .. } => $text,)*
+                }
+            }
+        }
+
+        /// Each fault, with 0 for what goes with it.
+        #[cfg(test)]
+        const ALL: &[Fault] = &[$(Fault::$name $((0 as $kind))?,)*];
+    };
 }
 
-impl Fault {
-    /// The fault of a number, and what goes with it.
-    pub(crate) fn of(number: u8, detail: usize) -> Fault {
-        match number {
-            1 => Fault::UnknownAlias,
-            2 => Fault::AlreadyPresent,
-            3 => Fault::NotPresent,
-            4 => Fault::Mandatory,
-            5 => Fault::UnknownStation,
-            6 => Fault::Absent,
-            7 => Fault::NoSuchArea,
-            8 => Fault::NoSuchTask,
-            9 => Fault::UnknownPdo,
-            10 => Fault::RepeatedPdo,
-            11 => Fault::AreaTooBig,
-            12 => Fault::TooManyDatagrams(detail as u8),
-            13 => Fault::EpochsSpent,
-            15 => Fault::StalePost,
-            16 => Fault::PostLength,
-            17 => Fault::Unprogrammed(detail as u32),
-            18 => Fault::NothingOwed,
-            19 => Fault::SerialsSpent,
-            20 => Fault::Short,
-            21 => Fault::NotEtherCat,
-            22 => Fault::BadType,
-            23 => Fault::BadLength,
-            24 => Fault::Circulating,
-            25 => Fault::MoreFollows,
-            26 => Fault::UnknownCommand,
-            27 => Fault::IndexMismatch,
-            28 => Fault::Memory,
-            29 => Fault::Room(detail),
-            31 => Fault::AliasTaken,
-            32 => Fault::StationTaken,
-            33 => Fault::VariableTaken,
-            34 => Fault::TooManyGroups,
-            35 => Fault::TooManySlaves,
-            104 => Fault::NoGroup(detail as u8),
-            _ => Fault::Misused,
-        }
-    }
-
-    /// Its number, 1 to 13, 15 to 29 or 31 to 35; 104 of a text that is no group's, 254 of a misused call.
-    pub fn number(self) -> u8 {
-        match self {
-            Fault::UnknownAlias => 1,
-            Fault::AlreadyPresent => 2,
-            Fault::NotPresent => 3,
-            Fault::Mandatory => 4,
-            Fault::UnknownStation => 5,
-            Fault::Absent => 6,
-            Fault::NoSuchArea => 7,
-            Fault::NoSuchTask => 8,
-            Fault::UnknownPdo => 9,
-            Fault::RepeatedPdo => 10,
-            Fault::AreaTooBig => 11,
-            Fault::TooManyDatagrams(_) => 12,
-            Fault::EpochsSpent => 13,
-            Fault::StalePost => 15,
-            Fault::PostLength => 16,
-            Fault::Unprogrammed(_) => 17,
-            Fault::NothingOwed => 18,
-            Fault::SerialsSpent => 19,
-            Fault::Short => 20,
-            Fault::NotEtherCat => 21,
-            Fault::BadType => 22,
-            Fault::BadLength => 23,
-            Fault::Circulating => 24,
-            Fault::MoreFollows => 25,
-            Fault::UnknownCommand => 26,
-            Fault::IndexMismatch => 27,
-            Fault::Memory => 28,
-            Fault::Room(_) => 29,
-            Fault::AliasTaken => 31,
-            Fault::StationTaken => 32,
-            Fault::VariableTaken => 33,
-            Fault::TooManyGroups => 34,
-            Fault::TooManySlaves => 35,
-            Fault::NoGroup(_) => 104,
-            Fault::Misused => 254,
-        }
-    }
+faults! {
+    UnknownAlias = 1, "no declared group has the alias";
+    AlreadyPresent = 2, "the group is in the line already";
+    NotPresent = 3, "the group is not in the line";
+    Mandatory = 4, "the mandatory group, alias 0, stays";
+    UnknownStation = 5, "no declared slave has the station address";
+    Absent = 6, "the slave's group is not in the line";
+    NoSuchArea = 7, "the slave has no such area";
+    NoSuchTask = 8, "tasks are 0 to 7";
+    UnknownPdo = 9, "the area does not offer one of the PDOs";
+    RepeatedPdo = 10, "a PDO is named twice";
+    AreaTooBig = 11, "the area would have more bits than a datagram, 11,888";
+    TooManyDatagrams(u8) = 12, "a task would need more than 16 datagrams";
+    EpochsSpent = 13, "the epoch is the last one, 4,294,967,295";
+    StalePost = 15, "the post was made for another epoch";
+    PostLength = 16, "the post does not have the task's number of output bytes";
+    Unprogrammed(u32) = 17, "register blocks are owed: no task is sent before they are written";
+    NothingOwed = 18, "no register block is owed";
+    SerialsSpent = 19, "too few serials are left below 2^40 - 1";
+    Short = 20, "the frame has fewer bytes than the shortest one";
+    NotEtherCat = 21, "the frame's EtherType is not 0x88A4";
+    BadType = 22, "the EtherCAT header has another type than 1";
+    BadLength = 23, "the frame's lengths do not fit one another";
+    Circulating = 24, "a datagram has come round a second time";
+    MoreFollows = 25, "the last datagram says that another one follows";
+    UnknownCommand = 26, "a datagram has a command that is not used";
+    IndexMismatch = 27, "a datagram's index is not that of the frame's serial";
+    Memory = 28, "out of memory";
+    Room(usize) = 29, "a slice is too short";
+    AliasTaken = 31, "a declared group has the alias";
+    StationTaken = 32, "a declared slave has one of the station addresses";
+    VariableTaken = 33, "a declared slave offers one of the variables";
+    TooManyGroups = 34, "more than 512 groups would be declared, the mandatory one counted";
+    TooManySlaves = 35, "more than 2,048 slaves would be declared";
+    Nothing = 100, "there is no such thing";
+    IsInput = 105, "the variable is an input: no value is put into it";
+    TooWide = 106, "the value needs more bits than there are";
+    ProjectNotToml = 201, "the text is no TOML document in UTF-8";
+    ProjectMissingField = 202, "a needed key is absent, or a value is of another kind";
+    ProjectOutOfRange = 203, "a value is outside its range";
+    ProjectRepeatedAlias = 204, "two groups have one alias";
+    ProjectRepeatedStation = 205, "two slaves have one station address";
+    ProjectRepeatedSyncManager = 206, "two areas of a slave have one sync manager";
+    ProjectOverlappingAreas = 207, "two areas of a slave overlap in its memory";
+    ProjectRepeatedVariable = 208, "a variable is named by two entries";
+    ProjectUnknownPdo = 209, "an assigned PDO is not one offered PDO";
+    ProjectAreaTooBig = 210, "an area has more bits than a datagram, 11,888";
+    ProjectNotOneGroup = 212, "the text is a project, but not one group's";
+    ChangesFull = 252, "as many changes wait as the line was opened to keep";
+    Busy = 253, "another call with the handle runs";
+    Misused = 254, "what the call asks of its caller does not hold";
+    Closed = 255, "the handle is closed";
 }
 
 impl fmt::Display for Fault {
     fn fmt(&self, out: &mut fmt::Formatter<'_>) -> fmt::Result {
+        out.write_str(self.text())?;
         match self {
-            Fault::TooManyDatagrams(task) => write!(out, "12 TooManyDatagrams {task}"),
-            Fault::Unprogrammed(owed) => write!(out, "17 Unprogrammed {owed}"),
-            Fault::Room(needed) => write!(out, "29 Room {needed}"),
-            Fault::NoGroup(fault) => write!(out, "104 NoGroup {fault}"),
-            fault => write!(out, "{} {fault:?}", fault.number()),
+            Fault::TooManyDatagrams(task) => write!(out, " (task {task})"),
+            Fault::Unprogrammed(owed) => write!(out, " ({owed} are owed)"),
+            Fault::Room(needed) if *needed > 0 => write!(out, " ({needed} bytes are needed)"),
+            _ => Ok(()),
         }
     }
 }
 
 impl Error for Fault {}
 
-/// Why a project isn't opened.
-#[derive(Clone, Copy, Debug, PartialEq, Eq)]
-pub enum Unopened {
-    /// The text is no project: the number of its lowest fault, 1 to 10 (`include/zangjulf.h`).
-    Project(u8),
-    /// This task of the opening line needs more than 16 datagrams.
-    TooManyDatagrams(u8),
-    /// A growth of memory was refused.
-    Memory,
-}
+#[cfg(test)]
+mod tests {
+    use super::{Fault, ALL};
 
-impl fmt::Display for Unopened {
-    fn fmt(&self, out: &mut fmt::Formatter<'_>) -> fmt::Result {
-        match self {
-            Unopened::Project(fault) => write!(out, "the text is no project: fault {fault}"),
-            Unopened::TooManyDatagrams(task) => write!(out, "task {task} needs too many datagrams"),
-            Unopened::Memory => write!(out, "out of memory"),
+    /// A name as the header writes it: NOT_TOML for NotToml.
+    fn header_name(name: &str) -> String {
+        let mut written = String::new();
+        for letter in name.chars() {
+            if letter.is_uppercase() && !written.is_empty() {
+                written.push('_');
+            }
+            written.push(letter.to_ascii_uppercase());
         }
+        written.replace("ETHER_CAT", "ETHERCAT")
+    }
+
+    #[test]
+    fn faults_are_those_of_the_header() {
+        let header = include_str!("../../../include/zangjulf.h");
+        let answers: Vec<&str> = header.lines().filter_map(|line| line.trim().strip_prefix("ANSWER(")).collect();
+        let is_listed = |fault: &Fault| {
+            let line = format!("{}, {}, \"{}\")", header_name(fault.name()), fault.number(), fault.text());
+            answers.iter().any(|answer| answer.starts_with(&line))
+        };
+        assert_eq!(ALL.iter().find(|fault| !is_listed(fault)), None);
+        // what isn't a fault: done, and three answers of an arrival
+        assert_eq!(answers.len(), ALL.len() + 4);
+        assert!(ALL.iter().all(|fault| Fault::of(fault.number(), 0) == *fault));
     }
 }
-
-impl Error for Unopened {}

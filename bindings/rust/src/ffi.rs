@@ -1,6 +1,9 @@
-//! What include/zangjulf.h declares, as it stands there.
+//! What include/zangjulf.h declares, word for word.
 
-use crate::{Cost, Datagram, Part};
+use crate::{Block, Cost, Counters, Datagram, OwedBlock, Part};
+
+/// The number of the binary interface that is declared here.
+pub const ABI: u32 = 0;
 
 /// A line, or none: zeros before its first call.
 #[repr(C)]
@@ -12,19 +15,49 @@ pub struct Handle {
 
 #[repr(C)]
 #[derive(Default)]
-pub struct Sent {
-    pub size: usize,
-    pub frames: usize,
+pub struct Place {
+    pub task: u8,
+    pub datagram: u8,
+    pub bits: u8,
+    pub is_input: bool,
+    pub bit: u16,
+    pub image_bit: u32,
 }
 
 #[repr(C)]
-#[derive(Clone, Copy, Default)]
+#[derive(Default)]
+pub struct Write {
+    pub size: usize,
+    pub block: OwedBlock,
+}
+
+#[repr(C)]
+#[derive(Default)]
+pub struct Sent {
+    pub size: usize,
+    pub frames: usize,
+    pub owed: u32,
+}
+
+#[repr(C)]
+#[derive(Clone, Copy, Debug, Default)]
 pub struct Outcome {
     pub kind: u8,
     pub task: u8,
     pub datagram: u8,
     pub expected: u16,
     pub got: u16,
+    pub at: u16,
+    pub length: u16,
+}
+
+#[repr(C)]
+#[derive(Default)]
+pub struct Arrival {
+    pub serial: u64,
+    pub datagrams: usize,
+    pub station: u16,
+    pub start: u16,
 }
 
 #[repr(C)]
@@ -33,11 +66,12 @@ pub struct Image {
     pub epoch: u32,
     pub datagrams: usize,
     pub size: usize,
+    pub has: u16,
 }
 
 #[repr(C)]
 #[derive(Default)]
-pub struct Told {
+pub struct Change {
     pub kind: u8,
     pub task: u8,
     pub datagram: u8,
@@ -46,75 +80,47 @@ pub struct Told {
 
 #[repr(C)]
 #[derive(Default)]
-pub struct Place {
-    pub task: u8,
-    pub datagram: u8,
-    pub bits: u8,
-    pub is_input: bool,
-    pub bit: u16,
+pub struct Spot {
+    pub group: usize,
+    pub slave: usize,
+    pub area: usize,
+    pub pdo: usize,
+    pub item: usize,
+    pub alias: u16,
+    pub station: u16,
+    pub key: u8,
 }
 
 #[repr(C)]
 #[derive(Default)]
-pub struct Block {
-    pub start: u16,
-    pub size: usize,
+pub struct Location {
+    pub line: usize,
+    pub column: usize,
+    pub place: Spot,
+    pub first: Spot,
 }
 
 extern "C" {
-    pub fn zangjulf_open(handle: *mut Handle, text: *const u8, length: usize, task: *mut u8) -> u8;
+    pub fn zangjulf_abi() -> u32;
+    pub fn zangjulf_version(major: *mut u32, minor: *mut u32, patch: *mut u32);
+    pub fn zangjulf_open(handle: *mut Handle, text: *const u8, length: usize, changes: u32, task: *mut u8) -> u8;
     pub fn zangjulf_close(handle: *mut Handle);
-    pub fn zangjulf_epoch(handle: *mut Handle, epoch: *mut u32) -> u8;
-    pub fn zangjulf_next_serial(handle: *mut Handle, serial: *mut u64) -> u8;
-    pub fn zangjulf_owed(handle: *mut Handle, count: *mut u32) -> u8;
-    pub fn zangjulf_next_write(handle: *mut Handle, out: *mut u8, length: usize, size: *mut usize) -> u8;
-    pub fn zangjulf_post(handle: *mut Handle, task: u8, epoch: u32, bytes: *const u8, length: usize) -> u8;
-    pub fn zangjulf_send(
-        handle: *mut Handle,
-        tasks: *const u8,
-        count: usize,
-        out: *mut u8,
-        length: usize,
-        sent: *mut Sent,
-    ) -> u8;
-    pub fn zangjulf_arrive(
-        handle: *mut Handle,
-        bytes: *const u8,
-        length: usize,
-        outcomes: *mut Outcome,
-        room: usize,
-        count: *mut usize,
-    ) -> u8;
-    pub fn zangjulf_read(
-        handle: *mut Handle,
-        task: u8,
-        out: *mut u8,
-        length: usize,
-        sizes: *mut usize,
-        room: usize,
-        image: *mut Image,
-    ) -> u8;
-    pub fn zangjulf_next_change(handle: *mut Handle, out: *mut u8, length: usize, change: *mut Told) -> u8;
-    pub fn zangjulf_place(handle: *mut Handle, variable: u32, place: *mut Place) -> u8;
-    pub fn zangjulf_datagram(handle: *mut Handle, task: u8, number: u8, datagram: *mut Datagram) -> u8;
-    pub fn zangjulf_part(handle: *mut Handle, task: u8, part: *mut Part) -> u8;
-    pub fn zangjulf_station(handle: *mut Handle, position: u32, station: *mut u16) -> u8;
-    pub fn zangjulf_position(handle: *mut Handle, station: u16, position: *mut u32) -> u8;
+    pub fn zangjulf_locate(text: *const u8, length: usize, location: *mut Location) -> u8;
+    pub fn zangjulf_epoch(handle: *const Handle, epoch: *mut u32) -> u8;
+    pub fn zangjulf_next_serial(handle: *const Handle, serial: *mut u64) -> u8;
+    pub fn zangjulf_owed(handle: *const Handle, count: *mut u32) -> u8;
+    pub fn zangjulf_place(handle: *const Handle, variable: u32, place: *mut Place) -> u8;
+    pub fn zangjulf_datagram(handle: *const Handle, task: u8, number: u8, datagram: *mut Datagram) -> u8;
+    pub fn zangjulf_part(handle: *const Handle, task: u8, part: *mut Part) -> u8;
+    pub fn zangjulf_station(handle: *const Handle, position: u32, station: *mut u16) -> u8;
+    pub fn zangjulf_position(handle: *const Handle, station: u16, position: *mut u32) -> u8;
     pub fn zangjulf_block(
-        handle: *mut Handle,
+        handle: *const Handle,
         station: u16,
         number: u8,
         out: *mut u8,
         length: usize,
         block: *mut Block,
-    ) -> u8;
-    pub fn zangjulf_preview(
-        handle: *mut Handle,
-        task: u8,
-        datagram: u8,
-        out: *mut u8,
-        length: usize,
-        size: *mut usize,
     ) -> u8;
     pub fn zangjulf_connect(handle: *mut Handle, alias: u16, asks: bool, cost: *mut Cost) -> u8;
     pub fn zangjulf_disconnect(handle: *mut Handle, alias: u16, asks: bool, cost: *mut Cost) -> u8;
@@ -127,22 +133,59 @@ extern "C" {
         asks: bool,
         cost: *mut Cost,
     ) -> u8;
-    pub fn zangjulf_move(
+    pub fn zangjulf_move(handle: *mut Handle, station: u16, area: u8, task: u8, asks: bool, cost: *mut Cost) -> u8;
+    pub fn zangjulf_declare(handle: *mut Handle, text: *const u8, length: usize, asks: bool, cost: *mut Cost) -> u8;
+    pub fn zangjulf_owed_block(handle: *const Handle, index: u32, block: *mut OwedBlock) -> u8;
+    pub fn zangjulf_next_write(handle: *mut Handle, out: *mut u8, length: usize, write: *mut Write) -> u8;
+    pub fn zangjulf_post(handle: *mut Handle, task: u8, epoch: u32, bytes: *const u8, length: usize) -> u8;
+    pub fn zangjulf_send(
         handle: *mut Handle,
-        station: u16,
-        area: u8,
-        task: u8,
-        asks: bool,
-        cost: *mut Cost,
-    ) -> u8;
-    pub fn zangjulf_declare(
-        handle: *mut Handle,
-        text: *const u8,
+        tasks: *const u8,
+        count: usize,
+        out: *mut u8,
         length: usize,
-        asks: bool,
-        fault: *mut u8,
-        cost: *mut Cost,
+        sent: *mut Sent,
     ) -> u8;
+    pub fn zangjulf_preview(
+        handle: *const Handle,
+        task: u8,
+        datagram: u8,
+        out: *mut u8,
+        length: usize,
+        size: *mut usize,
+    ) -> u8;
+    pub fn zangjulf_arrive(
+        handle: *mut Handle,
+        bytes: *const u8,
+        length: usize,
+        outcomes: *mut Outcome,
+        room: usize,
+        arrival: *mut Arrival,
+    ) -> u8;
+    pub fn zangjulf_read(
+        handle: *const Handle,
+        task: u8,
+        out: *mut u8,
+        length: usize,
+        serials: *mut u64,
+        room: usize,
+        image: *mut Image,
+    ) -> u8;
+    pub fn zangjulf_counters(handle: *const Handle, task: u8, datagram: u8, counters: *mut Counters) -> u8;
+    pub fn zangjulf_next_change(handle: *mut Handle, out: *mut u8, length: usize, change: *mut Change) -> u8;
+    pub fn zangjulf_get_bits(bytes: *const u8, length: usize, bit: usize, bits: u8, value: *mut u64) -> u8;
+    pub fn zangjulf_put_bits(bytes: *mut u8, length: usize, bit: usize, bits: u8, value: u64) -> u8;
+    pub fn zangjulf_put_value(handle: *const Handle, variable: u32, value: u64, outputs: *mut u8, length: usize) -> u8;
+    pub fn zangjulf_get_value(
+        handle: *const Handle,
+        variable: u32,
+        image: *const u8,
+        length: usize,
+        value: *mut u64,
+    ) -> u8;
+    pub fn zangjulf_is_mine(frame: *const u8, length: usize) -> bool;
+    pub fn zangjulf_alias_read(position: u16, out: *mut u8, length: usize, size: *mut usize) -> u8;
+    pub fn zangjulf_station_write(position: u16, station: u16, out: *mut u8, length: usize, size: *mut usize) -> u8;
     pub fn zangjulf_slave_start(memory: *mut u8, size: usize, alias: u16) -> u8;
     pub fn zangjulf_slave_process(memory: *mut u8, size: usize, frame: *mut u8, length: usize) -> u8;
 }

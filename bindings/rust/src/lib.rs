@@ -1,18 +1,30 @@
 //! Zangjulf's core from plain Rust: the configuration and process image of an EtherCAT line that changes while it runs.
 //!
 //! Each call is one of the C library (`include/zangjulf.h`), which is proved; this crate adds names and types, and no
-//! thread, clock or socket. A [`Line`] is used by one thread at a time and may move between threads.
+//! thread, clock or socket. A [`Line`] is changed by one thread at a time, and may move between threads. Only opening a line
+//! takes memory of Rust's own; what calls answer is lent from the caller's slices or from the line.
 
+mod answers;
+mod editing;
+mod exchange;
 mod faults;
 mod ffi;
+#[cfg(test)]
+mod layout;
 mod line;
+mod locating;
 mod slave;
-mod told;
+mod values;
 
-pub use faults::{Fault, Unopened};
-pub use line::{Frames, Line};
+pub use answers::{
+    Block, Change, Cost, Counters, Datagram, Dir, Edit, Image, Outcome, OutcomeKind, OwedBlock, Part, Place, Write,
+};
+pub use exchange::{Arrival, Frames, Outcomes, Written};
+pub use faults::Fault;
+pub use line::Line;
+pub use locating::{locate, Key, Location, Spot};
 pub use slave::Slave;
-pub use told::{Arrival, Block, Change, Cost, Datagram, Dir, Edit, Image, Outcome, Part, Place};
+pub use values::{alias_read, get_bits, is_mine, put_bits, station_write};
 
 /// The most bytes of a frame; the fewest are 60.
 pub const FRAME: usize = 1514;
@@ -20,8 +32,22 @@ pub const FRAME: usize = 1514;
 /// Bytes in which any sending of tasks has room.
 pub const FRAMES: usize = 128 * FRAME;
 
-/// Bytes in which any task's input image has room.
+/// Bytes in which any task's image has room.
 pub const IMAGE: usize = 16 * 1486;
 
 /// The bytes of a simulated slave's memory.
 pub const SLAVE_MEMORY: usize = 12_288;
+
+/// The first byte of the source address of a master's own EtherCAT frames, beside those of the library.
+pub const OTHER_SOURCE: u8 = 0x06;
+
+/// The version of the library that is linked: its three numbers.
+///
+/// ```
+/// assert_eq!(zangjulf::version(), (0, 1, 0));
+/// ```
+pub fn version() -> (u32, u32, u32) {
+    let (mut major, mut minor, mut patch) = (0, 0, 0);
+    unsafe { ffi::zangjulf_version(&mut major, &mut minor, &mut patch) };
+    (major, minor, patch)
+}

@@ -1,0 +1,99 @@
+"""What the package refuses, and how it names it: python3 refusals.py PROJECT [LAYOUT]. It ends with an error at the first that is
+another. LAYOUT is what tools/embed/layout.c prints of the header's structs; the package's are compared with them."""
+
+import copy
+import ctypes
+import pickle
+import re
+import sys
+import threading
+from pathlib import Path
+
+import zangjulf
+from zangjulf import library
+
+
+def raises(fault, call, *arguments):
+    """Whether a call raises exactly this exception."""
+    try:
+        call(*arguments)
+    except Exception as raised:
+        assert type(raised) is fault, f"{raised!r} in place of {fault}"
+        return raised
+    raise AssertionError(f"{fault} isn't raised")
+
+
+def faults_are_those_of_the_header():
+    """Each number, name and text, as the header has them."""
+    header = Path(__file__).resolve().parents[2] / "include/zangjulf.h"
+    listed = re.findall(r'ANSWER\((\w+), (\d+), "(.*)"\)', header.read_text(encoding="utf-8"))
+    answers = {int(number): (name, text) for name, number, text in listed}
+    for done in (0, 101, 102, 103):
+        del answers[done]
+    assert set(answers) == set(zangjulf.FAULTS)
+    for number, fault in zangjulf.FAULTS.items():
+        name, text = answers[number]
+        assert (fault.__name__.upper(), fault.text) == (name.replace("_", ""), text)
+
+
+def structs_are_those_of_the_header(layout):
+    """Each struct's bytes, and each field's place and bytes."""
+    rows = [line.split() for line in layout.read_text(encoding="utf-8").splitlines()]
+    for struct, field, at, size in rows:
+        name = "".join(word.capitalize() for word in struct.split("_")[1:]) or "Handle"
+        declared = getattr(library, name)
+        if field == "-":
+            expected, fields = (0, ctypes.sizeof(declared)), sum(row[0] == struct for row in rows) - 1
+            assert len(declared._fields_) == fields, f"{struct} has {fields} fields"
+        else:
+            expected = (getattr(declared, field).offset, getattr(declared, field).size)
+        assert (int(at), int(size)) == expected, f"{struct} {field} is at {at}, of {size} bytes"
+
+
+def refusals(text):
+    raised = raises(zangjulf.ProjectNotToml, zangjulf.Line, b"[[")
+    assert isinstance(raised, zangjulf.ProjectFault) and str(raised) == "the text is no TOML document in UTF-8"
+    fault, location = zangjulf.locate(b"\n[[")
+    assert fault is zangjulf.ProjectNotToml and location.line == 2
+    fault, location = zangjulf.locate(b"[[slave]]\nstation = 7\n[[slave]]\nstation = 7\n")
+    assert fault is zangjulf.ProjectRepeatedStation and (location.first.slave, location.place.slave) == (0, 1)
+    assert zangjulf.locate(text) is None
+    with zangjulf.Line(text) as line:
+        for copied in (copy.copy, copy.deepcopy, pickle.dumps):
+            raises(TypeError, copied, line)
+        assert raises(zangjulf.Unprogrammed, line.send, 0).detail == 12
+        assert isinstance(raises(zangjulf.Short, line.arrive, b""), zangjulf.FrameFault)
+        raises(zangjulf.NotPresent, line.disconnect, 100)
+        raises(zangjulf.IsInput, line.put_value, 12, 1, bytearray(14))
+        raises(TypeError, line.put_value, 2, 1, bytes(14))
+        raises(ValueError, line.place, -1)
+        raises(ValueError, line.part, 256)
+        assert line.next_change() is None
+    raises(zangjulf.Closed, lambda: line.epoch)
+    raises(zangjulf.Misused, zangjulf.get_bits, b"", 0, 1)
+
+
+def threads_share_a_line(text):
+    """Two threads with one line: no call meets another one."""
+    with zangjulf.Line(text) as line:
+        looks = []
+
+        def look():
+            looks.extend(line.epoch for _ in range(20_000))
+
+        looking = threading.Thread(target=look)
+        looking.start()
+        for _ in range(200):
+            line.connect(100)
+            line.disconnect(100)
+        looking.join()
+        assert len(looks) == 20_000 and looks == sorted(looks) and line.epoch == 400
+
+
+project = Path(sys.argv[1]).read_bytes()
+faults_are_those_of_the_header()
+for layout in sys.argv[2:]:
+    structs_are_those_of_the_header(Path(layout))
+refusals(project)
+threads_share_a_line(project)
+print("refusals: all as written")

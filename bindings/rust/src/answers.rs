@@ -1,0 +1,215 @@
+//! What calls are asked, and what they answer.
+
+/// The direction of a variable.
+#[derive(Clone, Copy, Debug, PartialEq, Eq)]
+pub enum Dir {
+    /// From the master to the slave.
+    Out,
+    /// From the slave to the master.
+    In,
+}
+
+/// Where a variable is placed.
+#[derive(Clone, Copy, Debug, PartialEq, Eq)]
+pub struct Place {
+    /// The task, 0 to 7.
+    pub task: u8,
+    /// Its datagram's number in the task, 0 to 15.
+    pub datagram: u8,
+    /// Its first bit in the datagram's data, counted from the least significant bit of byte 0.
+    pub bit: u16,
+    /// Its bits, 1 to 64.
+    pub bits: u8,
+    /// Its direction.
+    pub dir: Dir,
+    /// Its first bit in its task's image: of what the task posts, and of what it reads.
+    pub image_bit: u32,
+}
+
+/// A datagram of a task.
+#[repr(C)]
+#[derive(Clone, Copy, Debug, Default, PartialEq, Eq)]
+pub struct Datagram {
+    /// Its logical address.
+    pub address: u32,
+    /// The bytes of its data, 1 to 1,486.
+    pub length: u16,
+    /// Its expected working counter.
+    pub expected: u16,
+    /// The bytes of the task's earlier datagrams.
+    pub offset: u16,
+}
+
+/// The bytes of a task's image.
+#[repr(C)]
+#[derive(Clone, Copy, Debug, Default, PartialEq, Eq)]
+pub struct Part {
+    /// Its outputs, which come first: as many bytes as a post has.
+    pub outputs: u16,
+    /// Its inputs.
+    pub inputs: u16,
+}
+
+/// A register block.
+#[repr(C)]
+#[derive(Clone, Copy, Debug, Default, PartialEq, Eq)]
+pub struct Block {
+    /// The register at which it begins.
+    pub start: u16,
+    /// Its bytes: 8 of a sync manager, 16 of an FMMU.
+    pub size: usize,
+}
+
+/// A register block that is owed.
+#[repr(C)]
+#[derive(Clone, Copy, Debug, Default, PartialEq, Eq)]
+pub struct OwedBlock {
+    /// The slave's station address.
+    pub station: u16,
+    /// The register at which it begins.
+    pub start: u16,
+    /// Its bytes: 8 of a sync manager, 16 of an FMMU.
+    pub size: u8,
+}
+
+/// A register write that was sent.
+#[derive(Clone, Copy, Debug, PartialEq, Eq)]
+pub struct Write<'a> {
+    /// Its frame.
+    pub frame: &'a [u8],
+    /// The block that it writes.
+    pub block: OwedBlock,
+}
+
+/// What an edit does.
+#[repr(C)]
+#[derive(Clone, Copy, Debug, Default, PartialEq, Eq)]
+pub struct Cost {
+    /// The epoch that begins with it.
+    pub epoch: u32,
+    /// How many spans of touched tasks aren't settled; an emptied task counts one.
+    pub recut: u32,
+    /// How many register blocks of the new line weren't blocks of the old line with the same bytes at the same register.
+    pub moved: u32,
+    /// How many variables have another place, appear or go.
+    pub places: u32,
+    pub(crate) crowded: u8,
+}
+
+/// An edit of the line.
+#[derive(Clone, Copy, Debug, PartialEq, Eq)]
+pub enum Edit<'a> {
+    /// The group with this alias joins the line.
+    Connect(u16),
+    /// The group with this alias leaves the line.
+    Disconnect(u16),
+    /// An area of a present slave gets these PDOs assigned, in this order.
+    Remap {
+        /// The slave's station address.
+        station: u16,
+        /// The area's place in the slave's record, from 0.
+        area: u8,
+        /// The indexes of the PDOs.
+        pdos: &'a [u16],
+    },
+    /// An area of a present slave moves to a task.
+    Move {
+        /// The slave's station address.
+        station: u16,
+        /// The area's place in the slave's record, from 0.
+        area: u8,
+        /// The task, 0 to 7.
+        task: u8,
+    },
+    /// The group of this text is declared after the others; it is absent until it is connected.
+    Declare(&'a [u8]),
+}
+
+/// What an arrival is for a datagram.
+#[derive(Clone, Copy, Debug, PartialEq, Eq)]
+pub enum OutcomeKind {
+    /// Its data are what its task reads now.
+    Inputs,
+    /// It came back with another working counter, and what its task reads is as it was.
+    WrongCount,
+    /// It was sent again since, and what its task reads is as it was.
+    SentAgain,
+}
+
+/// A datagram that arrived.
+#[derive(Clone, Copy, Debug, PartialEq, Eq)]
+pub struct Outcome {
+    /// What the arrival is for it.
+    pub kind: OutcomeKind,
+    /// Its task, 0 to 7.
+    pub task: u8,
+    /// Its number in the task, 0 to 15.
+    pub datagram: u8,
+    /// The expected working counter.
+    pub expected: u16,
+    /// The one that it came back with.
+    pub got: u16,
+    /// The byte of the frame at which its data begin.
+    pub at: u16,
+    /// The bytes of its data.
+    pub length: u16,
+}
+
+impl Outcome {
+    /// Its data in the frame that arrived, also of a wrong counter; none where the frame is another one and too short.
+    pub fn data<'a>(&self, frame: &'a [u8]) -> Option<&'a [u8]> {
+        let at = usize::from(self.at);
+        frame.get(at..at + usize::from(self.length))
+    }
+}
+
+/// What a task reads.
+#[derive(Clone, Copy, Debug, PartialEq, Eq)]
+pub struct Image<'a> {
+    /// The epoch whose places the data are in.
+    pub epoch: u32,
+    /// How many datagrams the task has, at most 16.
+    pub datagrams: usize,
+    /// The data of each, at its offset; zeros where it has none.
+    pub bytes: &'a [u8],
+    pub(crate) has: u16,
+    pub(crate) serials: [u64; 16],
+}
+
+impl Image<'_> {
+    /// The serial of the sending that a datagram's data answer; none where it has no data in this epoch.
+    pub fn serial(&self, datagram: u8) -> Option<u64> {
+        let serial = self.serials.get(usize::from(datagram))?;
+        (self.has >> datagram & 1 == 1).then_some(*serial)
+    }
+}
+
+/// How often a datagram was sent, and what arrivals were for it, since the line was opened.
+#[repr(C)]
+#[derive(Clone, Copy, Debug, Default, PartialEq, Eq)]
+pub struct Counters {
+    /// Sendings.
+    pub sent: u64,
+    /// Good answers.
+    pub good: u64,
+    /// Answers with another working counter.
+    pub wrong: u64,
+    /// Answers to a sending that wasn't the last one.
+    pub again: u64,
+}
+
+/// A change of what tasks read.
+#[derive(Clone, Copy, Debug, PartialEq, Eq)]
+pub enum Change<'a> {
+    /// An edit was accepted: an epoch began, in which no datagram has data yet.
+    Swapped,
+    /// A datagram has a good answer.
+    Good {
+        /// The task, 0 to 7.
+        task: u8,
+        /// The datagram's number in the task, 0 to 15.
+        datagram: u8,
+        /// Its data.
+        data: &'a [u8],
+    },
+}
