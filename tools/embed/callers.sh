@@ -1,0 +1,81 @@
+# Callers of the library in C, C++, Rust and Python, over build/; for tools/embed.sh, which reads checks.sh first.
+wrapped=-Wl,--wrap=malloc,--wrap=realloc,--wrap=free
+warnings="-Wall -Wextra -Wpedantic -Werror"
+
+# compiled NAME WORDS..: a C caller of tools/embed, with what else it is made of
+compiled() {
+    caller=$1
+    shift
+    gcc -std=c11 -g -O1 $warnings "$@" -Iinclude "tools/embed/$caller.c" build/libzangjulf.a -o "$scratch/$caller"
+}
+
+# compiled_fuzz WORDS..: the caller that draws, likewise
+compiled_fuzz() {
+    compiled fuzz tools/embed/draws.c tools/embed/growths.c tools/embed/model.c tools/embed/news.c tools/embed/words.c $wrapped "$@"
+}
+
+# edges LABEL FLAGS..: what a caller may do wrong
+edges() {
+    label=$1
+    shift
+    compiled edges "$@" && timeout 60 "$scratch/edges" examples/tool_changer.toml >"$scratch/printed"
+    tell_said $? "$label"
+}
+
+# threads LABEL FLAGS..: threads that meet at one handle
+threads() {
+    label=$1
+    shift
+    compiled threads -D_POSIX_C_SOURCE=200809L -pthread "$@" && timeout 60 "$scratch/threads" examples/tool_changer.toml >"$scratch/printed" 2>&1
+    tell_said $? "$label"
+}
+
+# header: alone, as C11 and as C++17; and a C++ program that asks what it is linked with
+header() {
+    echo '#include "zangjulf.h"' >"$scratch/alone.c"
+    gcc -std=c11 $warnings -Wconversion -Wsign-conversion -Iinclude -fsyntax-only "$scratch/alone.c"
+    tell $? "the header isn't C11 without warnings"
+    g++ -std=c++17 $warnings -Wconversion -Wsign-conversion -Iinclude -fsyntax-only -x c++ "$scratch/alone.c"
+    tell $? "the header isn't C++17 without warnings"
+    gcc -std=c11 $warnings -Iinclude tools/embed/layout.c -o "$scratch/layout" && "$scratch/layout" >"$scratch/layout.txt"
+    tell $? "the header's structs aren't printed"
+    g++ -std=c++17 $warnings -Iinclude tools/embed/linked.cpp build/libzangjulf.a -o "$scratch/linked" &&
+        "$scratch/linked" >"$scratch/printed"
+    tell_said $? "the library is another version than the header's"
+}
+
+# callers_in_c CALLS: players, callers that do wrong, the page's cycle, and so many drawn calls
+callers_in_c() {
+    compiled play tools/embed/words.c -fsanitize=address,undefined
+    tell $? "the C player isn't built"
+    play C "$scratch/play"
+    edges "C callers that do wrong" -fsanitize=address,undefined
+    edges "growths refused to a C caller" -DWRAPPED tools/embed/growths.c $wrapped
+    compiled steady tools/embed/growths.c $wrapped && timeout 60 "$scratch/steady" >"$scratch/printed"
+    tell_said $? "a cycle that takes memory"
+    threads "threads that meet at one handle"
+    compiled_fuzz && timeout 900 "$scratch/fuzz" examples/tool_changer.toml "$1" 1 >"$scratch/printed"
+    tell_said $? "$1 drawn calls from C"
+    gcc -std=c11 -O2 $warnings -Iinclude examples/master/master.c build/libzangjulf.a -o "$scratch/master"
+    tell $? "the master isn't built"
+    gcc -std=c11 -g -O1 $warnings -fsanitize=address,undefined -Iinclude examples/cycle/cycle.c build/libzangjulf.a -o "$scratch/cycle" &&
+        timeout 60 "$scratch/cycle" examples/tool_changer.toml >"$scratch/printed" && diff examples/cycle/cycle.out "$scratch/printed"
+    tell_said $? "the cycle of docs/EMBEDDING.md: < is written, > is printed"
+}
+
+# callers_in_rust: the crate's player, and the examples in its pages
+callers_in_rust() {
+    export CARGO_TARGET_DIR=$scratch/target ZANGJULF_LIB_DIR=$PWD/build ZANGJULF_LAYOUT=$scratch/layout.txt
+    cargo build --quiet --offline --release --manifest-path bindings/rust/Cargo.toml --example play >"$scratch/printed" 2>&1
+    tell_said $? "the Rust player isn't built"
+    play Rust "$scratch/target/release/examples/play"
+    cargo test --quiet --offline --manifest-path bindings/rust/Cargo.toml >"$scratch/printed" 2>&1
+    tell_said $? "an example in the crate's pages fails, or its structs are laid out in another way"
+}
+
+# callers_in_python: the package's player, and what it refuses
+callers_in_python() {
+    play Python python3 bindings/python/play.py
+    timeout 60 python3 bindings/python/refusals.py examples/tool_changer.toml "$scratch/layout.txt" >"$scratch/printed" 2>&1
+    tell_said $? "what the Python package refuses, or how its structs are laid out"
+}

@@ -1,0 +1,51 @@
+# Drawn calls beside what the program hotline prints of the same commands; for tools/embed.sh, which reads checks.sh and
+# callers.sh first, and sets `hotline`.
+
+# same_inside PROGRAM..: whether each script that was drawn is answered by the program as it was by the library
+same_inside() {
+    for script in "$scratch"/drawn/*.in; do
+        timeout 60 "$@" <"$script" >"$scratch/inside"
+        cmp -s "${script%.in}.out" "$scratch/inside" && continue
+        diff "${script%.in}.out" "$scratch/inside" | cut -c 1-200 | head -n 6 >"$scratch/difference"
+        return 1
+    done
+}
+
+# drawn PROJECT CALLS SEED: draws calls, and writes those for which the program has commands
+drawn() {
+    rm -rf "$scratch/drawn"
+    mkdir "$scratch/drawn"
+    : >"$scratch/difference"
+    (timeout 300 "$scratch/fuzz" "$1" "$2" "$3" "$scratch/drawn" $declare >"$scratch/printed") 2>/dev/null
+}
+
+# compare_drawn: drawn calls beside the program, in three projects; then wrong programs and wrong libraries
+compare_drawn() {
+    declare=
+    printf '%%%%\ndeclare\n%%%%\n' | "$hotline" | grep -q '^declare fault' && declare=declare
+    [ -n "$declare" ] || echo "embed: the program has no command for a declaration; those that are drawn aren't compared"
+    commands=0
+    for project in examples/tool_changer.in examples/bit_terminals.in examples/two_groups.in; do
+        for seed in 1 2; do
+            drawn $project 30000 $seed && same_inside "$hotline"
+            tell $? "calls drawn of $project by seed $seed: < is answered from C, > is printed inside" ||
+                cat "$scratch/printed" "$scratch/difference"
+            commands=$((commands + $(sed -n 's/.*, \([0-9]*\) of them written as commands.*/\1/p' "$scratch/printed")))
+        done
+    done
+    echo "embed: $commands commands are answered from C as inside the language"
+    [ "$commands" -ge 20000 ]
+    tell $? "fewer than 20,000 commands were compared"
+    drawn examples/tool_changer.in 30000 3
+    for way in byte line epoch; do
+        ! same_inside "$scratch/wrong" $way "$hotline"
+        tell $? "drawn calls agree with a program with another $way"
+    done
+    for name in place read read=2 read=3 connect arrive arrive=2 next_change next_write preview post close counters owed_block \
+        get_value put_bits; do
+        compiled_fuzz tools/embed/wrong.c -DWRONG_$name -Wl,--wrap=zangjulf_${name%=*}
+        tell $? "the wrong $name isn't built"
+        ! { drawn examples/tool_changer.in 30000 3 && same_inside "$hotline"; }
+        tell $? "drawn calls don't find the wrong $name"
+    done
+}

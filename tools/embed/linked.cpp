@@ -1,0 +1,13 @@
+/* What is linked is what the header says: asked from C++ for its version and its binary interface. It ends with status 1 where
+ * one of them is another than the header's. */
+#include <cstdio>
+
+#include "zangjulf.h"
+
+int main() {
+    uint32_t major = 99, minor = 99, patch = 99;
+    zangjulf_version(&major, &minor, &patch);
+    std::printf("zangjulf %u.%u.%u, binary interface %u\n", major, minor, patch, zangjulf_abi());
+    bool is_same = major == ZANGJULF_VERSION_MAJOR && minor == ZANGJULF_VERSION_MINOR && patch == ZANGJULF_VERSION_PATCH;
+    return !(is_same && zangjulf_abi() == ZANGJULF_ABI);
+}
