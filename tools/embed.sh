@@ -69,7 +69,8 @@ fi
 [ -e $hotline ] || (cd crates/hotline && rt run <stdin) >"$scratch/printed" 2>&1
 [ -e $hotline ]
 tell_said $? "the program isn't built"
-! has gcc || threads "threads that meet, under the thread sanitizer" -fsanitize=thread
+tools/embed/races.sh >"$scratch/printed" 2>&1
+tell_said $? "the thread sanitizer over the library's own code"
 ! { has gcc && has rustc && rustc -O --edition 2021 -o "$scratch/wrong" compare/wrong_program.rs; } || compare_drawn
 ! { has gcc && has readelf; } || installed
 ! has cargo || rust_outside

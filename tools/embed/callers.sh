@@ -53,7 +53,8 @@ callers_in_c() {
     edges "growths refused to a C caller" -DWRAPPED tools/embed/growths.c $wrapped
     compiled steady tools/embed/growths.c $wrapped && timeout 60 "$scratch/steady" >"$scratch/printed"
     tell_said $? "a cycle that takes memory"
-    threads "threads that meet at one handle"
+    threads "threads that meet at one handle" -O2
+    threads "threads that meet at one handle, under the address sanitizer" -fsanitize=address,undefined
     compiled_fuzz && timeout 900 "$scratch/fuzz" examples/tool_changer.toml "$1" 1 >"$scratch/printed"
     tell_said $? "$1 drawn calls from C"
     gcc -std=c11 -O2 $warnings -Iinclude examples/master/master.c build/libzangjulf.a -o "$scratch/master"
