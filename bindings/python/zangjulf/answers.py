@@ -92,11 +92,11 @@ class Outcome(NamedTuple):
 
 
 class Arrival(NamedTuple):
-    """What an arrival answers, the serial of the sending that it answers, its datagrams, and of a register write the slave's
-    station address and the register."""
+    """What an arrival answers, the serial that the frame bears, its datagrams, and of a register write the slave's station address
+    and the register."""
 
     answers: Arrived
-    serial: int | None
+    serial: int
     outcomes: list[Outcome]
     station: int | None
     start: int | None

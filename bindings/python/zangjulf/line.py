@@ -191,14 +191,13 @@ class Line:
         return self._found(made, "preview", task, datagram, *c.slice_of(self._out), byref(size))
 
     def arrive(self, data: Bytes) -> Arrival:
-        """A frame arrives: what it answers. A `FrameFault` of one that can't be read, which is somebody else's; `ChangesFull`
-        where the line keeps changes, `Memory`."""
+        """A frame arrives: what it answers. A `FrameFault` of one that can't be read, which is somebody else's; `Memory`."""
         it = c.Arrival()
         number = self._call("arrive", *c.slice_of(data), self._outcomes, _OUTCOMES, byref(it))
         if number in (101, 102):
             return Arrival(Arrived(number), it.serial, [], it.station, it.start)
         if number == 103:
-            return Arrival(Arrived.STALE, None, [], None, None)
+            return Arrival(Arrived.STALE, it.serial, [], None, None)
         self._done(number)
         return Arrival(Arrived.TASKS, it.serial, [_outcome(one, data) for one in self._outcomes[: it.datagrams]], None, None)
 

@@ -87,7 +87,7 @@ fn arrive(line: &mut Line, bytes: &[u8], out: &mut impl Write) -> Told {
     match line.arrive(bytes)? {
         Arrival::WriteDone(_) => writeln!(out, "write done")?,
         Arrival::WriteMissed(_) => writeln!(out, "write missed")?,
-        Arrival::Stale => writeln!(out, "stale")?,
+        Arrival::Stale { .. } => writeln!(out, "stale")?,
         Arrival::Answered { mut outcomes, .. } => outcomes.try_for_each(|it| outcome(it, out))?,
     }
     Ok(())

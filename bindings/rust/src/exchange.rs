@@ -20,7 +20,10 @@ pub enum Arrival<'a> {
     /// It answers a register write that no slave took: the block stays owed.
     WriteMissed(Written),
     /// It answers nothing that is awaited.
-    Stale,
+    Stale {
+        /// The serial that the frame bears.
+        serial: u64,
+    },
 }
 
 /// The register write that an arrival answers.
@@ -181,8 +184,8 @@ impl Line {
         }
     }
 
-    /// A frame arrives: any bytes, without the check sequence. The faults 20 to 27 of a frame that can't be read, `ChangesFull`
-    /// where the line keeps changes, `Memory`; then nothing changed.
+    /// A frame arrives: any bytes, without the check sequence. The faults 20 to 27 of a frame that can't be read, `Memory`;
+    /// then nothing changed.
     ///
     /// ```
     /// # fn main() -> Result<(), Box<dyn std::error::Error>> {
@@ -193,7 +196,7 @@ impl Line {
     /// // it comes back as it was sent: no slave took it
     /// let Arrival::WriteMissed(written) = line.arrive(sent)? else { panic!("a register write") };
     /// assert_eq!((written.serial, written.station, written.start), (0, 1002, 0x0810));
-    /// assert!(matches!(line.arrive(sent)?, Arrival::Stale));
+    /// assert!(matches!(line.arrive(sent)?, Arrival::Stale { serial: 0 }));
     /// assert_eq!(line.arrive(&[]).err(), Some(zangjulf::Fault::Short));
     /// # Ok(())
     /// # }
@@ -219,7 +222,7 @@ impl Line {
             }
             101 => Ok(Arrival::WriteDone(written)),
             102 => Ok(Arrival::WriteMissed(written)),
-            103 => Ok(Arrival::Stale),
+            103 => Ok(Arrival::Stale { serial: it.serial }),
             fault => Err(Fault::of(fault, 0)),
         }
     }
