@@ -113,7 +113,6 @@ extern "C" {
     ANSWER(PROJECT_UNKNOWN_PDO, 209, "an assigned PDO is not one offered PDO") \
     ANSWER(PROJECT_AREA_TOO_BIG, 210, "an area has more bits than a datagram, 11,888") \
     ANSWER(PROJECT_NOT_ONE_GROUP, 212, "the text is a project, but not one group's") \
-    ANSWER(CHANGES_FULL, 252, "as many changes wait as the line was opened to keep") \
     ANSWER(BUSY, 253, "another call with the handle runs") \
     ANSWER(MISUSED, 254, "what the call asks of its caller does not hold") \
     ANSWER(CLOSED, 255, "the handle is closed")

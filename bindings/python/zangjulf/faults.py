@@ -351,13 +351,6 @@ class ProjectNotOneGroup(ProjectFault):
     text = "the text is a project, but not one group's"
 
 
-class ChangesFull(Fault):
-    """As many changes wait as the line was opened to keep."""
-
-    number = 252
-    text = "as many changes wait as the line was opened to keep"
-
-
 class Busy(Fault):
     """Another call with the handle runs."""
 
