@@ -243,7 +243,11 @@ if has gcc; then
     compiled steady tools/embed/growths.c $wrapped && timeout 60 "$scratch/steady"
     tell $? "a cycle that takes memory"
     threads "threads that meet at one handle" -O2
-    threads "threads that meet at one handle, under the thread sanitizer" -fsanitize=thread
+    threads "threads that meet at one handle, under the address sanitizer" -fsanitize=address,undefined
+    tools/embed/races.sh >"$scratch/printed" 2>&1
+    status=$?
+    tell $status "the thread sanitizer over the library's own code"
+    [ $status -eq 0 ] || tail -n 30 "$scratch/printed"
     compiled_fuzz && timeout 900 "$scratch/fuzz" examples/tool_changer.toml 2000000 1
     tell $? "two million drawn calls from C"
     if has rustc && rustc -O --edition 2021 -o "$scratch/wrong" compare/wrong_program.rs; then
