@@ -367,7 +367,8 @@ struct zangjulf_sent {
 /* Tasks are sent, 1 to 8 and none twice, in this order: their frames stand at the front of `out` one after another, each of its
  * own size (`zangjulf_frame_size`). ZANGJULF_DONE; 8, 17, 19, or 29 with the bytes needed in `sent->size`; ZANGJULF_MISUSED
  * where there is no task, more than 8 or one twice; ZANGJULF_MEMORY or ZANGJULF_CLOSED. Unless it is done nothing is sent and
- * nothing changed, `out` neither. Takes no memory: the list of its frames has had its room since the opening. */
+ * nothing changed, `out` neither. Takes no memory after the first cycles: the list of its frames has had its room since the
+ * opening, and that of buffers which are used again grows to 128; where that growth is refused, a buffer is freed instead. */
 uint8_t zangjulf_send(struct zangjulf *handle, const uint8_t *tasks, size_t count, uint8_t *out, size_t length,
                       struct zangjulf_sent *sent);
 

@@ -54,7 +54,8 @@ fn give_back(core: &mut Core, changes: &mut Vec<Change>)
 impl Embedded {
     ghost use Rattle.hc_c.specs.Embedded.{settled};
 
-    /// Where changes aren't kept, those that came are let go, and their memory serves those to come. It takes no memory.
+    /// Where changes aren't kept, those that came are let go, and their memory serves those to come. It takes none but for the
+    /// core's list of such buffers, while that grows to 128; where it is refused, a buffer is freed instead (`Core::give_back`).
     pub fn settle(&mut self, alloc: Global)
         ensures { self.new ≡ settled self.old }
     {
