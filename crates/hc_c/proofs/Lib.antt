@@ -3,7 +3,6 @@ mod Asked
 mod Boxed
 mod Images
 mod InFrame
-mod Projects
 mod Refusals
 mod Returned
 mod Rooms

@@ -1,6 +1,6 @@
 use Rattle.std.proofs.Common.{◌∙◌, List, ap, length, subst, sym}
 use Rattle.hc_places.specs.declared.table.Datagram.{Datagram}
-use Rattle.hc_c.specs.Reads.{HoldsImage, fit_number, image_size}
+use Rattle.hc_c.specs.Reads.{HoldsImage, datagrams_of, fit_number, image_size}
 use Rattle.hc_c.proofs.Images.{listed-here, listed-lengths, read-numbered}
 use Rattle.hc_c.proofs.reading.tell_image.Goals as goal
 
@@ -12,7 +12,7 @@ pub returns-clause-number : goal.returns-clause-number
 returns-clause-number c =
     let here = listed-here c.args.core.now.past c.plan.result.now c.places.result.now c.args.task c.datagrams-datagrams.result.now c.plan.ensures.state c.places.ensures.table c.datagrams-datagrams.ensures.datagrams in
     c.tell_slots.ensures.number ∙ ap (λ (all : List Datagram). fit_number (image_size all) (length c.args.out.now)) here
-    ∙ sym (read-numbered c.args.core.now.past c.args.task (image_size _) (length c.args.out.now) c.if-task-ge-TASKS.false)
+    ∙ sym (read-numbered c.args.core.now.past c.args.task (image_size (datagrams_of c.args.core.now.past c.args.task)) (length c.args.out.now) c.if-task-ge-TASKS.false)
 
 pub returns-clause-image : goal.returns-clause-image
 returns-clause-image c done =
