@@ -28,6 +28,7 @@ use Rattle.hc_core.proofs.lemmas.Arriving.{stale-leaves}
 use Rattle.hc_c.specs.Arrivals.{Tells, arrival_of, judged_in, number_of, outcomes_from, outcomes_in, serial_in, written_in}
 use Rattle.hc_c.specs.declared.arriving.Arrival.{Arrival}
 use Rattle.hc_c.specs.declared.arriving.Outcome.{Outcome}
+use Rattle.hc_c.specs.Counts.{Counts, all_judged}
 use Rattle.hc_c.specs.Lists.{put}
 use Rattle.hc_c.specs.Returned.{arrived_number, first_written, told_arrival, told_parts}
 use Rattle.hc_c.proofs.Returned.{outcomes-told, written-told}
@@ -46,9 +47,9 @@ none_put before after same = same ∙ sym (put-nothing before)
 early_told : (found : Option FrameFault) (fault : FrameFault) → found ≡ Some fault → IfSome (option_map frame_refusal found) (λ one. answer.Refused (frame_refusal fault) ≡ answer.Refused one)
 early_told found fault is = subst (λ (one : Option FrameFault). IfSome (option_map frame_refusal one) (λ other. answer.Refused (frame_refusal fault) ≡ answer.Refused other)) (sym is) refl
 
-pub refused-told : (old new : Record) (bytes : List ℕ) (fault : FrameFault) (number : ℕ) (before after : List Outcome) (whole whole' : Arrival) → fault_in bytes ≡ Some fault
-    → number ≡ core_fault_number (frame_refusal fault) → new ≡ old → after ≡ before → whole' ≡ whole → Tells old new bytes number before after whole whole'
-refused-told old new bytes fault number before after whole whole' is numbered same untouched unwritten =
+pub refused-told : (old new : Record) (bytes : List ℕ) (fault : FrameFault) (number : ℕ) (before after : List Outcome) (whole whole' : Arrival) (counts counts' : Counts) → fault_in bytes ≡ Some fault
+    → number ≡ core_fault_number (frame_refusal fault) → new ≡ old → after ≡ before → whole' ≡ whole → counts' ≡ counts → Tells old new bytes number before after whole whole' counts counts'
+refused-told old new bytes fault number before after whole whole' counts counts' is numbered same untouched unwritten uncounted =
     let may : MayAnswer old (Arrives bytes) (answer.Refused (frame_refusal fault)) new = inl (record {
       answer = sym (ap (λ (one : Option FrameFault). told_of_arrival old (read_unless one (reading_of bytes))) is);
       entries = same ∙ sym (ap (λ (one : Option FrameFault). with_arrival old (read_unless one (reading_of bytes))) is);
@@ -61,6 +62,7 @@ refused-told old new bytes fault number before after whole whole' is numbered sa
       numbered = numbered;
       outcomes = none_put before after untouched;
       arrival_is = unwritten;
+      counted = uncounted;
     }
 
 -- want of memory
@@ -68,9 +70,9 @@ refused-told old new bytes fault number before after whole whole' is numbered sa
 never_early : (told : Answer) (found : Option FrameFault) → found ≡ None → IfSome (option_map frame_refusal found) (λ one. told ≡ answer.Refused one)
 never_early told found is = subst (λ (one : Option FrameFault). IfSome (option_map frame_refusal one) (λ other. told ≡ answer.Refused other)) (sym is) tt
 
-pub memory-told : (old new : Record) (bytes : List ℕ) (before after : List Outcome) (whole whole' : Arrival) → fault_in bytes ≡ None → new ≡ old → after ≡ before → whole' ≡ whole
-    → Tells old new bytes 28 before after whole whole'
-memory-told old new bytes before after whole whole' none same untouched unwritten =
+pub memory-told : (old new : Record) (bytes : List ℕ) (before after : List Outcome) (whole whole' : Arrival) (counts counts' : Counts) → fault_in bytes ≡ None → new ≡ old → after ≡ before → whole' ≡ whole
+    → counts' ≡ counts → Tells old new bytes 28 before after whole whole' counts counts'
+memory-told old new bytes before after whole whole' counts counts' none same untouched unwritten uncounted =
     let may : MayAnswer old (Arrives bytes) (answer.Refused Memory) new = inr (record { takes = refl; answer = refl; entries = same }) in
     record {
       told = answer.Refused Memory;
@@ -80,6 +82,7 @@ memory-told old new bytes before after whole whole' none same untouched unwritte
       numbered = refl;
       outcomes = none_put before after untouched;
       arrival_is = unwritten;
+      counted = uncounted;
     }
 
 -- what was read
@@ -109,18 +112,17 @@ reachable_before old new bytes none grown reachable =
 state_before : (old new : Record) (bytes : List ℕ) → fault_in bytes ≡ None → new ≡ entries_after old (Arrives bytes) → state_of new ≡ state_of old
 state_before old new bytes none grown = ap state_of (grown ∙ ap (with_arrival old) (read_ok bytes none))
 
-outcomes_put : (old new : Record) (bytes : List ℕ) (which : Arrived) (list : List core.Outcome) (state : State) (before after : List Outcome) → IsDone old new bytes which list state
-    → after ≡ put (told_parts (table_of (line state)) list (placed_from 16 (reading_of bytes).parts)) before → after ≡ put (outcomes_in (told_with which list) (judged_by old (reading_of bytes))) before
-outcomes_put old new bytes arrived.Answered list state before after done is =
-    is ∙ ap (λ (told : List Outcome). put told before)
-    (outcomes-told old state (reading_of bytes) list (reachable_before old new bytes done.none done.entries done.reachable) (done.state_is ∙ state_before old new bytes done.none done.entries) done.project done.uncrowded
-    (told_read old bytes (answer.Answered list) done.none done.told))
-outcomes_put old new bytes arrived.WriteDone list state before after done is =
-    is ∙ ap (λ (one : List core.Outcome). put (told_parts (table_of (line state)) one (placed_from 16 (reading_of bytes).parts)) before) (done.empty (λ e. cc))
-outcomes_put old new bytes arrived.WriteMissed list state before after done is =
-    is ∙ ap (λ (one : List core.Outcome). put (told_parts (table_of (line state)) one (placed_from 16 (reading_of bytes).parts)) before) (done.empty (λ e. cc))
-outcomes_put old new bytes arrived.Stale list state before after done is =
-    is ∙ ap (λ (one : List core.Outcome). put (told_parts (table_of (line state)) one (placed_from 16 (reading_of bytes).parts)) before) (done.empty (λ e. cc))
+outcomes_are : (old new : Record) (bytes : List ℕ) (which : Arrived) (list : List core.Outcome) (state : State) → IsDone old new bytes which list state
+    → told_parts (table_of (line state)) list (placed_from 16 (reading_of bytes).parts) ≡ outcomes_in (told_with which list) (judged_by old (reading_of bytes))
+outcomes_are old new bytes arrived.Answered list state done =
+    outcomes-told old state (reading_of bytes) list (reachable_before old new bytes done.none done.entries done.reachable) (done.state_is ∙ state_before old new bytes done.none done.entries) done.project done.uncrowded
+    (told_read old bytes (answer.Answered list) done.none done.told)
+outcomes_are old new bytes arrived.WriteDone list state done =
+    ap (λ (one : List core.Outcome). told_parts (table_of (line state)) one (placed_from 16 (reading_of bytes).parts)) (done.empty (λ e. cc))
+outcomes_are old new bytes arrived.WriteMissed list state done =
+    ap (λ (one : List core.Outcome). told_parts (table_of (line state)) one (placed_from 16 (reading_of bytes).parts)) (done.empty (λ e. cc))
+outcomes_are old new bytes arrived.Stale list state done =
+    ap (λ (one : List core.Outcome). told_parts (table_of (line state)) one (placed_from 16 (reading_of bytes).parts)) (done.empty (λ e. cc))
 
 -- its serial and its register write
 
@@ -148,11 +150,13 @@ numbered_by arrived.WriteDone list = refl
 numbered_by arrived.WriteMissed list = refl
 numbered_by arrived.Stale list = refl
 
-pub done-told : (old new : Record) (bytes : List ℕ) (which : Arrived) (list : List core.Outcome) (state : State) (number : ℕ) (before after : List Outcome) (whole whole' : Arrival) → IsDone old new bytes which list state
+pub done-told : (old new : Record) (bytes : List ℕ) (which : Arrived) (list : List core.Outcome) (state : State) (number : ℕ) (before after : List Outcome) (whole whole' : Arrival) (counts counts' : Counts) → IsDone old new bytes which list state
     → number ≡ arrived_number which → after ≡ put (told_parts (table_of (line state)) list (placed_from 16 (reading_of bytes).parts)) before → whole' ≡ told_arrival which (length list) (reading_of bytes)
-    → Tells old new bytes number before after whole whole'
-done-told old new bytes which list state number before after whole whole' done numbered puts writes =
+    → counts' ≡ all_judged counts (told_parts (table_of (line state)) list (placed_from 16 (reading_of bytes).parts))
+    → Tells old new bytes number before after whole whole' counts counts'
+done-told old new bytes which list state number before after whole whole' counts counts' done numbered puts writes counts_all =
     let told = told_with which list in
+    let are = outcomes_are old new bytes which list state done in
     let read = read_ok bytes done.none in
     let may : MayAnswer old (Arrives bytes) told new = inl (record { answer = done.told; entries = done.entries }) in
     record {
@@ -161,8 +165,10 @@ done-told old new bytes which list state number before after whole whole' done n
       early = never_early told (fault_in bytes) done.none;
       stale = stale-leaves old new (Arrives bytes) told may;
       numbered = numbered ∙ numbered_by which list;
-      outcomes = outcomes_put old new bytes which list state before after done puts
+      outcomes = puts ∙ ap (λ (one : List Outcome). put one before) are
           ∙ ap (λ (one : Result frame.Arrival FrameFault). put (outcomes_in told (judged_in old one)) before) (sym read);
       arrival_is = writes ∙ whole_is old new bytes which list state whole done
           ∙ ap (λ (one : Result frame.Arrival FrameFault). arrival_of told (serial_in one) (judged_in old one) whole) (sym read);
+      counted = counts_all ∙ ap (all_judged counts) are
+          ∙ ap (λ (one : Result frame.Arrival FrameFault). all_judged counts (outcomes_in told (judged_in old one))) (sym read);
     }

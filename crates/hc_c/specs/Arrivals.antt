@@ -21,7 +21,8 @@ use Rattle.hc_c.specs.declared.arriving.Outcome.{Outcome}
 use Rattle.hc_c.specs.declared.arriving.TheConstants.{INPUTS, SENT_AGAIN, WRONG_COUNT}
 use Rattle.hc_c.specs.declared.embedded.Embedded.{Embedded}
 use Rattle.hc_c.specs.declared.numbers.TheConstants.{DONE, STALE, WRITE_DONE, WRITE_MISSED}
-use Rattle.hc_c.specs.Embedded.{past_of, with_past}
+use Rattle.hc_c.specs.Counts.{Counts, all_judged}
+use Rattle.hc_c.specs.Embedded.{past_of, with_counts, with_past}
 use Rattle.hc_c.specs.Lists.{put}
 
 -- the kind of a datagram that came back, by what that is for its task
@@ -88,8 +89,8 @@ arrival_of answer.WriteMissed serial datagrams before = record { serial = serial
 arrival_of answer.Stale serial datagrams before = record { serial = serial; datagrams = 0; station = 0; start = 0 }
 arrival_of _ serial datagrams before = before
 
--- C is told an answer that the arrival may have, a fault of its bytes whatever memory does, and by its number; the record `new` is the one that this answer leaves; what the sending's datagrams are is told of as many as there is room for
-pub record Tells (old new : Record) (bytes : List ℕ) (number : ℕ) (before after : List Outcome) (arrival arrival' : Arrival) : Type 0 where
+-- C is told an answer that the arrival may have, a fault of its bytes whatever memory does, and by its number; the record `new` is the one that this answer leaves; what the sending's datagrams are is told of as many as there is room for, and counted of all
+pub record Tells (old new : Record) (bytes : List ℕ) (number : ℕ) (before after : List Outcome) (arrival arrival' : Arrival) (counts counts' : Counts) : Type 0 where
   pub told : Answer
   pub may : MayAnswer old (ArrivesStep bytes) told new
   pub early : TellsEarly old (ArrivesStep bytes) told
@@ -97,8 +98,9 @@ pub record Tells (old new : Record) (bytes : List ℕ) (number : ℕ) (before af
   pub numbered : number ≡ number_of told
   pub outcomes : after ≡ put (outcomes_in told (judged_in old (arrival_in bytes))) before
   pub arrival_is : arrival' ≡ arrival_of told (serial_in (arrival_in bytes)) (judged_in old (arrival_in bytes)) arrival
+  pub counted : counts' ≡ all_judged counts (outcomes_in told (judged_in old (arrival_in bytes)))
 
 -- so it is with a handle's line, of which nothing else changes
 pub record Arrives (old new : Embedded) (bytes : List ℕ) (number : ℕ) (before after : List Outcome) (arrival arrival' : Arrival) : Type 0 where
-  pub tells : Tells (past_of old) (past_of new) bytes number before after arrival arrival'
-  pub kept : new ≡ with_past old (past_of new)
+  pub tells : Tells (past_of old) (past_of new) bytes number before after arrival arrival' old.counts new.counts
+  pub kept : new ≡ with_counts (with_past old (past_of new)) new.counts

@@ -18,3 +18,4 @@ pub mod Runs
 pub mod Values
 pub mod Beside
 pub mod Locations
+pub mod Counts

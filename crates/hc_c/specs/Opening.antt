@@ -6,12 +6,13 @@ use Rattle.hc_records.specs.Edits.{crowded_task}
 use Rattle.hc_records.specs.Line.{line, opened}
 use Rattle.hc_records.specs.ProjectFault.{project_fault_number}
 use Rattle.hc_events.specs.Accepted.{just_opened}
+use Rattle.hc_c.specs.Counts.{fresh_counts}
 use Rattle.hc_c.specs.declared.embedded.Embedded.{Embedded}
 use Rattle.hc_c.specs.declared.numbers.TheConstants.{CROWDED, DONE, PROJECT}
 
--- a core in which nothing has happened, with no change to tell and no call that runs; who opens it says whether changes are kept
+-- a core in which nothing has happened, with no change to tell, nothing counted and no call that runs; who opens it says whether changes are kept
 abbrev pub fresh : Bool → List Group → Embedded
-fresh keeps groups = record { core = record { past = just_opened groups; taken = just_opened groups }; untold = []; keeps_changes = keeps; spare = tt; calls = record { count = tt } }
+fresh keeps groups = record { core = record { past = just_opened groups; taken = just_opened groups }; untold = []; keeps_changes = keeps; counts = fresh_counts; spare = tt; calls = record { count = tt } }
 
 -- it, where the text is a project
 abbrev pub opened_by : Bool → Result (List Group) ProjectFault → Option Embedded

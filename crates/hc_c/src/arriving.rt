@@ -1,10 +1,12 @@
 //! Frames arrive.
 ghost use Rattle.std.specs.Prelude.{◌≡◌, ◌≢◌, All, IfSome, None, is_some};
 ghost use Rattle.hc_c.specs.Arrivals.{Arrives, Tells};
+ghost use Rattle.hc_c.specs.Counts.{all_judged};
 ghost use Rattle.hc_c.specs.Lists.{put};
 ghost use Rattle.hc_c.specs.Returned.{IsInFrame, arrived_number, expected_in, first_written, kind_by, told_arrival, told_part, told_parts};
 ghost use Rattle.hc_c.specs.declared.numbers.TheConstants.{BUSY, CLOSED};
 
+use crate::counting::Counts;
 use crate::handle::Handle;
 use crate::numbers::{DONE, MEMORY, STALE, WRITE_DONE, WRITE_MISSED};
 use hc_core::keeping::Core;
@@ -122,6 +124,28 @@ fn put_outcomes(places: &Places, outcomes: &[CoreOutcome], parts: Parts<'_>, out
     put_outcomes(places, rest, left, others);
 }
 
+/// Counts outcomes one after another. So deep is this recursion too.
+fn count_outcomes(
+    counts: &mut Counts,
+    places: &Places,
+    outcomes: &[CoreOutcome],
+    parts: Parts<'_>,
+)
+    requires { All IsInFrame parts }
+    ensures { counts.new ≡ all_judged counts.old (told_parts places.now outcomes.now parts.entry) }
+{
+    let Some((outcome, rest)) = outcomes.split_first() else {
+        return;
+    };
+    let mut left = parts;
+    let Some(part) = left.next() else {
+        return;
+    };
+    let told = told_part(places, outcome, &part);
+    counts.count_arrival(told.kind, told.task, told.datagram);
+    count_outcomes(counts, places, rest, left);
+}
+
 /// The station address and the register that a frame's first datagram addresses.
 fn first_written(frame: &Returned<'_>) -> (u16, u16)
     ensures { result ≡ first_written frame.now.parts }
@@ -169,10 +193,11 @@ fn arrive(
     alloc: Global,
     bytes: &[u8],
     list: &mut Vec<CoreOutcome>,
+    counts: &mut Counts,
     outcomes: &mut [Outcome],
     arrival: &mut Arrival,
 ) -> u8
-    ensures tells { Tells core.old.past core.new.past bytes.now result outcomes.old outcomes.new arrival.old arrival.new }
+    ensures tells { Tells core.old.past core.new.past bytes.now result outcomes.old outcomes.new arrival.old arrival.new counts.old counts.new }
     ensures kept { core.new ≡ record core.old { past = core.new.past } }
 {
     let frame = match read_frame(bytes) {
@@ -186,12 +211,13 @@ fn arrive(
     let told = list.as_slice();
     *arrival = told_arrival(arrived, told.len(), &frame);
     put_outcomes(places, told, frame.parts(), outcomes);
+    count_outcomes(counts, places, told, frame.parts());
     arrived_number(arrived)
 }
 
 /// Bytes arrive, any, without the check sequence. `DONE` where they answer frames of tasks: `outcomes` has of each datagram,
 /// in the frame's order, what it is, as many as there is room for; a frame has at most 115. `WRITE_DONE`, `WRITE_MISSED` or
-/// `STALE`; with these four `arrival` is written, and with `DONE` alone `outcomes`. Else a fault, 20 to 27, with which the
+/// `STALE`; with these four `arrival` is written, and with `DONE` alone `outcomes`, and each datagram is counted. Else a fault, 20 to 27, with which the
 /// bytes can't be read, or `MEMORY`; or `BUSY` or `CLOSED`; then nothing changed and nothing is written. The answers are this
 /// project's profile over frames of ETG.1000.4, 5.3 and 5.4.
 #[unsafe(no_mangle)]
@@ -216,6 +242,7 @@ pub extern "C" fn zangjulf_arrive(
         alloc,
         bytes,
         &mut own.spare.outcomes,
+        &mut own.counts,
         outcomes,
         arrival,
     );

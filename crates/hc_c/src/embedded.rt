@@ -2,6 +2,7 @@
 ghost use Rattle.std.specs.Prelude.{◌≡◌};
 
 use crate::calls::Calls;
+use crate::counting::Counts;
 use crate::spare::Spare;
 use crate::untold::Untold;
 use hc_core::keeping::Core;
@@ -10,7 +11,7 @@ use hc_records::limits::{MOST_DATAGRAMS, TASKS};
 use std::alloc::Global;
 use std::mem;
 
-/// A core, the changes that were taken from it and that C wasn't told yet, lists that its calls use again, and the calls that
+/// A core, the changes that were taken from it and that C wasn't told yet, what was counted, lists that its calls use again, and the calls that
 /// run.
 pub struct Embedded {
     /// The core.
@@ -19,6 +20,8 @@ pub struct Embedded {
     pub untold: Untold,
     /// Whether changes are kept until C asks for them.
     pub keeps_changes: bool,
+    /// How often each datagram was sent, and what arrivals were for it.
+    pub counts: Counts,
     /// The lists.
     pub spare: Spare,
     /// The calls.
@@ -31,6 +34,7 @@ impl Drop for Embedded {
             core: _,
             untold: _,
             keeps_changes: _,
+            counts: _,
             spare: _,
             calls: _,
         } = self;

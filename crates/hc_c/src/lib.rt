@@ -10,6 +10,7 @@ mod arriving;
 mod beside;
 mod calls;
 mod changing;
+mod counting;
 mod declaring;
 mod editing;
 mod embedded;

@@ -6,6 +6,7 @@ ghost use Rattle.hc_project.specs.Text.{project_in};
 ghost use Rattle.hc_c.specs.Opening.{crowded_in, fresh, opened_by, opening_number};
 
 use crate::calls::Calls;
+use crate::counting::Counts;
 use crate::embedded::Embedded;
 use crate::handle::Handle;
 use crate::numbers::{CROWDED, DONE, MEMORY, PROJECT};
@@ -38,6 +39,9 @@ fn open_project(
         }
         Err(_) => return Err(MEMORY),
     };
+    let Ok(counts) = Counts::new(alloc) else {
+        return Err(MEMORY);
+    };
     let Ok(spare) = Spare::new(alloc) else {
         return Err(MEMORY);
     };
@@ -45,6 +49,7 @@ fn open_project(
         core,
         untold: Untold::nothing(alloc),
         keeps_changes,
+        counts,
         spare,
         calls: Calls::none(),
     };

@@ -6,8 +6,8 @@ ghost use Rattle.hc_events.specs.Calls.{AreSentTogether, frames_size, send_into_
 ghost use Rattle.hc_events.specs.declared.faults.CoreFault.TheVariants.{Room};
 ghost use Rattle.hc_events.specs.Faults.{core_fault_number};
 ghost use Rattle.hc_events.specs.Owed.{owed_blocks};
-ghost use Rattle.hc_events.specs.Steps.{SendsTasks, entries_after};
-ghost use Rattle.hc_c.specs.Embedded.{past_of, settled, with_past};
+ghost use Rattle.hc_events.specs.Steps.{SendsTasks, entries_after, proposal};
+ghost use Rattle.hc_c.specs.Embedded.{past_of, settled, with_past, with_sent};
 ghost use Rattle.hc_c.specs.Numbers.{number_of};
 ghost use Rattle.hc_c.specs.declared.numbers.TheConstants.{BUSY, CLOSED, MEMORY, ROOM};
 ghost use Rattle.hc_c.specs.Sends.{HoldsFrames};
@@ -60,7 +60,7 @@ fn send_tasks(
     ensures told { result ≢ MEMORY → result ≡ number_of (lowest (send_into_faults (past_of own.old) tasks.now (length out.old))) }
     ensures early { IfSome (early_fault (past_of own.old) (SendsTasks tasks.now)) (λ fault. result ≡ core_fault_number fault) }
     ensures sent { result ≡ DONE → HoldsFrames (past_of own.old) tasks.now out.old out.new sent.new }
-    ensures entries { result ≡ DONE → own.new ≡ settled (with_past own.old (entries_after (past_of own.old) (SendsTasks tasks.now))) }
+    ensures entries { result ≡ DONE → own.new ≡ settled (with_sent (with_past own.old (entries_after (past_of own.old) (SendsTasks tasks.now))) (proposal (past_of own.old) tasks.now)) }
     ensures needed { result ≡ ROOM → sent.new ≡ record sent.old { size = frames_size (past_of own.old) tasks.now } }
     ensures owed { result ≡ UNPROGRAMMED → sent.new ≡ record sent.old { owed = length (owed_blocks (past_of own.old)) } }
     ensures unwritten { result ≢ DONE → result ≢ ROOM → result ≢ UNPROGRAMMED → sent.new ≡ sent.old }
@@ -76,6 +76,7 @@ fn send_tasks(
                 frames: frames.len(),
                 owed: 0,
             };
+            own.counts.count_frames(frames.as_slice());
             own.settle(alloc);
             DONE
         }
@@ -101,7 +102,7 @@ pub extern "C" fn zangjulf_send(
     ensures told { IfSome handle.old.holding.value (λ old. result ≢ BUSY → AreSentTogether tasks.now → result ≢ MEMORY → result ≡ number_of (lowest (send_into_faults (past_of old) tasks.now (length out.old)))) }
     ensures early { IfSome handle.old.holding.value (λ old. result ≢ BUSY → AreSentTogether tasks.now → IfSome (early_fault (past_of old) (SendsTasks tasks.now)) (λ fault. result ≡ core_fault_number fault)) }
     ensures sent { result ≡ DONE → IfSome handle.old.holding.value (λ old. HoldsFrames (past_of old) tasks.now out.old out.new sent.new) }
-    ensures entries { result ≡ DONE → IfSome handle.old.holding.value (λ old. handle.new.holding.value ≡ Some (settled (with_past old (entries_after (past_of old) (SendsTasks tasks.now))))) }
+    ensures entries { result ≡ DONE → IfSome handle.old.holding.value (λ old. handle.new.holding.value ≡ Some (settled (with_sent (with_past old (entries_after (past_of old) (SendsTasks tasks.now))) (proposal (past_of old) tasks.now)))) }
     ensures needed { result ≡ ROOM → IfSome handle.old.holding.value (λ old. sent.new ≡ record sent.old { size = frames_size (past_of old) tasks.now }) }
     ensures owed { result ≡ UNPROGRAMMED → IfSome handle.old.holding.value (λ old. sent.new ≡ record sent.old { owed = length (owed_blocks (past_of old)) }) }
     ensures unwritten { result ≢ DONE → result ≢ ROOM → result ≢ UNPROGRAMMED → sent.new ≡ sent.old }

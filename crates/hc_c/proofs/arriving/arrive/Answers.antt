@@ -8,6 +8,7 @@ use Rattle.hc_events.specs.declared.answer.Outcome as core
 use Rattle.hc_events.specs.declared.faults.CoreFault.{CoreFault}
 use Rattle.hc_events.specs.Faults.{core_fault_number}
 use Rattle.hc_core.specs.State.{CoreState}
+use Rattle.hc_c.specs.Counts.{all_judged}
 use Rattle.hc_c.specs.Lists.{put}
 use Rattle.hc_c.specs.Returned.{IsInFrame, told_arrival, told_parts}
 use Rattle.hc_c.proofs.Arrives.{IsDone, done-told, memory-told, refused-told}
@@ -19,13 +20,13 @@ same_ok one other e = cc
 
 pub returns-in-Err-clause-tells : goal.returns-in-Err-clause-tells
 returns-in-Err-clause-tells c =
-    refused-told c.args.core.now.past c.args.core.now.past c.args.bytes.now c.in-Err.fault c.number.result c.args.outcomes.now c.args.outcomes.now c.args.arrival.now c.args.arrival.now c.in-Err.ensures
-    (c.number.ensures ∙ ap core_fault_number c.from.ensures) refl refl refl
+    refused-told c.args.core.now.past c.args.core.now.past c.args.bytes.now c.in-Err.fault c.number.result c.args.outcomes.now c.args.outcomes.now c.args.arrival.now c.args.arrival.now c.args.counts.now c.args.counts.now c.in-Err.ensures
+    (c.number.ensures ∙ ap core_fault_number c.from.ensures) refl refl refl refl
 
 pub returns-in_default-clause-tells : goal.returns-in_default-clause-tells
 returns-in_default-clause-tells c =
-    memory-told c.args.core.now.past c.arrive_into.new.self.past c.args.bytes.now c.args.outcomes.now c.args.outcomes.now c.args.arrival.now c.args.arrival.now c.in-Ok.ensures.0
-    (ap (λ (state : CoreState). state.past) c.in_default.ensures.unchanged) refl refl
+    memory-told c.args.core.now.past c.arrive_into.new.self.past c.args.bytes.now c.args.outcomes.now c.args.outcomes.now c.args.arrival.now c.args.arrival.now c.args.counts.now c.args.counts.now c.in-Ok.ensures.0
+    (ap (λ (state : CoreState). state.past) c.in_default.ensures.unchanged) refl refl refl
 
 pub put_outcomes-requires : goal.put_outcomes-requires
 put_outcomes-requires c =
@@ -54,7 +55,7 @@ returns-clause-tells c =
       project = c.places-places.ensures.kept;
       uncrowded = c.places-places.ensures.uncrowded;
     } in
-    done-told old new bytes which list state c.arrived_number.result before c.put_outcomes.new.out c.args.arrival.now c.told_arrival.result done
+    done-told old new bytes which list state c.arrived_number.result before c.put_outcomes.new.out c.args.arrival.now c.told_arrival.result c.args.counts.now c.count_outcomes.new.counts done
     c.arrived_number.ensures
     (c.put_outcomes.ensures
     ∙ ap (λ (one : Table). put (told_parts one c.as_slice-told.result.now c.parts.result) before) c.places-places.ensures.table
@@ -63,3 +64,12 @@ returns-clause-tells c =
     (c.told_arrival.ensures
     ∙ ap (λ n. told_arrival which n c.in-Ok.frame) (ap length c.as_slice-told.ensures.value)
     ∙ ap (λ (one : Reading). told_arrival which (length list) one) frame)
+    (c.count_outcomes.ensures
+    ∙ ap (λ (one : Table). all_judged c.args.counts.now (told_parts one c.as_slice-told.result.now c.parts-2.result)) c.places-places.ensures.table
+    ∙ ap (λ (one : List core.Outcome). all_judged c.args.counts.now (told_parts table one c.parts-2.result)) c.as_slice-told.ensures.value
+    ∙ ap (λ (one : List Placed). all_judged c.args.counts.now (told_parts table list one)) (c.parts-2.ensures ∙ ap (λ (one : Reading). placed_from 16 one.parts) frame))
+
+pub count_outcomes-requires : goal.count_outcomes-requires
+count_outcomes-requires c =
+    let is = c.parts-2.ensures ∙ ap (λ (frame : Reading). placed_from 16 frame.parts) c.in-Ok.ensures.1 in
+    subst (All IsInFrame) (sym is) (in-frame c.args.bytes.now c.in-Ok.ensures.0)
