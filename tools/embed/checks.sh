@@ -36,7 +36,7 @@ play() {
     shift
     for input in examples/*.in; do
         sed '1,/^%%$/d' "$input" | grep -qE '^(scan|name|program|cycle|poke|peek)' && continue
-        timeout 120 "$@" <"$input" >"$scratch/played" && diff "${input%.in}.out" "$scratch/played" >"$scratch/printed"
+        timeout 120 "$@" <"$input" >"$scratch/played" 2>"$scratch/printed" && diff "${input%.in}.out" "$scratch/played" >"$scratch/printed"
         tell_said $? "$label, $input: < is written, > is printed"
     done
 }
