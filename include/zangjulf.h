@@ -19,7 +19,7 @@
  * docs/EMBEDDING.md says what of this is proved.
  *
  * Slices. A pointer and a length stand for so many elements, which the call reads, or writes where the pointer isn't const,
- * and never looks beyond. No pointer is NULL: no slice's, also where the length is 0, and none by which something is told.
+ * and never looks beyond. A slice of length 0 may be NULL (tested, and not proved); no other pointer is.
  * Slices, structs and handles of one call don't overlap. No pointer is kept when a call is over.
  *
  * Memory is taken with malloc, grown with realloc and given back with free. Calls that take some can answer

@@ -102,7 +102,10 @@ static void misused(void) {
     EXPECT(zangjulf_owed_block(&line, 12, &block) == ZANGJULF_NOTHING);
     EXPECT(zangjulf_next_write(&line, out, 59, &write) == ZANGJULF_ROOM && write.size == 60 && out[0] == 0xaa);
     EXPECT(zangjulf_arrive(&line, out, 27, &outcome, 0, &arrival) == ZANGJULF_SHORT && arrival.serial == 7);
+    /* a slice without elements may be NULL */
     EXPECT(zangjulf_post(&line, 0, 0, NULL, 0) == ZANGJULF_POST_LENGTH && zangjulf_post(&line, 7, 0, NULL, 0) == ZANGJULF_DONE);
+    EXPECT(zangjulf_arrive(&line, NULL, 0, NULL, 0, &arrival) == ZANGJULF_SHORT && zangjulf_send(&line, NULL, 0, NULL, 0, &sent) == ZANGJULF_MISUSED);
+    EXPECT(zangjulf_next_write(&line, NULL, 0, &write) == ZANGJULF_ROOM && zangjulf_locate(NULL, 0, &(struct zangjulf_location){0}) == ZANGJULF_DONE);
     EXPECT(zangjulf_post(&line, 0, 0, out, 13) == ZANGJULF_POST_LENGTH);
     EXPECT(zangjulf_post(&line, 0, 1, out, 14) == ZANGJULF_STALE_POST);
     EXPECT(zangjulf_post(&line, 8, 1, out, 0) == ZANGJULF_NO_SUCH_TASK);
