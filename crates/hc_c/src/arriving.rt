@@ -125,12 +125,7 @@ fn put_outcomes(places: &Places, outcomes: &[CoreOutcome], parts: Parts<'_>, out
 }
 
 /// Counts outcomes one after another. So deep is this recursion too.
-fn count_outcomes(
-    counts: &mut Counts,
-    places: &Places,
-    outcomes: &[CoreOutcome],
-    parts: Parts<'_>,
-)
+fn count_outcomes(counts: &mut Counts, places: &Places, outcomes: &[CoreOutcome], parts: Parts<'_>)
     requires { All IsInFrame parts }
     ensures { counts.new ≡ all_judged counts.old (told_parts places.now outcomes.now parts.entry) }
 {

@@ -38,13 +38,28 @@ fn judged_as(kind: u8, counters: Counters) -> Counters
     } = counters;
     if kind == INPUTS {
         let good = good.saturating_add(1);
-        Counters { sent, good, wrong, again }
+        Counters {
+            sent,
+            good,
+            wrong,
+            again,
+        }
     } else if kind == WRONG_COUNT {
         let wrong = wrong.saturating_add(1);
-        Counters { sent, good, wrong, again }
+        Counters {
+            sent,
+            good,
+            wrong,
+            again,
+        }
     } else {
         let again = again.saturating_add(1);
-        Counters { sent, good, wrong, again }
+        Counters {
+            sent,
+            good,
+            wrong,
+            again,
+        }
     }
 }
 
@@ -130,7 +145,16 @@ impl Counts {
             again,
         } = self.of(task, number);
         let sent = sent.saturating_add(1);
-        self.put(task, number, Counters { sent, good, wrong, again });
+        self.put(
+            task,
+            number,
+            Counters {
+                sent,
+                good,
+                wrong,
+                again,
+            },
+        );
     }
 
     /// The datagrams of a frame are sent. A frame has 115 at most, so deep is this recursion.
