@@ -210,11 +210,11 @@ fn arrive(
     arrived_number(arrived)
 }
 
-/// Bytes arrive, any, without the check sequence. `DONE` where they answer frames of tasks: `outcomes` has of each datagram,
-/// in the frame's order, what it is, as many as there is room for; a frame has at most 115. `WRITE_DONE`, `WRITE_MISSED` or
-/// `STALE`; with these four `arrival` is written, and with `DONE` alone `outcomes`, and each datagram is counted. Else a fault, 20 to 27, with which the
-/// bytes can't be read, or `MEMORY`; or `BUSY` or `CLOSED`; then nothing changed and nothing is written. The answers are this
-/// project's profile over frames of ETG.1000.4, 5.3 and 5.4.
+/// Bytes arrive, any, without the check sequence. `DONE` where they answer frames of tasks: `outcomes` has of each
+/// datagram, in the frame's order, what it is, as many as there is room for; a frame has at most 115. `WRITE_DONE`,
+/// `WRITE_MISSED` or `STALE`; with these four `arrival` is written, and with `DONE` alone `outcomes`, and each datagram is
+/// counted. Else a fault, 20 to 27, with which the bytes can't be read, or `MEMORY`; or `BUSY` or `CLOSED`; then nothing
+/// changed and nothing is written. The answers are this project's profile over frames of ETG.1000.4, 5.3 and 5.4.
 #[unsafe(no_mangle)]
 pub extern "C" fn zangjulf_arrive(
     alloc: Global,

@@ -111,9 +111,10 @@ fn tell_next(own: &mut Embedded, alloc: Global, out: &mut [u8], told: &mut Told)
 }
 
 /// The next change that C wasn't told yet, in the order in which they came: `DONE`, and its data stand at the front of
-/// `out`; `NOTHING` where there is none, and always where the line was opened to keep none; `ROOM` where `out` is shorter than `told.size`, and the change is told again;
-/// `BUSY` or `CLOSED`. Only with `DONE` `out` is written, and `told` only with `DONE` and `ROOM`. With each other answer of
-/// a line that keeps changes those that were news are taken from the core, and the handle keeps those that weren't told. It takes no memory.
+/// `out`; `NOTHING` where there is none, and always where the line was opened to keep none; `ROOM` where `out` is shorter
+/// than `told.size`, and the change is told again; `BUSY` or `CLOSED`. Only with `DONE` `out` is written, and `told` only
+/// with `DONE` and `ROOM`. With each other answer of a line that keeps changes those that were news are taken from the
+/// core, and the handle keeps those that weren't told. It takes no memory.
 #[unsafe(no_mangle)]
 pub extern "C" fn zangjulf_next_change(
     alloc: Global,

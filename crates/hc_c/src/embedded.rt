@@ -11,8 +11,8 @@ use hc_records::limits::{MOST_DATAGRAMS, TASKS};
 use std::alloc::Global;
 use std::mem;
 
-/// A core, the changes that were taken from it and that C wasn't told yet, what was counted, lists that its calls use again, and the calls that
-/// run.
+/// A core, the changes that were taken from it and that C wasn't told yet, what was counted, lists that its calls use
+/// again, and the calls that run.
 pub struct Embedded {
     /// The core.
     pub core: Core,
