@@ -42,6 +42,8 @@ header() {
     g++ -std=c++17 $warnings -Iinclude tools/embed/linked.cpp build/libzangjulf.a -o "$scratch/linked" &&
         "$scratch/linked" >"$scratch/printed"
     tell_said $? "the library is another version than the header's"
+    ! nm -g --defined-only build/libzangjulf.a | grep ' [A-Z] ' | grep -qv ' zangjulf_'
+    tell $? "the archive exports more than the header's calls"
 }
 
 # callers_in_c CALLS: players, callers that do wrong, the page's cycle, and so many drawn calls
