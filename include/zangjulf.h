@@ -507,7 +507,7 @@ uint8_t zangjulf_alias_read(uint16_t position, uint8_t *out, size_t length, size
 uint8_t zangjulf_station_write(uint16_t position, uint16_t station, uint8_t *out, size_t length, size_t *size);
 
 /* A simulated slave, over 12,288 bytes that the caller keeps: registers and process memory from register 0 on
- * (docs/meaning/SLAVE_MACHINE.md). ZANGJULF_DONE; ZANGJULF_MISUSED where `size` is another, and then nothing is written. Neither takes
+ * (docs/meaning/DEFINITIONS.md). ZANGJULF_DONE; ZANGJULF_MISUSED where `size` is another, and then nothing is written. Neither takes
  * memory. */
 
 /* Its memory as no frame has met it: zeros but for its configured station alias. */
