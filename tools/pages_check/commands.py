@@ -13,7 +13,7 @@ from findings import Finding
 from pages import Block, Pages, blocks
 from quotes import pieces, stands_in
 
-MOST_LEFT_OUT = 24  # blocks of commands that are not run, each with its reason
+MOST_LEFT_OUT = 12  # blocks of commands that are not run, each with its reason
 SECONDS = 120
 COMMAND = re.compile(r"^(\$ )?(rt |cd |gcc |g\+\+ |cargo |pip |python3 |apt-get |unshare |tshark |rustc |tools/|bench/|\.ci/|build/)")
 
