@@ -126,7 +126,7 @@ def sentences(text: str) -> list[int]:
             prose.append(re.sub(r"^\s*([-*]|\d+\.) +", "\n\n", line))
     lengths = []
     for paragraph in re.split(r"\n\s*\n", "\n".join(prose)):
-        for sentence in re.split(r"(?<=[.!?:])[)*`\"]*\s+", paragraph.strip()):
+        for sentence in re.split(r"(?<=[.!?])[)*`\"]*\s+", paragraph.strip()):
             if len(sentence.split()) > 1:
                 lengths.append(len(sentence.split()))
     return lengths
