@@ -62,19 +62,35 @@ def _flush(lines: list[str]) -> list[str]:
     return [line.rstrip() for line in textwrap.dedent("\n".join(lines)).split("\n")]
 
 
+class StoredRun:
+    """A stored run of the program, read from its front: its commands and its answers."""
+
+    def __init__(self, pages: Pages, name: str) -> None:
+        self.name = name or "a stored run"
+        self._commands = iter(pages.sources.get(f"{name}.in", "").split("\n"))
+        self._answers = iter(pages.sources.get(f"{name}.out", "").split("\n"))
+
+    def has_next(self, line: str) -> bool:
+        """Whether a line of a session, `$ ` and a command or an answer, comes after those that were asked for before."""
+        if line.startswith("$ "):
+            return any(line[2:] == command for command in self._commands)
+        return any(line == answer for answer in self._answers)
+
+
 def check_sessions(pages: Pages) -> Iterator[Finding]:
     """Blocks whose commands begin with `$ ` are parts of a stored run, in its order."""
     for page, text in pages.texts.items():
-        commands = answers = iter(())
-        name = ""
+        run = StoredRun(pages, "")
         for block in blocks(page, text):
             if block.mark == "session":
-                name = block.words
-                commands = iter(pages.sources.get(f"{name}.in", "").split("\n"))
-                answers = iter(pages.sources.get(f"{name}.out", "").split("\n"))
+                run = StoredRun(pages, block.words)
             if block.language is None and any(line.startswith("$ ") for line in block.lines):
-                for at, line in enumerate(block.lines):
-                    run, words = (commands, line[2:]) if line.startswith("$ ") else (answers, line)
-                    if not any(words == stored for stored in run):
-                        yield Finding("session", page, block.line + at, f"not the next of {name or 'a stored run'}: {words}")
-                        break
+                yield from _check_session(block, run)
+
+
+def _check_session(block: Block, run: StoredRun) -> Iterator[Finding]:
+    """The first line of a session that the stored run doesn't have."""
+    for at, line in enumerate(block.lines):
+        if not run.has_next(line):
+            yield Finding("session", block.page, block.line + at, f"not the next of {run.name}: {line}")
+            return
