@@ -7,7 +7,7 @@ from findings import Finding
 from pages import Block, Pages, blocks
 
 CODE = {"rust", "c", "python", "toml", "text", "antt"}  # "text" is what a program printed
-GAP = ".."  # a line of its own: what comes next stands elsewhere in the source
+GAPS = {"..", "/* .. */", "// .."}  # a line of its own: what comes next stands elsewhere in the source
 
 
 def check_quotes(pages: Pages) -> Iterator[Finding]:
@@ -40,7 +40,7 @@ def pieces(lines: tuple[str, ...]) -> list[list[str]]:
     """The lines between gaps."""
     found: list[list[str]] = [[]]
     for line in lines:
-        if line.strip() == GAP:
+        if line.strip() in GAPS:
             found.append([])
         else:
             found[-1].append(line)
