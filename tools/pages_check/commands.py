@@ -15,7 +15,9 @@ from quotes import pieces, stands_in
 
 MOST_LEFT_OUT = 12  # blocks of commands that are not run, each with its reason
 SECONDS = 120
-COMMAND = re.compile(r"^(\$ )?(rt |cd |gcc |g\+\+ |cargo |pip |python3 |apt-get |unshare |tshark |rustc |tools/|bench/|\.ci/|build/)")
+COMMAND = re.compile(
+    r"^(\$ )?((rt|cd|gcc|g\+\+|cargo|pip|python3|apt-get|unshare|tshark|rustc) |(tools|bench|\.ci|build)/)"
+)
 
 
 @dataclass(frozen=True)
@@ -90,7 +92,8 @@ def run_step(step: Step, folder: Path, program: Path) -> Finding | None:
     where = {**os.environ, "HOTLINE": str(program), "PYTHONDONTWRITEBYTECODE": "1"}
     done = subprocess.run(["sh"], input=step.script, cwd=folder, env=where, capture_output=True, text=True, timeout=SECONDS)
     if done.returncode != 0:
-        return Finding("run", block.page, block.line, f"status {done.returncode}: {(done.stderr or done.stdout).strip()[-300:]}")
+        said = (done.stderr or done.stdout).strip()[-300:]
+        return Finding("run", block.page, block.line, f"status {done.returncode}: {said}")
     if step.printed:
         for piece in pieces(step.printed.lines):
             if not stands_in(piece, done.stdout):

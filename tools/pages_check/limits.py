@@ -47,4 +47,5 @@ def check_sentences(pages: Pages) -> Iterator[Finding]:
     for page, text in pages.texts.items():
         lengths = sentences(text)
         if len(lengths) >= FEW_SENTENCES and statistics.median(lengths) > MEDIAN_SENTENCE:
-            yield Finding("sentence", page, 0, f"{statistics.median(lengths)} words at the median, {MEDIAN_SENTENCE} at most")
+            median = statistics.median(lengths)
+            yield Finding("sentence", page, 0, f"{median} words at the median, {MEDIAN_SENTENCE} at most")

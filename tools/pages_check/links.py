@@ -1,4 +1,4 @@
-"""Links of pages, and names of pages in other files."""
+"""Links of pages, names of pages in other files, and names of code on pages."""
 
 import posixpath
 import re
@@ -8,6 +8,11 @@ from findings import Finding
 from pages import Pages, headings, without_fences
 
 LINK = re.compile(r"\]\(([^)\s]*)\)|srcset=\"([^\"]*)\"|src=\"([^\"]*)\"")
+WORD = re.compile(r"[A-Za-z_][A-Za-z0-9_]*")
+
+# Words in code marks that no file here has: of the kit, of other tools, and of placeholders.
+OUTSIDE = {"ArrayQueue", "also_shares", "chrt", "dac8208d650f15bf", "ea03", "perf", "plant", "FUNCTION", "PATH"}
+
 NAME = re.compile(r"(?<![\w/.])(?:docs/[\w/]*|CONTRIBUTING|CHANGELOG)\.md\b")
 
 
@@ -42,3 +47,16 @@ def check_names(pages: Pages) -> Iterator[Finding]:
             for name in NAME.findall(line):
                 if name not in pages.texts:
                     yield Finding("name", file, number, f"{name} isn't there")
+
+
+def check_words(pages: Pages) -> Iterator[Finding]:
+    """Each word in code marks is one of some file of the repository, or of its path: what a page calls by name is there."""
+    known = set(OUTSIDE)
+    for file, text in pages.sources.items():
+        known.update(WORD.findall(file), WORD.findall(text))
+    for page, text in pages.texts.items():
+        for number, line in enumerate(without_fences(text).split("\n"), 1):
+            for code in re.findall(r"`([^`]+)`", line):
+                for word in WORD.findall(code):
+                    if word not in known:
+                        yield Finding("word", page, number, f"{word} is in no file")

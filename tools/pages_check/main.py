@@ -5,13 +5,13 @@ import tempfile
 from pathlib import Path
 
 from commands import check_commands, run_commands
-from links import check_links, check_names
+from links import check_links, check_names, check_words
 from limits import check_limits, check_sentences
 from pages import read_pages
 from planted import find_planted
 from quotes import check_quotes, check_sessions
 
-CHECKS = (check_links, check_names, check_quotes, check_sessions, check_limits, check_sentences, check_commands)
+CHECKS = (check_links, check_names, check_words, check_quotes, check_sessions, check_limits, check_sentences, check_commands)
 
 
 def main(words: list[str]) -> int:

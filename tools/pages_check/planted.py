@@ -5,7 +5,7 @@ from pathlib import Path
 
 from commands import Step, check_commands, run_step
 from findings import Finding
-from links import check_links, check_names
+from links import check_links, check_names, check_words
 from limits import IN_ALL, check_limits, check_sentences
 from pages import Block, Pages
 from quotes import check_quotes, check_sessions
@@ -17,7 +17,7 @@ RUN_IN = "layout\nregs 1001\n"
 RUN_OUT = "epoch 0\nsm 2\n"
 GOOD = """# One page
 
-See [below](#the-end).
+See [below](#the-end), and `add`.
 
 <!-- quoted: add.c -->
 ```c
@@ -48,6 +48,7 @@ LONG = " ".join(["word"] * 30) + ". "
 MISTAKES: tuple[tuple[str, Check, str, str], ...] = (
     ("link", check_links, "#the-end", "#the-beginning"),
     ("link", check_links, "#the-end", "gone.md"),
+    ("word", check_words, "`add`", "`subtract`"),
     ("quote", check_quotes, "return a + b;", "return a - b;"),
     ("quote", check_quotes, "<!-- quoted: add.c -->\n", ""),
     ("quote", check_quotes, "quoted: add.c", "quoted: gone.c"),
