@@ -14,4 +14,4 @@ for needed in python3 "$program"; do
         exit 1
     fi
 done
-exec python3 -B tools/pages_check/main.py "$program"
+exec python3 -B tools/pages_check/main.py

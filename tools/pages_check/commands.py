@@ -71,7 +71,7 @@ def _check_runner(pages: Pages, block: Block) -> Iterator[Finding]:
             yield Finding("command", block.page, block.line, f"{block.words} doesn't run {command[0]}")
 
 
-def run_commands(pages: Pages, program: Path) -> Iterator[Finding | None]:
+def run_commands(pages: Pages) -> Iterator[Finding | None]:
     """Runs each block that is neither left out nor run by another file; none for one that went well."""
     with tempfile.TemporaryDirectory() as scratch:
         for entry in pages.root.iterdir():
@@ -79,18 +79,20 @@ def run_commands(pages: Pages, program: Path) -> Iterator[Finding | None]:
                 os.symlink(entry, Path(scratch, entry.name))
         for step in steps(pages):
             if step.block.mark not in ("not run", "run by"):
-                yield run_step(step, Path(scratch), program)
+                yield run_step(step, Path(scratch))
 
 
-def run_step(step: Step, folder: Path, program: Path) -> Finding | None:
+def run_step(step: Step, folder: Path) -> Finding | None:
     """Runs a block in a folder that stands for the repository's top; none where it goes well."""
     block = step.block
     missing = [word for word in ("tshark", "xmllint", "chromium") if word in step.script and not shutil.which(word)]
     if missing:
         print(f"pages: {block.page}:{block.line}: {missing[0]} isn't installed, and the commands aren't run")
         return None
-    where = {**os.environ, "HOTLINE": str(program), "PYTHONDONTWRITEBYTECODE": "1"}
-    done = subprocess.run(["sh"], input=step.script, cwd=folder, env=where, capture_output=True, text=True, timeout=SECONDS)
+    try:
+        done = subprocess.run(["sh"], input=step.script, cwd=folder, capture_output=True, text=True, timeout=SECONDS)
+    except subprocess.TimeoutExpired:
+        return Finding("run", block.page, block.line, f"no end within {SECONDS} seconds")
     if done.returncode != 0:
         said = (done.stderr or done.stdout).strip()[-300:]
         return Finding("run", block.page, block.line, f"status {done.returncode}: {said}")

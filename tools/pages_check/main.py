@@ -1,4 +1,4 @@
-"""Checks the pages of the repository: `main.py [--text] [PROGRAM]`."""
+"""Checks the pages of the repository: `main.py [--text]`, which runs no command with that word."""
 
 import sys
 import tempfile
@@ -24,7 +24,7 @@ def main(words: list[str]) -> int:
         failed += len(found)
         passed += not found
     if words != ["--text"]:
-        for wrong in run_commands(pages, Path(words[0]).resolve()):
+        for wrong in run_commands(pages):
             if wrong:
                 print(wrong)
             failed += wrong is not None

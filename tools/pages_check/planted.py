@@ -76,7 +76,7 @@ def find_planted(folder: Path) -> Iterator[tuple[str, bool]]:
     yield "name: a page that is gone", [finding.kind for finding in check_names(named)] == ["name"]
     for script, printed in (("false", None), ("echo 1", "2")):
         output = Block("PAGE.md", 1, "text", (printed,), "printed") if printed else None
-        wrong = run_step(Step(Block("PAGE.md", 1, "sh", (script,)), output), folder, folder)
+        wrong = run_step(Step(Block("PAGE.md", 1, "sh", (script,)), output), folder)
         yield f"run: {script}", wrong is not None and wrong.kind == "run"
     right = Step(Block("PAGE.md", 1, "sh", ("echo 1",)), Block("PAGE.md", 1, "text", ("1",), "printed"))
-    yield "a good command is taken", run_step(right, folder, folder) is None
+    yield "a good command is taken", run_step(right, folder) is None
