@@ -143,11 +143,12 @@ impl<'a> EditedLine<'a> {
         ensures { result ≡ edited_line_of change.now groups.now }
     {
         let EditedLineRoom { before, after } = room;
+        let declared = groups.groups();
         EditedLine {
             groups,
             change,
-            before: areas_before(before, groups.groups(), change),
-            after: areas_after(after, groups.groups(), change),
+            before: areas_before(before, declared, change),
+            after: areas_after(after, declared, change),
         }
     }
 

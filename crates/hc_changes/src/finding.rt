@@ -250,11 +250,12 @@ impl<'b, 'a> CandidateTest<'b, 'a> {
         let mut found = Vec::new(alloc);
         let (start, mut first) = self.edited_line.group_before(ranks.low);
         for i in start..groups.len() {
+            let declared = &groups[i];
             if ranks.high < first {
                 return Ok(found);
             }
-            self.add_group(&mut places, &mut found, first, &groups[i], ranks)?;
-            first += groups[i].group.slaves.len() as u16;
+            self.add_group(&mut places, &mut found, first, declared, ranks)?;
+            first += declared.group.slaves.len() as u16;
         }
         Ok(found)
     }

@@ -128,7 +128,12 @@ none-yet it = refl
 
 pub ranks-counted : (groups : List Declared) → length (areas_by_rank groups) ≡ sum_by declared_count groups
 ranks-counted [] = refl
-ranks-counted (declared ∷ groups) = search (rules, length-append, length-present, sum_by-cons, ranks-counted groups)
+ranks-counted (declared ∷ groups) =
+    let many = length-present declared.present declared.group.slaves in
+    let parts = length-append (present_areas declared) (areas_by_rank groups) in
+    let rest = ranks-counted groups in
+    let sum = sum_by-cons declared_count declared groups in
+    omega (arith, many, parts, rest, sum)
 
 pub start-found : (it : EditedLine) (low high first : ℕ) → LieWithin it low high → 1 ≤ first → (first ≡ 1) ⊎ (first ≤ low) → [] ≡ found_below it first
 start-found it low high first within some (inl one) = sym (ap (found_below it) one ∙ none-yet it)
