@@ -3,8 +3,6 @@ ghost use Rattle.std.specs.Prelude.{◌≡◌, false, IfOk, MatchOption, map};
 ghost use Rattle.hc_records.specs.declared.edit.Edit.TheVariants.{Declare};
 ghost use Rattle.hc_records.specs.Edits.{declares};
 ghost use Rattle.hc_records.specs.Line.{opened_group};
-ghost use Rattle.hc_groups.specs.Index.{IsIndexOf};
-ghost use Rattle.hc_plan.specs.inner.Applied.{Follows};
 
 use crate::applying::work_out;
 use crate::blocks::{block_at, nth_block};
@@ -44,20 +42,6 @@ fn opened_groups(alloc: Global, groups: Vec<Group>) -> Result<Items<Declared>, A
         opened.push(Declared { group, present })?;
     }
     Ok(Items::of(opened))
-}
-
-/// Makes the index of the groups before an edit, which was carried out in them, that of the groups as they are
-/// now. Where an area got other PDOs or another task it is already: the line has the same slaves, and each has
-/// as many blocks.
-fn follow(index: &mut Index, groups: &[Declared], edit: &Edit)
-    requires { Follows groups.now edit.now index.old }
-    ensures { IsIndexOf groups.now index.new }
-{
-    match edit {
-        Edit::Connect(_) | Edit::Disconnect(_) => index.follow(groups),
-        Edit::Remap { .. } | Edit::Move { .. } => {}
-        Edit::Declare(_) => unreachable!(),
-    }
 }
 
 /// The group that an edit declares, none where it declares none.
@@ -311,10 +295,11 @@ impl Plan {
         ensures own { IfSome (own_fault self.old.groups edit.now) (λ fault. result ≡ Err fault) }
         ensures unchanged { self.new ≡ self.old }
     {
-        let change = Prepared::of(alloc, self.groups.as_slice(), edit)?;
+        let groups = self.index.of(self.groups.as_slice());
+        let change = Prepared::of(alloc, &groups, edit)?;
         let slaves = EditedLineRoom::of(alloc, &change)?;
         let room = EditedLineRoom::of(alloc, &change)?;
-        let edited_line = EditedLine::of(room, self.groups.as_slice(), &change);
+        let edited_line = EditedLine::of(room, &groups, &change);
         let worked = work_out::<Brand>(
             alloc,
             edit,
@@ -325,6 +310,7 @@ impl Plan {
             Blank::new(1),
         )?;
         drop(edited_line);
+        drop(groups);
         Ok(PreparedEdit {
             was: Snapshot::of(&*self),
             report: worked.report,
@@ -380,11 +366,13 @@ impl Plan {
             slaves,
             rows,
         } = work;
-        let edited_line = EditedLine::of(slaves, self.groups.as_slice(), &change);
+        let groups = self.index.of(self.groups.as_slice());
+        let edited_line = EditedLine::of(slaves, &groups, &change);
         turn_on(&mut self.cuts, &edited_line, &starts);
         drop(edited_line);
+        drop(groups);
+        self.index.follow(self.groups.as_slice(), &change);
         change.carry_out(&mut self.groups);
-        follow(&mut self.index, self.groups.as_slice(), report.swap.edit());
         self.places.carry_out(&report.swap, rows);
     }
 
