@@ -6,12 +6,12 @@ use Rattle.hc_registers.specs.Blocks.{LineBlock}
 use Rattle.hc_frames.specs.declared.reading.faults.FrameFault.{FrameFault}
 use Rattle.hc_events.specs.declared.faults.CoreFault.{CoreFault}
 use Rattle.hc_events.specs.Arrivals.{Arrival, arrival_in}
-use Rattle.hc_events.specs.Entries.{Record, Edited, Posted, Sent}
+use Rattle.hc_events.specs.Entries.{Record, Edited, Posted, Sent, Forgot}
 use Rattle.hc_events.specs.Sendings.{Frame}
 use Rattle.hc_events.specs.Images.{fresh_by}
 use Rattle.hc_events.specs.Changes.{News, Swapped, Answered, news_of}
 use Rattle.hc_events.specs.Owed.{owed_blocks}
-use Rattle.hc_events.specs.Steps.{Step, Edits, Posts, SendsTasks, SendsWrite, Arrives, Reads, kept_if, edit_refused, post_faults, proposal, task_faults, with_sent, write_faults, with_write, with_arrival, entries_after, entries_after_all}
+use Rattle.hc_events.specs.Steps.{Step, Edits, Posts, SendsTasks, SendsWrite, Arrives, Reads, Forgets, kept_if, edit_refused, forget_faults, post_faults, proposal, task_faults, with_sent, write_faults, with_write, with_arrival, entries_after, entries_after_all}
 use Rattle.hc_events.specs.NewsLaws.{Grows}
 
 same : (news : List News) → Grows news news
@@ -53,6 +53,8 @@ grows_after past SendsWrite =
     grows_if (news_of past) (lowest (write_faults past (owed_blocks past))) past (with_write past (owed_blocks past)) (same (news_of past)) (grows_write past (owed_blocks past))
 grows_after past (Arrives bytes) = grows_arrival past (arrival_in bytes)
 grows_after past (Reads task) = same (news_of past)
+grows_after past (Forgets station) =
+    grows_if (news_of past) (lowest (forget_faults past station)) past (Forgot station ∷ past) (same (news_of past)) (same (news_of past))
 
 pub news-grow : (past : Record) (steps : List Step) → Grows (news_of past) (news_of (entries_after_all past steps))
 news-grow past [] = same (news_of past)

@@ -9,7 +9,7 @@ use Rattle.hc_registers.specs.Blocks.{LineBlock}
 use Rattle.hc_events.specs.declared.faults.CoreFault.{CoreFault}
 use Rattle.hc_events.specs.declared.answer.Answer.{Answer}
 use Rattle.hc_events.specs.declared.answer.Answer.TheVariants as answer
-use Rattle.hc_events.specs.Entries.{Entry, Record, Opened, Edited, Posted, Sent, Wrote, Came}
+use Rattle.hc_events.specs.Entries.{Entry, Record, Opened, Edited, Posted, Sent, Wrote, Came, Forgot}
 use Rattle.hc_events.specs.Points.{line_of, next_serial}
 use Rattle.hc_events.specs.Sendings.{Frame}
 use Rattle.hc_events.specs.Heads.{data_heads}
@@ -52,6 +52,7 @@ none_opened (Sent frame ∷ since) e = none_opened since e
 none_opened (Opened groups ∷ since) e = cc
 none_opened (Edited edit ∷ since) e = cc
 none_opened (Posted task bytes ∷ since) e = cc
+none_opened (Forgot station ∷ since) e = cc
 none_opened (Wrote block ∷ since) e = cc
 none_opened (Came arrival ∷ since) e = cc
 

@@ -15,7 +15,7 @@ use Rattle.hc_frames.specs.Laws.{CanBeCarried}
 use Rattle.hc_frames.specs.Returned.{AllComeBack, ComesBack, IsReturned}
 use Rattle.hc_frames.proofs.lemmas.Returns.{returned-read}
 use Rattle.hc_events.specs.Arrivals.{Arrival, Part, arrival_in, read_unless}
-use Rattle.hc_events.specs.Entries.{Entry, Record, Opened, Edited, Posted, Sent, Wrote, Came}
+use Rattle.hc_events.specs.Entries.{Entry, Record, Opened, Edited, Posted, Sent, Wrote, Came, Forgot}
 use Rattle.hc_events.specs.Points.{line_of, next_serial}
 use Rattle.hc_events.specs.Sendings.{Named, length_of}
 use Rattle.hc_events.specs.Heads.{data_head, data_heads, item_of, write_head}
@@ -65,6 +65,7 @@ some_sent : (before : Record) (entry : Entry) (parts : List Part) → AllComeBac
 some_sent before (Opened groups) parts back some = absurd (none_carried parts back some)
 some_sent before (Edited edit) parts back some = absurd (none_carried parts back some)
 some_sent before (Posted task bytes) parts back some = absurd (none_carried parts back some)
+some_sent before (Forgot station) parts back some = absurd (none_carried parts back some)
 some_sent before (Came arrival) parts back some = absurd (none_carried parts back some)
 some_sent before (Sent frame) parts back some = refl
 some_sent before (Wrote block) parts back some = refl
@@ -73,6 +74,7 @@ all_back : (before : Record) (entry : Entry) (parts : List Part) → AllComeBack
 all_back before (Opened groups) parts back some = absurd (none_carried parts back some)
 all_back before (Edited edit) parts back some = absurd (none_carried parts back some)
 all_back before (Posted task bytes) parts back some = absurd (none_carried parts back some)
+all_back before (Forgot station) parts back some = absurd (none_carried parts back some)
 all_back before (Came arrival) parts back some = absurd (none_carried parts back some)
 all_back before (Sent frame) parts back some = heads_back before frame parts back
 all_back before (Wrote block) parts back some = writes_back block parts back
@@ -107,6 +109,7 @@ entry_data : (since : List Entry) (before : Record) (entry : Entry) (parts : Lis
 entry_data since before (Opened groups) parts = refl
 entry_data since before (Edited edit) parts = refl
 entry_data since before (Posted task bytes) parts = refl
+entry_data since before (Forgot station) parts = refl
 entry_data since before (Came arrival) parts = refl
 entry_data since before (Sent frame) parts = data_back since (line_of before) frame parts
 entry_data since before (Wrote block) parts = write_data since block parts

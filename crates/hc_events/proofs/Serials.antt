@@ -12,13 +12,13 @@ use Rattle.hc_frames.specs.declared.reading.faults.FrameFault.{FrameFault}
 use Rattle.hc_events.specs.declared.faults.CoreFault.{CoreFault}
 use Rattle.hc_events.specs.declared.faults.CoreFault.TheVariants.{NoSuchTask, NothingOwed, SerialsSpent, Unprogrammed}
 use Rattle.hc_events.specs.Arrivals.{Arrival, arrival_in}
-use Rattle.hc_events.specs.Entries.{Entry, Record, Opened, Edited, Posted, Sent, Wrote, Came}
+use Rattle.hc_events.specs.Entries.{Entry, Record, Opened, Edited, Posted, Sent, Wrote, Came, Forgot}
 use Rattle.hc_events.specs.Points.{line_of, next_serial}
 use Rattle.hc_events.specs.Sendings.{Frame}
 use Rattle.hc_events.specs.Heads.{data_heads, write_head}
 use Rattle.hc_events.specs.Answering.{Sending, just_sent, followed_by, sending_of}
 use Rattle.hc_events.specs.Owed.{owed_blocks}
-use Rattle.hc_events.specs.Steps.{Step, Edits, Posts, SendsTasks, SendsWrite, Arrives, Reads, kept_if, edit_refused, has_serials, is_no_task, post_faults, proposal, task_faults, with_sent, write_faults, with_write, with_arrival, entries_after, entries_after_all}
+use Rattle.hc_events.specs.Steps.{Step, Edits, Posts, SendsTasks, SendsWrite, Arrives, Reads, Forgets, forget_faults, kept_if, edit_refused, has_serials, is_no_task, post_faults, proposal, task_faults, with_sent, write_faults, with_write, with_arrival, entries_after, entries_after_all}
 use Rattle.hc_events.specs.Accepted.{just_opened, record_of}
 use Rattle.hc_events.proofs.lemmas.Accepted.{passed}
 use Rattle.hc_events.proofs.lemmas.Once.{serial-below}
@@ -77,6 +77,7 @@ serials-ascend [] low high = λ older newer e f less. cc
 serials-ascend (Opened groups ∷ past) low high = λ older newer e f less. cc
 serials-ascend (Edited edit ∷ past) low high = ascends_on (Edited edit) low high (sending_of past low) (sending_of past high) (serials-ascend past low high)
 serials-ascend (Posted task bytes ∷ past) low high = ascends_on (Posted task bytes) low high (sending_of past low) (sending_of past high) (serials-ascend past low high)
+serials-ascend (Forgot station ∷ past) low high = ascends_on (Forgot station) low high (sending_of past low) (sending_of past high) (serials-ascend past low high)
 serials-ascend (Came arrival ∷ past) low high = ascends_on (Came arrival) low high (sending_of past low) (sending_of past high) (serials-ascend past low high)
 serials-ascend (Sent frame ∷ past) low high =
     ascends_sent past (Sent frame) (just_sent (data_heads (line_of past) frame)) low high (next_serial past == low) (next_serial past == high) refl refl refl (serials-ascend past low high)
@@ -133,6 +134,7 @@ left_after past SendsWrite before =
     left_if (lowest (write_faults past (owed_blocks past))) past (with_write past (owed_blocks past)) (λ e. left_write past (owed_blocks past) e before) before
 left_after past (Arrives bytes) before = left_arrival past (arrival_in bytes) before
 left_after past (Reads task) before = before
+left_after past (Forgets station) before = left_if (lowest (forget_faults past station)) past (Forgot station ∷ past) (λ e. before) before
 
 left_after_all : (past : Record) (steps : List Step) → Left past → Left (entries_after_all past steps)
 left_after_all past [] before = before

@@ -1,5 +1,5 @@
 -- Each piece of news is of an entry of the record.
-use Rattle.std.proofs.Common.{◌≡◌, ◌==◌, Bool, true, false, cond, List, [], ◌∷◌, map, refl, ap, Option, Some, None}
+use Rattle.std.proofs.Common.{◌≡◌, ◌==◌, Bool, true, false, cond, List, [], ◌∷◌, map, refl, sym, ap, ◌∙◌, Option, Some, None}
 use Rattle.std.specs.Prelude.{All, Contains}
 use Rattle.std.specs.Option.{option_map_or}
 use Rattle.std.specs.List.{flat_map, list_any, zip}
@@ -8,9 +8,9 @@ use Rattle.std.proofs.lemmas.List.Elements.{All-nil, All-cons, All-append, All-c
 use Rattle.hc_records.proofs.lemmas.Lists.{All-flat_map}
 use Rattle.hc_records.proofs.lemmas.Choices.{contains-first, contains-later}
 use Rattle.hc_events.specs.Arrivals.{Arrival, Part}
-use Rattle.hc_events.specs.Entries.{Entry, Record, Opened, Edited, Posted, Sent, Wrote, Came}
+use Rattle.hc_events.specs.Entries.{Entry, Record, Opened, Edited, Posted, Sent, Wrote, Came, Forgot}
 use Rattle.hc_events.specs.Heads.{Block, Datagram, Head, Item}
-use Rattle.hc_events.specs.Answering.{Good, Sending, Stale, Wrong, answered_by, has_good, is_good, judge, judged, sends, verdict}
+use Rattle.hc_events.specs.Answering.{Good, Sending, Stale, Wrong, answered_by, has_good, is_good, is_outdated, judge, judged, sends, verdict}
 use Rattle.hc_events.specs.Images.{Fresh, fresh, fresh_by, fresh_item}
 use Rattle.hc_events.specs.Changes.{Answered, News, Swapped, news_of}
 use Rattle.hc_events.specs.NewsLaws.{IsGoodAnswer, IsNewsOf}
@@ -41,7 +41,7 @@ all_further entry past news all = All-weaker (IsNewsOf past) (IsNewsOf (entry �
 -- the good datagrams of an arrival
 
 record IsFresh (head : Head) (part : Part) (since : List Entry) : Type 0 where
-  newest : list_any (sends head.item) since ≡ false
+  newest : is_outdated head.item since ≡ false
   counter : part.counter ≡ head.expected
 
 good_means : (again same : Bool) → is_good (cond again Stale (cond same Good Wrong)) ≡ true → (again ≡ false) × (same ≡ true)
@@ -51,7 +51,7 @@ good_means false false good = cc
 
 is_fresh : (head : Head) (part : Part) (since : List Entry) → is_good (verdict since head part) ≡ true → IsFresh head part since
 is_fresh head part since good =
-    let means = good_means (list_any (sends head.item) since) (part.counter == head.expected) good in
+    let means = good_means (is_outdated head.item since) (part.counter == head.expected) good in
     record { newest = means.0; counter = eqb-true part.counter head.expected means.1 }
 
 of_item : (past : Record) (arrival : Arrival) (sending : Sending) (head : Head) (part : Part) → answered_by past arrival ≡ Some sending → Contains (zip sending.heads arrival.parts) (head, part) → IsFresh head part sending.since
@@ -69,7 +69,7 @@ of_item past arrival sending head part found at is (Datagram task d) same =
       part = part;
       stands = at;
       item = same;
-      newest = is.newest;
+      newest = ap (λ one. list_any (sends one) sending.since) same ∙ sym (ap (λ one. is_outdated one sending.since) same) ∙ is.newest;
       counter = is.counter;
       bytes = refl;
     }) (All-nil (IsGoodAnswer (Came arrival ∷ past)))
@@ -103,6 +103,7 @@ news-of_record (Edited edit ∷ past) =
     All-append (IsNewsOf (Edited edit ∷ past)) (news_of past) (Swapped edit ∷ []) (all_further (Edited edit) past (news_of past) (news-of_record past))
     (All-cons (IsNewsOf (Edited edit ∷ past)) (Swapped edit) [] (contains-first (Edited edit) past) (All-nil (IsNewsOf (Edited edit ∷ past))))
 news-of_record (Posted task bytes ∷ past) = all_further (Posted task bytes) past (news_of past) (news-of_record past)
+news-of_record (Forgot station ∷ past) = all_further (Forgot station) past (news_of past) (news-of_record past)
 news-of_record (Sent frame ∷ past) = all_further (Sent frame) past (news_of past) (news-of_record past)
 news-of_record (Wrote block ∷ past) = all_further (Wrote block) past (news_of past) (news-of_record past)
 news-of_record (Came arrival ∷ past) =

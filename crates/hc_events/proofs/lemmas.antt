@@ -6,6 +6,7 @@ pub mod Awaited
 pub mod Changes
 pub mod Epochs
 pub mod Frames
+pub mod LastWrites
 pub mod Names
 pub mod Once
 pub mod OneWrite

@@ -1,5 +1,5 @@
 -- How old the data are that a task reads: which sending their answer answered (this project's profile).
-use Rattle.std.specs.Prelude.{◌≡◌, ℕ, is_some, if◌then◌else◌, List, [], ◌∷◌, fold, Option, Some, None}
+use Rattle.std.specs.Prelude.{◌≡◌, ℕ, is_some, if◌then◌else◌, [], ◌∷◌, fold, Option, Some, None}
 use Rattle.hc_events.specs.Entries.{Record, Opened, Edited, Came}
 use Rattle.hc_events.specs.Images.{Fresh, fresh_by, is_for, slot_of}
 

@@ -12,7 +12,7 @@ use Rattle.hc_events.specs.Entries.{Entry, Record, Opened, Edited, Sent, Wrote, 
 use Rattle.hc_events.specs.Points.{line_of, next_serial}
 use Rattle.hc_events.specs.Sendings.{Named}
 use Rattle.hc_events.specs.Heads.{Head, Item, Datagram as DatagramItem, Block, data_head, item_of, write_head}
-use Rattle.hc_events.specs.Answering.{Sending, answered_by, has_heads, is_stale_to, judge, judged, judged_by, sends}
+use Rattle.hc_events.specs.Answering.{Sending, answered_by, has_heads, is_forgetting, is_stale_to, judge, judged, judged_by, sends}
 use Rattle.hc_events.specs.Awaited.{awaited, is_write}
 use Rattle.hc_events.specs.Images.{Fresh, fresh_by}
 use Rattle.hc_events.specs.Steps.{Arrives, answer_to, sent_datagram, told_of}
@@ -76,10 +76,17 @@ pub record AnswersTheAwaited (past : Record) (arrival : Arrival) : Type 0 where
 abbrev pub AwaitedAreAnswered : Type 0
 AwaitedAreAnswered = (past : Record) (arrival : Arrival) → AnswersTheAwaited past arrival
 
--- where a register write is awaited nothing else is, neither another write nor a frame of tasks
+-- where a register write is awaited no other write is
+abbrev pub OneWriteIsAwaited : Type 0
+OneWriteIsAwaited =
+    (past : Record) (serial other : ℕ) (write sending : Sending) → IsReachable past
+    → awaited past serial ≡ Some write → is_write write ≡ true
+    → awaited past other ≡ Some sending → is_write sending ≡ true → other ≡ serial
+
+-- and as long as no slave's registers were forgotten nothing else is, neither another write nor a frame of tasks
 abbrev pub WritesAreAwaitedAlone : Type 0
 WritesAreAwaitedAlone =
-    (past : Record) (serial other : ℕ) (write sending : Sending) → IsReachable past
+    (past : Record) (serial other : ℕ) (write sending : Sending) → IsReachable past → list_any is_forgetting past ≡ false
     → awaited past serial ≡ Some write → is_write write ≡ true
     → awaited past other ≡ Some sending → other ≡ serial
 

@@ -1,12 +1,12 @@
 -- Which sending an arrival answers, and what it is for each of the sending's datagrams (this project's profile; the working counter is that of ETG.1000.4, 5.4).
-use Rattle.std.specs.Prelude.{ℕ, ◌==◌, ◌&&◌, not, Bool, true, false, if◌then◌else◌, List, [], ◌∷◌, length, map, Option, Some, None, option_map, option_and_then}
+use Rattle.std.specs.Prelude.{ℕ, ◌==◌, ◌&&◌, ◌||◌, not, Bool, true, false, if◌then◌else◌, List, [], ◌∷◌, length, map, Option, Some, None, option_map, option_and_then}
 use Rattle.std.specs.Option.{option_map_or}
 use Rattle.std.specs.List.{list_any, zip}
 use Rattle.hc_frames.specs.Commands.{code_of}
 use Rattle.hc_events.specs.Arrivals.{Arrival, Part}
-use Rattle.hc_events.specs.Entries.{Entry, Record, Opened, Edited, Sent, Wrote, Came}
+use Rattle.hc_events.specs.Entries.{Entry, Record, Opened, Edited, Sent, Wrote, Came, Forgot}
 use Rattle.hc_events.specs.Points.{line_of, next_serial}
-use Rattle.hc_events.specs.Heads.{Item, Head, same_item, item_of, block_item, data_heads, write_head}
+use Rattle.hc_events.specs.Heads.{Item, Datagram, Block, Head, same_item, item_of, block_item, data_heads, write_head}
 
 -- a sending as it is looked back upon: what it said of its datagrams, and the entries since, the newest first
 pub record Sending : Type 0 where
@@ -74,28 +74,53 @@ sends item (Sent frame) = list_any (λ named. same_item item (item_of named)) fr
 sends item (Wrote block) = same_item item (block_item block)
 sends item entry = false
 
--- what an answer is for a datagram: good by its working counter, wrong by it, or stale where the same datagram or block was sent again since
+-- a slave's registers were forgotten
+abbrev pub is_forgetting : Entry → Bool
+is_forgetting (Forgot station) = true
+is_forgetting entry = false
+
+-- those of the slave with a station address were
+abbrev pub forgets : ℕ → Entry → Bool
+forgets station (Forgot other) = station == other
+forgets station entry = false
+
+-- after some slave's registers were forgotten a register write was sent: it takes the place of every write before that, so that one write at most is under way
+abbrev pub starts_over : List Entry → Bool
+starts_over [] = false
+starts_over (Wrote block ∷ since) = list_any is_forgetting since || starts_over since
+starts_over (entry ∷ since) = starts_over since
+
+-- a write of the register block says nothing any more: the slave was forgotten since, or the writes started over; a task's datagram has no part in either
+abbrev pub is_dropped : Item → List Entry → Bool
+is_dropped (Datagram task d) since = false
+is_dropped (Block station number) since = list_any (forgets station) since || starts_over since
+
+-- what was sent is out of date: it was dropped or sent again since
+abbrev pub is_outdated : Item → List Entry → Bool
+is_outdated item since = is_dropped item since || list_any (sends item) since
+
+-- what an answer is for a datagram: good by its working counter, wrong by it, or stale where the datagram or block was sent again since, or the block's write was dropped
 pub data Verdict : Type 0 where
   Good : Verdict
   Wrong : Verdict
   Stale : Verdict
 
--- the verdict is `Good`: the expected working counter came back, and the same wasn't sent again since
+-- the verdict is `Good`: the expected working counter came back, and the datagram isn't out of date
 abbrev pub is_good : Verdict → Bool
 is_good Good = true
 is_good Wrong = false
 is_good Stale = false
 
--- the verdict is `Stale`: the same datagram or block was sent again since
+-- the verdict is `Stale`: the datagram is out of date
 abbrev pub is_stale : Verdict → Bool
 is_stale Good = false
 is_stale Wrong = false
 is_stale Stale = true
 
--- what came back of a datagram is stale where the same was sent again since, else good where its working counter is the expected one, else wrong
+-- what came back of a datagram is stale where it is out of date (`is_outdated`), else good where its working counter is the expected one, else wrong
 abbrev pub verdict : List Entry → Head → Part → Verdict
 verdict since head part =
-    if list_any (sends head.item) since then Stale else (if part.counter == head.expected then Good else Wrong)
+    if is_outdated head.item since then Stale else (if part.counter == head.expected then Good else Wrong)
 
 -- a datagram of a sending, what came back of it, and what that is
 pub record Judged : Type 0 where

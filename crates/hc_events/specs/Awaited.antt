@@ -3,25 +3,25 @@ use Rattle.std.specs.Prelude.{ℕ, ◌||◌, Bool, true, false, if◌then◌else
 use Rattle.std.specs.List.{list_all, list_any}
 use Rattle.hc_events.specs.Entries.{Entry, Record, Came}
 use Rattle.hc_events.specs.Heads.{Head, is_block}
-use Rattle.hc_events.specs.Answering.{Sending, ends, sending_of, sends}
+use Rattle.hc_events.specs.Answering.{Sending, ends, is_outdated, sending_of}
 
 -- an accepted edit or an arrival that fits was recorded since
 abbrev pub is_ended : ℕ → Sending → Bool
 is_ended serial sending = list_any (ends serial sending.heads) sending.since
 
--- all that these datagrams carry was sent again since
-abbrev pub all_sent_again : List Entry → List Head → Bool
-all_sent_again since heads = list_all (λ head. list_any (sends head.item) since) heads
+-- all that these datagrams carry is out of date
+abbrev pub all_outdated : List Entry → List Head → Bool
+all_outdated since heads = list_all (λ head. is_outdated head.item since) heads
 
 -- the entry is of another kind than a frame that arrived (`Came`)
 abbrev pub is_no_arrival : Entry → Bool
 is_no_arrival (Came arrival) = false
 is_no_arrival entry = true
 
--- a sending that neither ended nor was wholly sent again, without the arrivals since then: those that don't end it say nothing of it
+-- a sending that neither ended nor is wholly out of date, without the arrivals since then: those that don't end it say nothing of it
 abbrev pub alive : ℕ → Sending → Option Sending
 alive serial sending =
-    if is_ended serial sending || all_sent_again sending.since sending.heads then None
+    if is_ended serial sending || all_outdated sending.since sending.heads then None
     else Some (record { heads = sending.heads; since = filter is_no_arrival sending.since })
 
 -- what is awaited with a serial

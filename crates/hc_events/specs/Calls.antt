@@ -13,11 +13,12 @@ use Rattle.hc_events.specs.Entries.{Record}
 use Rattle.hc_events.specs.Points.{line_of, next_serial}
 use Rattle.hc_events.specs.Sendings.{Frame, alone, length_of, size_of}
 use Rattle.hc_events.specs.Owed.{owed_blocks}
-use Rattle.hc_events.specs.Steps.{Step, Posts, answer_to, entries_after, has_serials, proposal, task_faults, write_faults}
+use Rattle.hc_events.specs.Steps.{Step, Posts, Forgets, answer_to, entries_after, has_serials, proposal, task_faults, write_faults}
 
--- an event takes memory for what it answers or for what is kept behind it; a post takes none, since the room for its values was taken at the opening or by an accepted edit
+-- an event takes memory for what it answers or for what is kept behind it; a post takes none, since the room for its values was taken at the opening or by an accepted edit; forgetting a slave's registers takes none
 abbrev pub takes_memory : Step → Bool
 takes_memory (Posts task epoch bytes) = false
+takes_memory (Forgets station) = false
 takes_memory step = true
 
 -- the event's answer, and the record behind it

@@ -6,7 +6,7 @@ use Rattle.hc_registers.specs.Blocks.{LineBlock}
 use Rattle.hc_events.specs.Arrivals.{Arrival}
 use Rattle.hc_events.specs.Sendings.{Named}
 
--- the project's groups; an edit; a task and the bytes that it posted; a frame by its datagrams; a register block; a frame that arrived and could be read
+-- the project's groups; an edit; a task and the bytes that it posted; a frame by its datagrams; a register block; a frame that arrived and could be read; the station address of a slave whose registers were forgotten
 pub data Entry : Type 0 where
   Opened : List Group → Entry
   Edited : Edit → Entry
@@ -14,6 +14,7 @@ pub data Entry : Type 0 where
   Sent : List Named → Entry
   Wrote : LineBlock → Entry
   Came : Arrival → Entry
+  Forgot : ℕ → Entry
 
 -- a list of entries, the newest first: what the core accepted since a project was opened
 abbrev pub Record : Type 0

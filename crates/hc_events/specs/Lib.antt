@@ -19,11 +19,14 @@ pub mod WorkedRecords
 pub mod WorkedWrites
 pub mod WorkedFrames
 pub mod WorkedArrivals
+pub mod WorkedForgetting
 pub mod WorkedRefusals
 pub mod Awaited
 pub mod Stale
 pub mod Accepted
 pub mod Names
+pub mod WithoutForgetting
+pub mod Forgetting
 pub mod Laws
 pub mod SendingLaws
 pub mod AnswerLaws

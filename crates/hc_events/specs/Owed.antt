@@ -5,7 +5,7 @@ use Rattle.std.specs.List.{list_any}
 use Rattle.std.specs.Str.{bytes_eq}
 use Rattle.hc_records.specs.Edits.{slave_at}
 use Rattle.hc_registers.specs.Blocks.{LineBlock, line_blocks}
-use Rattle.hc_events.specs.Entries.{Record, Opened, Edited, Wrote, Came}
+use Rattle.hc_events.specs.Entries.{Record, Opened, Edited, Wrote, Came, Forgot}
 use Rattle.hc_events.specs.Points.{line_of, next_serial, state_of}
 use Rattle.hc_events.specs.Heads.{Block, block_item, same_item}
 use Rattle.hc_events.specs.Answering.{has_good, judged_by}
@@ -14,7 +14,7 @@ use Rattle.hc_events.specs.Answering.{has_good, judged_by}
 abbrev pub is_in_line : Record → ℕ → Bool
 is_in_line past station = is_some (slave_at (state_of past) station)
 
--- the last write of a block since its slave was connected: its serial and its bytes
+-- the last write of a block since its slave was connected or last forgotten: its serial and its bytes
 abbrev pub last_write : Record → ℕ → ℕ → Option (ℕ × List ℕ)
 last_write [] station number = None
 last_write (Opened groups ∷ past) station number = None
@@ -23,6 +23,7 @@ last_write (Wrote block ∷ past) station number =
     else last_write past station number
 last_write (Edited edit ∷ past) station number =
     if is_in_line past station then last_write past station number else None
+last_write (Forgot other ∷ past) station number = if station == other then None else last_write past station number
 last_write (entry ∷ past) station number = last_write past station number
 
 -- the write with a serial has had a good answer
@@ -37,7 +38,7 @@ was_confirmed (entry ∷ past) serial = was_confirmed past serial
 abbrev pub if_confirmed : Record → ℕ × List ℕ → Option (List ℕ)
 if_confirmed past write = if was_confirmed past write.0 then Some write.1 else None
 
--- the bytes that the slave with a station address is known to have in its block with a number: those of its last write since it came into the line, where that had a good answer
+-- the bytes that the slave with a station address is known to have in its block with a number: those of its last write since it came into the line or was last forgotten, where that had a good answer
 abbrev pub known_bytes : Record → ℕ → ℕ → Option (List ℕ)
 known_bytes past station number = option_and_then (if_confirmed past) (last_write past station number)
 

@@ -1,5 +1,5 @@
 -- What the core answers to each event, and what it accepts of it. `Calls` says to which events want of memory may be answered instead.
-use Rattle.std.specs.Prelude.{ℕ, ◌+◌, ◌==◌, not, nat_lt, Bool, if◌then◌else◌, List, [], ◌∷◌, length, map, Option, Some, None, option_map, Result, Ok, Err}
+use Rattle.std.specs.Prelude.{ℕ, ◌+◌, ◌==◌, not, nat_lt, is_none, Bool, if◌then◌else◌, List, [], ◌∷◌, length, map, Option, Some, None, option_map, Result, Ok, Err}
 use Rattle.std.specs.List.{list_any}
 use Rattle.hc_records.specs.declared.limits.TheConstants.{TASKS}
 use Rattle.hc_records.specs.declared.edit.Edit.{Edit}
@@ -7,7 +7,7 @@ use Rattle.hc_records.specs.Lists.{lowest}
 use Rattle.hc_records.specs.Line.{State, line}
 use Rattle.hc_records.specs.Image.{logical_address, output_length, task_places}
 use Rattle.hc_records.specs.Boundaries.{recut}
-use Rattle.hc_records.specs.Edits.{edit_faults, state_after}
+use Rattle.hc_records.specs.Edits.{edit_faults, is_declared_station, slave_at, state_after}
 use Rattle.hc_registers.specs.Blocks.{LineBlock, moved}
 use Rattle.hc_frames.specs.FrameText.{Datagram, block_write, frame_text, lrw}
 use Rattle.hc_events.specs.declared.answer.Answer.{Answer}
@@ -17,12 +17,12 @@ use Rattle.hc_events.specs.declared.answer.Outcome.TheVariants as outcome
 use Rattle.hc_events.specs.declared.event.Event.{Event}
 use Rattle.hc_events.specs.declared.event.Event.TheVariants as event
 use Rattle.hc_events.specs.declared.faults.CoreFault.{CoreFault}
-use Rattle.hc_events.specs.declared.faults.CoreFault.TheVariants.{NoSuchTask, NothingOwed, PostLength, SerialsSpent, StalePost, Unprogrammed}
+use Rattle.hc_events.specs.declared.faults.CoreFault.TheVariants.{Absent, NoSuchTask, NothingOwed, PostLength, SerialsSpent, StalePost, UnknownStation, Unprogrammed}
 use Rattle.hc_frames.specs.declared.limits.TheConstants.{SETUP_SERIAL}
 use Rattle.hc_frames.specs.declared.reading.faults.FrameFault.{FrameFault}
 use Rattle.hc_events.specs.Faults.{edit_refusal, frame_refusal}
 use Rattle.hc_events.specs.Arrivals.{Arrival, Part, arrival_in}
-use Rattle.hc_events.specs.Entries.{Record, Edited, Posted, Sent, Wrote, Came}
+use Rattle.hc_events.specs.Entries.{Record, Edited, Posted, Sent, Wrote, Came, Forgot}
 use Rattle.hc_events.specs.Points.{epoch_of, line_of, next_serial, state_of}
 use Rattle.hc_events.specs.Sendings.{Frame, Named, sendings_of}
 use Rattle.hc_events.specs.Heads.{Head, Item, Datagram as DatagramItem, Block, is_block}
@@ -39,6 +39,7 @@ pub data Step : Type 0 where
   SendsWrite : Step
   Arrives : List ℕ → Step
   Reads : ℕ → Step
+  Forgets : ℕ → Step
 
 -- a refusal, or else this answer; the record unchanged, or else this one
 abbrev pub unless : Option CoreFault → Answer → Answer
@@ -179,6 +180,15 @@ read_faults task = (is_no_task task, NoSuchTask) ∷ []
 abbrev pub image_of : Record → ℕ → Answer
 image_of past task = answer.Image (epoch_of past) (slots_of past task)
 
+-- forgetting a slave's registers
+
+-- what refuses it, in order, as an edit of one of the slave's areas is refused: 5 no declared slave has the station address, 6 that slave isn't in the line
+abbrev pub forget_faults : Record → ℕ → List (Bool × CoreFault)
+forget_faults history station =
+    (not (is_declared_station (state_of history) station), UnknownStation)
+    ∷ (is_none (slave_at (state_of history) station), Absent)
+    ∷ []
+
 -- an event as the core is given it
 abbrev pub step_of : Event → Step
 step_of (event.Edit edit) = Edits edit.now
@@ -187,6 +197,7 @@ step_of (event.SendTasks tasks) = SendsTasks tasks.now
 step_of event.SendWrite = SendsWrite
 step_of (event.Arrive bytes) = Arrives bytes.now
 step_of (event.Read task) = Reads task
+step_of (event.Forget station) = Forgets station
 
 -- the answer to an event; of several refusals the first that holds
 abbrev pub answer_to : Record → Step → Answer
@@ -196,6 +207,7 @@ answer_to past (SendsTasks tasks) = unless (lowest (task_faults past tasks)) (an
 answer_to past SendsWrite = unless (lowest (write_faults past (owed_blocks past))) (told_of_write (next_serial past) (owed_blocks past))
 answer_to past (Arrives bytes) = told_of_arrival past (arrival_in bytes)
 answer_to past (Reads task) = unless (lowest (read_faults task)) (image_of past task)
+answer_to past (Forgets station) = unless (lowest (forget_faults past station)) answer.Forgotten
 
 -- the record with what was accepted; a refused event leaves it as it was, and a read too
 abbrev pub entries_after : Record → Step → Record
@@ -205,6 +217,7 @@ entries_after past (SendsTasks tasks) = kept_if (lowest (task_faults past tasks)
 entries_after past SendsWrite = kept_if (lowest (write_faults past (owed_blocks past))) past (with_write past (owed_blocks past))
 entries_after past (Arrives bytes) = with_arrival past (arrival_in bytes)
 entries_after past (Reads task) = past
+entries_after past (Forgets station) = kept_if (lowest (forget_faults past station)) past (Forgot station ∷ past)
 
 -- the answers to a list of events, each behind those before it, and the record that all of them leave
 abbrev pub answers_to : Record → List Step → List Answer

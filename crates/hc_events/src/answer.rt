@@ -89,6 +89,8 @@ pub enum Answer {
         /// For each datagram of the task the data of its last good answer in that epoch, if there is one.
         slots: Items<Option<Items<u8>>>,
     },
+    /// The slave's registers are forgotten: all its blocks are owed again.
+    Forgotten,
     /// The event was refused, and nothing changed.
     Refused(CoreFault),
 }

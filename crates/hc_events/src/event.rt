@@ -24,4 +24,7 @@ pub enum Event<'a> {
     Arrive(&'a [u8]),
     /// A task, 0 to 7, reads its input image; a higher one is refused.
     Read(u8),
+    /// The slave with this station address may have lost its registers: none of its register blocks is known
+    /// to be written any more. Refused where no declared slave has the address, or the slave isn't in the line.
+    Forget(u16),
 }

@@ -2,10 +2,11 @@
 //! does nothing, and its contract is a law that holds of every record. Nobody calls it.
 ghost use Rattle.hc_events.specs.Accepted.{RecordsAreReachable};
 ghost use Rattle.hc_events.specs.Ages.{SerialsAreOfData};
-ghost use Rattle.hc_events.specs.AnswerLaws.{AnsweredAreOfTheLine, AnswersTheSerial, AwaitedAreAnswered, ReturnedFramesAnswer, WritesAreAwaitedAlone};
+ghost use Rattle.hc_events.specs.AnswerLaws.{AnsweredAreOfTheLine, AnswersTheSerial, AwaitedAreAnswered, OneWriteIsAwaited, ReturnedFramesAnswer, WritesAreAwaitedAlone};
 ghost use Rattle.hc_events.specs.CallLaws.{FramesFillTheirBytes, PreviewsAreFrames, WritesFillTheirBytes};
 ghost use Rattle.hc_events.specs.DataLaws.{SentDataAreValues};
 ghost use Rattle.hc_events.specs.FaultLaws.{FaultsAreNumbered};
+ghost use Rattle.hc_events.specs.Forgetting.{EventsWithoutForgetting, ForgettingLosesRegistersAlone, ForgottenWritesAreStale, HistoriesWithoutForgetting};
 ghost use Rattle.hc_events.specs.Laws.{AnswersOnce, EditsLeaveNoSlot, EpochsAreCounted, ProposalsAreNumbered, SlotsFit, UnmovedIsOwedAsBefore};
 ghost use Rattle.hc_events.specs.Names.{AddressesAreThoseSent, AnsweredAreNamed};
 ghost use Rattle.hc_events.specs.NewsLaws.{ChangesAreLegal, ChangesTellAll, LegalChangesAgree, LegalChangesDecide, NewsAreOfTheRecord, NewsOnlyGrow, SlotsAreLastAnswers};
@@ -79,8 +80,13 @@ pub fn awaited_are_answered()
     ensures { AwaitedAreAnswered }
 {}
 
-/// Where a register write is awaited, nothing else is: no other write, and no frame of tasks. So at most one
-/// write is awaited at any time.
+/// Where a register write is awaited, no other write is: at most one is awaited at any time.
+pub fn one_write_is_awaited()
+    ensures { OneWriteIsAwaited }
+{}
+
+/// Where a register write is awaited, nothing else is as long as no slave's registers were forgotten: no other
+/// write, and no frame of tasks.
 pub fn writes_are_awaited_alone()
     ensures { WritesAreAwaitedAlone }
 {}
@@ -270,4 +276,26 @@ pub fn epochs_are_counted()
 /// those of frames, 28 want of memory, 29 want of room.
 pub fn faults_are_numbered()
     ensures { FaultsAreNumbered }
+{}
+
+/// After a slave was forgotten nothing is known of its register blocks, so all of them are owed. Everything else
+/// is as before: line, epoch, next serial, images and their serials, output values, changes, what is known of
+/// other slaves, and the awaited frames of tasks.
+pub fn forgetting_loses_registers_alone()
+    ensures { ForgettingLosesRegistersAlone }
+{}
+
+/// A write of a forgotten slave's block that was sent before confirms nothing: whatever comes back of it is stale.
+pub fn forgotten_writes_are_stale()
+    ensures { ForgottenWritesAreStale }
+{}
+
+/// A history in which no slave was forgotten says what the words say that knew no such event.
+pub fn histories_without_forgetting()
+    ensures { HistoriesWithoutForgetting }
+{}
+
+/// Events among which no slave is forgotten are answered as by those words, and leave the same history.
+pub fn events_without_forgetting()
+    ensures { EventsWithoutForgetting }
 {}

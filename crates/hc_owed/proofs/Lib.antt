@@ -1,6 +1,7 @@
 mod Changing
 mod Entering
 mod FlagLists
+mod Forgetting
 mod Lists
 mod Opened
 mod Telling

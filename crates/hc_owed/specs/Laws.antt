@@ -41,6 +41,10 @@ same_name a b = (a.0 == b.0) && (a.1 == b.1)
 abbrev pub known_with : ℕ × ℕ → Option (List ℕ) → Knowledge → Knowledge
 known_with name bytes known station number = if same_name name (station, number) then bytes else known station number
 
+-- nothing known any more of the blocks of the slave with a station address
+abbrev pub known_without : ℕ → Knowledge → Knowledge
+known_without station known other number = if other == station then None else known other number
+
 -- what is kept is right for a project's state, in whose line a block stands at a place
 pub record IsKeptAt (board : Board) (n : ℕ) (known : Knowledge) (state : State) (block : LineBlock) : Type 0 where
   pub right : board ≡ kept_of known state

@@ -1,5 +1,6 @@
 -- The steps of what is kept, place by place.
-use Rattle.std.specs.Prelude.{ℕ, zero, suc, ◌+◌, ◌*◌, Bool, false, List, [], ◌∷◌, slice_get, unwrap_or, Option, None}
+use Rattle.std.specs.Prelude.{ℕ, zero, suc, ◌+◌, ◌*◌, ◌/◌, ◌==◌, ◌||◌, is_some, Bool, false, if◌then◌else◌, List, [], ◌∷◌, slice_get, unwrap_or, Option, None}
+use Rattle.std.specs.Option.{option_map_or}
 use Rattle.hc_records.specs.Lists.{changed_at}
 use Rattle.hc_registers.specs.declared.ranked.Gone.{Gone}
 use Rattle.hc_registers.specs.Ranked.{RankedBlock}
@@ -22,6 +23,27 @@ filled from (suc count) x xs = changed_at (from + count) (λ _. x) (filled from 
 -- so many places from one on are emptied
 abbrev pub emptied : ℕ → ℕ → Board → Board
 emptied from count board = record board { known = filled from count None board.known; owed = filled from count false board.owed }
+
+-- a place has a block where that is owed or known
+abbrev pub has_block : Board → ℕ → Bool
+has_block board n = unwrap_or (slice_get board.owed n) false || is_some (unwrap_or (slice_get board.known n) None)
+
+-- nothing is known any more at a place, and its block, if it has one, is owed
+abbrev pub forgotten_at : ℕ → Board → Board
+forgotten_at n board = judged n (has_block board n) (learnt n None board)
+
+-- a place is of the slave with a station address
+abbrev pub is_of : ℕ → List ℕ → ℕ → Bool
+is_of station stations n = option_map_or (λ other. other == station) (slice_get stations (n / 16)) false
+
+-- where it is, it is forgotten
+abbrev pub forgotten_of : ℕ → ℕ → Board → Board
+forgotten_of station n board = if is_of station board.stations n then forgotten_at n board else board
+
+-- so it is at so many places from the first one on
+abbrev pub forgotten_below : ℕ → ℕ → Board → Board
+forgotten_below station zero board = board
+forgotten_below station (suc n) board = forgotten_of station n (forgotten_below station n board)
 
 -- the places of the slaves that leave are emptied
 abbrev pub cleared : Gone → Board → Board

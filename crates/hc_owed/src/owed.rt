@@ -60,8 +60,8 @@ impl Owed {
     ghost use Rattle.hc_registers.specs.RankDifferences.{block_place, first_gone};
     ghost use Rattle.hc_plan.specs.Reports.{name_of};
     ghost use Rattle.hc_owed.specs.Board.{Knowledge, kept_of, lacks, nothing_known};
-    ghost use Rattle.hc_owed.specs.Laws.{IsEdited, IsFirstOwed, IsKeptAt, IsOwedAt, known_over, known_with, owed_blocks};
-    ghost use Rattle.hc_owed.specs.Steps.{cleared, compared, compared_all, emptied, judged, learnt};
+    ghost use Rattle.hc_owed.specs.Laws.{IsEdited, IsFirstOwed, IsKeptAt, IsOwedAt, known_over, known_with, known_without, owed_blocks};
+    ghost use Rattle.hc_owed.specs.Steps.{cleared, compared, compared_all, emptied, forgotten_at, forgotten_of, has_block, judged, learnt};
 
     /// What is kept of a line whose slaves were just connected: nothing is known of any block, and every block is
     /// owed. `AllocError` where a growth was refused; of the later calls `room_for` alone takes memory.
@@ -147,6 +147,48 @@ impl Owed {
     {
         self.learn(place as usize, Some(block));
         self.judge(place as usize, false);
+    }
+
+    /// Whether a place has a block: one that is owed or known.
+    fn has_block(&self, place: usize) -> bool
+        requires { place < length self.now.known }
+        ensures { result ≡ has_block self.now place }
+    {
+        if self.owed.get(place) {
+            return true;
+        }
+        self.known[place].is_some()
+    }
+
+    /// Makes the block at a place, if there is one, unknown and so owed.
+    fn forget_at(&mut self, place: usize)
+        requires { place < length self.old.known }
+        ensures { self.new ≡ forgotten_at place self.old }
+    {
+        let owed = self.has_block(place);
+        self.learn(place, None);
+        self.judge(place, owed);
+    }
+
+    /// The same where a place is of the slave with a station address.
+    fn forget_of(&mut self, place: usize, station: u16)
+        requires { place < length self.old.known }
+        ensures { self.new ≡ forgotten_of station place self.old }
+    {
+        if self.stations[place / 16] == station {
+            self.forget_at(place);
+        }
+    }
+
+    /// The slave with a station address may have lost its registers: nothing is known of its blocks any more, and
+    /// each of them is owed. Nothing changes where the line has no such slave. It takes the time of the places of
+    /// all declared slaves, and no memory.
+    pub fn forget(&mut self, station: u16)
+        ensures { (known : Knowledge) (state : State) → self.old ≡ kept_of known state → self.new ≡ kept_of (known_without station known) state }
+    {
+        for place in 0..self.known.len() {
+            self.forget_of(place, station);
+        }
     }
 
     /// Empties the places of the slaves that left.

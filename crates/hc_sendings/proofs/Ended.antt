@@ -53,18 +53,24 @@ frames-ended at serial (kept ∷ frames) =
     (λ t. ap (λ (one : KeptFrame). cond (is_alive (told_at at one)) (told_at at one ∷ alive_at at (map (emptied serial) frames)) (alive_at at (map (emptied serial) frames))) (emptied-not serial kept t)
     ∙ stays serial (told_at at kept) (alive_at at frames) (alive_at at (map (emptied serial) frames)) (is_alive (told_at at kept)) t (frames-ended at serial frames))
 
--- the write goes where it has the serial, else it stays
+-- the write goes where it passes a test, else it stays
+pub write-gone_by : (test : AwaitedWrite → Bool) (write : Option AwaitedWrite) → option_map_or test write false ≡ true → None ≡ option_and_then (only_if (λ one. not (test one))) write
+write-gone_by test None e = cc
+write-gone_by test (Some write) e = sym (ap (λ b. cond (not b) (Some write) None) e)
+
+pub write-stays_by : (test : AwaitedWrite → Bool) (write : Option AwaitedWrite) → option_map_or test write false ≡ false → write ≡ option_and_then (only_if (λ one. not (test one))) write
+write-stays_by test None e = refl
+write-stays_by test (Some write) e = sym (ap (λ b. cond (not b) (Some write) None) e)
+
+-- as one that has a serial
 pub write-gone : (serial : ℕ) (write : Option AwaitedWrite) → option_map_or (λ (one : AwaitedWrite). one.serial == serial) write false ≡ true
     → None ≡ option_and_then (only_if (λ (one : AwaitedWrite). not (one.serial == serial))) write
-write-gone serial None e = cc
-write-gone serial (Some write) e = rw e refl
+write-gone serial write e = write-gone_by (λ one. one.serial == serial) write e
 
 pub write-stays : (serial : ℕ) (write : Option AwaitedWrite) → option_map_or (λ (one : AwaitedWrite). one.serial == serial) write false ≡ false
     → write ≡ option_and_then (only_if (λ (one : AwaitedWrite). not (one.serial == serial))) write
-write-stays serial None e = refl
-write-stays serial (Some write) e = rw e refl
+write-stays serial write e = write-stays_by (λ one. one.serial == serial) write e
 
--- the frame or the write with a serial ends
 pub all-ended : (newest : Newest) (serial : ℕ) (frames next : List KeptFrame) (write left : Option AwaitedWrite) → next ≡ map (emptied serial) frames
     → left ≡ option_and_then (only_if (λ (one : AwaitedWrite). not (one.serial == serial))) write
     → record { frames = alive_at (newest_of newest) next; write = left } ≡ ended serial (record { frames = alive_at (newest_of newest) frames; write = write })

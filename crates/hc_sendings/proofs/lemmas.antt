@@ -4,6 +4,7 @@ pub mod PartTexts
 pub mod Whole
 pub mod Dues
 pub mod Sorts
+pub mod Framed
 pub mod Ended
 pub mod Resent
 pub mod Sent

@@ -19,9 +19,10 @@ pub record AwaitedFrame : Type 0 where
   pub serial : ℕ
   pub datagrams : List Carried
 
--- a register write: its serial, its block by the slave's station address and its number in the slave's order, the address and the number of data bytes that it was sent with, and the block
+-- a register write: its serial, the place of its block for who confirms it, its block by the slave's station address and its number in the slave's order, the address and the number of data bytes that it was sent with, and the block
 pub record AwaitedWrite : Type 0 where
   pub serial : ℕ
+  pub place : ℕ
   pub station : ℕ
   pub number : ℕ
   pub address : ℕ
@@ -76,9 +77,10 @@ abbrev pub all_sent : Waiting → List Frame → Waiting
 all_sent waiting frames = fold sent waiting frames
 
 -- a register write is sent: it takes the place of an older one
-abbrev pub awaited_write : ℕ → LineBlock → AwaitedWrite
-awaited_write serial block = record {
+abbrev pub awaited_write : ℕ → ℕ → LineBlock → AwaitedWrite
+awaited_write serial place block = record {
   serial = serial;
+  place = place;
   station = block.station;
   number = block.number;
   address = station_address block.station block.block.register;
@@ -86,9 +88,13 @@ awaited_write serial block = record {
   block = block.block;
 }
 
--- what is awaited once the write of a block was sent with this serial: that write in place of any other
-abbrev pub wrote : ℕ → LineBlock → Waiting → Waiting
-wrote serial block waiting = record waiting { write = Some (awaited_write serial block) }
+-- what is awaited once the write of a block, at a place, was sent with this serial: that write in place of any other
+abbrev pub wrote : ℕ → ℕ → LineBlock → Waiting → Waiting
+wrote serial place block waiting = record waiting { write = Some (awaited_write serial place block) }
+
+-- what is awaited once the slave with a station address was forgotten: no write of a block of that slave; frames and other writes stay
+abbrev pub forgot : ℕ → Waiting → Waiting
+forgot station waiting = record waiting { write = option_and_then (only_if (λ write. not (write.station == station))) waiting.write }
 
 -- what was sent with a serial was answered
 abbrev pub ended : ℕ → Waiting → Waiting

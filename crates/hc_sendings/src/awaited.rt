@@ -19,6 +19,7 @@ use std::marker::Model;
 #[derive(Debug, Drop)]
 pub(crate) struct Write {
     pub(crate) serial: u64,
+    place: u32,
     station: u16,
     number: u8,
     pub(crate) address: u32,
@@ -31,7 +32,7 @@ impl Model for Write {
 
     ghost Value = { AwaitedWrite };
 
-    ghost view = { λ write. record { serial = write.serial; station = write.station; number = write.number; address = write.address; length = write.length; block = write.block } };
+    ghost view = { λ write. record { serial = write.serial; place = write.place; station = write.station; number = write.number; address = write.address; length = write.length; block = write.block } };
 }
 
 /// The frames of tasks and the register write that are awaited. Contracts see a `Waiting`: the frames in
@@ -75,6 +76,16 @@ pub(crate) fn has_serial(write: &Option<Write>, serial: u64) -> bool
 {
     match write {
         Some(write) => write.serial == serial,
+        None => false,
+    }
+}
+
+/// Whether there is a write to the slave with this station address.
+fn is_to(write: &Option<Write>, station: u16) -> bool
+    ensures { result ≡ option_map_or (λ write. write.station == station) write.now false }
+{
+    match write {
+        Some(write) => write.station == station,
         None => false,
     }
 }
@@ -210,7 +221,7 @@ impl Awaited {
     ghost use Rattle.std.specs.Prelude.{◌≡◌, ◌<◌, ◌≤◌, ◌*◌, All, IfOk, length, option_map};
     ghost use Rattle.hc_records.specs.declared.limits.TheConstants.{MOST_DATAGRAMS, TASKS};
     ghost use Rattle.hc_sendings.specs.Judging.{found_write};
-    ghost use Rattle.hc_sendings.specs.Waiting.{ComeBehind, IsNamed, all_sent, ended, nothing, wrote};
+    ghost use Rattle.hc_sendings.specs.Waiting.{ComeBehind, IsNamed, all_sent, ended, forgot, nothing, wrote};
 
     /// Nothing is awaited. It takes all the memory that it will need: `AllocError` where that was refused.
     pub fn new(alloc: Global) -> Result<Awaited, AllocError>
@@ -247,10 +258,10 @@ impl Awaited {
         add_all(&mut self.frames, &self.newest, frames);
     }
 
-    /// A register write is sent, and is the one that is awaited from now on. Its block is kept, for who confirms it
-    /// (`end_write`). It takes no memory.
-    pub fn write(&mut self, serial: u64, block: LineBlock)
-        ensures { self.new ≡ wrote serial block self.old }
+    /// A register write is sent, and is the one that is awaited from now on. Its block and the block's place are
+    /// kept, for who confirms it (`end_write`). It takes no memory.
+    pub fn write(&mut self, serial: u64, place: u32, block: LineBlock)
+        ensures { self.new ≡ wrote serial place block self.old }
     {
         let LineBlock {
             station,
@@ -259,12 +270,23 @@ impl Awaited {
         } = block;
         self.write = Some(Write {
             serial,
+            place,
             station,
             number,
             address: u32::from(station) + 65536 * u32::from(block.register()),
             length: block.bytes().len(),
             block,
         });
+    }
+
+    /// The slave with a station address was forgotten: a write to it is awaited no longer. Frames of tasks and
+    /// a write to another slave stay. It takes no memory.
+    pub fn forget(&mut self, station: u16)
+        ensures { self.new ≡ forgot station self.old }
+    {
+        if is_to(&self.write, station) {
+            self.write = None;
+        }
     }
 
     /// The frame or the write with a serial was answered, and is awaited no longer. Nothing changes where
@@ -278,9 +300,10 @@ impl Awaited {
         }
     }
 
-    /// The same, and the block of the write with this serial; none where there is no such write. It takes no memory.
-    pub fn end_write(&mut self, serial: u64) -> Option<Block>
-        ensures block { result ≡ option_map (λ write. write.block) (found_write serial self.old) }
+    /// The same, and the block of the write with this serial and its place; none where there is no such write. It
+    /// takes no memory.
+    pub fn end_write(&mut self, serial: u64) -> Option<(u32, Block)>
+        ensures block { result ≡ option_map (λ write. (write.place, write.block)) (found_write serial self.old) }
         ensures ended { self.new ≡ ended serial self.old }
     {
         empty(&mut self.frames, serial);
@@ -288,7 +311,7 @@ impl Awaited {
             return None;
         }
         match self.write.take() {
-            Some(write) => Some(write.block),
+            Some(write) => Some((write.place, write.block)),
             None => None,
         }
     }

@@ -1,6 +1,6 @@
 -- What is kept by each accepted entry is kept by each event.
-use Rattle.std.proofs.Common.{◌≡◌, ℕ, zero, suc, ◌+◌, ◌<◌, ◌≤◌, ◌==◌, nat_lt, Bool, true, false, cond, not, List, [], ◌∷◌, length, map, refl, sym, ◌∙◌, subst, arith, Option, Some, None, ltb-true}
-use Rattle.std.specs.Prelude.{All, Contains, option_map, Result, Ok, Err}
+use Rattle.std.proofs.Common.{◌≡◌, ℕ, zero, suc, ◌+◌, ◌≤◌, ◌==◌, nat_lt, Bool, true, false, cond, not, List, [], ◌∷◌, length, map, refl, sym, ◌∙◌, subst, arith, Option, Some, None, ltb-true}
+use Rattle.std.specs.Prelude.{All, Contains, is_none, is_some, option_map, Result, Ok, Err}
 use Rattle.std.specs.List.{flat_map, list_any, range_with_len}
 use Rattle.std.proofs.lemmas.Bool.Decides.{nat_tests}
 use Rattle.std.proofs.lemmas.List.Elements.{All-nil, All-cons, All-head, All-tail, All-append, All-contains_itself}
@@ -11,18 +11,18 @@ use Rattle.hc_records.specs.declared.records.Group.{Group}
 use Rattle.hc_records.specs.Lists.{lowest}
 use Rattle.hc_records.specs.Line.{Member}
 use Rattle.hc_records.specs.Image.{datagram_count, output_length, task_places}
-use Rattle.hc_records.specs.Edits.{edit_faults}
+use Rattle.hc_records.specs.Edits.{edit_faults, is_declared_station, slave_at}
 use Rattle.hc_registers.specs.Blocks.{LineBlock}
 use Rattle.hc_frames.specs.declared.reading.faults.FrameFault.{FrameFault}
 use Rattle.hc_events.specs.declared.faults.CoreFault.{CoreFault}
-use Rattle.hc_events.specs.declared.faults.CoreFault.TheVariants.{NoSuchTask, PostLength, SerialsSpent, StalePost, Unprogrammed}
+use Rattle.hc_events.specs.declared.faults.CoreFault.TheVariants.{Absent, NoSuchTask, PostLength, SerialsSpent, StalePost, UnknownStation, Unprogrammed}
 use Rattle.hc_events.specs.Faults.{edit_refusal}
 use Rattle.hc_events.specs.Arrivals.{Arrival, arrival_in}
-use Rattle.hc_events.specs.Entries.{Entry, Record, Opened, Edited, Posted, Sent, Wrote, Came}
+use Rattle.hc_events.specs.Entries.{Entry, Record, Opened, Edited, Posted, Sent, Wrote, Came, Forgot}
 use Rattle.hc_events.specs.Points.{epoch_of, line_of, next_serial, state_of}
 use Rattle.hc_events.specs.Sendings.{Frame, Named, alone, framed, framed_behind, has_room, joined, length_of, task_datagrams}
-use Rattle.hc_events.specs.Owed.{owed_blocks}
-use Rattle.hc_events.specs.Steps.{Step, Edits, Posts, SendsTasks, SendsWrite, Arrives, Reads, kept_if, edit_refused, is_no_task, post_faults, proposal, has_serials, task_faults, with_sent, write_faults, with_write, with_arrival, entries_after, entries_after_all}
+use Rattle.hc_events.specs.Owed.{is_in_line, owed_blocks}
+use Rattle.hc_events.specs.Steps.{Step, Edits, Posts, SendsTasks, SendsWrite, Arrives, Reads, Forgets, kept_if, edit_refused, forget_faults, is_no_task, post_faults, proposal, has_serials, task_faults, with_sent, write_faults, with_write, with_arrival, entries_after, entries_after_all}
 use Rattle.hc_events.specs.Accepted.{AreAccepted, IsAccepted, IsPost, StandsIn, frames_of, just_opened}
 
 -- the datagrams of a proposal are those of the line
@@ -93,6 +93,17 @@ accepted_post past task epoch bytes e =
     let third = passed (not (length bytes == output_length (task_places task (line_of past)))) PostLength [] second.1 in
     record { stands = ltb-true task TASKS (not-false _ first.0); fits = eqb-true _ _ (not-false _ third.0) }
 
+some_of : (found : Option Member) → is_none found ≡ false → is_some found ≡ true
+some_of None e = cc
+some_of (Some member) e = refl
+
+accepted_forget : (past : Record) (station : ℕ) → lowest (forget_faults past station) ≡ None → is_in_line past station ≡ true
+accepted_forget past station e =
+    let absent = (is_none (slave_at (state_of past) station), Absent) ∷ [] in
+    let first = passed (not (is_declared_station (state_of past) station)) UnknownStation absent e in
+    let second = passed (is_none (slave_at (state_of past) station)) Absent [] first.1 in
+    some_of (slave_at (state_of past) station) second.0
+
 nothing_owed : (past : Record) (tasks : List ℕ) → lowest (task_faults past tasks) ≡ None → owed_blocks past ≡ []
 nothing_owed past tasks e =
     let serials = (not (has_serials past (length (proposal past tasks))), SerialsSpent) ∷ [] in
@@ -148,6 +159,8 @@ kept-after P keeps past SendsWrite before =
     keeps_if P (lowest (write_faults past (owed_blocks past))) past (with_write past (owed_blocks past)) (λ e. keeps_write P keeps past (owed_blocks past) refl before) before
 kept-after P keeps past (Arrives bytes) before = keeps_arrival P keeps past (arrival_in bytes) before
 kept-after P keeps past (Reads task) before = before
+kept-after P keeps past (Forgets station) before =
+    keeps_if P (lowest (forget_faults past station)) past (Forgot station ∷ past) (λ e. keeps past (Forgot station) (accepted_forget past station e) before) before
 
 pub kept-after_all : (P : Record → Type 0) → Keeps P → (past : Record) (steps : List Step) → P past → P (entries_after_all past steps)
 kept-after_all P keeps past [] before = before
@@ -159,6 +172,7 @@ pub accepted-more : Keeps AreAccepted
 accepted-more past (Opened groups) accepted before = absurd accepted
 accepted-more past (Edited edit) accepted before = (accepted, before)
 accepted-more past (Posted task bytes) accepted before = (accepted, before)
+accepted-more past (Forgot station) accepted before = (accepted, before)
 accepted-more past (Sent frame) accepted before = (accepted, before)
 accepted-more past (Wrote block) accepted before = (accepted, before)
 accepted-more past (Came arrival) accepted before = (accepted, before)
@@ -170,6 +184,7 @@ held-of_accepted P keeps just [] all = absurd all
 held-of_accepted P keeps just (Opened groups ∷ past) all = subst (λ before. P (Opened groups ∷ before)) (sym all) (just groups)
 held-of_accepted P keeps just (Edited edit ∷ past) all = keeps past (Edited edit) all.0 (held-of_accepted P keeps just past all.1)
 held-of_accepted P keeps just (Posted task bytes ∷ past) all = keeps past (Posted task bytes) all.0 (held-of_accepted P keeps just past all.1)
+held-of_accepted P keeps just (Forgot station ∷ past) all = keeps past (Forgot station) all.0 (held-of_accepted P keeps just past all.1)
 held-of_accepted P keeps just (Sent frame ∷ past) all = keeps past (Sent frame) all.0 (held-of_accepted P keeps just past all.1)
 held-of_accepted P keeps just (Wrote block ∷ past) all = keeps past (Wrote block) all.0 (held-of_accepted P keeps just past all.1)
 held-of_accepted P keeps just (Came arrival ∷ past) all = keeps past (Came arrival) all.0 (held-of_accepted P keeps just past all.1)

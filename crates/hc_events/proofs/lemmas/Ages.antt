@@ -1,8 +1,8 @@
 -- A datagram has a serial just where a task reads data of it.
-use Rattle.std.proofs.Common.{◌≡◌, ℕ, List, [], ◌∷◌, refl, Option, None}
+use Rattle.std.proofs.Common.{◌≡◌, ℕ, List, [], ◌∷◌, refl, Option}
 use Rattle.std.specs.Prelude.{fold, is_some}
 use Rattle.hc_records.proofs.lemmas.Choices.{by_bool}
-use Rattle.hc_events.specs.Entries.{Record, Opened, Edited, Posted, Sent, Wrote, Came}
+use Rattle.hc_events.specs.Entries.{Record, Opened, Edited, Posted, Sent, Wrote, Came, Forgot}
 use Rattle.hc_events.specs.Images.{Fresh, fresh_by, is_for, renewed, slot_of}
 use Rattle.hc_events.specs.Ages.{data_serial, dated}
 
@@ -21,6 +21,7 @@ serials-of_data [] task d = refl
 serials-of_data (Opened groups ∷ past) task d = refl
 serials-of_data (Edited edit ∷ past) task d = refl
 serials-of_data (Posted t bytes ∷ past) task d = serials-of_data past task d
+serials-of_data (Forgot station ∷ past) task d = serials-of_data past task d
 serials-of_data (Sent frame ∷ past) task d = serials-of_data past task d
 serials-of_data (Wrote block ∷ past) task d = serials-of_data past task d
 serials-of_data (Came arrival ∷ past) task d = all_more arrival.serial task d (fresh_by past arrival) (data_serial past task d) (slot_of past task d) (serials-of_data past task d)

@@ -11,12 +11,12 @@ use Rattle.hc_registers.specs.Blocks.{LineBlock, line_blocks}
 use Rattle.hc_records.proofs.lemmas.Lists.{All-passing}
 use Rattle.hc_records.proofs.lemmas.Choices.{by_bool}
 use Rattle.hc_events.specs.Arrivals.{Arrival}
-use Rattle.hc_events.specs.Entries.{Entry, Record, Opened, Edited, Posted, Sent, Wrote, Came}
+use Rattle.hc_events.specs.Entries.{Entry, Record, Opened, Edited, Posted, Sent, Wrote, Came, Forgot}
 use Rattle.hc_events.specs.Points.{line_of}
 use Rattle.hc_events.specs.Sendings.{Named}
 use Rattle.hc_events.specs.Heads.{Head, data_head, data_heads, write_head}
 use Rattle.hc_events.specs.Answering.{Sending, answered_by, ends, fits, has_heads, is_answer, is_news, is_stale_to, judged, only_if, sending_of}
-use Rattle.hc_events.specs.Awaited.{alive, all_sent_again, is_ended, is_no_arrival}
+use Rattle.hc_events.specs.Awaited.{alive, all_outdated, is_ended, is_no_arrival}
 use Rattle.hc_events.specs.Owed.{is_owed, owed_blocks}
 use Rattle.hc_events.specs.Accepted.{AreAccepted, IsAccepted, StandsIn}
 use Rattle.hc_events.specs.SendingLaws.{heads_of, is_opening, is_sending}
@@ -36,6 +36,7 @@ still_open serial heads [] running none = All-nil (LeavesOpen serial heads)
 still_open serial heads (Opened groups ∷ since) running none = cc
 still_open serial heads (Edited edit ∷ since) running none = cc
 still_open serial heads (Posted task bytes ∷ since) running none = All-cons (LeavesOpen serial heads) (Posted task bytes) since tt (still_open serial heads since running none)
+still_open serial heads (Forgot station ∷ since) running none = All-cons (LeavesOpen serial heads) (Forgot station) since tt (still_open serial heads since running none)
 still_open serial heads (Sent frame ∷ since) running none = All-cons (LeavesOpen serial heads) (Sent frame) since tt (still_open serial heads since running none)
 still_open serial heads (Wrote block ∷ since) running none = All-cons (LeavesOpen serial heads) (Wrote block) since tt (still_open serial heads since running none)
 still_open serial heads (Came other ∷ since) running none =
@@ -53,6 +54,7 @@ none-ends serial heads [] all = refl
 none-ends serial heads (Opened groups ∷ since) all = absurd (All-head (LeavesOpen serial heads) (Opened groups) since all)
 none-ends serial heads (Edited edit ∷ since) all = absurd (All-head (LeavesOpen serial heads) (Edited edit) since all)
 none-ends serial heads (Posted task bytes ∷ since) all = none-ends serial heads since (All-tail (LeavesOpen serial heads) (Posted task bytes) since all)
+none-ends serial heads (Forgot station ∷ since) all = none-ends serial heads since (All-tail (LeavesOpen serial heads) (Forgot station) since all)
 none-ends serial heads (Sent frame ∷ since) all = none-ends serial heads since (All-tail (LeavesOpen serial heads) (Sent frame) since all)
 none-ends serial heads (Wrote block ∷ since) all = none-ends serial heads since (All-tail (LeavesOpen serial heads) (Wrote block) since all)
 none-ends serial heads (Came other ∷ since) all =
@@ -64,6 +66,7 @@ none-opened serial heads [] all = refl
 none-opened serial heads (Opened groups ∷ since) all = absurd (All-head (LeavesOpen serial heads) (Opened groups) since all)
 none-opened serial heads (Edited edit ∷ since) all = none-opened serial heads since (All-tail (LeavesOpen serial heads) (Edited edit) since all)
 none-opened serial heads (Posted task bytes ∷ since) all = none-opened serial heads since (All-tail (LeavesOpen serial heads) (Posted task bytes) since all)
+none-opened serial heads (Forgot station ∷ since) all = none-opened serial heads since (All-tail (LeavesOpen serial heads) (Forgot station) since all)
 none-opened serial heads (Sent frame ∷ since) all = none-opened serial heads since (All-tail (LeavesOpen serial heads) (Sent frame) since all)
 none-opened serial heads (Wrote block ∷ since) all = none-opened serial heads since (All-tail (LeavesOpen serial heads) (Wrote block) since all)
 none-opened serial heads (Came other ∷ since) all = none-opened serial heads since (All-tail (LeavesOpen serial heads) (Came other) since all)
@@ -102,6 +105,7 @@ same_line serial heads [] past all = refl
 same_line serial heads (Opened groups ∷ since) past all = absurd (All-head (LeavesOpen serial heads) (Opened groups) since all)
 same_line serial heads (Edited edit ∷ since) past all = absurd (All-head (LeavesOpen serial heads) (Edited edit) since all)
 same_line serial heads (Posted task bytes ∷ since) past all = same_line serial heads since past (All-tail (LeavesOpen serial heads) (Posted task bytes) since all)
+same_line serial heads (Forgot station ∷ since) past all = same_line serial heads since past (All-tail (LeavesOpen serial heads) (Forgot station) since all)
 same_line serial heads (Sent frame ∷ since) past all = same_line serial heads since past (All-tail (LeavesOpen serial heads) (Sent frame) since all)
 same_line serial heads (Wrote block ∷ since) past all = same_line serial heads since past (All-tail (LeavesOpen serial heads) (Wrote block) since all)
 same_line serial heads (Came other ∷ since) past all = same_line serial heads since past (All-tail (LeavesOpen serial heads) (Came other) since all)
@@ -110,6 +114,7 @@ same_sent : (before : Record) (entry : Entry) → is_sending entry ≡ true → 
 same_sent before (Opened groups) sends = cc
 same_sent before (Edited edit) sends = cc
 same_sent before (Posted task bytes) sends = cc
+same_sent before (Forgot station) sends = cc
 same_sent before (Came arrival) sends = cc
 same_sent before (Sent frame) sends = refl
 same_sent before (Wrote block) sends = refl
@@ -119,12 +124,14 @@ accepted_at : (since : List Entry) (before : Record) (entry : Entry) → list_an
 accepted_at [] before (Opened groups) running sends all = cc
 accepted_at [] before (Edited edit) running sends all = cc
 accepted_at [] before (Posted task bytes) running sends all = cc
+accepted_at [] before (Forgot station) running sends all = cc
 accepted_at [] before (Came arrival) running sends all = cc
 accepted_at [] before (Sent frame) running sends all = all.0
 accepted_at [] before (Wrote block) running sends all = all.0
 accepted_at (Opened groups ∷ since) before entry running sends all = cc
 accepted_at (Edited edit ∷ since) before entry running sends all = accepted_at since before entry running sends all.1
 accepted_at (Posted task bytes ∷ since) before entry running sends all = accepted_at since before entry running sends all.1
+accepted_at (Forgot station ∷ since) before entry running sends all = accepted_at since before entry running sends all.1
 accepted_at (Sent frame ∷ since) before entry running sends all = accepted_at since before entry running sends all.1
 accepted_at (Wrote block ∷ since) before entry running sends all = accepted_at since before entry running sends all.1
 accepted_at (Came arrival ∷ since) before entry running sends all = accepted_at since before entry running sends all.1
@@ -148,6 +155,7 @@ heads_of_line : (before : Record) (entry : Entry) → is_sending entry ≡ true 
 heads_of_line before (Opened groups) sends accepted = cc
 heads_of_line before (Edited edit) sends accepted = cc
 heads_of_line before (Posted task bytes) sends accepted = cc
+heads_of_line before (Forgot station) sends accepted = cc
 heads_of_line before (Came arrival) sends accepted = cc
 heads_of_line before (Sent frame) sends accepted = frame_of_line (line_of before) frame accepted.stands
 heads_of_line before (Wrote block) sends accepted =
@@ -172,7 +180,7 @@ record IsAlive (serial : ℕ) (found : Option Sending) (sending : Sending) : Typ
   made : Sending
   there : found ≡ Some made
   goes_on : is_ended serial made ≡ false
-  news : all_sent_again made.since made.heads ≡ false
+  news : all_outdated made.since made.heads ≡ false
   same : record { heads = made.heads; since = filter is_no_arrival made.since } ≡ sending
 
 alive_is : (serial : ℕ) (found : Option Sending) (sending : Sending) → option_and_then (alive serial) found ≡ Some sending → IsAlive serial found sending
@@ -180,7 +188,7 @@ alive_is serial None sending e = cc
 alive_is serial (Some made) sending e =
     by_bool (is_ended serial made)
     (λ t. let never : None ≡ Some sending = rw t at e in cc)
-    (λ t. by_bool (all_sent_again made.since made.heads)
+    (λ t. by_bool (all_outdated made.since made.heads)
     (λ u. let never : None ≡ Some sending = rw (t, u) at e in cc)
     (λ u. let now : Some (record { heads = made.heads; since = filter is_no_arrival made.since }) ≡ Some sending = rw (t, u) at e in
     record { made = made; there = refl; goes_on = t; news = u; same = same_Some _ sending now }))
@@ -223,7 +231,7 @@ fresh_one past arrival (Some made) there e =
     let fit = (and_parts (arrival.serial == arrival.serial) _ both.0).1 in
     let goes_on : is_ended arrival.serial made ≡ false = not-true _ both.1 in
     let told : not (list_any is_news (judged arrival made)) ≡ false = rw t at e in
-    let news : all_sent_again made.since made.heads ≡ false = twice (all_sent_again made.since made.heads) (sym (ap not (news-is made.since made.heads arrival.parts fit)) ∙ told) in
+    let news : all_outdated made.since made.heads ≡ false = twice (all_outdated made.since made.heads) (sym (ap not (news-is made.since made.heads arrival.parts fit)) ∙ told) in
     record {
       sending = record { heads = made.heads; since = filter is_no_arrival made.since };
       there = ap (option_and_then (alive arrival.serial)) there ∙ rw (goes_on, news) refl;

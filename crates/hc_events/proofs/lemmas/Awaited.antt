@@ -4,15 +4,16 @@ use Rattle.std.specs.Prelude.{map, option_map, option_and_then}
 use Rattle.std.specs.Option.{option_map_or}
 use Rattle.std.specs.List.{list_any, zip}
 use Rattle.std.proofs.lemmas.Bool.Decides.{nat_tests}
-use Rattle.std.proofs.lemmas.Bool.{and_from, and_parts, or_right, eqb-true}
+use Rattle.std.proofs.lemmas.Bool.{and_from, and_parts, or_left, or_parts, or_right, eqb-true}
+use Rattle.std.proofs.lemmas.Option.{none-some, same_Some}
 use Rattle.hc_records.specs.declared.edit.Edit.{Edit}
 use Rattle.hc_records.proofs.lemmas.Choices.{by_bool}
 use Rattle.hc_events.specs.Arrivals.{Arrival, Part}
-use Rattle.hc_events.specs.Entries.{Entry, Record, Opened, Edited, Posted, Sent, Wrote, Came}
+use Rattle.hc_events.specs.Entries.{Entry, Record, Opened, Edited, Posted, Sent, Wrote, Came, Forgot}
 use Rattle.hc_events.specs.Points.{line_of, next_serial}
-use Rattle.hc_events.specs.Heads.{Head, Item, data_heads, write_head}
-use Rattle.hc_events.specs.Answering.{Sending, Judged, Good, Wrong, Stale, just_sent, followed_by, sending_of, has_heads, fits, ends, is_answer, only_if, sends, is_stale, judge, judged, judged_by, is_news}
-use Rattle.hc_events.specs.Awaited.{is_ended, all_sent_again, is_no_arrival, alive, awaited}
+use Rattle.hc_events.specs.Heads.{Head, Item, Datagram, Block, data_heads, is_block, write_head}
+use Rattle.hc_events.specs.Answering.{Sending, Judged, Good, Wrong, Stale, just_sent, followed_by, sending_of, has_heads, fits, ends, is_answer, only_if, sends, is_forgetting, forgets, starts_over, is_dropped, is_outdated, is_stale, judge, judged, judged_by, is_news}
+use Rattle.hc_events.specs.Awaited.{is_ended, all_outdated, is_no_arrival, alive, awaited}
 
 pub not_both : (a b : Bool) → (not a || not b) ≡ not (a && b)
 not_both true b = refl
@@ -30,21 +31,32 @@ abbrev pub news_from : Option Sending → Arrival → List Judged
 news_from None arrival = []
 news_from (Some sending) arrival = if has_heads sending.heads arrival.parts then judged arrival sending else []
 
--- sendings among entries
+-- entries without the arrivals among them
 
-sends_filter : (item : Item) (since : List Entry) → list_any (sends item) (filter is_no_arrival since) ≡ list_any (sends item) since
-sends_filter item [] = refl
-sends_filter item (Opened groups ∷ since) = sends_filter item since
-sends_filter item (Edited edit ∷ since) = sends_filter item since
-sends_filter item (Posted task bytes ∷ since) = sends_filter item since
-sends_filter item (Sent frame ∷ since) = ap (λ b. sends item (Sent frame) || b) (sends_filter item since)
-sends_filter item (Wrote block ∷ since) = ap (λ b. sends item (Wrote block) || b) (sends_filter item since)
-sends_filter item (Came arrival ∷ since) = sends_filter item since
+pub any-filter : (test : Entry → Bool) → ((arrival : Arrival) → test (Came arrival) ≡ false) → (since : List Entry) → list_any test (filter is_no_arrival since) ≡ list_any test since
+any-filter test none [] = refl
+any-filter test none (Came arrival ∷ since) = any-filter test none since ∙ sym (ap (λ b. b || list_any test since) (none arrival))
+any-filter test none (other ∷ since) = ap (λ b. test other || b) (any-filter test none since)
+
+starts_filter : (since : List Entry) → starts_over (filter is_no_arrival since) ≡ starts_over since
+starts_filter [] = refl
+starts_filter (Wrote block ∷ since) =
+    ap (λ b. b || starts_over (filter is_no_arrival since)) (any-filter is_forgetting (λ arrival. refl) since)
+    ∙ ap (λ b. list_any is_forgetting since || b) (starts_filter since)
+starts_filter (Came arrival ∷ since) = starts_filter since
+starts_filter (other ∷ since) = starts_filter since
+
+outdated_filter : (item : Item) (since : List Entry) → is_outdated item (filter is_no_arrival since) ≡ is_outdated item since
+outdated_filter (Datagram task d) since = any-filter (sends (Datagram task d)) (λ arrival. refl) since
+outdated_filter (Block station number) since =
+    ap (λ b. (b || starts_over (filter is_no_arrival since)) || list_any (sends (Block station number)) (filter is_no_arrival since)) (any-filter (forgets station) (λ arrival. refl) since)
+    ∙ ap (λ b. (list_any (forgets station) since || b) || list_any (sends (Block station number)) (filter is_no_arrival since)) (starts_filter since)
+    ∙ ap (λ b. (list_any (forgets station) since || starts_over since) || b) (any-filter (sends (Block station number)) (λ arrival. refl) since)
 
 judge_filter : (since : List Entry) (pair : Head × Part) → judge (filter is_no_arrival since) pair ≡ judge since pair
 judge_filter since pair =
     ap (λ b. record { head = pair.0; part = pair.1; verdict = cond b Stale (if pair.1.counter == pair.0.expected then Good else Wrong) })
-    (sends_filter pair.0.item since)
+    (outdated_filter pair.0.item since)
 
 pub judged-filter : (since : List Entry) (pairs : List (Head × Part)) → map (judge (filter is_no_arrival since)) pairs ≡ map (judge since) pairs
 judged-filter since [] = refl
@@ -52,19 +64,60 @@ judged-filter since (pair ∷ pairs) =
     ap (λ datagram. datagram ∷ map (judge (filter is_no_arrival since)) pairs) (judge_filter since pair)
     ∙ ap (λ datagrams. judge since pair ∷ datagrams) (judged-filter since pairs)
 
-again_filter : (heads : List Head) (entry : Entry) (since : List Entry) → all_sent_again (entry ∷ filter is_no_arrival since) heads ≡ all_sent_again (entry ∷ since) heads
-again_filter [] entry since = refl
-again_filter (head ∷ heads) entry since =
-    ap (λ b. (sends head.item entry || b) && all_sent_again (entry ∷ filter is_no_arrival since) heads) (sends_filter head.item since)
-    ∙ ap (λ b. (sends head.item entry || list_any (sends head.item) since) && b) (again_filter heads entry since)
+all_filter : (heads : List Head) (since : List Entry) → all_outdated (filter is_no_arrival since) heads ≡ all_outdated since heads
+all_filter [] since = refl
+all_filter (head ∷ heads) since =
+    ap (λ b. b && all_outdated (filter is_no_arrival since) heads) (outdated_filter head.item since)
+    ∙ ap (λ b. is_outdated head.item since && b) (all_filter heads since)
 
--- what was sent again stays so
-pub again-more : (entry : Entry) (since : List Entry) (heads : List Head) → all_sent_again since heads ≡ true → all_sent_again (entry ∷ since) heads ≡ true
+again_filter : (heads : List Head) (entry : Entry) (since : List Entry) → is_no_arrival entry ≡ true → all_outdated (entry ∷ filter is_no_arrival since) heads ≡ all_outdated (entry ∷ since) heads
+again_filter heads entry since other =
+    ap (λ entries. all_outdated entries heads) (sym (ap (λ b. cond b (entry ∷ filter is_no_arrival since) (filter is_no_arrival since)) other))
+    ∙ all_filter heads (entry ∷ since)
+
+-- what is out of date stays so
+
+starts_more : (entry : Entry) (since : List Entry) → starts_over since ≡ true → starts_over (entry ∷ since) ≡ true
+starts_more (Wrote block) since e = or_right (list_any is_forgetting since) (starts_over since) e
+starts_more other since e = e
+
+block_more : (station number : ℕ) (entry : Entry) (since : List Entry) → is_outdated (Block station number) since ≡ true → is_outdated (Block station number) (entry ∷ since) ≡ true
+block_more station number entry since e =
+    by_bool (list_any (forgets station) since)
+    (λ t. or_left (is_dropped (Block station number) (entry ∷ since)) (list_any (sends (Block station number)) (entry ∷ since))
+    (or_left (list_any (forgets station) (entry ∷ since)) (starts_over (entry ∷ since)) (or_right (forgets station entry) (list_any (forgets station) since) t)))
+    (λ t. by_bool (starts_over since)
+    (λ u. or_left (is_dropped (Block station number) (entry ∷ since)) (list_any (sends (Block station number)) (entry ∷ since))
+    (or_right (list_any (forgets station) (entry ∷ since)) (starts_over (entry ∷ since)) (starts_more entry since u)))
+    (λ u. or_right (is_dropped (Block station number) (entry ∷ since)) (list_any (sends (Block station number)) (entry ∷ since))
+    (or_right (sends (Block station number) entry) (list_any (sends (Block station number)) since) (rw (t, u) at e))))
+
+pub outdated-more : (item : Item) (entry : Entry) (since : List Entry) → is_outdated item since ≡ true → is_outdated item (entry ∷ since) ≡ true
+outdated-more (Datagram task d) entry since e = or_right (sends (Datagram task d) entry) (list_any (sends (Datagram task d)) since) e
+outdated-more (Block station number) entry since e = block_more station number entry since e
+
+pub again-more : (entry : Entry) (since : List Entry) (heads : List Head) → all_outdated since heads ≡ true → all_outdated (entry ∷ since) heads ≡ true
 again-more entry since [] e = refl
 again-more entry since (head ∷ heads) e =
-    by_bool (list_any (sends head.item) since)
-    (λ t. and_from _ _ (or_right (sends head.item entry) _ t) (again-more entry since heads (rw t at e)))
-    (λ t. let never : false ≡ true = rw t at e in cc)
+    let both = and_parts (is_outdated head.item since) (all_outdated since heads) e in
+    and_from (is_outdated head.item (entry ∷ since)) (all_outdated (entry ∷ since) heads) (outdated-more head.item entry since both.0) (again-more entry since heads both.1)
+
+-- an entry that sends no datagram of a task leaves what a frame of tasks carries
+
+pub data-untouched : (entry : Entry) → ((task d : ℕ) → sends (Datagram task d) entry ≡ false) → (item : Item) (since : List Entry) → is_block item ≡ false → is_outdated item (entry ∷ since) ≡ is_outdated item since
+data-untouched entry none (Datagram task d) since e = ap (λ b. b || list_any (sends (Datagram task d)) since) (none task d)
+data-untouched entry none (Block station number) since e = cc
+
+pub no-block_first : (head : Head) (heads : List Head) → list_any (λ one. is_block one.item) (head ∷ heads) ≡ false → (is_block head.item ≡ false) × (list_any (λ one. is_block one.item) heads ≡ false)
+no-block_first head heads e = or_parts (is_block head.item) (list_any (λ one. is_block one.item) heads) e
+
+pub frame-untouched : (entry : Entry) → ((task d : ℕ) → sends (Datagram task d) entry ≡ false) → (heads : List Head) (since : List Entry) → list_any (λ head. is_block head.item) heads ≡ false
+    → all_outdated (entry ∷ since) heads ≡ all_outdated since heads
+frame-untouched entry none [] since e = refl
+frame-untouched entry none (head ∷ heads) since e =
+    let both = no-block_first head heads e in
+    ap (λ b. b && all_outdated (entry ∷ since) heads) (data-untouched entry none head.item since both.0)
+    ∙ ap (λ b. is_outdated head.item since && b) (frame-untouched entry none heads since both.1)
 
 -- news and judgements
 
@@ -73,16 +126,16 @@ is_news_of true c = refl
 is_news_of false true = refl
 is_news_of false false = refl
 
--- a frame with the heads of a sending is news for it where something of it wasn't sent again
-pub news-is : (since : List Entry) (heads : List Head) (parts : List Part) → has_heads heads parts ≡ true → list_any is_news (map (judge since) (zip heads parts)) ≡ not (all_sent_again since heads)
+-- a frame with the heads of a sending is news for it where something of it isn't out of date
+pub news-is : (since : List Entry) (heads : List Head) (parts : List Part) → has_heads heads parts ≡ true → list_any is_news (map (judge since) (zip heads parts)) ≡ not (all_outdated since heads)
 news-is since [] [] e = refl
 news-is since [] (part ∷ parts) e = cc
 news-is since (head ∷ heads) [] e = cc
 news-is since (head ∷ heads) (part ∷ parts) e =
     let rest = (and_parts _ _ e).1 in
-    ap (λ b. b || list_any is_news (map (judge since) (zip heads parts))) (is_news_of (list_any (sends head.item) since) (part.counter == head.expected))
-    ∙ ap (λ b. not (list_any (sends head.item) since) || b) (news-is since heads parts rest)
-    ∙ not_both (list_any (sends head.item) since) (all_sent_again since heads)
+    ap (λ b. b || list_any is_news (map (judge since) (zip heads parts))) (is_news_of (is_outdated head.item since) (part.counter == head.expected))
+    ∙ ap (λ b. not (is_outdated head.item since) || b) (news-is since heads parts rest)
+    ∙ not_both (is_outdated head.item since) (all_outdated since heads)
 
 news_any : (datagrams : List Judged) → list_any is_news (news datagrams) ≡ list_any is_news datagrams
 news_any datagrams = by_bool (list_any is_news datagrams) (λ t. rw t t) (λ t. rw t refl)
@@ -93,12 +146,12 @@ news_told arrival (Some s) =
     by_bool (has_heads s.heads arrival.parts)
     (λ h. by_bool (is_ended arrival.serial s)
     (λ e. rw (same_is arrival.serial, h, e) refl)
-    (λ e. by_bool (all_sent_again s.since s.heads)
+    (λ e. by_bool (all_outdated s.since s.heads)
     (λ r. let none : list_any is_news (judged arrival s) ≡ false = news-is s.since s.heads arrival.parts h ∙ ap not r in
     rw (same_is arrival.serial, h, e, r, none) refl)
     (λ r. let some : list_any is_news (judged arrival s) ≡ true = news-is s.since s.heads arrival.parts h ∙ ap not r in
     rw (same_is arrival.serial, h, e, r, some) (rw h (sym (judged-filter s.since (zip s.heads arrival.parts)))))))
-    (λ h. by_bool (is_ended arrival.serial s || all_sent_again s.since s.heads)
+    (λ h. by_bool (is_ended arrival.serial s || all_outdated s.since s.heads)
     (λ e. rw (same_is arrival.serial, h, e) refl)
     (λ e. rw (same_is arrival.serial, h, e) (rw h refl)))
 
@@ -110,33 +163,86 @@ awaited-news past arrival = news_told arrival (sending_of past arrival.serial)
 pub awaited-any : (past : Record) (arrival : Arrival) → list_any is_news (judged_by past arrival) ≡ list_any is_news (news_from (awaited past arrival.serial) arrival)
 awaited-any past arrival = sym (news_any (judged_by past arrival)) ∙ ap (list_any is_news) (awaited-news past arrival)
 
+-- what is awaited says what was sent
+
+alive_heads : (serial : ℕ) (sending now : Sending) (over : Bool) → cond over None (Some (record { heads = sending.heads; since = filter is_no_arrival sending.since })) ≡ Some now → now.heads ≡ sending.heads
+alive_heads serial sending now true e = absurd (none-some now e)
+alive_heads serial sending now false e = ap (λ s. s.heads) (sym (same_Some _ now e))
+
+pub awaited-heads : (serial : ℕ) (sending now : Sending) → alive serial sending ≡ Some now → now.heads ≡ sending.heads
+awaited-heads serial sending now e = alive_heads serial sending now (is_ended serial sending || all_outdated sending.since sending.heads) e
+
+-- and something of it isn't out of date
+
+fresh_one : (serial : ℕ) (made now : Sending) → alive serial made ≡ Some now → all_outdated now.since now.heads ≡ false
+fresh_one serial made now e =
+    let slim : Sending = record { heads = made.heads; since = filter is_no_arrival made.since } in
+    by_bool (is_ended serial made || all_outdated made.since made.heads)
+    (λ t. absurd (none-some now (sym (ap (λ b. cond b None (Some slim)) t) ∙ e)))
+    (λ t. let same = same_Some slim now (sym (ap (λ b. cond b None (Some slim)) t) ∙ e) in
+    ap (λ s. all_outdated s.since s.heads) (sym same) ∙ all_filter made.heads made.since ∙ (or_parts (is_ended serial made) (all_outdated made.since made.heads) t).1)
+
+fresh_found : (serial : ℕ) (found : Option Sending) (now : Sending) → option_and_then (alive serial) found ≡ Some now → all_outdated now.since now.heads ≡ false
+fresh_found serial None now e = absurd (none-some now e)
+fresh_found serial (Some made) now e = fresh_one serial made now e
+
+pub awaited-fresh : (past : Record) (serial : ℕ) (now : Sending) → awaited past serial ≡ Some now → all_outdated now.since now.heads ≡ false
+awaited-fresh past serial now e = fresh_found serial (sending_of past serial) now e
+
 -- what an entry makes of what is awaited
 
 abbrev pub unless_fits : ℕ → Arrival → Sending → Option Sending
 unless_fits serial arrival s = if fits serial s.heads arrival then None else Some s
 
 abbrev pub unless_again : Entry → Sending → Option Sending
-unless_again entry s = if all_sent_again (entry ∷ s.since) s.heads then None else Some (followed_by entry s)
+unless_again entry s = if all_outdated (entry ∷ s.since) s.heads then None else Some (followed_by entry s)
 
 pub alive_edited : (serial : ℕ) (edit : Edit) (found : Option Sending) → option_and_then (alive serial) (option_map (followed_by (Edited edit)) found) ≡ None
 alive_edited serial edit None = refl
 alive_edited serial edit (Some s) = refl
 
+-- an arrival and a post leave what is out of date
+
+outdated_came : (arrival : Arrival) (item : Item) (since : List Entry) → is_outdated item (Came arrival ∷ since) ≡ is_outdated item since
+outdated_came arrival (Datagram task d) since = refl
+outdated_came arrival (Block station number) since = refl
+
+all-came : (arrival : Arrival) (heads : List Head) (since : List Entry) → all_outdated (Came arrival ∷ since) heads ≡ all_outdated since heads
+all-came arrival [] since = refl
+all-came arrival (head ∷ heads) since =
+    ap (λ b. b && all_outdated (Came arrival ∷ since) heads) (outdated_came arrival head.item since) ∙ ap (λ b. is_outdated head.item since && b) (all-came arrival heads since)
+
+pub outdated-posted : (task : ℕ) (bytes : List ℕ) (item : Item) (since : List Entry) → is_outdated item (Posted task bytes ∷ since) ≡ is_outdated item since
+outdated-posted task bytes (Datagram t d) since = refl
+outdated-posted task bytes (Block station number) since = refl
+
+pub all-posted : (task : ℕ) (bytes : List ℕ) (heads : List Head) (since : List Entry) → all_outdated (Posted task bytes ∷ since) heads ≡ all_outdated since heads
+all-posted task bytes [] since = refl
+all-posted task bytes (head ∷ heads) since =
+    ap (λ b. b && all_outdated (Posted task bytes ∷ since) heads) (outdated-posted task bytes head.item since) ∙ ap (λ b. is_outdated head.item since && b) (all-posted task bytes heads since)
+
+came_if : (serial : ℕ) (arrival : Arrival) (s : Sending)
+    → cond ((fits serial s.heads arrival || is_ended serial s) || all_outdated s.since s.heads) None (Some (record { heads = s.heads; since = filter is_no_arrival s.since }))
+    ≡ option_and_then (unless_fits serial arrival) (alive serial s)
+came_if serial arrival s =
+    by_bool (fits serial s.heads arrival)
+    (λ t. by_bool (is_ended serial s || all_outdated s.since s.heads) (λ e. rw (t, e) refl) (λ e. rw (t, e) (rw t refl)))
+    (λ t. by_bool (is_ended serial s || all_outdated s.since s.heads) (λ e. rw (t, e) refl) (λ e. rw (t, e) (rw t refl)))
+
 pub alive_came : (serial : ℕ) (arrival : Arrival) (found : Option Sending) → option_and_then (alive serial) (option_map (followed_by (Came arrival)) found) ≡ option_and_then (unless_fits serial arrival) (option_and_then (alive serial) found)
 alive_came serial arrival None = refl
 alive_came serial arrival (Some s) =
-    by_bool (fits serial s.heads arrival)
-    (λ t. by_bool (is_ended serial s || all_sent_again s.since s.heads) (λ e. rw (t, e) refl) (λ e. rw (t, e) (rw t refl)))
-    (λ t. by_bool (is_ended serial s || all_sent_again s.since s.heads) (λ e. rw (t, e) refl) (λ e. rw (t, e) (rw t refl)))
+    ap (λ b. cond ((fits serial s.heads arrival || is_ended serial s) || b) None (Some (record { heads = s.heads; since = filter is_no_arrival s.since }))) (all-came arrival s.heads s.since)
+    ∙ came_if serial arrival s
 
 pub alive_other : (serial : ℕ) (entry : Entry) → ((heads : List Head) → ends serial heads entry ≡ false) → is_no_arrival entry ≡ true → (found : Option Sending) → option_and_then (alive serial) (option_map (followed_by entry) found) ≡ option_and_then (unless_again entry) (option_and_then (alive serial) found)
 alive_other serial entry k c None = refl
 alive_other serial entry k c (Some s) =
     by_bool (is_ended serial s)
     (λ e. rw (k s.heads, e) refl)
-    (λ e. by_bool (all_sent_again s.since s.heads)
+    (λ e. by_bool (all_outdated s.since s.heads)
     (λ r. rw (k s.heads, e, r, again-more entry s.since s.heads r) refl)
-    (λ r. rw (k s.heads, e, r, c, again_filter s.heads entry s.since) refl))
+    (λ r. rw (k s.heads, e, r, c, again_filter s.heads entry s.since c) refl))
 
 other_grows : (a b : Record) (serial : ℕ) (entry : Entry) → ((heads : List Head) → ends serial heads entry ≡ false) → is_no_arrival entry ≡ true → awaited a serial ≡ awaited b serial → option_and_then (alive serial) (option_map (followed_by entry) (sending_of a serial)) ≡ option_and_then (alive serial) (option_map (followed_by entry) (sending_of b serial))
 other_grows a b serial entry k c same = alive_other serial entry k c (sending_of a serial) ∙ ap (option_and_then (unless_again entry)) same ∙ sym (alive_other serial entry k c (sending_of b serial))
@@ -150,6 +256,7 @@ pub awaited-grows : (a b : Record) (serial : ℕ) (entry : Entry) → next_seria
 awaited-grows a b serial (Opened groups) n l same = refl
 awaited-grows a b serial (Edited edit) n l same = alive_edited serial edit (sending_of a serial) ∙ sym (alive_edited serial edit (sending_of b serial))
 awaited-grows a b serial (Posted task bytes) n l same = other_grows a b serial (Posted task bytes) (λ heads. refl) refl same
+awaited-grows a b serial (Forgot station) n l same = other_grows a b serial (Forgot station) (λ heads. refl) refl same
 awaited-grows a b serial (Came arrival) n l same = alive_came serial arrival (sending_of a serial) ∙ ap (option_and_then (unless_fits serial arrival)) same ∙ sym (alive_came serial arrival (sending_of b serial))
 awaited-grows a b serial (Sent frame) n l same =
     ap (λ m. option_and_then (alive serial) (cond (m == serial) (Some (just_sent (data_heads (line_of a) frame))) (option_map (followed_by (Sent frame)) (sending_of a serial)))) n
@@ -171,7 +278,7 @@ unless_stale arrival None k = refl
 unless_stale arrival (Some s) k =
     by_bool (is_ended arrival.serial s)
     (λ e. rw e refl)
-    (λ e. by_bool (all_sent_again s.since s.heads)
+    (λ e. by_bool (all_outdated s.since s.heads)
     (λ r. rw (e, r) refl)
     (λ r. by_bool (has_heads s.heads arrival.parts)
     (λ h. let some : list_any is_news (judged arrival s) ≡ true = news-is s.since s.heads arrival.parts h ∙ ap not r in

@@ -15,7 +15,7 @@ use Rattle.hc_records.specs.Edits.{changed, edit_faults, edited, refused_by, sta
 use Rattle.hc_places.specs.Table.{table_of}
 use Rattle.hc_events.specs.declared.change.Change.{Change}
 use Rattle.hc_events.specs.declared.change.Change.TheVariants as change
-use Rattle.hc_events.specs.Entries.{Record, Opened, Edited, Posted, Sent, Wrote, Came}
+use Rattle.hc_events.specs.Entries.{Record, Opened, Edited, Posted, Sent, Wrote, Came, Forgot}
 use Rattle.hc_events.specs.Points.{epoch_of, opened_with, state_of}
 use Rattle.hc_events.specs.Images.{Fresh, fresh_by, is_for, renewed, slot_of}
 use Rattle.hc_events.specs.Changes.{AreChangesOf, AreLegalFrom, IsAnswerIn, News, Swapped, Answered, SwapsLeadFrom, epoch_behind, news_of, slot_behind, table_behind, told_by}
@@ -87,6 +87,7 @@ follows_grows groups past (Edited edit) accepted follows = record {
   epoch = epoch_joined 0 (news_of past) (Swapped edit ∷ []) ∙ ap (λ n. n + 1) follows.epoch;
 }
 follows_grows groups past (Posted task bytes) accepted follows = record { slots = follows.slots; state = follows.state; epoch = follows.epoch }
+follows_grows groups past (Forgot station) accepted follows = record { slots = follows.slots; state = follows.state; epoch = follows.epoch }
 follows_grows groups past (Sent frame) accepted follows = record { slots = follows.slots; state = follows.state; epoch = follows.epoch }
 follows_grows groups past (Wrote block) accepted follows = record { slots = follows.slots; state = follows.state; epoch = follows.epoch }
 follows_grows groups past (Came arrival) accepted follows = record {
@@ -106,6 +107,7 @@ follows_more : Keeps FollowsOwn
 follows_more past (Opened others) accepted follows = absurd accepted
 follows_more past (Edited edit) accepted follows = follows_grows (opened_with past) past (Edited edit) accepted follows
 follows_more past (Posted task bytes) accepted follows = follows_grows (opened_with past) past (Posted task bytes) accepted follows
+follows_more past (Forgot station) accepted follows = follows_grows (opened_with past) past (Forgot station) accepted follows
 follows_more past (Sent frame) accepted follows = follows_grows (opened_with past) past (Sent frame) accepted follows
 follows_more past (Wrote block) accepted follows = follows_grows (opened_with past) past (Wrote block) accepted follows
 follows_more past (Came arrival) accepted follows = follows_grows (opened_with past) past (Came arrival) accepted follows
@@ -234,6 +236,7 @@ slot_news task d [] = refl
 slot_news task d (Opened groups ∷ past) = refl
 slot_news task d (Edited edit ∷ past) = sym (slot_joined task d None (news_of past) (Swapped edit ∷ []))
 slot_news task d (Posted t bytes ∷ past) = slot_news task d past
+slot_news task d (Forgot station ∷ past) = slot_news task d past
 slot_news task d (Sent frame ∷ past) = slot_news task d past
 slot_news task d (Wrote block ∷ past) = slot_news task d past
 slot_news task d (Came arrival ∷ past) =
@@ -323,6 +326,8 @@ legal_grows groups past (Edited edit) accepted before = record {
 }
 legal_grows groups past (Posted task bytes) accepted before =
     record { follows = follows_grows groups past (Posted task bytes) accepted before.follows; sent = before.sent; legal = before.legal }
+legal_grows groups past (Forgot station) accepted before =
+    record { follows = follows_grows groups past (Forgot station) accepted before.follows; sent = before.sent; legal = before.legal }
 legal_grows groups past (Sent frame) accepted before =
     record { follows = follows_grows groups past (Sent frame) accepted before.follows; sent = (accepted.stands, before.sent); legal = before.legal }
 legal_grows groups past (Wrote block) accepted before =
@@ -348,6 +353,7 @@ legal_more : Keeps LegalOwn
 legal_more past (Opened others) accepted before = absurd accepted
 legal_more past (Edited edit) accepted before = legal_grows (opened_with past) past (Edited edit) accepted before
 legal_more past (Posted task bytes) accepted before = legal_grows (opened_with past) past (Posted task bytes) accepted before
+legal_more past (Forgot station) accepted before = legal_grows (opened_with past) past (Forgot station) accepted before
 legal_more past (Sent frame) accepted before = legal_grows (opened_with past) past (Sent frame) accepted before
 legal_more past (Wrote block) accepted before = legal_grows (opened_with past) past (Wrote block) accepted before
 legal_more past (Came arrival) accepted before = legal_grows (opened_with past) past (Came arrival) accepted before

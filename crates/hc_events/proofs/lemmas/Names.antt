@@ -1,5 +1,5 @@
 -- What a frame that came back names by its own addresses is what was sent.
-use Rattle.std.proofs.Common.{◌≡◌, ℕ, ◌+◌, ◌*◌, ◌-◌, ◌/◌, ◌%◌, ◌<◌, ◌==◌, true, false, ◌&&◌, List, [], ◌∷◌, length, map, refl, sym, ap, ◌∙◌, subst, arith, Option, Some, None}
+use Rattle.std.proofs.Common.{◌≡◌, ℕ, ◌+◌, ◌*◌, ◌-◌, ◌/◌, ◌%◌, ◌<◌, ◌==◌, true, false, ◌&&◌, List, [], ◌∷◌, length, map, refl, sym, ap, ◌∙◌, arith, Option, Some, None}
 use Rattle.std.specs.Prelude.{All}
 use Rattle.std.specs.Option.{option_map_or}
 use Rattle.std.specs.List.{list_any, zip}
@@ -13,15 +13,15 @@ use Rattle.hc_frames.specs.Commands.{code_of}
 use Rattle.hc_events.specs.declared.answer.Answer.TheVariants as answer
 use Rattle.hc_events.specs.declared.answer.Outcome.{Outcome}
 use Rattle.hc_events.specs.Arrivals.{Arrival, Part}
-use Rattle.hc_events.specs.Entries.{Entry, Record, Opened, Edited, Posted, Sent, Wrote, Came}
+use Rattle.hc_events.specs.Entries.{Entry, Record, Opened, Edited, Posted, Sent, Wrote, Came, Forgot}
 use Rattle.hc_events.specs.Points.{line_of}
 use Rattle.hc_events.specs.Sendings.{Named}
-use Rattle.hc_events.specs.Heads.{Head, Item, Datagram, Block, data_head, is_block, write_head}
-use Rattle.hc_events.specs.Answering.{Judged, Sending, Verdict, Good, Wrong, Stale, answered_by, has_head, has_heads, judge, judged, judged_by, verdict}
+use Rattle.hc_events.specs.Heads.{Head, Item, Datagram, Block, is_block, write_head}
+use Rattle.hc_events.specs.Answering.{Sending, Verdict, Good, Wrong, Stale, answered_by, has_head, has_heads, judge, judged, judged_by, verdict}
 use Rattle.hc_events.specs.Steps.{told_of, told_of_block}
-use Rattle.hc_events.specs.Accepted.{AreAccepted, StandsIn}
+use Rattle.hc_events.specs.Accepted.{AreAccepted}
 use Rattle.hc_events.specs.SendingLaws.{heads_of, is_sending}
-use Rattle.hc_events.specs.AnswerLaws.{IsFirstAnswer, IsHeadOf, IsItemOf}
+use Rattle.hc_events.specs.AnswerLaws.{IsHeadOf, IsItemOf}
 use Rattle.hc_events.specs.Names.{HasFewDatagrams, HasItsAddress, IsNamed, named_at}
 use Rattle.hc_events.proofs.lemmas.Answers.{answered-of_line, answers-first}
 use Rattle.hc_events.proofs.lemmas.OneWrite.{no_blocks}
@@ -102,6 +102,7 @@ plain_by : (before : Record) (entry : Entry) (since : List Entry) (heads : List 
 plain_by before (Opened groups) since heads parts outcomes sends is told = cc
 plain_by before (Edited edit) since heads parts outcomes sends is told = cc
 plain_by before (Posted task bytes) since heads parts outcomes sends is told = cc
+plain_by before (Forgot station) since heads parts outcomes sends is told = cc
 plain_by before (Came arrival) since heads parts outcomes sends is told = cc
 plain_by before (Sent frame) since heads parts outcomes sends is told = ap (list_any (λ (head : Head). is_block head.item)) is ∙ no_blocks (line_of before) frame
 plain_by before (Wrote block) since heads parts outcomes sends is told =

@@ -1,5 +1,5 @@
 -- A sending is answered once, and serials are those of sendings.
-use Rattle.std.proofs.Common.{◌≡◌, ℕ, ◌+◌, ◌<◌, ◌==◌, Bool, true, false, cond, not, ◌&&◌, ◌||◌, List, [], ◌∷◌, refl, sym, ap, ◌∙◌, subst, arith, Option, Some, None, lt-ltb, ltb-true}
+use Rattle.std.proofs.Common.{◌≡◌, ℕ, ◌+◌, ◌<◌, ◌==◌, Bool, true, false, cond, ◌&&◌, List, [], ◌∷◌, refl, sym, ap, ◌∙◌, subst, arith, Option, Some, None, lt-ltb, ltb-true}
 use Rattle.std.specs.Prelude.{is_some, nat_lt, option_map, option_and_then}
 use Rattle.std.specs.List.{list_any}
 use Rattle.std.proofs.lemmas.Bool.Decides.{nat_tests}
@@ -7,7 +7,7 @@ use Rattle.std.proofs.lemmas.Bool.{and_right, not_from_true, or_right}
 use Rattle.std.proofs.lemmas.Grind.{common_steps}
 use Rattle.hc_records.proofs.lemmas.Choices.{by_bool, is_other}
 use Rattle.hc_events.specs.Arrivals.{Arrival}
-use Rattle.hc_events.specs.Entries.{Entry, Record, Opened, Edited, Posted, Sent, Wrote, Came}
+use Rattle.hc_events.specs.Entries.{Entry, Record, Opened, Edited, Posted, Sent, Wrote, Came, Forgot}
 use Rattle.hc_events.specs.Points.{line_of, next_serial}
 use Rattle.hc_events.specs.Heads.{data_heads, write_head}
 use Rattle.hc_events.specs.Answering.{Sending, just_sent, followed_by, sending_of, fits, ends, is_answer, only_if, answered_by}
@@ -46,6 +46,7 @@ serial-made [] serial = none_below serial
 serial-made (Opened groups ∷ past) serial = none_below serial
 serial-made (Edited edit ∷ past) serial = mapped_some (Edited edit) (sending_of past serial) ∙ serial-made past serial
 serial-made (Posted task bytes ∷ past) serial = mapped_some (Posted task bytes) (sending_of past serial) ∙ serial-made past serial
+serial-made (Forgot station ∷ past) serial = mapped_some (Forgot station) (sending_of past serial) ∙ serial-made past serial
 serial-made (Came arrival ∷ past) serial = mapped_some (Came arrival) (sending_of past serial) ∙ serial-made past serial
 serial-made (Sent frame ∷ past) serial =
     one_of (next_serial past == serial) (Some (just_sent (data_heads (line_of past) frame))) (option_map (followed_by (Sent frame)) (sending_of past serial)) refl
@@ -87,6 +88,7 @@ ended_grows : (serial : ℕ) → Keeps (HasEnded serial)
 ended_grows serial past (Opened groups) accepted over = absurd accepted
 ended_grows serial past (Edited edit) accepted over = record { made = over.made; over = ended_still serial (Edited edit) (sending_of past serial) over.over }
 ended_grows serial past (Posted task bytes) accepted over = record { made = over.made; over = ended_still serial (Posted task bytes) (sending_of past serial) over.over }
+ended_grows serial past (Forgot station) accepted over = record { made = over.made; over = ended_still serial (Forgot station) (sending_of past serial) over.over }
 ended_grows serial past (Came arrival) accepted over = record { made = over.made; over = ended_still serial (Came arrival) (sending_of past serial) over.over }
 ended_grows serial past (Sent frame) accepted over = record {
   made = below_more serial (next_serial past) over.made;

@@ -1,6 +1,6 @@
 -- Records that are the same without their stale arrivals: no event tells them apart, and no event parts them.
-use Rattle.std.proofs.Common.{◌≡◌, ℕ, ◌+◌, ◌-◌, ◌*◌, ◌==◌, nat_lt, Bool, true, false, cond, not, ◌||◌, List, [], ◌∷◌, ◌++◌, length, filter, map, refl, sym, ap, ◌∙◌, Option, Some, None}
-use Rattle.std.specs.Prelude.{find, option_map, Result, Ok, Err}
+use Rattle.std.proofs.Common.{◌≡◌, ℕ, ◌+◌, ◌-◌, ◌*◌, ◌==◌, nat_lt, Bool, true, false, cond, not, List, [], ◌∷◌, ◌++◌, length, filter, map, refl, sym, ap, ◌∙◌, Option, Some, None}
+use Rattle.std.specs.Prelude.{find, is_none, option_map, Result, Ok, Err}
 use Rattle.std.specs.Option.{option_map_or}
 use Rattle.std.specs.List.{list_any, range_with_len}
 use Rattle.std.specs.Str.{bytes_eq}
@@ -9,24 +9,24 @@ use Rattle.hc_bits.specs.Bits.{number_of}
 use Rattle.hc_records.specs.Line.{line}
 use Rattle.hc_records.specs.Lists.{lowest}
 use Rattle.hc_records.specs.Image.{VariablePlace, datagram_count, datagram_length, logical_address, output_length, task_places}
-use Rattle.hc_records.specs.Edits.{edit_faults, state_after}
+use Rattle.hc_records.specs.Edits.{edit_faults, is_declared_station, slave_at, state_after}
 use Rattle.hc_records.proofs.lemmas.Choices.{by_bool}
 use Rattle.hc_registers.specs.Blocks.{LineBlock, line_blocks}
 use Rattle.hc_frames.specs.FrameText.{frame_text, lrw}
 use Rattle.hc_frames.specs.declared.reading.faults.FrameFault.{FrameFault}
 use Rattle.hc_events.specs.declared.answer.Answer.TheVariants as answer
 use Rattle.hc_events.specs.declared.faults.CoreFault.{CoreFault}
-use Rattle.hc_events.specs.declared.faults.CoreFault.TheVariants.{NoSuchTask, NothingOwed, PostLength, SerialsSpent, StalePost, Unprogrammed}
+use Rattle.hc_events.specs.declared.faults.CoreFault.TheVariants.{Absent, NoSuchTask, NothingOwed, PostLength, SerialsSpent, StalePost, UnknownStation, Unprogrammed}
 use Rattle.hc_events.specs.Faults.{edit_refusal}
 use Rattle.hc_events.specs.Arrivals.{Arrival, arrival_in}
-use Rattle.hc_events.specs.Entries.{Entry, Record, Opened, Edited, Posted, Sent, Wrote, Came}
+use Rattle.hc_events.specs.Entries.{Entry, Record, Opened, Edited, Posted, Sent, Wrote, Came, Forgot}
 use Rattle.hc_events.specs.Points.{epoch_of, line_of, next_serial, state_of}
 use Rattle.hc_events.specs.Sendings.{Frame, sendings_of}
 use Rattle.hc_events.specs.Answering.{Judged, Verdict, Good, Wrong, Stale, is_news, is_stale, is_stale_to, judged_by}
 use Rattle.hc_events.specs.Images.{slot_of, slots_of}
 use Rattle.hc_events.specs.Outputs.{byte_of, bytes_of, has_bit, outputs_in, sent_bit, sent_data, value_bit}
 use Rattle.hc_events.specs.Owed.{is_owed, known_bytes, owed_blocks}
-use Rattle.hc_events.specs.Steps.{Step, Edits, Posts, SendsTasks, SendsWrite, Arrives, Reads, unless, kept_if, edit_refused, told_of_edit, is_no_task, post_faults, has_serials, serials_left, proposal, task_faults, sent_datagram, sent_text, with_sent, write_faults, told_of_write, with_write, told_of_block, told_of, told_of_arrival, with_arrival, read_faults, answer_to, entries_after, answers_to, entries_after_all}
+use Rattle.hc_events.specs.Steps.{Step, Edits, Posts, SendsTasks, SendsWrite, Arrives, Reads, Forgets, unless, kept_if, forget_faults, edit_refused, told_of_edit, is_no_task, post_faults, has_serials, serials_left, proposal, task_faults, sent_datagram, sent_text, with_sent, write_faults, told_of_write, with_write, told_of_block, told_of, told_of_arrival, with_arrival, read_faults, answer_to, entries_after, answers_to, entries_after_all}
 use Rattle.hc_events.specs.Heads.{is_block}
 use Rattle.hc_events.specs.Changes.{news_of}
 use Rattle.hc_events.specs.Stale.{SameBehind, SaysTheSame, without_stale}
@@ -56,6 +56,7 @@ same-grows : (entry : Entry) (a b : Record) → SameWithout a b → SameWithout 
 same-grows (Opened groups) a b same = ap (λ past. Opened groups ∷ past) same
 same-grows (Edited edit) a b same = ap (λ past. Edited edit ∷ past) same
 same-grows (Posted task bytes) a b same = ap (λ past. Posted task bytes ∷ past) same
+same-grows (Forgot station) a b same = ap (λ past. Forgot station ∷ past) same
 same-grows (Sent frame) a b same = ap (λ past. Sent frame ∷ past) same
 same-grows (Wrote block) a b same = ap (λ past. Wrote block ∷ past) same
 same-grows (Came arrival) a b same =
@@ -82,6 +83,7 @@ same-without [] = refl
 same-without (Opened groups ∷ past) = ap (λ kept. Opened groups ∷ kept) (same-without past)
 same-without (Edited edit ∷ past) = ap (λ kept. Edited edit ∷ kept) (same-without past)
 same-without (Posted task bytes ∷ past) = ap (λ kept. Posted task bytes ∷ kept) (same-without past)
+same-without (Forgot station ∷ past) = ap (λ kept. Forgot station ∷ kept) (same-without past)
 same-without (Sent frame ∷ past) = ap (λ kept. Sent frame ∷ kept) (same-without past)
 same-without (Wrote block ∷ past) = ap (λ kept. Wrote block ∷ kept) (same-without past)
 same-without (Came arrival ∷ past) = sym (kept_either (is_stale_to past arrival) arrival past refl (same-without past))
@@ -141,6 +143,10 @@ same_post_faults a b task epoch bytes says =
     ap (λ n. lowest ((is_no_task task, NoSuchTask) ∷ (not (epoch == n), StalePost) ∷ (not (length bytes == output_length (task_places task (line_of a))), PostLength) ∷ [])) says.epoch
     ∙ ap (λ members. lowest ((is_no_task task, NoSuchTask) ∷ (not (epoch == epoch_of b), StalePost) ∷ (not (length bytes == output_length (task_places task members)), PostLength) ∷ [])) (same-line a b says)
 
+same_forget_faults : (a b : Record) (station : ℕ) → SaysTheSame a b → lowest (forget_faults a station) ≡ lowest (forget_faults b station)
+same_forget_faults a b station says =
+    ap (λ state. lowest ((not (is_declared_station state station), UnknownStation) ∷ (is_none (slave_at state station), Absent) ∷ [])) says.state
+
 -- arrivals
 
 block_told : (verdict : Verdict) → not (is_stale verdict) ≡ false → told_of_block verdict ≡ answer.Stale
@@ -193,6 +199,7 @@ same-answer a b (Reads task) same =
     ap (λ n. unless (lowest (read_faults task)) (answer.Image n (slots_of a task))) says.epoch
     ∙ ap (λ members. unless (lowest (read_faults task)) (answer.Image (epoch_of b) (map (slot_of a task) (range_with_len 0 (datagram_count (task_places task members)))))) (same-line a b says)
     ∙ ap (λ slots. unless (lowest (read_faults task)) (answer.Image (epoch_of b) slots)) (map_alike (slot_of a task) (slot_of b task) (says.slots task) (range_with_len 0 (datagram_count (task_places task (line_of b)))))
+same-answer a b (Forgets station) same = ap (λ refused. unless refused answer.Forgotten) (same_forget_faults a b station (same-says a b same))
 
 same_kept : (refused : Option CoreFault) (a b c d : Record) → SameWithout a b → SameWithout c d → SameWithout (kept_if refused a c) (kept_if refused b d)
 same_kept None a b c d same next = next
@@ -229,6 +236,9 @@ same-after a b SendsWrite same =
     ∙ same_kept (lowest (write_faults b (owed_blocks b))) a b (with_write a (owed_blocks b)) (with_write b (owed_blocks b)) same (same_write (owed_blocks b) a b same)
 same-after a b (Arrives bytes) same = same_arrival (arrival_in bytes) a b same
 same-after a b (Reads task) same = same
+same-after a b (Forgets station) same =
+    ap (λ refused. without_stale (kept_if refused a (Forgot station ∷ a))) (same_forget_faults a b station (same-says a b same))
+    ∙ same_kept (lowest (forget_faults b station)) a b (Forgot station ∷ a) (Forgot station ∷ b) same (same-grows (Forgot station) a b same)
 
 -- lists of events
 

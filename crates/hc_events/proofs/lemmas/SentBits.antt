@@ -4,13 +4,12 @@ use Rattle.std.specs.Prelude.{find, is_some}
 use Rattle.std.specs.Option.{option_map_or}
 use Rattle.std.specs.Int.{bit_at}
 use Rattle.std.specs.List.{range_with_len}
-use Rattle.std.proofs.lemmas.Nat.Bits.{bit_at-lt, bit_at-suc, bit_at-zero, bit_at_lowest}
 use Rattle.std.proofs.lemmas.List.FromFn.{get_or-map-range_with_len, length-map-range_with_len}
-use Rattle.hc_bits.specs.Bits.{bit_of, number_of}
+use Rattle.hc_bits.specs.Bits.{bit_of}
 use Rattle.hc_bits.proofs.lemmas.Bits.{bit_of-lt, bit_at-number_of}
 use Rattle.hc_records.specs.Line.{Member}
 use Rattle.hc_records.specs.Image.{VariablePlace, variable_place}
-use Rattle.hc_events.specs.Entries.{Record, Opened, Edited, Posted, Sent, Wrote, Came}
+use Rattle.hc_events.specs.Entries.{Record, Opened, Edited, Posted, Sent, Wrote, Came, Forgot}
 use Rattle.hc_events.specs.Points.{line_of}
 use Rattle.hc_events.specs.Sendings.{length_of}
 use Rattle.hc_events.specs.Outputs.{byte_of, bytes_of, has_bit, image_bit, is_posted, outputs_in, posted_bit, sent_bit, sent_data, value_bit}
@@ -36,6 +35,7 @@ value_small (Edited edit ∷ past) variable k =
     chosen_small (is_some (variable_place variable (line_of past))) (value_bit past variable k) 0 (value_small past variable k) zero_small
 value_small (Posted task bytes ∷ past) variable k =
     posted_small (line_of past) task bytes k (variable_place variable (line_of past)) (value_bit past variable k) (value_small past variable k)
+value_small (Forgot station ∷ past) variable k = value_small past variable k
 value_small (Sent frame ∷ past) variable k = value_small past variable k
 value_small (Wrote block ∷ past) variable k = value_small past variable k
 value_small (Came arrival ∷ past) variable k = value_small past variable k

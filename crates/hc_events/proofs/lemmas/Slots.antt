@@ -1,5 +1,5 @@
 -- What is read of a datagram has its length, and whatever its sending had of the line, since no edit came between.
-use Rattle.std.proofs.Common.{◌≡◌, ℕ, ◌==◌, Bool, true, false, cond, ◌&&◌, ◌||◌, List, [], ◌∷◌, length, map, refl, sym, ap, ◌∙◌, subst, Option, Some, None}
+use Rattle.std.proofs.Common.{◌≡◌, ℕ, ◌==◌, Bool, true, false, cond, ◌&&◌, List, [], ◌∷◌, length, map, refl, sym, ap, ◌∙◌, subst, Option, Some, None}
 use Rattle.std.specs.Prelude.{All, fold, option_map, option_and_then}
 use Rattle.std.specs.Option.{option_map_or}
 use Rattle.std.specs.List.{flat_map, list_any, zip}
@@ -10,7 +10,7 @@ use Rattle.hc_records.proofs.lemmas.Lists.{All-flat_map}
 use Rattle.hc_records.proofs.lemmas.Choices.{by_bool}
 use Rattle.hc_frames.specs.Commands.{code_of}
 use Rattle.hc_events.specs.Arrivals.{Arrival, Part}
-use Rattle.hc_events.specs.Entries.{Entry, Record, Opened, Edited, Posted, Sent, Wrote, Came}
+use Rattle.hc_events.specs.Entries.{Entry, Record, Opened, Edited, Posted, Sent, Wrote, Came, Forgot}
 use Rattle.hc_events.specs.Points.{line_of, next_serial}
 use Rattle.hc_events.specs.Sendings.{Named, length_of}
 use Rattle.hc_events.specs.Heads.{Head, Item, Datagram, Block, data_head, data_heads, write_head}
@@ -37,6 +37,7 @@ any_sent [] = tt
 any_sent (Opened groups ∷ past) = tt
 any_sent (Edited edit ∷ past) = any_sent past
 any_sent (Posted task bytes ∷ past) = any_sent past
+any_sent (Forgot station ∷ past) = any_sent past
 any_sent (Sent frame ∷ past) = (any_frame (line_of past) frame, any_sent past)
 any_sent (Wrote block ∷ past) = any_sent past
 any_sent (Came arrival ∷ past) = any_sent past
@@ -79,6 +80,7 @@ sent_fit P [] serial sent = tt
 sent_fit P (Opened groups ∷ past) serial sent = tt
 sent_fit P (Edited edit ∷ past) serial sent = fits_edited P (line_of (Edited edit ∷ past)) serial (Edited edit) (λ heads. refl) (sending_of past serial)
 sent_fit P (Posted task bytes ∷ past) serial sent = fits_more P (line_of past) serial (Posted task bytes) (sending_of past serial) (sent_fit P past serial sent)
+sent_fit P (Forgot station ∷ past) serial sent = fits_more P (line_of past) serial (Forgot station) (sending_of past serial) (sent_fit P past serial sent)
 sent_fit P (Came arrival ∷ past) serial sent = fits_more P (line_of past) serial (Came arrival) (sending_of past serial) (sent_fit P past serial sent)
 sent_fit P (Sent frame ∷ past) serial sent =
     fits_either P (line_of past) serial (next_serial past == serial) (Some (just_sent (data_heads (line_of past) frame))) (option_map (followed_by (Sent frame)) (sending_of past serial))
@@ -152,6 +154,7 @@ slot_sized [] task d = tt
 slot_sized (Opened groups ∷ past) task d = tt
 slot_sized (Edited edit ∷ past) task d = tt
 slot_sized (Posted t bytes ∷ past) task d = slot_sized past task d
+slot_sized (Forgot station ∷ past) task d = slot_sized past task d
 slot_sized (Sent frame ∷ past) task d = slot_sized past task d
 slot_sized (Wrote block ∷ past) task d = slot_sized past task d
 slot_sized (Came arrival ∷ past) task d = all_fit (line_of past) task d (fresh_by past arrival) (slot_of past task d) (fresh-fits Any past arrival (any_sent past)) (slot_sized past task d)

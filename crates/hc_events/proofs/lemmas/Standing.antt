@@ -4,7 +4,7 @@ use Rattle.std.specs.Prelude.{option_map}
 use Rattle.std.specs.List.{list_any}
 use Rattle.std.proofs.lemmas.Bool.{eqb-true}
 use Rattle.hc_records.proofs.lemmas.Choices.{is_other}
-use Rattle.hc_events.specs.Entries.{Entry, Record, Opened, Edited, Posted, Sent, Wrote, Came}
+use Rattle.hc_events.specs.Entries.{Entry, Record, Opened, Edited, Posted, Sent, Wrote, Came, Forgot}
 use Rattle.hc_events.specs.Points.{line_of, next_serial}
 use Rattle.hc_events.specs.Heads.{data_heads, write_head}
 use Rattle.hc_events.specs.Answering.{Sending, just_sent, followed_by, sending_of}
@@ -46,6 +46,7 @@ stands-at [] serial = λ sending e. cc
 stands-at (Opened groups ∷ past) serial = λ sending e. cc
 stands-at (Edited edit ∷ past) serial = moved_on (Edited edit) refl past serial (sending_of past serial) (stands-at past serial)
 stands-at (Posted task bytes ∷ past) serial = moved_on (Posted task bytes) refl past serial (sending_of past serial) (stands-at past serial)
+stands-at (Forgot station ∷ past) serial = moved_on (Forgot station) refl past serial (sending_of past serial) (stands-at past serial)
 stands-at (Came arrival ∷ past) serial = moved_on (Came arrival) refl past serial (sending_of past serial) (stands-at past serial)
 stands-at (Sent frame ∷ past) serial =
     stands_either (Sent frame ∷ past) serial (next_serial past == serial) (Some (just_sent (data_heads (line_of past) frame))) (option_map (followed_by (Sent frame)) (sending_of past serial))
@@ -65,6 +66,7 @@ sent_counts : (before : Record) (entry : Entry) → is_sending entry ≡ true �
 sent_counts before (Opened groups) sends = cc
 sent_counts before (Edited edit) sends = cc
 sent_counts before (Posted task bytes) sends = cc
+sent_counts before (Forgot station) sends = cc
 sent_counts before (Came arrival) sends = cc
 sent_counts before (Sent frame) sends = one_more (next_serial before)
 sent_counts before (Wrote block) sends = one_more (next_serial before)
@@ -75,6 +77,7 @@ serial-above [] before entry sends running = sent_counts before entry sends
 serial-above (Opened groups ∷ since) before entry sends running = cc
 serial-above (Edited edit ∷ since) before entry sends running = serial-above since before entry sends running
 serial-above (Posted task bytes ∷ since) before entry sends running = serial-above since before entry sends running
+serial-above (Forgot station ∷ since) before entry sends running = serial-above since before entry sends running
 serial-above (Came arrival ∷ since) before entry sends running = serial-above since before entry sends running
 serial-above (Sent frame ∷ since) before entry sends running = below_more _ _ (serial-above since before entry sends running)
 serial-above (Wrote block ∷ since) before entry sends running = below_more _ _ (serial-above since before entry sends running)
@@ -83,6 +86,7 @@ found_now : (before : Record) (entry : Entry) → is_sending entry ≡ true → 
 found_now before (Opened groups) sends = cc
 found_now before (Edited edit) sends = cc
 found_now before (Posted task bytes) sends = cc
+found_now before (Forgot station) sends = cc
 found_now before (Came arrival) sends = cc
 found_now before (Sent frame) sends = rw (same_is (next_serial before)) refl
 found_now before (Wrote block) sends = rw (same_is (next_serial before)) refl
@@ -99,6 +103,7 @@ found-under [] before entry sends running = found_now before entry sends
 found-under (Opened groups ∷ since) before entry sends running = cc
 found-under (Edited edit ∷ since) before entry sends running = ap (option_map (followed_by (Edited edit))) (found-under since before entry sends running)
 found-under (Posted task bytes ∷ since) before entry sends running = ap (option_map (followed_by (Posted task bytes))) (found-under since before entry sends running)
+found-under (Forgot station ∷ since) before entry sends running = ap (option_map (followed_by (Forgot station))) (found-under since before entry sends running)
 found-under (Came arrival ∷ since) before entry sends running = ap (option_map (followed_by (Came arrival))) (found-under since before entry sends running)
 found-under (Sent frame ∷ since) before entry sends running =
     passed_by (next_serial before) (next_serial (since ++ entry ∷ before)) _ (Sent frame) (sending_of (since ++ entry ∷ before) (next_serial before)) (sent_at since before entry)

@@ -7,7 +7,7 @@ use Rattle.std.proofs.lemmas.Bool.{and_right, not-true, or_parts}
 use Rattle.hc_records.specs.Image.{variable_place}
 use Rattle.hc_records.specs.Edits.{state_after, slave_at}
 use Rattle.hc_events.specs.Arrivals.{Arrival}
-use Rattle.hc_events.specs.Entries.{Record, Opened, Edited, Posted, Sent, Wrote, Came}
+use Rattle.hc_events.specs.Entries.{Record, Opened, Edited, Posted, Sent, Wrote, Came, Forgot}
 use Rattle.hc_events.specs.Points.{epoch_of, line_of, next_serial, state_of}
 use Rattle.hc_records.specs.Line.{line}
 use Rattle.hc_records.proofs.lemmas.Choices.{by_bool}
@@ -32,6 +32,7 @@ without-state [] = refl
 without-state (Opened groups ∷ past) = refl
 without-state (Edited edit ∷ past) = ap (λ state. state_after state edit) (without-state past)
 without-state (Posted task bytes ∷ past) = without-state past
+without-state (Forgot station ∷ past) = without-state past
 without-state (Sent frame ∷ past) = without-state past
 without-state (Wrote block ∷ past) = without-state past
 without-state (Came arrival ∷ past) = came_skips state_of (is_stale_to past arrival) arrival (without_stale past) refl ∙ without-state past
@@ -44,6 +45,7 @@ without-epoch [] = refl
 without-epoch (Opened groups ∷ past) = refl
 without-epoch (Edited edit ∷ past) = ap (λ n. n + 1) (without-epoch past)
 without-epoch (Posted task bytes ∷ past) = without-epoch past
+without-epoch (Forgot station ∷ past) = without-epoch past
 without-epoch (Sent frame ∷ past) = without-epoch past
 without-epoch (Wrote block ∷ past) = without-epoch past
 without-epoch (Came arrival ∷ past) = came_skips epoch_of (is_stale_to past arrival) arrival (without_stale past) refl ∙ without-epoch past
@@ -53,6 +55,7 @@ without-serial [] = refl
 without-serial (Opened groups ∷ past) = refl
 without-serial (Edited edit ∷ past) = without-serial past
 without-serial (Posted task bytes ∷ past) = without-serial past
+without-serial (Forgot station ∷ past) = without-serial past
 without-serial (Sent frame ∷ past) = ap (λ n. n + 1) (without-serial past)
 without-serial (Wrote block ∷ past) = ap (λ n. n + 1) (without-serial past)
 without-serial (Came arrival ∷ past) = came_skips next_serial (is_stale_to past arrival) arrival (without_stale past) refl ∙ without-serial past
@@ -66,6 +69,7 @@ without-value (Edited edit ∷ past) variable k =
 without-value (Posted task bytes ∷ past) variable k =
     ap (λ line. posted_bit line task bytes k (variable_place variable line) (value_bit (without_stale past) variable k)) (without-line past)
     ∙ ap (λ bit. posted_bit (line_of past) task bytes k (variable_place variable (line_of past)) bit) (without-value past variable k)
+without-value (Forgot station ∷ past) variable k = without-value past variable k
 without-value (Sent frame ∷ past) variable k = without-value past variable k
 without-value (Wrote block ∷ past) variable k = without-value past variable k
 without-value (Came arrival ∷ past) variable k =
@@ -82,6 +86,7 @@ without-write (Sent frame ∷ past) station number = without-write past station 
 without-write (Wrote block ∷ past) station number =
     ap (λ n. cond (same_item (Block station number) (block_item block)) (Some (n, block.block.bytes)) (last_write (without_stale past) station number)) (without-serial past)
     ∙ ap (λ found. cond (same_item (Block station number) (block_item block)) (Some (next_serial past, block.block.bytes)) found) (without-write past station number)
+without-write (Forgot other ∷ past) station number = ap (λ found. cond (station == other) None found) (without-write past station number)
 without-write (Came arrival ∷ past) station number =
     came_skips (λ record'. last_write record' station number) (is_stale_to past arrival) arrival (without_stale past) refl ∙ without-write past station number
 
@@ -100,6 +105,7 @@ without-awaited [] serial = refl
 without-awaited (Opened groups ∷ past) serial = refl
 without-awaited (Edited edit ∷ past) serial = awaited-grows (without_stale past) past serial (Edited edit) (without-serial past) (without-line past) (without-awaited past serial)
 without-awaited (Posted task bytes ∷ past) serial = awaited-grows (without_stale past) past serial (Posted task bytes) (without-serial past) (without-line past) (without-awaited past serial)
+without-awaited (Forgot station ∷ past) serial = awaited-grows (without_stale past) past serial (Forgot station) (without-serial past) (without-line past) (without-awaited past serial)
 without-awaited (Sent frame ∷ past) serial = awaited-grows (without_stale past) past serial (Sent frame) (without-serial past) (without-line past) (without-awaited past serial)
 without-awaited (Wrote block ∷ past) serial = awaited-grows (without_stale past) past serial (Wrote block) (without-serial past) (without-line past) (without-awaited past serial)
 without-awaited (Came arrival ∷ past) serial =
@@ -171,6 +177,7 @@ without-slot [] task d = refl
 without-slot (Opened groups ∷ past) task d = refl
 without-slot (Edited edit ∷ past) task d = refl
 without-slot (Posted t bytes ∷ past) task d = without-slot past task d
+without-slot (Forgot station ∷ past) task d = without-slot past task d
 without-slot (Sent frame ∷ past) task d = without-slot past task d
 without-slot (Wrote block ∷ past) task d = without-slot past task d
 without-slot (Came arrival ∷ past) task d =
@@ -184,6 +191,7 @@ without-told [] = refl
 without-told (Opened groups ∷ past) = refl
 without-told (Edited edit ∷ past) = ap (λ told. told ++ Swapped edit ∷ []) (without-told past)
 without-told (Posted task bytes ∷ past) = without-told past
+without-told (Forgot station ∷ past) = without-told past
 without-told (Sent frame ∷ past) = without-told past
 without-told (Wrote block ∷ past) = without-told past
 without-told (Came arrival ∷ past) =
@@ -197,6 +205,7 @@ without-confirmed [] serial = refl
 without-confirmed (Opened groups ∷ past) serial = refl
 without-confirmed (Edited edit ∷ past) serial = without-confirmed past serial
 without-confirmed (Posted task bytes ∷ past) serial = without-confirmed past serial
+without-confirmed (Forgot station ∷ past) serial = without-confirmed past serial
 without-confirmed (Sent frame ∷ past) serial = without-confirmed past serial
 without-confirmed (Wrote block ∷ past) serial = without-confirmed past serial
 without-confirmed (Came arrival ∷ past) serial =

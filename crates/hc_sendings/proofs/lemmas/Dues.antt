@@ -2,12 +2,12 @@
 use Rattle.std.proofs.Common.{◌≡◌, ◌==◌, Bool, true, false, cond, not, List, [], ◌∷◌, map, refl, sym, ap, ◌∙◌, Option, Some, None}
 use Rattle.std.specs.Prelude.{option_map}
 use Rattle.std.specs.Option.{option_map_or}
-use Rattle.std.specs.List.{list_any, zip}
+use Rattle.std.specs.List.{zip}
 use Rattle.hc_events.specs.Arrivals.{Arrival, Part}
 use Rattle.hc_events.specs.Entries.{Entry, Record}
 use Rattle.hc_events.specs.Points.{line_of}
 use Rattle.hc_events.specs.Heads.{Head}
-use Rattle.hc_events.specs.Answering.{Judged, Sending, Verdict, Good, Wrong, Stale, has_heads, judge, judged_by, sends}
+use Rattle.hc_events.specs.Answering.{Judged, Sending, Verdict, Good, Wrong, Stale, has_heads, is_outdated, judge, judged_by}
 use Rattle.hc_events.specs.Awaited.{awaited}
 use Rattle.hc_events.specs.Steps.{told_of}
 use Rattle.hc_events.proofs.lemmas.Awaited.{news, news_from, awaited-news}
@@ -28,7 +28,7 @@ verdict_back false good = refl
 judge_back : (since : List Entry) (head : Head) (part : Part) → judge_due (due_in since head, part) ≡ judge since (head, part)
 judge_back since head part =
     ap (λ (verdict : Verdict). let one : Judged = record { head = head; part = part; verdict = verdict } in one)
-    (verdict_back (list_any (sends head.item) since) (part.counter == head.expected))
+    (verdict_back (is_outdated head.item since) (part.counter == head.expected))
 
 judged_back : (since : List Entry) (heads : List Head) (parts : List Part) → map judge_due (zip (map (due_in since) heads) parts) ≡ map (judge since) (zip heads parts)
 judged_back since [] parts = refl

@@ -1,5 +1,5 @@
 -- An arrival that is news ends what is awaited with its serial, and nothing else.
-use Rattle.std.proofs.Common.{◌≡◌, ℕ, ◌==◌, ◌<◌, Bool, true, false, cond, not, List, [], ◌∷◌, filter, refl, sym, ap, ◌∙◌, subst, Option, Some, None}
+use Rattle.std.proofs.Common.{◌≡◌, ◌≢◌, ℕ, ◌==◌, ◌<◌, Bool, true, false, cond, not, List, [], ◌∷◌, filter, refl, sym, ap, ◌∙◌, subst, Option, Some, None}
 use Rattle.std.specs.Prelude.{All, find, option_and_then, option_map}
 use Rattle.std.specs.Option.{option_or}
 use Rattle.std.proofs.lemmas.Bool.{eqb-true, not-true}
@@ -8,7 +8,7 @@ use Rattle.std.proofs.lemmas.List.Kept.{AllPairs-filter}
 use Rattle.hc_records.specs.Line.{Member}
 use Rattle.hc_records.proofs.lemmas.Choices.{by_bool}
 use Rattle.hc_events.specs.Arrivals.{Arrival}
-use Rattle.hc_events.specs.Accepted.{AreAccepted, StandsIn}
+use Rattle.hc_events.specs.Accepted.{StandsIn}
 use Rattle.hc_events.specs.AnswerLaws.{IsAwaited}
 use Rattle.hc_events.specs.Entries.{Record, Came}
 use Rattle.hc_events.specs.Points.{line_of, next_serial}
@@ -17,10 +17,8 @@ use Rattle.hc_events.specs.Awaited.{awaited}
 use Rattle.hc_events.proofs.lemmas.Answers.{awaited-answered}
 use Rattle.hc_events.proofs.lemmas.Awaited.{alive_came, same_is, unless_fits, unless-other}
 use Rattle.hc_events.proofs.lemmas.Once.{only-if_some}
-use Rattle.hc_events.proofs.lemmas.OneWrite.{all-alone}
 use Rattle.hc_sendings.specs.Waiting.{AwaitedFrame, AwaitedWrite, Waiting, ended}
 use Rattle.hc_sendings.specs.Judging.{due_with, found_frame, found_write, frame_due, write_due}
-use Rattle.hc_sendings.proofs.lemmas.Sorts.{write-awaited}
 use Rattle.hc_sendings.specs.Record.{KeepsAwaited, due_by, dues_of}
 
 -- among what is kept
@@ -103,23 +101,13 @@ due_answered past arrival serial news =
 
 -- so what is kept then is what the record awaits
 
-left_over : (n : ℕ) (found : Option AwaitedWrite) (write : AwaitedWrite) → option_and_then (only_if (λ w. not (w.serial == n))) found ≡ Some write → (found ≡ Some write) × ((write.serial == n) ≡ false)
+pub left_over : (n : ℕ) (found : Option AwaitedWrite) (write : AwaitedWrite) → option_and_then (only_if (λ w. not (w.serial == n))) found ≡ Some write → (found ≡ Some write) × ((write.serial == n) ≡ false)
 left_over n found write e =
     let kept = only-if_some found (λ w. not (w.serial == n)) write e in (kept.0, not-true (write.serial == n) kept.1)
 
--- where a register write is awaited nothing else is, so behind an arrival that is news none is kept
-pub no-write : (past : Record) (waiting : Waiting) (arrival : Arrival) → AreAccepted past → KeepsAwaited past waiting → IsAwaited past arrival → (write : AwaitedWrite)
-    → (ended arrival.serial waiting).write ≡ Some write → ⊥
-no-write past waiting arrival all waits news write e =
-    let kept = left_over arrival.serial waiting.write write e in
-    let one = write-awaited past waiting write waits kept.0 in
-    let alone : arrival.serial ≡ write.serial = ((all-alone past all).writes write.serial one.sending one.there one.writes).alone arrival.serial news.sending news.there in
-    let same : (write.serial == arrival.serial) ≡ true = ap (λ n. write.serial == n) alone ∙ same_is write.serial in
-    let never : true ≡ false = sym same ∙ kept.1 in cc
-
-pub waits-ended : (past : Record) (waiting : Waiting) (arrival : Arrival) → AreAccepted past → KeepsAwaited past waiting → is_stale_to past arrival ≡ false
+pub waits-ended : (past : Record) (waiting : Waiting) (arrival : Arrival) → KeepsAwaited past waiting → is_stale_to past arrival ≡ false
     → KeepsAwaited (Came arrival ∷ past) (ended arrival.serial waiting)
-waits-ended past waiting arrival all waits news =
+waits-ended past waiting arrival waits news =
     let for = (awaited-answered past arrival).news.0 news in
     let keep : AwaitedFrame → Bool = λ frame. not (frame.serial == arrival.serial) in
     record {
@@ -127,5 +115,5 @@ waits-ended past waiting arrival all waits news =
       ascend = AllPairs-filter (λ (a b : AwaitedFrame). a.serial < b.serial) keep waiting.frames waits.ascend;
       below = All-filter keep (λ (frame : AwaitedFrame). frame.serial < next_serial past) waiting.frames waits.below;
       stands = All-filter keep (λ (frame : AwaitedFrame). All (λ carried. StandsIn (line_of past) carried.datagram) frame.datagrams) waiting.frames waits.stands;
-      apart = λ write e. absurd (no-write past waiting arrival all waits for write e);
+      apart = λ write e. All-filter keep (λ (frame : AwaitedFrame). frame.serial ≢ write.serial) waiting.frames (waits.apart write (left_over arrival.serial waiting.write write e).0);
     }

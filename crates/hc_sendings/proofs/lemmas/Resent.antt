@@ -12,9 +12,9 @@ use Rattle.hc_records.proofs.lemmas.Choices.{by_bool}
 use Rattle.hc_events.specs.Entries.{Entry, Record, Sent}
 use Rattle.hc_events.specs.Points.{line_of, next_serial}
 use Rattle.hc_events.specs.Sendings.{Frame, Named}
-use Rattle.hc_events.specs.Heads.{Head, data_heads}
-use Rattle.hc_events.specs.Answering.{Sending, followed_by, just_sent, only_if, sending_of, sends}
-use Rattle.hc_events.specs.Awaited.{alive, all_sent_again, awaited}
+use Rattle.hc_events.specs.Heads.{Block, Datagram, Head, Item, data_heads}
+use Rattle.hc_events.specs.Answering.{Sending, followed_by, is_dropped, is_outdated, just_sent, only_if, sending_of, sends}
+use Rattle.hc_events.specs.Awaited.{alive, all_outdated, awaited}
 use Rattle.hc_events.proofs.lemmas.Awaited.{alive_other, unless_again, not_both}
 use Rattle.hc_sendings.specs.Waiting as waiting
 use Rattle.hc_sendings.specs.Waiting.{AwaitedFrame, Carried, Waiting, as_sent, is_alive, sent, sent_again, with_again}
@@ -37,18 +37,26 @@ left_by frame dues = cond (list_any is_newest (map (again frame) dues)) (Some (m
 not_or : (a b : Bool) → (not b && not a) ≡ not (a || b)
 not_or a b = grind (arith, common_steps)
 
+or_turned : (a x l : Bool) → (x || (a || l)) ≡ (a || (x || l))
+or_turned a x l = grind (arith, common_steps)
+
+-- a datagram is out of date behind a frame where the frame sends it again, or it was before
+outdated_sent : (item : Item) (frame : List Named) (since : List Entry) → (sends item (Sent frame) || is_outdated item since) ≡ is_outdated item (Sent frame ∷ since)
+outdated_sent (Datagram task d) frame since = refl
+outdated_sent (Block station number) frame since = or_turned (is_dropped (Block station number) since) (sends (Block station number) (Sent frame)) (list_any (sends (Block station number)) since)
+
 dues_again : (frame : List Named) (since : List Entry) (heads : List Head) → map (again frame) (map (due_in since) heads) ≡ map (due_in (Sent frame ∷ since)) heads
 dues_again frame since [] = refl
 dues_again frame since (head ∷ heads) =
     ap (λ newest. let due : Due = record { head = head; newest = newest } in due ∷ map (again frame) (map (due_in since) heads))
-    (not_or (sends head.item (Sent frame)) (list_any (sends head.item) since))
+    (not_or (sends head.item (Sent frame)) (is_outdated head.item since) ∙ ap not (outdated_sent head.item frame since))
     ∙ ap (λ rest. due_in (Sent frame ∷ since) head ∷ rest) (dues_again frame since heads)
 
-some_newest : (since : List Entry) (heads : List Head) → list_any is_newest (map (due_in since) heads) ≡ not (all_sent_again since heads)
+some_newest : (since : List Entry) (heads : List Head) → list_any is_newest (map (due_in since) heads) ≡ not (all_outdated since heads)
 some_newest since [] = refl
 some_newest since (head ∷ heads) =
-    ap (λ b. not (list_any (sends head.item) since) || b) (some_newest since heads)
-    ∙ not_both (list_any (sends head.item) since) (all_sent_again since heads)
+    ap (λ b. not (is_outdated head.item since) || b) (some_newest since heads)
+    ∙ not_both (is_outdated head.item since) (all_outdated since heads)
 
 dues_unless : (over : Bool) (sending : Sending) → option_map dues_of (cond over None (Some sending)) ≡ cond (not over) (Some (dues_of sending)) None
 dues_unless true sending = refl
@@ -56,7 +64,7 @@ dues_unless false sending = refl
 
 one_left : (frame : List Named) (sending : Sending) → option_map dues_of (unless_again (Sent frame) sending) ≡ left_by frame (dues_of sending)
 one_left frame sending =
-    dues_unless (all_sent_again (Sent frame ∷ sending.since) sending.heads) (followed_by (Sent frame) sending)
+    dues_unless (all_outdated (Sent frame ∷ sending.since) sending.heads) (followed_by (Sent frame) sending)
     ∙ ap (λ some. cond some (Some (map (due_in (Sent frame ∷ sending.since)) sending.heads)) None) (sym (some_newest (Sent frame ∷ sending.since) sending.heads))
     ∙ ap (λ dues. cond (list_any is_newest dues) (Some dues) None) (sym (dues_again frame sending.since sending.heads))
 

@@ -1,4 +1,4 @@
--- A write that is kept is awaited. While something is owed no frame is kept, and while nothing is owed no write.
+-- A write that is kept is awaited, and a write that is awaited is kept. While nothing is owed no write is.
 use Rattle.std.proofs.Common.{◌≡◌, ℕ, ◌==◌, true, false, cond, List, [], ◌∷◌, map, refl, sym, ap, ◌∙◌, Option, Some, None}
 use Rattle.std.specs.Prelude.{option_and_then, option_map}
 use Rattle.std.proofs.lemmas.Bool.{eqb-true}
@@ -72,30 +72,6 @@ no_block : (line : List Member) (datagrams : List Carried) → list_any (λ one.
 no_block line [] = refl
 no_block line (carried ∷ datagrams) = no_block line datagrams
 
-frame_found : (line : List Member) (frame : AwaitedFrame) (frames : List AwaitedFrame) (waiting : Waiting) → waiting.write ≡ None → waiting.frames ≡ frame ∷ frames
-    → due_with line waiting frame.serial ≡ Some (frame_due line frame)
-frame_found line frame frames waiting none e =
-    ap (λ write. option_or (option_map write_due (option_and_then (only_if (λ w. w.serial == frame.serial)) write)) (option_map (frame_due line) (found_frame frame.serial waiting))) none
-    ∙ ap (λ all. option_map (frame_due line) (found_frame frame.serial (record { frames = all; write = None }))) e
-    ∙ ap (λ b. option_map (frame_due line) (cond b (Some frame) (found_frame frame.serial (record { frames = frames; write = None })))) (same_is frame.serial)
-
-no_first : (past : Record) (waiting : Waiting) (write : Option AwaitedWrite) (frame : AwaitedFrame) (frames : List AwaitedFrame) (block : LineBlock) (rest : List LineBlock)
-    → AreAccepted past → KeepsAwaited past waiting → waiting.write ≡ write → waiting.frames ≡ frame ∷ frames → owed_blocks past ≡ block ∷ rest → ⊥
-no_first past waiting (Some write) frame frames block rest all waits w e owed =
-    let never : frame ∷ frames ≡ [] = sym e ∙ waits.apart write w in cc
-no_first past waiting None frame frames block rest all waits w e owed =
-    let due = is_due past frame.serial (frame_due (line_of past) frame) (sym (waits.due frame.serial) ∙ frame_found (line_of past) frame frames waiting w e) in
-    let plain : is_write due.sending ≡ false = ap (list_any (λ one. is_block one.item)) due.heads ∙ no_block (line_of past) frame.datagrams in
-    some_of_none block rest (sym ((all-alone past all).frames frame.serial due.sending due.there plain) ∙ owed)
-
-no_frame : (past : Record) (waiting : Waiting) (frames : List AwaitedFrame) (block : LineBlock) (rest : List LineBlock)
-    → AreAccepted past → KeepsAwaited past waiting → waiting.frames ≡ frames → owed_blocks past ≡ block ∷ rest → frames ≡ []
-no_frame past waiting [] block rest all waits e owed = refl
-no_frame past waiting (frame ∷ frames) block rest all waits e owed = absurd (no_first past waiting waiting.write frame frames block rest all waits refl e owed)
-
-pub none-framed : (past : Record) (waiting : Waiting) (block : LineBlock) (rest : List LineBlock) → AreAccepted past → KeepsAwaited past waiting → owed_blocks past ≡ block ∷ rest → waiting.frames ≡ []
-none-framed past waiting block rest all waits owed = no_frame past waiting waiting.frames block rest all waits refl owed
-
 -- a write that is awaited is kept
 
 pub record IsKeptWrite (past : Record) (kept : Waiting) (serial : ℕ) (sending : Sending) : Type 0 where
@@ -104,8 +80,8 @@ pub record IsKeptWrite (past : Record) (kept : Waiting) (serial : ℕ) (sending 
   pub serial_is : write.serial ≡ serial
   pub heads : sending.heads ≡ written_head write ∷ []
 
-due_write : (write : AwaitedWrite) (sending : Sending) → dues_of sending ≡ write_due write → sending.heads ≡ written_head write ∷ []
-due_write write sending e = sym (heads-back sending.since sending.heads) ∙ ap (map (λ one. one.head)) e
+pub due-write : (write : AwaitedWrite) (sending : Sending) → dues_of sending ≡ write_due write → sending.heads ≡ written_head write ∷ []
+due-write write sending e = sym (heads-back sending.since sending.heads) ∙ ap (map (λ one. one.head)) e
 
 framed_plain : (line : List Member) (frame : AwaitedFrame) (sending : Sending) → Some (frame_due line frame) ≡ Some (dues_of sending) → is_write sending ≡ false
 framed_plain line frame sending e =
@@ -124,7 +100,7 @@ kept_by_due line kept serial sending (Some write) is e writes =
     by_bool (write.serial == serial)
     (λ t. let due : Some (write_due write) ≡ Some (dues_of sending) =
     sym (ap (λ b. option_or (option_map write_due (cond b (Some write) None)) (option_map (frame_due line) (found_frame serial kept))) t) ∙ e in
-    (write, is, eqb-true write.serial serial t, due_write write sending (sym (same_Some (write_due write) (dues_of sending) due))))
+    (write, is, eqb-true write.serial serial t, due-write write sending (sym (same_Some (write_due write) (dues_of sending) due))))
     (λ t. let other : option_map (frame_due line) (found_frame serial kept) ≡ Some (dues_of sending) =
     sym (ap (λ b. option_or (option_map write_due (cond b (Some write) None)) (option_map (frame_due line) (found_frame serial kept))) t) ∙ e in
     absurd (no_write_due line (found_frame serial kept) sending other writes))

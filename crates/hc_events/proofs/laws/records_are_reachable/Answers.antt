@@ -1,6 +1,6 @@
 use Rattle.std.proofs.Common.{◌≡◌, List, refl}
 use Rattle.hc_records.specs.declared.records.Group.{Group}
-use Rattle.hc_events.specs.Entries.{Record, Opened, Edited, Posted, Sent, Wrote, Came}
+use Rattle.hc_events.specs.Entries.{Record, Opened, Edited, Posted, Sent, Wrote, Came, Forgot}
 use Rattle.hc_events.specs.Points.{opened_with}
 use Rattle.hc_events.specs.Accepted.{AreAccepted, just_opened}
 use Rattle.hc_events.proofs.lemmas.Accepted.{Keeps, accepted-more, kept-after_all}
@@ -14,6 +14,7 @@ opened_more : (groups : List Group) → Keeps (OpenedWith groups)
 opened_more groups past (Opened others) accepted before = absurd accepted
 opened_more groups past (Edited edit) accepted before = before
 opened_more groups past (Posted task bytes) accepted before = before
+opened_more groups past (Forgot station) accepted before = before
 opened_more groups past (Sent frame) accepted before = before
 opened_more groups past (Wrote block) accepted before = before
 opened_more groups past (Came arrival) accepted before = before

@@ -1,0 +1,5 @@
+use Rattle.hc_events.proofs.Forgetting.{answered-first}
+use Rattle.hc_events.proofs.laws.events_without_forgetting.Goals as goal
+
+pub returns : goal.returns
+returns c groups steps = answered-first groups steps

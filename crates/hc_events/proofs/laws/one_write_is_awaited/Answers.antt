@@ -1,0 +1,5 @@
+use Rattle.hc_events.proofs.lemmas.OneWrite.{one-write}
+use Rattle.hc_events.proofs.laws.one_write_is_awaited.Goals as goal
+
+pub returns : goal.returns
+returns c past serial other write sending reachable = one-write past serial other write sending reachable.accepted

@@ -1,0 +1,72 @@
+-- What holds of slaves whose registers are forgotten, and of histories in which none is.
+use Rattle.std.specs.Prelude.{◌≡◌, ℕ, ◌==◌, ◌||◌, true, false, All, List, ◌∷◌, map, None, Some}
+use Rattle.std.specs.List.{list_any}
+use Rattle.hc_records.specs.declared.records.Group.{Group}
+use Rattle.hc_registers.specs.Blocks.{LineBlock}
+use Rattle.hc_events.specs.Accepted.{just_opened}
+use Rattle.hc_events.specs.Ages.{data_serial}
+use Rattle.hc_events.specs.Answering.{Judged, Sending, Stale, answered_by, followed_by, forgets, is_forgetting, judged_by}
+use Rattle.hc_events.specs.Arrivals.{Arrival}
+use Rattle.hc_events.specs.Awaited.{awaited, is_write}
+use Rattle.hc_events.specs.Changes.{news_of}
+use Rattle.hc_events.specs.Entries.{Record, Forgot}
+use Rattle.hc_events.specs.Heads.{Block}
+use Rattle.hc_events.specs.Images.{slot_of}
+use Rattle.hc_events.specs.Outputs.{value_bit}
+use Rattle.hc_events.specs.Owed.{is_owed, known_bytes, owed_blocks}
+use Rattle.hc_events.specs.Points.{epoch_of, next_serial, state_of}
+use Rattle.hc_events.specs.Steps.{answers_to, entries_after_all}
+use Rattle.hc_events.specs.WithoutForgetting.{FirstStep, step_of}
+use Rattle.hc_events.specs.WithoutForgetting as first
+
+-- a slave was forgotten: nothing is known of its blocks, so each of them is owed; of other slaves the same is known; and nothing else changes: line, epoch, serial, images, output values, changes, and the
+-- frames of tasks that are awaited
+pub record IsForgotten (history : Record) (station : ℕ) : Type 0 where
+  pub own : (number : ℕ) → known_bytes (Forgot station ∷ history) station number ≡ None
+  pub others : (other number : ℕ) → (other == station) ≡ false → known_bytes (Forgot station ∷ history) other number ≡ known_bytes history other number
+  pub owed : (block : LineBlock) → is_owed (Forgot station ∷ history) block ≡ ((block.station == station) || is_owed history block)
+  pub state : state_of (Forgot station ∷ history) ≡ state_of history
+  pub epoch : epoch_of (Forgot station ∷ history) ≡ epoch_of history
+  pub serial : next_serial (Forgot station ∷ history) ≡ next_serial history
+  pub slots : (task d : ℕ) → slot_of (Forgot station ∷ history) task d ≡ slot_of history task d
+  pub dates : (task d : ℕ) → data_serial (Forgot station ∷ history) task d ≡ data_serial history task d
+  pub values : (variable k : ℕ) → value_bit (Forgot station ∷ history) variable k ≡ value_bit history variable k
+  pub news : news_of (Forgot station ∷ history) ≡ news_of history
+  pub frames :
+      (serial : ℕ) (sending : Sending) → awaited history serial ≡ Some sending → is_write sending ≡ false
+      → awaited (Forgot station ∷ history) serial ≡ Some (followed_by (Forgot station) sending)
+
+-- so it is with any slave in any history
+abbrev pub ForgettingLosesRegistersAlone : Type 0
+ForgettingLosesRegistersAlone = (history : Record) (station : ℕ) → IsForgotten history station
+
+-- a datagram that came back of a block of the slave is stale
+abbrev pub IsStaleFor : ℕ → Judged → Type 0
+IsStaleFor station datagram = (number : ℕ) → datagram.head.item ≡ Block station number → datagram.verdict ≡ Stale
+
+-- a write of a slave's block that was sent before the slave was forgotten confirms nothing: whatever comes back of it is stale
+abbrev pub ForgottenWritesAreStale : Type 0
+ForgottenWritesAreStale =
+    (history : Record) (arrival : Arrival) (sending : Sending) (station : ℕ) → answered_by history arrival ≡ Some sending
+    → list_any (forgets station) sending.since ≡ true → All (IsStaleFor station) (judged_by history arrival)
+
+-- what a history in which no slave was forgotten says is what the words for such histories say
+pub record SaysAsAtFirst (history : Record) : Type 0 where
+  pub judged : (arrival : Arrival) → first.judged_by history arrival ≡ judged_by history arrival
+  pub awaits : (serial : ℕ) → first.awaited history serial ≡ awaited history serial
+  pub slots : (task d : ℕ) → first.slot_of history task d ≡ slot_of history task d
+  pub dates : (task d : ℕ) → first.data_serial history task d ≡ data_serial history task d
+  pub news : first.news_of history ≡ news_of history
+  pub known : (station number : ℕ) → first.known_bytes history station number ≡ known_bytes history station number
+  pub owed : first.owed_blocks history ≡ owed_blocks history
+
+abbrev pub HistoriesWithoutForgetting : Type 0
+HistoriesWithoutForgetting = (history : Record) → list_any is_forgetting history ≡ false → SaysAsAtFirst history
+
+-- events other than forgetting are answered, from a project's opening on, as by these words, and leave the same history
+pub record AreAnsweredAsAtFirst (groups : List Group) (steps : List FirstStep) : Type 0 where
+  pub answers : first.answers_to (just_opened groups) steps ≡ answers_to (just_opened groups) (map step_of steps)
+  pub entries : first.entries_after_all (just_opened groups) steps ≡ entries_after_all (just_opened groups) (map step_of steps)
+
+abbrev pub EventsWithoutForgetting : Type 0
+EventsWithoutForgetting = (groups : List Group) (steps : List FirstStep) → AreAnsweredAsAtFirst groups steps
