@@ -8,6 +8,7 @@ mod buffers;
 mod declaring;
 mod editing;
 mod filling;
+mod forgetting;
 mod goods;
 pub mod keeping;
 pub mod laws;
