@@ -11,7 +11,7 @@ use Rattle.hc_records.proofs.lemmas.Lengths.{length-sendable}
 use Rattle.hc_records.proofs.lemmas.Packable.{project-packable}
 use Rattle.hc_records.specs.Line.{groups_of, line}
 use Rattle.hc_records.specs.Project.{lowest_fault}
-use Rattle.hc_registers.specs.Blocks.{LineBlock}
+use Rattle.hc_registers.specs.Blocks.{RegisterBlock}
 use Rattle.hc_plan.specs.Reports.{name_of}
 use Rattle.hc_events.specs.Arrivals.{Arrival}
 use Rattle.hc_events.specs.Accepted.{AreAccepted, StandsIn}
@@ -20,27 +20,27 @@ use Rattle.hc_events.specs.Points.{line_of, state_of}
 use Rattle.hc_events.specs.Answering.{is_stale_to, only_if}
 use Rattle.hc_events.specs.Ages.{data_serial, dated}
 use Rattle.hc_events.specs.Images.{FitsImage, Fresh, fresh_by, renewed, slot_of}
-use Rattle.hc_events.specs.Owed.{known_bytes, owed_blocks}
+use Rattle.hc_events.specs.Owed.{known_bytes}
 use Rattle.hc_events.specs.declared.answer.Outcome.{Outcome}
 use Rattle.hc_events.proofs.lemmas.SameBehind.{same-says, same-stale}
 use Rattle.hc_events.proofs.lemmas.Slots.{AllSent, FitsFresh, fresh-fits}
 use Rattle.hc_sendings.proofs.lemmas.Listed.{standing-task}
 use Rattle.hc_events.proofs.lemmas.WithoutStale.{goods-of_news}
-use Rattle.hc_events.proofs.lemmas.OneWrite.{heads_same}
-use Rattle.hc_sendings.specs.Judging.{found_write}
+use Rattle.hc_events.proofs.lemmas.LastWrites.{known-framed}
+use Rattle.hc_sendings.specs.Judging.{found_write, written_head}
 use Rattle.hc_sendings.specs.Waiting.{AwaitedWrite, Waiting, ended}
-use Rattle.hc_sendings.proofs.lemmas.Sorts.{write-kept}
 use Rattle.hc_images.specs.Image.{Image, data_of}
 use Rattle.hc_owed.specs.Board.{Board, kept_of}
 use Rattle.hc_owed.specs.Laws.{known_with}
 use Rattle.hc_core.proofs.Awaits.{waits-ended, waits-stale}
 use Rattle.hc_core.proofs.Posts.{values-came}
-use Rattle.hc_core.proofs.Known.{kept-alike, known-done, known-framed, known-missed}
+use Rattle.hc_core.proofs.Known.{kept-alike, known-done, known-missed}
 use Rattle.hc_core.proofs.News.{news-came, news-none}
 use Rattle.hc_core.proofs.Told.{TellsInputs, TellsWrite}
 use Rattle.hc_core.specs.Agreement.{Agree, CoreParts}
 use Rattle.hc_core.specs.Goods.{change_of, goods_in}
 use Rattle.hc_core.specs.Serials.{Serials, serial_of}
+use Rattle.hc_core.specs.Waits.{IsUnderWay}
 
 -- a stale one
 
@@ -88,7 +88,7 @@ agree-inputs kept past taken arrival outcomes inputs serials tells puts dates ag
   uncrowded = agree.uncrowded;
   serial = agree.serial;
   left = agree.left;
-  waits = waits-ended past kept.awaited arrival agree.accepted agree.waits tells.news;
+  waits = waits-ended past kept.awaited arrival agree.waits tells.news;
   slots = λ task d below.
       puts task d below ∙ ap (λ start. fold (renewed task d) start (goods_in outcomes arrival.parts)) (agree.slots task d below)
       ∙ ap (fold (renewed task d) (slot_of past task d)) (sym tells.goods);
@@ -114,7 +114,7 @@ agree-missed kept past taken arrival tells agree = record {
   uncrowded = agree.uncrowded;
   serial = agree.serial;
   left = agree.left;
-  waits = waits-ended past kept.awaited arrival agree.accepted agree.waits tells.news;
+  waits = waits-ended past kept.awaited arrival agree.waits tells.news;
   slots = λ task d below. agree.slots task d below ∙ sym (none_put past arrival task d tells.none);
   dates = λ task d below. agree.dates task d below ∙ sym (none_dated past arrival task d tells.none);
   values = values-came past arrival kept.outputs agree.values;
@@ -122,23 +122,22 @@ agree-missed kept past taken arrival tells agree = record {
   tells = news-none taken past arrival kept.changes tells.none agree.tells;
 }
 
--- the block of the write under way is the first owed one
+-- the block of the write under way, and its place, are kept with it
+abbrev kept_with : AwaitedWrite → ℕ × RegisterBlock
+kept_with write = (write.place, write.block)
 
--- its block is kept with it
 pub kept-block : (waiting : Waiting) (write : AwaitedWrite) (serial : ℕ) → waiting.write ≡ Some write → write.serial ≡ serial
-    → option_map (λ (one : AwaitedWrite). one.block) (found_write serial waiting) ≡ Some write.block
+    → option_map kept_with (found_write serial waiting) ≡ Some (kept_with write)
 kept-block waiting write serial there is =
-    ap (λ (found : Option AwaitedWrite). option_map (λ (one : AwaitedWrite). one.block) (option_and_then (only_if (λ (one : AwaitedWrite). one.serial == serial)) found)) there
-    ∙ ap (λ (own : Bool). option_map (λ (one : AwaitedWrite). one.block) (cond own (Some write) None)) (eq-eqb write.serial serial is)
+    ap (λ (found : Option AwaitedWrite). option_map kept_with (option_and_then (only_if (λ (one : AwaitedWrite). one.serial == serial)) found)) there
+    ∙ ap (λ (own : Bool). option_map kept_with (cond own (Some write) None)) (eq-eqb write.serial serial is)
 
-pub agree-done : (kept : CoreParts) (past taken : Record) (arrival : Arrival) (block : LineBlock) (rest : List LineBlock) (owed : Board) → TellsWrite past arrival true → owed_blocks past ≡ block ∷ rest
-    → owed ≡ kept_of (known_with (name_of block) (Some block.block.bytes) (known_bytes past)) (state_of past) → Agree kept past taken
+pub agree-done : (kept : CoreParts) (past taken : Record) (arrival : Arrival) (owed : Board) (tells : TellsWrite past arrival true) (write : AwaitedWrite) → kept.awaited.write ≡ Some write → write.serial ≡ arrival.serial
+    → tells.sending.heads ≡ written_head write ∷ [] → (way : IsUnderWay past write)
+    → owed ≡ kept_of (known_with (name_of way.block) (Some way.block.block.bytes) (known_bytes past)) (state_of past) → Agree kept past taken
     → Agree (record kept { awaited = ended arrival.serial kept.awaited; owed = owed }) (Came arrival ∷ past) taken
-agree-done kept past taken arrival block rest owed tells first confirmed agree =
-    let write = write-kept past kept.awaited arrival.serial tells.sending agree.waits.kept tells.there tells.writes in
-    let way = agree.waits.written write.write write.there in
-    let same : way.block ≡ block = heads_same way.block block way.rest rest (sym way.first ∙ first) in
-    let known = known-done past arrival tells.sending way.block tells.there (write.heads ∙ ap (λ head. head ∷ []) way.head) (way.last ∙ ap (λ serial. Some (serial, way.block.block.bytes)) write.serial_is) tells.good_is in
+agree-done kept past taken arrival owed tells write there serial_is heads way confirmed agree =
+    let known = known-done past arrival tells.sending way.block tells.there (heads ∙ ap (λ head. head ∷ []) way.head) (way.last ∙ ap (λ serial. Some (serial, way.block.block.bytes)) serial_is) tells.good_is in
     record {
       accepted = (tt, agree.accepted);
       state = agree.state;
@@ -146,13 +145,13 @@ agree-done kept past taken arrival block rest owed tells first confirmed agree =
       uncrowded = agree.uncrowded;
       serial = agree.serial;
       left = agree.left;
-      waits = waits-ended past kept.awaited arrival agree.accepted agree.waits tells.news;
+      waits = waits-ended past kept.awaited arrival agree.waits tells.news;
       slots = λ task d below. agree.slots task d below ∙ sym (none_put past arrival task d tells.none);
       dates = λ task d below. agree.dates task d below ∙ sym (none_dated past arrival task d tells.none);
       values = values-came past arrival kept.outputs agree.values;
       known = confirmed
-          ∙ kept-alike (known_with (name_of block) (Some block.block.bytes) (known_bytes past)) (known_bytes (Came arrival ∷ past)) (state_of past)
-          (λ station number. sym (known station number ∙ ap (λ (one : LineBlock). known_with (name_of one) (Some one.block.bytes) (known_bytes past) station number) same));
+          ∙ kept-alike (known_with (name_of way.block) (Some way.block.block.bytes) (known_bytes past)) (known_bytes (Came arrival ∷ past)) (state_of past)
+          (λ station number. sym (known station number));
       tells = news-none taken past arrival kept.changes tells.none agree.tells;
     }
 

@@ -1,11 +1,10 @@
 -- What is kept stays right behind an accepted edit.
-use Rattle.std.proofs.Common.{◌≡◌, ℕ, ◌+◌, List, [], ◌∷◌, ◌++◌, length, refl, sym, ap, ◌∙◌, subst, append_assoc, length-append, Some, None, Option, rules}
+use Rattle.std.proofs.Common.{◌≡◌, ℕ, ◌+◌, List, [], ◌∷◌, ◌++◌, length, refl, sym, ap, ◌∙◌, subst, append_assoc, length-append, None, Option, rules}
 use Rattle.std.specs.Prelude.{Err, IfSome, Ok, Result}
 use Rattle.std.specs.Result.{result_unwrap_or}
 use Rattle.std.proofs.lemmas.List.{length-map, map-append}
 use Rattle.hc_records.specs.declared.edit.Edit.{Edit}
 use Rattle.hc_records.specs.declared.faults.EditFault.{EditFault}
-use Rattle.hc_records.specs.Boundaries.{recut}
 use Rattle.hc_records.specs.Edits.{changed as changed_state, crowded_task, edit_faults, edited, state_after}
 use Rattle.hc_records.specs.Line.{State, groups_of, line}
 use Rattle.hc_records.specs.Lists.{lowest}
@@ -21,7 +20,7 @@ use Rattle.hc_plan.specs.Reports.{Tells}
 use Rattle.hc_events.specs.declared.answer.Answer.TheVariants as answer
 use Rattle.hc_events.specs.declared.change.Change.{Change}
 use Rattle.hc_events.specs.declared.change.Change.TheVariants as change
-use Rattle.hc_events.specs.Changes.{Swapped, news_of}
+use Rattle.hc_events.specs.Changes.{news_of}
 use Rattle.hc_events.specs.Entries.{Record, Edited}
 use Rattle.hc_events.specs.NewsLaws.{state_behind}
 use Rattle.hc_events.specs.Outputs.{value_bit}

@@ -9,6 +9,7 @@ use Rattle.hc_records.specs.Project.{lowest_fault}
 use Rattle.hc_records.proofs.lemmas.Lists.{All-passing}
 use Rattle.hc_records.proofs.lemmas.Stations.{project-distinct}
 use Rattle.hc_registers.specs.Blocks.{LineBlock, line_blocks}
+use Rattle.hc_registers.specs.RankPlaces.{places}
 use Rattle.hc_plan.proofs.lemmas.Configured.{configured-block}
 use Rattle.hc_plan.specs.Configuration.{block_at}
 use Rattle.hc_events.specs.Entries.{Record}
@@ -31,13 +32,21 @@ first-lacks past block rest first =
     All-head (λ (one : LineBlock). is_owed past one ≡ true) block rest
     (subst (All (λ (one : LineBlock). is_owed past one ≡ true)) first (filter_passes (is_owed past) (line_blocks (line_of past))))
 
--- its place is one of those that are kept
-pub first-within : (kept : CoreParts) (past taken : Record) (n : ℕ) (block : LineBlock) → Agree kept past taken → IsFirstOwed past n block → n < length kept.owed.known
-first-within kept past taken n block agree first = search (rules, slice_get_within, length-map)
+-- a block's place is one of those that are kept
+pub place-within : (kept : CoreParts) (past taken : Record) (n : ℕ) (block : LineBlock) → Agree kept past taken → slice_get (places (state_of past)) n ≡ Some (Some block) → n < length kept.owed.known
+place-within kept past taken n block agree at = search (rules, slice_get_within, length-map)
 
--- what is kept stands at its place
+-- what is kept stands at it
+pub place-kept : (kept : CoreParts) (past taken : Record) (n : ℕ) (block : LineBlock) → Agree kept past taken → slice_get (places (state_of past)) n ≡ Some (Some block)
+    → owed.IsKeptAt kept.owed n (known_bytes past) (state_of past) block
+place-kept kept past taken n block agree at = record { right = agree.known; project = agree.project; stands = at }
+
+-- so it is with the first owed one
+pub first-within : (kept : CoreParts) (past taken : Record) (n : ℕ) (block : LineBlock) → Agree kept past taken → IsFirstOwed past n block → n < length kept.owed.known
+first-within kept past taken n block agree first = place-within kept past taken n block agree first.at
+
 pub first-kept : (kept : CoreParts) (past taken : Record) (n : ℕ) (block : LineBlock) → Agree kept past taken → IsFirstOwed past n block → owed.IsKeptAt kept.owed n (known_bytes past) (state_of past) block
-first-kept kept past taken n block agree first = record { right = agree.known; project = agree.project; stands = first.at }
+first-kept kept past taken n block agree first = place-kept kept past taken n block agree first.at
 
 -- so it does with each owed one
 

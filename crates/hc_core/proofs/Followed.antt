@@ -17,7 +17,7 @@ use Rattle.hc_registers.specs.RankDifferences.{Differ}
 use Rattle.hc_registers.specs.RankPlaces.{places, stations}
 use Rattle.hc_registers.proofs.lemmas.RanksDeclared.{declared-stations}
 use Rattle.hc_plan.specs.Prepared.{IsPrepared, PreparedEdit}
-use Rattle.hc_owed.specs.Board.{Board, kept_of}
+use Rattle.hc_owed.specs.Board.{Board}
 use Rattle.hc_owed.specs.Laws.{IsEdited}
 use Rattle.hc_owed.specs.Room.{CanAdmit, OwedRoom}
 use Rattle.hc_core.specs.Prepared.{CanFollow, DeclaresWith, HasSlaveRoom}

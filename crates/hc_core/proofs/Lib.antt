@@ -5,6 +5,7 @@ pub mod Commits
 pub mod Edits
 pub mod Followed
 pub mod Firsts
+pub mod Forgotten
 pub mod GoodsSteps
 pub mod Known
 pub mod Lowest

@@ -1,8 +1,7 @@
 -- What tasks read among events, and what a stale arrival leaves.
-use Rattle.std.proofs.Common.{◌≡◌, ◌⊎◌, inl, inr, ℕ, zero, suc, ◌<◌, Bool, true, false, List, [], ◌∷◌, refl, sym, ◌∙◌, subst, Option, Some, rules}
+use Rattle.std.proofs.Common.{◌≡◌, ◌⊎◌, inl, inr, ℕ, zero, suc, ◌<◌, Bool, true, false, List, [], ◌∷◌, refl, sym, ◌∙◌, subst, Option, rules}
 use Rattle.std.specs.Prelude.{Result, Ok, Err}
 use Rattle.std.proofs.lemmas.Option.{none-some, same_Some}
-use Rattle.std.proofs.lemmas.Result.{IfOk-weaker}
 use Rattle.hc_records.specs.declared.limits.TheConstants.{TASKS}
 use Rattle.hc_records.specs.Lists.{lowest}
 use Rattle.hc_registers.specs.Blocks.{LineBlock}
@@ -15,7 +14,7 @@ use Rattle.hc_events.specs.Arrivals.{Arrival, arrival_in}
 use Rattle.hc_events.specs.Calls.{MayAnswer}
 use Rattle.hc_events.specs.Entries.{Record, Came}
 use Rattle.hc_events.specs.Stale.{SameBehind, without_stale}
-use Rattle.hc_events.specs.Steps.{Step, Edits, Posts, SendsTasks, SendsWrite, Arrives, Reads, answer_to, entries_after, image_of, read_faults, told_of_arrival, told_of_write, unless, with_arrival}
+use Rattle.hc_events.specs.Steps.{Step, Edits, Posts, SendsTasks, SendsWrite, Arrives, Reads, Forgets, answer_to, entries_after, image_of, read_faults, told_of_arrival, told_of_write, unless, with_arrival}
 use Rattle.hc_events.proofs.lemmas.SameBehind.{same-behind, same-stale, same-without}
 use Rattle.hc_core.specs.LastData.{IsAsWithoutStale, ReadsShowLastData, ShowsLastData, StaleLeavesNothing}
 use Rattle.hc_core.specs.Serving.{MayAnswerAll}
@@ -58,6 +57,7 @@ stale_step past next (Posts task epoch bytes) told entries later = search (rules
 stale_step past next (SendsTasks tasks) told entries later = search (rules, unless_stale)
 stale_step past next SendsWrite told entries later = search (rules, unless_stale, no_write_stale)
 stale_step past next (Arrives bytes) told entries later = stale_arrival past next (arrival_in bytes) told entries later
+stale_step past next (Forgets station) told entries later = search (rules, unless_stale)
 stale_step past next (Reads task) told entries later = absurd (unless_stale (lowest (read_faults task)) (image_of past task) refl told)
 
 pub stale-leaves : (past next : Record) (step : Step) (told : Answer) → MayAnswer past step told next → StaleLeavesNothing past told next

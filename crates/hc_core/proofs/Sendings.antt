@@ -1,12 +1,10 @@
 -- What is kept stays right behind frames of tasks and register writes.
-use Rattle.std.proofs.Common.{◌≡◌, ℕ, suc, ◌+◌, ◌<◌, ◌≤◌, true, List, [], ◌∷◌, length, refl, sym, ap, ◌∙◌, subst, arith, None}
-use Rattle.std.specs.Prelude.{All}
-use Rattle.std.proofs.lemmas.List.Elements.{All-head, filter_passes}
+use Rattle.std.proofs.Common.{◌≡◌, ℕ, suc, ◌+◌, ◌<◌, ◌≤◌, List, [], ◌∷◌, length, refl, sym, ap, ◌∙◌, subst, arith, None}
 use Rattle.hc_records.specs.Edits.{crowded_task}
 use Rattle.hc_records.specs.Line.{groups_of, line}
 use Rattle.hc_records.specs.Project.{lowest_fault}
 use Rattle.hc_records.specs.Lists.{lowest}
-use Rattle.hc_registers.specs.Blocks.{LineBlock, line_blocks}
+use Rattle.hc_registers.specs.Blocks.{LineBlock}
 use Rattle.hc_plan.specs.Reports.{name_of}
 use Rattle.hc_frames.specs.declared.limits.TheConstants.{SETUP_SERIAL}
 use Rattle.hc_events.specs.Accepted.{AreAccepted}
@@ -14,8 +12,8 @@ use Rattle.hc_events.specs.Changes.{news_of}
 use Rattle.hc_events.specs.Entries.{Record, Sent, Wrote}
 use Rattle.hc_events.specs.Ages.{data_serial}
 use Rattle.hc_events.specs.Images.{slot_of}
-use Rattle.hc_events.specs.Owed.{is_owed, known_bytes, owed_blocks}
-use Rattle.hc_events.specs.Points.{line_of, next_serial, state_of}
+use Rattle.hc_events.specs.Owed.{known_bytes, owed_blocks}
+use Rattle.hc_events.specs.Points.{next_serial, state_of}
 use Rattle.hc_events.specs.Sendings.{Frame, Named}
 use Rattle.hc_events.specs.Steps.{SendsTasks, kept_if, proposal, task_faults, with_sent}
 use Rattle.hc_events.proofs.lemmas.Accepted.{accepted-more, kept-after}
@@ -85,7 +83,7 @@ one_left n most less = omega (arith, less)
 
 pub agree-wrote : (kept : CoreParts) (past taken : Record) (n : ℕ) (block : LineBlock) (owed : Board) → IsFirstOwed past n block → kept.serial < SETUP_SERIAL
     → owed ≡ kept_of (known_with (name_of block) None (known_bytes past)) (state_of past) → Agree kept past taken
-    → Agree (record kept { awaited = wrote kept.serial block kept.awaited; owed = owed; serial = kept.serial + 1 }) (Wrote block ∷ past) taken
+    → Agree (record kept { awaited = wrote kept.serial n block kept.awaited; owed = owed; serial = kept.serial + 1 }) (Wrote block ∷ past) taken
 agree-wrote kept past taken n block owed first left sent agree = record {
   accepted = (record { rest = first.rest; first = first.first }, agree.accepted);
   state = agree.state;
@@ -93,8 +91,8 @@ agree-wrote kept past taken n block owed first left sent agree = record {
   uncrowded = agree.uncrowded;
   serial = ap (λ m. m + 1) agree.serial;
   left = one_left kept.serial SETUP_SERIAL left;
-  waits = subst (λ m. Waits (Wrote block ∷ past) (wrote m block kept.awaited)) (sym agree.serial)
-      (waits-wrote past kept.awaited block first.rest agree.accepted agree.project first.first agree.waits);
+  waits = subst (λ m. Waits (Wrote block ∷ past) (wrote m n block kept.awaited)) (sym agree.serial)
+      (waits-wrote past kept.awaited n block first.rest agree.accepted first.at first.first agree.waits);
   slots = agree.slots;
   dates = agree.dates;
   values = values-wrote past block kept.outputs agree.values;

@@ -12,13 +12,13 @@ use Rattle.hc_events.specs.declared.answer.Answer.TheVariants as answer
 use Rattle.hc_events.specs.declared.faults.CoreFault.{CoreFault}
 use Rattle.hc_events.specs.declared.faults.CoreFault.TheVariants as fault
 use Rattle.hc_events.specs.Calls.{MayAnswer, takes_memory}
-use Rattle.hc_events.specs.Entries.{Record, Edited, Posted}
+use Rattle.hc_events.specs.Entries.{Record, Edited, Forgot, Posted}
 use Rattle.hc_events.specs.Faults.{edit_refusal}
 use Rattle.hc_events.specs.Owed.{owed_blocks}
 use Rattle.hc_events.specs.Points.{state_of}
-use Rattle.hc_events.specs.Steps.{Step, Edits, Posts, SendsTasks, SendsWrite, Reads, answer_to, edit_refused, entries_after, post_faults, task_faults, told_of_edit, write_faults}
+use Rattle.hc_events.specs.Steps.{Step, Edits, Posts, SendsTasks, SendsWrite, Reads, Forgets, answer_to, edit_refused, entries_after, forget_faults, post_faults, task_faults, told_of_edit, write_faults}
 use Rattle.hc_core.specs.Early.{TellsEarly}
-use Rattle.hc_core.specs.Serving.{MayAnswerAll, answer_of, answer_of_edit, answer_of_post, answer_or_memory}
+use Rattle.hc_core.specs.Serving.{MayAnswerAll, answer_of, answer_of_edit, answer_of_forget, answer_of_post, answer_or_memory}
 use Rattle.hc_core.specs.State.{CoreState}
 
 -- an answer that is the event's, or want of memory
@@ -110,3 +110,13 @@ read-served past task result answers = search rules
 pub post-served : {X : Type 0} (old new : Record) (task epoch : ℕ) (bytes : List ℕ) (result : Result X CoreFault) → OnOk result (lowest (post_faults old task epoch bytes) ≡ None) → IfErr result (λ found. lowest (post_faults old task epoch bytes) ≡ Some found)
     → OnOk result (new ≡ Posted task bytes ∷ old) → OnErr result (new ≡ old) → MayAnswer old (Posts task epoch bytes) (answer_of_post result) new
 post-served old new task epoch bytes result accepted names entries same = search rules
+
+-- nor does forgetting a slave
+
+pub forget-served : {X : Type 0} (old new : Record) (station : ℕ) (result : Result X CoreFault) → OnOk result (lowest (forget_faults old station) ≡ None) → IfErr result (λ found. lowest (forget_faults old station) ≡ Some found)
+    → OnOk result (new ≡ Forgot station ∷ old) → OnErr result (new ≡ old) → MayAnswer old (Forgets station) (answer_of_forget result) new
+forget-served old new station result accepted names entries same = search rules
+
+pub forget-early : {X : Type 0} (found : Option CoreFault) (result : Result X CoreFault) → OnOk result (found ≡ None) → IfErr result (λ fault. found ≡ Some fault)
+    → IfSome found (λ fault. answer_of_forget result ≡ answer.Refused fault)
+forget-early found result accepted names = search rules

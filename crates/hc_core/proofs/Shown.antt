@@ -1,10 +1,9 @@
 -- What the input image shows of a task is what the task reads.
-use Rattle.std.proofs.Common.{◌≡◌, ℕ, zero, suc, ◌+◌, ◌<◌, ◌≤◌, map, refl, ap, arith, rules}
+use Rattle.std.proofs.Common.{◌≡◌, ℕ, zero, suc, ◌+◌, ◌≤◌, map, refl, arith, rules}
 use Rattle.std.specs.List.{range_with_len}
 use Rattle.hc_records.specs.declared.limits.TheConstants.{MOST_DATAGRAMS}
 use Rattle.hc_events.specs.Entries.{Record}
 use Rattle.hc_events.specs.Images.{slot_of}
-use Rattle.hc_events.proofs.lemmas.Views.{is_task}
 use Rattle.hc_images.specs.Image.{Image, data_of}
 use Rattle.hc_core.specs.Agreement.{ShowsSlots}
 

@@ -1,5 +1,5 @@
 -- What the answer to an arrival says of what it answers.
-use Rattle.std.proofs.Common.{◌≡◌, ◌⊎◌, ℕ, Bool, true, false, cond, not, ◌&&◌, ◌||◌, List, [], ◌∷◌, ◌++◌, map, refl, sym, ap, ◌∙◌, Option, Some, None, rules}
+use Rattle.std.proofs.Common.{◌≡◌, ◌⊎◌, ℕ, Bool, true, false, cond, not, List, [], ◌∷◌, ◌++◌, map, refl, sym, ap, ◌∙◌, Option, Some, None, rules}
 use Rattle.std.specs.Prelude.{option_and_then}
 use Rattle.std.specs.List.{flat_map, list_any, zip}
 use Rattle.hc_records.proofs.lemmas.Choices.{by_bool, or-no}
@@ -8,18 +8,17 @@ use Rattle.hc_events.specs.declared.answer.Answer.{Answer}
 use Rattle.hc_events.specs.declared.answer.Answer.TheVariants as answer
 use Rattle.hc_events.specs.declared.answer.Outcome.{Outcome}
 use Rattle.hc_events.specs.Arrivals.{Arrival, Part}
-use Rattle.hc_events.specs.Accepted.{AreAccepted}
 use Rattle.hc_events.specs.AnswerLaws.{IsAwaited}
 use Rattle.hc_events.specs.Entries.{Entry, Record}
 use Rattle.hc_events.specs.Heads.{Head, is_block, write_head}
-use Rattle.hc_events.specs.Answering.{Judged, Sending, Verdict, has_good, has_heads, is_good, is_news, is_stale, is_stale_to, judge, judged, judged_by, sending_of, verdict}
+use Rattle.hc_events.specs.Answering.{Sending, Verdict, has_good, has_heads, is_good, is_news, is_stale, is_stale_to, judge, judged, judged_by, sending_of, verdict}
 use Rattle.hc_events.specs.Awaited.{alive, awaited, is_write}
 use Rattle.hc_events.specs.Images.{fresh, fresh_by}
-use Rattle.hc_events.specs.Owed.{owed_blocks}
 use Rattle.hc_events.specs.Steps.{outcome_for, told_of, told_of_block}
 use Rattle.hc_events.specs.SendingLaws.{heads_of, is_sending}
 use Rattle.hc_events.proofs.lemmas.Answers.{awaited-answered}
-use Rattle.hc_events.proofs.lemmas.OneWrite.{all-alone, awaited-heads, no_blocks, some_of_none}
+use Rattle.hc_events.proofs.lemmas.Awaited.{awaited-heads}
+use Rattle.hc_events.proofs.lemmas.OneWrite.{no_blocks}
 use Rattle.hc_events.proofs.lemmas.SameBehind.{told-of_news}
 use Rattle.hc_events.proofs.lemmas.Standing.{stands-at}
 use Rattle.hc_core.specs.Goods.{good_of, goods_in}
@@ -163,10 +162,3 @@ told-stale past arrival e =
     by_bool (list_any is_news (judged_by past arrival))
     (λ t. let is = news_of past arrival t in absurd (stale_by past arrival is t e (sort_of past arrival.serial is.awaits.sending is.awaits.there)))
     (λ t. ap not t)
-
--- where a write is answered something is owed
-
-pub written-owes : (past : Record) (arrival : Arrival) (good : Bool) → AreAccepted past → TellsWrite past arrival good → owed_blocks past ≡ [] → ⊥
-written-owes past arrival good all tells none =
-    let one = (all-alone past all).writes arrival.serial tells.sending tells.there tells.writes in
-    some_of_none one.first one.rest (sym none ∙ one.owed)

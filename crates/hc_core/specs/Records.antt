@@ -1,7 +1,7 @@
 -- The record that a past stands for.
 use Rattle.std.specs.Prelude.{◌∷◌}
 use Rattle.hc_core.specs.declared.past.Past.{Past}
-use Rattle.hc_core.specs.declared.past.Past.TheVariants.{Opened, Edited', Posted', Sent', Wrote', Came'}
+use Rattle.hc_core.specs.declared.past.Past.TheVariants.{Opened, Edited', Posted', Sent', Wrote', Came', Forgot'}
 use Rattle.hc_events.specs.Accepted.{just_opened}
 use Rattle.hc_events.specs.Arrivals.{arrival_in}
 use Rattle.hc_events.specs.Entries.{Record}
@@ -16,4 +16,5 @@ record_of (Edited' m past edit) = entry.Edited edit.value ∷ record_of past
 record_of (Posted' m past task text) = entry.Posted task.value (text_bytes text.value) ∷ record_of past
 record_of (Sent' m past frame) = entry.Sent frame.value.datagrams ∷ record_of past
 record_of (Wrote' m past block) = entry.Wrote block.value ∷ record_of past
+record_of (Forgot' m past station) = entry.Forgot station.value ∷ record_of past
 record_of (Came' m past text) = with_arrival (record_of past) (arrival_in (text_bytes text.value))

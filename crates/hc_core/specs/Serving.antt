@@ -26,6 +26,11 @@ abbrev pub answer_of_post : {X : Type 0} → Result X CoreFault → Answer
 answer_of_post (Ok done) = answer.Posted
 answer_of_post (Err fault) = answer.Refused fault
 
+-- that of forgetting a slave, by what its call gave: forgotten, or a refusal
+abbrev pub answer_of_forget : {X : Type 0} → Result X CoreFault → Answer
+answer_of_forget (Ok done) = answer.Forgotten
+answer_of_forget (Err fault) = answer.Refused fault
+
 -- that of an edit, by what its call gave: its answer, or a refusal by the edit's fault
 abbrev pub answer_of_edit : Result Answer EditFault → Answer
 answer_of_edit (Ok told) = told

@@ -86,13 +86,10 @@ impl Core {
         requires told { told_of (judged_by self.old.past arrival.now) ≡ answer.WriteDone }
         ensures { self.new ≡ record self.old { past = Came arrival.now ∷ self.old.past } }
     {
-        let Some(first) = self.owed.first() else {
+        let Some((place, block)) = self.awaited.end_write(arrival.serial()) else {
             unreachable!()
         };
-        let Some(block) = self.awaited.end_write(arrival.serial()) else {
-            unreachable!()
-        };
-        self.owed.confirmed(first.place, block);
+        self.owed.confirmed(place, block);
         self.past = self.past.came(bytes);
     }
 

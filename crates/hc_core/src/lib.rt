@@ -10,6 +10,7 @@ mod declaring;
 mod discarding;
 mod editing;
 mod filling;
+mod forgetting;
 mod goods;
 pub mod keeping;
 pub mod laws;

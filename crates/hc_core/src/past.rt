@@ -22,6 +22,8 @@ pub enum Past {
     Wrote(Snapshot<Past>, Snapshot<LineBlock>),
     /// Bytes arrived.
     Came(Snapshot<Past>, Snapshot<Text>),
+    /// The registers of the slave with this station address were forgotten.
+    Forgot(Snapshot<Past>, Snapshot<u16>),
 }
 
 mod steps;

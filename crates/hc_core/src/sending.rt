@@ -128,7 +128,7 @@ impl Core {
         ensures { self.new ≡ record self.old { past = Wrote block ∷ self.old.past } }
     {
         self.past = self.past.wrote(&block);
-        self.awaited.write(self.serial, block);
+        self.awaited.write(self.serial, n, block);
         self.owed.sent(n);
         self.serial += 1;
     }

@@ -1,11 +1,11 @@
 //! Serves events.
 ghost use Rattle.std.specs.Prelude.{◌≡◌, All, IfOk, OnErr, map};
 ghost use Rattle.hc_events.specs.Calls.{AreSentTogether, MayAnswer};
-ghost use Rattle.hc_events.specs.Steps.{Arrives, Edits, Posts, Reads, SendsTasks, SendsWrite, step_of};
+ghost use Rattle.hc_events.specs.Steps.{Arrives, Edits, Forgets, Posts, Reads, SendsTasks, SendsWrite, step_of};
 ghost use Rattle.hc_core.specs.Early.{TellsEarly};
 ghost use Rattle.hc_core.specs.Lines.{IsLineAfter};
 ghost use Rattle.hc_core.specs.LastData.{GoesWithoutThem, IsAsWithoutStale, ReadsShowLastData, StaleLeavesNothing, TasksReadLastData};
-ghost use Rattle.hc_core.specs.Serving.{IsAsked, MayAnswerAll, answer_of, answer_of_edit, answer_of_post, answer_or_memory};
+ghost use Rattle.hc_core.specs.Serving.{IsAsked, MayAnswerAll, answer_of, answer_of_edit, answer_of_forget, answer_of_post, answer_or_memory};
 
 use crate::keeping::Core;
 use hc_events::answer::Answer;
@@ -31,6 +31,16 @@ fn answer_of_post(told: Result<(), CoreFault>) -> Answer
 {
     match told {
         Ok(()) => Answer::Posted,
+        Err(fault) => Answer::Refused(fault),
+    }
+}
+
+/// The same of forgetting a slave.
+fn answer_of_forget(told: Result<(), CoreFault>) -> Answer
+    ensures { result ≡ answer_of_forget told }
+{
+    match told {
+        Ok(()) => Answer::Forgotten,
         Err(fault) => Answer::Refused(fault),
     }
 }
@@ -111,6 +121,15 @@ impl Core {
         answer_or_memory(self.read(alloc, task))
     }
 
+    /// Serves the forgetting of a slave.
+    fn serve_forget(&mut self, station: u16) -> Answer
+        ensures answer { MayAnswer self.old.past (Forgets station) result self.new.past }
+        ensures early { TellsEarly self.old.past (Forgets station) result }
+        ensures taken { self.new.taken ≡ self.old.taken }
+    {
+        answer_of_forget(self.forget(station))
+    }
+
     /// Serves an event by its kind. Edits have a function of their own in the built code too, so that no other event pays for
     /// their locals.
     fn serve(&mut self, alloc: Global, event: Event<'_>) -> Answer
@@ -126,6 +145,7 @@ impl Core {
             Event::Read(task) => self.serve_read(alloc, task),
             Event::SendTasks(tasks) => self.serve_tasks(alloc, tasks),
             Event::Post { task, epoch, bytes } => self.serve_post(task, epoch, bytes),
+            Event::Forget(station) => self.serve_forget(station),
         }
     }
 
@@ -133,7 +153,7 @@ impl Core {
     /// and what it accepts is recorded; or want of memory, where the event takes some, and nothing changed.
     /// A fault that is judged before memory is taken is told whatever memory does (`early_fault`): a fault that
     /// an edit has by itself, of the faults 1 to 11; of tasks to be sent that there is no such task, or that
-    /// blocks are owed; every fault of a write, a read, a post and a frame that can't be read. Tasks that are
+    /// blocks are owed; every fault of a write, a read, a post, a slave to be forgotten and a frame that can't be read. Tasks that are
     /// sent together are 1 to 8, and none twice. An arrival that is told to be stale leaves nothing: whatever
     /// comes behind it is answered as if it hadn't come, what tasks read too.
     pub fn step(&mut self, alloc: Global, event: Event<'_>) -> Answer

@@ -60,6 +60,7 @@ pub record SaysAsAtFirst (history : Record) : Type 0 where
   pub known : (station number : ℕ) → first.known_bytes history station number ≡ known_bytes history station number
   pub owed : first.owed_blocks history ≡ owed_blocks history
 
+-- so it is with each such history
 abbrev pub HistoriesWithoutForgetting : Type 0
 HistoriesWithoutForgetting = (history : Record) → list_any is_forgetting history ≡ false → SaysAsAtFirst history
 
@@ -68,5 +69,6 @@ pub record AreAnsweredAsAtFirst (groups : List Group) (steps : List FirstStep) :
   pub answers : first.answers_to (just_opened groups) steps ≡ answers_to (just_opened groups) (map step_of steps)
   pub entries : first.entries_after_all (just_opened groups) steps ≡ entries_after_all (just_opened groups) (map step_of steps)
 
+-- so it is with any such events of any project
 abbrev pub EventsWithoutForgetting : Type 0
 EventsWithoutForgetting = (groups : List Group) (steps : List FirstStep) → AreAnsweredAsAtFirst groups steps

@@ -33,9 +33,11 @@ abbrev pub verdict : List Entry → Head → Part → Verdict
 verdict since head part =
     if list_any (sends head.item) since then Stale else (if part.counter == head.expected then Good else Wrong)
 
+-- a head and what came back of it, with the verdict
 abbrev pub judge : List Entry → Head × Part → Judged
 judge since pair = record { head = pair.0; part = pair.1; verdict = verdict since pair.0 pair.1 }
 
+-- the datagrams of a sending with those of the arrival beside them, each judged
 abbrev pub judged : Arrival → Sending → List Judged
 judged arrival sending = map (judge sending.since) (zip sending.heads arrival.parts)
 
@@ -43,22 +45,25 @@ judged arrival sending = map (judge sending.since) (zip sending.heads arrival.pa
 abbrev pub judged_by : Record → Arrival → List Judged
 judged_by past arrival = option_map_or (judged arrival) (answered_by past arrival) []
 
--- what is awaited: a sending that neither ended nor was wholly sent again
+-- all that these datagrams carry was sent again since
 abbrev pub all_sent_again : List Entry → List Head → Bool
 all_sent_again since heads = list_all (λ head. list_any (sends head.item) since) heads
 
+-- a sending that neither ended nor was wholly sent again, without the arrivals since then
 abbrev pub alive : ℕ → Sending → Option Sending
 alive serial sending =
     if is_ended serial sending || all_sent_again sending.since sending.heads then None
     else Some (record { heads = sending.heads; since = filter is_no_arrival sending.since })
 
+-- what is awaited with a serial
 abbrev pub awaited : Record → ℕ → Option Sending
 awaited past serial = option_and_then (alive serial) (sending_of past serial)
 
--- what a task reads, which sending its data answer, and the news
+-- the good answers of an arrival for tasks' datagrams, in the frame's order
 abbrev pub fresh_by : Record → Arrival → List Fresh
 fresh_by past arrival = flat_map fresh (judged_by past arrival)
 
+-- the data of a datagram's last good answer since the last accepted edit, or none
 abbrev pub slot_of : Record → ℕ → ℕ → Option (List ℕ)
 slot_of [] task d = None
 slot_of (Opened groups ∷ past) task d = None
@@ -66,9 +71,11 @@ slot_of (Edited edit ∷ past) task d = None
 slot_of (Came arrival ∷ past) task d = fold (renewed task d) (slot_of past task d) (fresh_by past arrival)
 slot_of (entry ∷ past) task d = slot_of past task d
 
+-- those of all datagrams that a task has in the present epoch
 abbrev pub slots_of : Record → ℕ → List (Option (List ℕ))
 slots_of past task = map (slot_of past task) (range_with_len 0 (datagram_count (task_places task (line_of past))))
 
+-- the serial of the sending that a datagram's last good answer since the last accepted edit answered, or none
 abbrev pub data_serial : Record → ℕ → ℕ → Option ℕ
 data_serial [] task d = None
 data_serial (Opened groups ∷ past) task d = None
@@ -76,6 +83,7 @@ data_serial (Edited edit ∷ past) task d = None
 data_serial (Came arrival ∷ past) task d = fold (dated arrival.serial task d) (data_serial past task d) (fresh_by past arrival)
 data_serial (entry ∷ past) task d = data_serial past task d
 
+-- the accepted edits and the good answers, the oldest first
 abbrev pub news_of : Record → List News
 news_of [] = []
 news_of (Opened groups ∷ past) = []
@@ -83,7 +91,7 @@ news_of (Edited edit ∷ past) = news_of past ++ Swapped edit ∷ []
 news_of (Came arrival ∷ past) = news_of past ++ map Answered (fresh_by past arrival)
 news_of (entry ∷ past) = news_of past
 
--- the last write of a block since its slave was connected, and what is known and owed by it
+-- the last write of a block since its slave was connected: its serial and its bytes
 abbrev pub last_write : Record → ℕ → ℕ → Option (ℕ × List ℕ)
 last_write [] station number = None
 last_write (Opened groups ∷ past) station number = None
@@ -94,6 +102,7 @@ last_write (Edited edit ∷ past) station number =
     if is_in_line past station then last_write past station number else None
 last_write (entry ∷ past) station number = last_write past station number
 
+-- the write with a serial has had a good answer
 abbrev pub was_confirmed : Record → ℕ → Bool
 was_confirmed [] serial = false
 was_confirmed (Opened groups ∷ past) serial = false
@@ -101,15 +110,19 @@ was_confirmed (Came arrival ∷ past) serial =
     ((arrival.serial == serial) && list_any has_good (judged_by past arrival)) || was_confirmed past serial
 was_confirmed (entry ∷ past) serial = was_confirmed past serial
 
+-- the bytes of a write that has had a good answer
 abbrev pub if_confirmed : Record → ℕ × List ℕ → Option (List ℕ)
 if_confirmed past write = if was_confirmed past write.0 then Some write.1 else None
 
+-- the bytes that a slave is known to have in a block: those of its last write, where that had a good answer
 abbrev pub known_bytes : Record → ℕ → ℕ → Option (List ℕ)
 known_bytes past station number = option_and_then (if_confirmed past) (last_write past station number)
 
+-- a block is owed where its known bytes aren't those that the line configures, or there are none
 abbrev pub is_owed : Record → LineBlock → Bool
 is_owed past block = not (option_map_or (bytes_eq block.block.bytes) (known_bytes past block.station block.number) false)
 
+-- the owed blocks, in line order and block order
 abbrev pub owed_blocks : Record → List LineBlock
 owed_blocks past = filter (is_owed past) (line_blocks (line_of past))
 
@@ -121,6 +134,7 @@ task_faults past tasks =
     ∷ (not (has_serials past (length (proposal past tasks))), SerialsSpent)
     ∷ []
 
+-- the answer to an arrival as it was read
 abbrev pub told_of_arrival : Record → Result Arrival FrameFault → Answer
 told_of_arrival past (Err fault) = answer.Refused (frame_refusal fault)
 told_of_arrival past (Ok arrival) = told_of (judged_by past arrival)
@@ -161,11 +175,12 @@ entries_after past SendsWrite = kept_if (lowest (write_faults past (owed_blocks 
 entries_after past (Arrives bytes) = with_arrival past (arrival_in bytes)
 entries_after past (Reads task) = past
 
--- the answers to a list of events, each behind those before it, and the record that all of them leave
+-- the answers to a list of events, each behind those before it
 abbrev pub answers_to : Record → List FirstStep → List Answer
 answers_to past [] = []
 answers_to past (step ∷ steps) = answer_to past step ∷ answers_to (entries_after past step) steps
 
+-- the record that the events leave, one after another
 abbrev pub entries_after_all : Record → List FirstStep → Record
 entries_after_all past [] = past
 entries_after_all past (step ∷ steps) = entries_after_all (entries_after past step) steps

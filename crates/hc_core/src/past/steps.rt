@@ -2,7 +2,7 @@
 ghost use Rattle.std.specs.Prelude.{◌≡◌, ◌∷◌};
 ghost use Rattle.hc_events.specs.Accepted.{just_opened};
 ghost use Rattle.hc_events.specs.Arrivals.{arrival_in};
-ghost use Rattle.hc_events.specs.Entries.{Edited, Posted, Sent, Wrote};
+ghost use Rattle.hc_events.specs.Entries.{Edited, Forgot, Posted, Sent, Wrote};
 ghost use Rattle.hc_events.specs.Steps.{with_arrival, with_sent};
 ghost use Rattle.hc_core.specs.Records.{record_of};
 
@@ -57,6 +57,13 @@ impl Past {
     {
         let text = text_of(bytes);
         Past::Came(Snapshot::of(self), Snapshot::of(&text))
+    }
+
+    /// With a slave forgotten after it.
+    pub fn forgot(&self, station: u16) -> Past
+        ensures { record_of result ≡ Forgot station ∷ record_of self.now }
+    {
+        Past::Forgot(Snapshot::of(self), Snapshot::of(&station))
     }
 
     /// Frames of tasks come behind it, one after another.

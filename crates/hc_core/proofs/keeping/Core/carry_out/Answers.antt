@@ -1,11 +1,10 @@
-use Rattle.std.proofs.Common.{◌≡◌, ◌+◌, ◌∷◌, ◌++◌, [], ◌∙◌, List, ap, arith, subst, sym}
-use Rattle.std.specs.Prelude.{Ok, vec_capacity}
-use Rattle.hc_records.specs.Edits.{edited, state_after}
+use Rattle.std.proofs.Common.{◌∷◌, ◌++◌, [], ◌∙◌, List, ap, arith, subst, sym}
+use Rattle.std.specs.Prelude.{vec_capacity}
+use Rattle.hc_records.specs.Edits.{state_after}
 use Rattle.hc_records.specs.Line.{State, line}
 use Rattle.hc_places.specs.Swap.{Swap}
 use Rattle.hc_places.specs.Table.{Table, table_of}
 use Rattle.hc_plan.specs.declared.report.Report.{Report}
-use Rattle.hc_plan.specs.Reports.{Tells}
 use Rattle.hc_images.specs.Moves.{table_after}
 use Rattle.hc_images.specs.Packed.{HasSizes, IsLaidOut}
 use Rattle.hc_images.specs.Values.{KeepEntries}
@@ -21,7 +20,7 @@ use Rattle.hc_events.specs.Steps.{told_of_edit}
 use Rattle.hc_core.specs.Records.{record_of}
 use Rattle.hc_core.proofs.Edits.{after-is, agree-carried, can-follow, count-waiting, edited-told, new-project, ready-here, table-leads}
 use Rattle.hc_core.specs.Agreement.{Agree, CoreParts, kept_in, state_in}
-use Rattle.hc_core.specs.Prepared.{CoreEdit, IsReady}
+use Rattle.hc_core.specs.Prepared.{CoreEdit}
 use Rattle.hc_core.specs.State.{CoreState}
 use Rattle.hc_core.proofs.keeping.Core.carry_out.Goals as goal
 

@@ -8,7 +8,7 @@ use Rattle.hc_sendings.specs.Waiting.{Waiting, nothing}
 use Rattle.hc_images.specs.Packed.{Holds, IsLaidOut}
 use Rattle.hc_images.proofs.lemmas.LaidOut.{line-laid_out}
 use Rattle.hc_places.specs.Table.{Table, table_of}
-use Rattle.hc_owed.specs.Board.{Board, kept_of, nothing_known}
+use Rattle.hc_owed.specs.Board.{kept_of, nothing_known}
 use Rattle.hc_core.specs.Records.{record_of}
 use Rattle.hc_core.proofs.Opens.{IsProject, IsUncrowded, agree-opened}
 use Rattle.hc_core.specs.Agreement.{Agree, CoreParts}

@@ -1,4 +1,4 @@
-use Rattle.std.proofs.Common.{◌≡◌, ◌∙◌, ℕ, ap, sym, subst, Option, Some, None}
+use Rattle.std.proofs.Common.{◌≡◌, ◌∙◌, ℕ, ap, sym, subst, Some, None}
 use Rattle.std.specs.Prelude.{slice_get}
 use Rattle.hc_records.specs.Line.{State, line}
 use Rattle.hc_registers.specs.Blocks.{LineBlock, RegisterBlock}

@@ -1,7 +1,7 @@
-use Rattle.std.proofs.Common.{◌≡◌, ◌+◌, ◌<◌, ◌∙◌, ap, arith, length, refl, subst, sym}
+use Rattle.std.proofs.Common.{◌≡◌, ◌∙◌, ap, arith, length, refl, subst, sym}
 use Rattle.std.specs.Prelude.{Ok, vec_capacity, Err}
 use Rattle.std.proofs.lemmas.Result.{err_from_is_err_and}
-use Rattle.hc_records.specs.Edits.{edited, state_after}
+use Rattle.hc_records.specs.Edits.{edited}
 use Rattle.hc_records.specs.Line.{State, line}
 use Rattle.hc_registers.specs.RankPlaces.{stations}
 use Rattle.hc_places.specs.Table.{table_of}

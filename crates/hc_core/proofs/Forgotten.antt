@@ -1,0 +1,158 @@
+-- What is kept stays right behind a slave that was forgotten, and when that is refused.
+use Rattle.std.proofs.Common.{◌≡◌, ℕ, ◌+◌, Bool, true, false, cond, not, ◌||◌, List, [], ◌∷◌, length, refl, sym, ap, ◌∙◌, Option, Some, None}
+use Rattle.std.specs.Prelude.{find, is_none, is_some, position, IfErr, IsErrAnd, Result, Ok, Err}
+use Rattle.std.specs.List.{list_any, position_from}
+use Rattle.std.proofs.lemmas.Bool.{or_left, or_right}
+use Rattle.std.proofs.lemmas.Iterator.Adapters.{position_from-zero}
+use Rattle.std.proofs.lemmas.List.Folds.{list_any-append}
+use Rattle.hc_records.specs.declared.faults.EditFault.{EditFault}
+use Rattle.hc_records.specs.declared.faults.EditFault.TheVariants as edit
+use Rattle.hc_records.specs.declared.records.Declared.{Declared}
+use Rattle.hc_records.specs.declared.records.Slave.{Slave}
+use Rattle.hc_records.specs.Edits.{has_station, is_declared_station, slave_at}
+use Rattle.hc_records.specs.Line.{Member, State, has_address, is_at, line, line_from, members_from, present_slaves}
+use Rattle.hc_records.specs.Lists.{lowest}
+use Rattle.hc_records.proofs.lemmas.Choices.{by_bool, member-by}
+use Rattle.hc_plan.specs.Configuration.{found_or, position_of}
+use Rattle.hc_events.specs.declared.faults.CoreFault.{CoreFault}
+use Rattle.hc_events.specs.declared.faults.CoreFault.TheVariants.{Absent, UnknownStation}
+use Rattle.hc_events.specs.Entries.{Record, Forgot}
+use Rattle.hc_events.specs.Faults.{edit_refusal}
+use Rattle.hc_events.specs.Owed.{is_in_line, known_bytes}
+use Rattle.hc_events.specs.Points.{state_of}
+use Rattle.hc_events.specs.Steps.{forget_faults}
+use Rattle.hc_images.specs.Packed.{Packed}
+use Rattle.hc_owed.specs.Board.{Board, kept_of}
+use Rattle.hc_owed.specs.Laws.{known_without}
+use Rattle.hc_sendings.specs.Waiting.{forgot}
+use Rattle.hc_core.proofs.Awaits.{waits-forgot}
+use Rattle.hc_core.proofs.Known.{kept-alike, known-forgot}
+use Rattle.hc_core.specs.Agreement.{Agree, CoreParts}
+use Rattle.hc_core.specs.Values.{HoldsValues}
+
+-- a slave of the line is a declared one
+
+members_any : (station rank : ℕ) (slaves : List Slave) → list_any (is_at station) (members_from rank slaves) ≡ list_any (has_address station) slaves
+members_any station rank [] = refl
+members_any station rank (slave ∷ slaves) = ap (λ b. has_address station slave || b) (members_any station (rank + 1) slaves)
+
+present_any : (station rank : ℕ) (declared : Declared) → list_any (is_at station) (members_from rank (present_slaves declared)) ≡ true → has_station station declared.group.slaves ≡ true
+present_any station rank declared e = by declared.present (sym (members_any station rank (present_slaves declared)) ∙ e)
+  where
+    by : (present : Bool) → list_any (has_address station) (cond present declared.group.slaves []) ≡ true → has_station station declared.group.slaves ≡ true
+    by true e = e
+    by false e = cc
+
+declared_any : (station rank : ℕ) (groups : List Declared) → list_any (is_at station) (line_from rank groups) ≡ true → list_any (λ declared. has_station station declared.group.slaves) groups ≡ true
+declared_any station rank [] e = cc
+declared_any station rank (declared ∷ groups) e =
+    let own = members_from rank (present_slaves declared) in
+    let rest = line_from (rank + length declared.group.slaves) groups in
+    let either : (list_any (is_at station) own || list_any (is_at station) rest) ≡ true = sym (list_any-append (is_at station) own rest) ∙ e in
+    by_bool (list_any (is_at station) own)
+    (λ t. or_left (has_station station declared.group.slaves) (list_any (λ (one : Declared). has_station station one.group.slaves) groups) (present_any station rank declared t))
+    (λ t. or_right (has_station station declared.group.slaves) (list_any (λ (one : Declared). has_station station one.group.slaves) groups)
+    (declared_any station (rank + length declared.group.slaves) groups (member-by (list_any (is_at station) own) (list_any (is_at station) rest) either t)))
+
+-- it has a position just where it is found
+
+found_if : (passes : Bool) (test : Member → Bool) (member : Member) (members : List Member) → is_some (find test members) ≡ list_any test members → is_some (cond passes (Some member) (find test members)) ≡ (passes || list_any test members)
+found_if true test member members rest = refl
+found_if false test member members rest = rest
+
+found_any : (test : Member → Bool) (members : List Member) → is_some (find test members) ≡ list_any test members
+found_any test [] = refl
+found_any test (member ∷ members) = found_if (test member) test member members (found_any test members)
+
+position_if : (passes : Bool) (test : Member → Bool) (at : ℕ) (members : List Member) → is_some (position_from test (at + 1) members) ≡ list_any test members
+    → is_some (cond passes (Some at) (position_from test (at + 1) members)) ≡ (passes || list_any test members)
+position_if true test at members rest = refl
+position_if false test at members rest = rest
+
+position_any : (test : Member → Bool) (at : ℕ) (members : List Member) → is_some (position_from test at members) ≡ list_any test members
+position_any test at [] = refl
+position_any test at (member ∷ members) = position_if (test member) test at members (position_any test (at + 1) members)
+
+has_position : (state : State) (station : ℕ) → is_some (position (is_at station) (line state)) ≡ is_some (slave_at state station)
+has_position state station =
+    ap (λ (found : Option ℕ). is_some found) (position_from-zero (is_at station) (line state)) ∙ position_any (is_at station) 0 (line state) ∙ sym (found_any (is_at station) (line state))
+
+some_or_none : {X : Type 0} (found : Option X) → is_none found ≡ not (is_some found)
+some_or_none None = refl
+some_or_none (Some x) = refl
+
+-- so the plan refuses its position as the event is refused
+
+abbrev faults_by : Bool → Bool → List (Bool × CoreFault)
+faults_by declared present = (not declared, UnknownStation) ∷ (not present, Absent) ∷ []
+
+declared_too : (history : Record) (station : ℕ) → is_in_line history station ≡ true → is_declared_station (state_of history) station ≡ true
+declared_too history station inside = declared_any station 1 (state_of history).groups (sym (found_any (is_at station) (line (state_of history))) ∙ inside)
+
+faults_are : (history : Record) (station : ℕ) → forget_faults history station ≡ faults_by (is_declared_station (state_of history) station) (is_in_line history station)
+faults_are history station =
+    ap (λ absent. (not (is_declared_station (state_of history) station), UnknownStation) ∷ (absent, Absent) ∷ []) (some_or_none (slave_at (state_of history) station))
+
+refused_by : (declared : Bool) (found : Option ℕ) (fault : EditFault) → found_or found (cond declared edit.Absent edit.UnknownStation) ≡ Err fault
+    → (is_some found ≡ false) × (lowest (faults_by declared false) ≡ Some (edit_refusal fault))
+refused_by declared (Some n) fault e = cc
+refused_by true None fault e = (refl, ap (λ (one : EditFault). Some (edit_refusal one)) (same_fault edit.Absent fault e))
+  where
+    same_fault : (a b : EditFault) → found_or None a ≡ Err b → a ≡ b
+    same_fault a b e = cc
+refused_by false None fault e = (refl, ap (λ (one : EditFault). Some (edit_refusal one)) (same_fault edit.UnknownStation fault e))
+  where
+    same_fault : (a b : EditFault) → found_or None a ≡ Err b → a ≡ b
+    same_fault a b e = cc
+
+pub forget-refused : (history : Record) (station : ℕ) (fault : EditFault) → position_of (state_of history) station ≡ Err fault → lowest (forget_faults history station) ≡ Some (edit_refusal fault)
+forget-refused history station fault e =
+    let state = state_of history in
+    let is = refused_by (is_declared_station state station) (position (is_at station) (line state)) fault e in
+    ap lowest (faults_are history station)
+    ∙ ap (λ present. lowest (faults_by (is_declared_station state station) present)) (sym (has_position state station) ∙ is.0)
+    ∙ is.1
+
+pub refused-named : {X : Type 0} (result : Result X CoreFault) (named : Option CoreFault) (fault : EditFault) → IsErrAnd result (λ refusal. refusal ≡ edit_refusal fault) → named ≡ Some (edit_refusal fault)
+    → IfErr result (λ one. named ≡ Some one)
+refused-named (Ok x) named fault gives is = tt
+refused-named (Err one) named fault gives is = is ∙ ap (λ (refusal : CoreFault). Some refusal) (sym gives)
+
+found_ok : (fault : EditFault) (found : Option ℕ) (n : ℕ) → found_or found fault ≡ Ok n → is_some found ≡ true
+found_ok fault None n e = cc
+found_ok fault (Some m) n e = refl
+
+pub forget-inside : (history : Record) (station n : ℕ) → position_of (state_of history) station ≡ Ok n → is_in_line history station ≡ true
+forget-inside history station n e =
+    let state = state_of history in
+    sym (has_position state station) ∙ found_ok (cond (is_declared_station state station) edit.Absent edit.UnknownStation) (position (is_at station) (line state)) n e
+
+pub forget-accepted : (history : Record) (station n : ℕ) → position_of (state_of history) station ≡ Ok n → lowest (forget_faults history station) ≡ None
+forget-accepted history station n e =
+    let inside = forget-inside history station n e in
+    ap lowest (faults_are history station)
+    ∙ ap (λ present. lowest (faults_by (is_declared_station (state_of history) station) present)) inside
+    ∙ ap (λ declared. lowest (faults_by declared true)) (declared_too history station inside)
+
+-- what is kept behind it
+
+values_forgot : (history : Record) (station : ℕ) (packed : Packed) → HoldsValues history packed → HoldsValues (Forgot station ∷ history) packed
+values_forgot history station packed holds = holds
+
+pub agree-forgot : (kept : CoreParts) (history taken : Record) (station : ℕ) (owed : Board) → is_in_line history station ≡ true → owed ≡ kept_of (known_without station (known_bytes history)) (state_of history)
+    → Agree kept history taken → Agree (record kept { awaited = forgot station kept.awaited; owed = owed }) (Forgot station ∷ history) taken
+agree-forgot kept history taken station owed inside right agree = record {
+  accepted = (inside, agree.accepted);
+  state = agree.state;
+  project = agree.project;
+  uncrowded = agree.uncrowded;
+  serial = agree.serial;
+  left = agree.left;
+  waits = waits-forgot history kept.awaited station agree.waits;
+  slots = agree.slots;
+  dates = agree.dates;
+  values = values_forgot history station kept.outputs agree.values;
+  known = right
+      ∙ kept-alike (known_without station (known_bytes history)) (known_bytes (Forgot station ∷ history)) (state_of history) (λ other number. sym (known-forgot history station other number));
+  tells = record { told = agree.tells.told; legal = agree.tells.legal; exact = agree.tells.exact; behind = agree.tells.behind };
+}

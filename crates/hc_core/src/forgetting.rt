@@ -1,0 +1,29 @@
+//! A slave that may have lost its registers.
+ghost use Rattle.std.specs.Prelude.{◌≡◌, ◌∷◌, IfErr, None, OnErr, OnOk, Some};
+ghost use Rattle.hc_records.specs.Lists.{lowest};
+ghost use Rattle.hc_events.specs.Entries.{Forgot};
+ghost use Rattle.hc_events.specs.Steps.{forget_faults};
+
+use crate::keeping::Core;
+use hc_events::faults::CoreFault;
+
+impl Core {
+    /// The slave with this station address may have lost its registers, as one that was switched off and on: none
+    /// of its register blocks is known any more, so all of them are owed. A write to it that was sent before
+    /// confirms nothing. Everything else stays: the epoch, the input images, the output values, the changes, what is
+    /// known of other slaves, and what is awaited of them and of the tasks. `UnknownStation` where no declared
+    /// slave has the address; `Absent` where that slave isn't in the line. Then nothing changed. It takes no memory
+    /// (this project's profile).
+    pub fn forget(&mut self, station: u16) -> Result<(), CoreFault>
+        ensures accepted { OnOk result (lowest (forget_faults self.old.past station) ≡ None) }
+        ensures entries { OnOk result (self.new ≡ record self.old { past = Forgot station ∷ self.old.past }) }
+        ensures refused { IfErr result (λ fault. lowest (forget_faults self.old.past station) ≡ Some fault) }
+        ensures unchanged { OnErr result (self.new ≡ self.old) }
+    {
+        self.plan.position(station)?;
+        self.awaited.forget(station);
+        self.owed.forget(station);
+        self.past = self.past.forgot(station);
+        Ok(())
+    }
+}
