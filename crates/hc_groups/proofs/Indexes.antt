@@ -13,13 +13,14 @@ use Rattle.hc_records.specs.declared.records.Slave.{Slave}
 use Rattle.hc_records.specs.Edits.{has_station}
 use Rattle.hc_records.specs.Line.{Member, groups_of, is_at, line_from}
 use Rattle.hc_records.specs.Project.{lowest_fault}
+use Rattle.hc_records.proofs.lemmas.Lines.{RankWithin, declared_slaves, line-ascends, line-within}
 use Rattle.hc_records.proofs.lemmas.Lists.{AllPairs-weaker}
 use Rattle.hc_records.proofs.lemmas.Slaves.{line-inside, line-stations, project-counted}
 use Rattle.hc_records.proofs.lemmas.Walks.{length-line}
 use Rattle.hc_groups.specs.declared.addresses.Address.{Address}
 use Rattle.hc_groups.specs.Index.{AreSums, Index, IsDeclaredAt, IsIndexOf, IsMember, address_of, addresses, block_sum, blocks_of, declared_count, own_blocks, own_sum, owned_by, present_count, rank_in, slave_in, IsSpot, block_sums}
 use Rattle.hc_groups.proofs.Declaring.{addresses-distinct, addresses-ranked, addresses-some, any-station, line-among}
-use Rattle.hc_groups.proofs.IndexFound.{differs, differs-behind, any-none, any-some, find-position, only-one, position-at, position-none}
+use Rattle.hc_groups.proofs.IndexFound.{differs, differs-behind, any-none, any-some, find-none, find-position, only-one, position-at, position-none}
 use Rattle.hc_groups.proofs.Lines.{line-absent, line-at, line-front, line-length, line-ranks}
 use Rattle.hc_groups.proofs.Owned.{owned, owners-length}
 use Rattle.hc_groups.proofs.Owners.{line-sum, owned-at, owned-past}
@@ -347,3 +348,31 @@ member-found groups index station rank group place is declared member =
     member-in groups group place (rank_in groups group place) stands.slave refl stands.found
     ∙ sym stands.at
     ∙ sym (find-position (is_at station) (line_from 1 groups) (sum_by present_count (take group groups) + place) (position-found groups index station rank group place is declared member))
+
+-- so is a slave by its rank
+
+alone-ranked : (groups : List Declared) (rank : ℕ) → AllPairs (λ a b. (b.rank == rank) ≡ true → (a.rank == rank) ≡ false) (line_from 1 groups)
+alone-ranked groups rank =
+    AllPairs-weaker (λ (a b : Member). a.rank < b.rank) (λ a b. (b.rank == rank) ≡ true → (a.rank == rank) ≡ false)
+    (λ a b less is. let same = eqb-true b.rank rank is in differs a.rank rank (λ also. omega (arith, less, same, also))) (line_from 1 groups) (line-ascends 1 groups)
+
+pub ranked-found : (groups : List Declared) (rank group place : ℕ) → IsMember groups rank group place
+    → option_map {U = Member} (λ slave. record { rank = rank_in groups group place; slave = slave }) (slave_in groups group place) ≡ find (λ member. member.rank == rank) (line_from 1 groups)
+ranked-found groups rank group place member =
+    let line = line_from 1 groups in
+    let stands = stands-at groups group place member.declared member.at member.present member.inside in
+    let of : Member = record { rank = rank_in groups group place; slave = stands.slave } in
+    let position = sum_by present_count (take group groups) + place in
+    let at = position-at (λ (m : Member). m.rank == rank) line position of (alone-ranked groups rank) stands.at (eq-eqb of.rank rank (sym member.ranked)) in
+    member-in groups group place (rank_in groups group place) stands.slave refl stands.found ∙ sym stands.at ∙ sym (find-position (λ (m : Member). m.rank == rank) line position at)
+
+pub ranked-none : (groups : List Declared) (rank : ℕ) → All (λ member. member.rank ≢ rank) (line_from 1 groups) → find (λ (member : Member). member.rank == rank) (line_from 1 groups) ≡ None
+ranked-none groups rank none =
+    let line = line_from 1 groups in
+    find-none (λ (m : Member). m.rank == rank) line
+    (position-none (λ (m : Member). m.rank == rank) line (All-weaker (λ (m : Member). m.rank ≢ rank) (λ m. (m.rank == rank) ≡ false) (λ m other. differs m.rank rank other) line none))
+
+-- no slave has rank 0
+pub ranks-some : (groups : List Declared) → All (λ (member : Member). member.rank ≢ 0) (line_from 1 groups)
+ranks-some groups =
+    All-weaker (RankWithin 1 (1 + length (declared_slaves groups))) (λ member. member.rank ≢ 0) (λ member within is. let some = within.0 in omega (arith, some, is)) (line_from 1 groups) (line-within 1 groups)

@@ -395,6 +395,17 @@ impl<'a> Indexed<'a> {
         self.slave_in(spot.index, spot.offset)
     }
 
+    /// The slave of the line with a rank, counted from 1 over all declared slaves; none where it isn't present.
+    pub fn slave_of_rank(&self, rank: u16) -> Option<LineSlave<'a>>
+        ensures { result ≡ find (λ member. member.rank == rank) (line_from 1 self.now) }
+    {
+        if rank == 0 {
+            return None;
+        }
+        let spot = self.find_present(rank)?;
+        self.slave_in(spot.index, spot.offset)
+    }
+
     /// The slave that has the register block with a number, from 0, in line and block order, with the
     /// block's number in the slave's own order; none where the line has fewer.
     pub fn block_owner(&self, n: u32) -> Option<(LineSlave<'a>, u8)>

@@ -5,7 +5,7 @@ ghost use Rattle.hc_records.specs.Edits.{declares};
 ghost use Rattle.hc_records.specs.Line.{opened_group};
 
 use crate::applying::work_out;
-use crate::blocks::{block_at, nth_block};
+use crate::blocks::{LineBlock, block_at, block_of_rank, nth_block};
 use crate::declaring::{Declaration, declared_report};
 use crate::placed_line::PlacedLine;
 use crate::prepared::PreparedEdit;
@@ -14,6 +14,7 @@ use crate::turning::turn_on;
 use crate::work::{LineWork, Work};
 use hc_changes::edited_line::{EditedLine, EditedLineRoom};
 use hc_cuts::tasks::LineCuts;
+use hc_groups::faults::remap_fault;
 use hc_groups::index::{Index, Indexed};
 use hc_groups::prepared::Prepared;
 use hc_places::configure::{OpenedLine, open_line};
@@ -104,7 +105,7 @@ impl Plan {
     ghost use Rattle.hc_records.specs.Boundaries.{boundaries};
     ghost use Rattle.hc_records.specs.TaskList.{task_list};
     ghost use Rattle.std.specs.List.{zip};
-    ghost use Rattle.hc_records.specs.declared.edit.Edit.TheVariants.{Declare};
+    ghost use Rattle.hc_records.specs.declared.edit.Edit.TheVariants.{Declare, Remap};
     ghost use Rattle.hc_records.specs.Edits.{crowded_task, declares, edited, state_after_all};
     ghost use Rattle.hc_records.specs.Line.{groups_of, line, opened};
     ghost use Rattle.hc_records.specs.Project.{lowest_fault};
@@ -115,7 +116,7 @@ impl Plan {
     ghost use Rattle.hc_plan.specs.inner.Blocks.{IsLayoutOf};
     ghost use Rattle.hc_plan.specs.inner.Prepared.{CanCarry, left_by};
     ghost use Rattle.hc_plan.specs.Prepared.{IsPrepared};
-    ghost use Rattle.hc_plan.specs.Configuration.{block_at, config, line_block_at, position_of, station_at};
+    ghost use Rattle.hc_plan.specs.Configuration.{block_at, block_of_rank, config, line_block_at, position_of, station_at};
     ghost use Rattle.hc_plan.specs.Reports.{AreAnswers, Tells, carried_out};
 
     /// The plan of a project at its opening: the mandatory group alone is present and the epoch is 0.
@@ -173,6 +174,23 @@ impl Plan {
         ensures { result ≡ block_at (line self.now) station number }
     {
         block_at(&self.indexed(), &self.placed_line(), station, number)
+    }
+
+    /// The block with a number, from 0, in the order of the slave with a rank, counted from 1 over all declared slaves,
+    /// present or not: the block that `block` tells by the slave's station address. None where the slave isn't present
+    /// or has fewer blocks. It takes no memory.
+    pub fn block_of_rank(&self, rank: u16, number: u8) -> Option<LineBlock>
+        ensures { result ≡ block_of_rank (line self.now) rank number }
+    {
+        block_of_rank(&self.indexed(), &self.placed_line(), rank, number)
+    }
+
+    /// The lowest fault that a remap with these indexes has by itself, as an edit of it is judged; a caller that has them in
+    /// a slice needs no list of them for it. It takes no memory.
+    pub fn remap_fault(&self, station: u16, area: u8, pdos: &[u16]) -> Option<EditFault>
+        ensures { result ≡ own_fault self.now.groups (Remap station area pdos.now) }
+    {
+        remap_fault(&self.indexed(), station, area, pdos)
     }
 
     /// The number of blocks of the present line. It takes no memory.
