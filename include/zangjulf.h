@@ -1,7 +1,7 @@
 /* Zangjulf's core for C: the configuration and process image of an EtherCAT line that changes while it runs.
  *
  * What is said here of each call is proved for every handle that keeps the rules below, in any order of calls and with any
- * numbers and bytes, but where docs/EMBEDDING.md says that it is only tested or read; what is on trust stands there too. There
+ * numbers and bytes, but where docs/use/EMBEDDING.md says that it is only tested or read; what is on trust stands there too. There
  * are no threads, locks, clocks, files or sockets in the library: frames go out and come in as bytes.
  *
  * The handle. A `struct zangjulf` is set to zeros before its first call (`struct zangjulf line = {0};`), and from then on
@@ -16,7 +16,7 @@
  * `zangjulf_open` and `zangjulf_close` take the line's memory and give it back, and never answer ZANGJULF_BUSY: the program
  * itself sees to it that no other call with the handle runs then. A handle may move from one thread to another between two
  * calls where one happens before the other, as by a lock, a join, or an atomic that is released and acquired.
- * docs/EMBEDDING.md says what of this is proved.
+ * docs/use/EMBEDDING.md says what of this is proved.
  *
  * Slices. A pointer and a length stand for so many elements, which the call reads, or writes where the pointer isn't const,
  * and never looks beyond. A slice of length 0 may be NULL (tested, and not proved); no other pointer is.
@@ -47,7 +47,7 @@
 #include <stdint.h>
 
 /* The version of this header, and the number of its binary interface (ABI), which grows with each release in which a call or a
- * struct is another one, or gone; the shared object's name has it, libzangjulf.so.0. docs/EMBEDDING.md says what they promise.
+ * struct is another one, or gone; the shared object's name has it, libzangjulf.so.0. docs/use/EMBEDDING.md says what they promise.
  * `zangjulf_version` and `zangjulf_abi` answer those of the library that is loaded. */
 #define ZANGJULF_VERSION "0.1.0"
 #define ZANGJULF_VERSION_MAJOR 0
@@ -162,7 +162,7 @@ void zangjulf_version(uint32_t *major, uint32_t *minor, uint32_t *patch);
 
 /* Opening and closing. */
 
-/* Opens the project of a text (docs/PROJECT_TEXT.md) in place of what the handle held: the mandatory group alone is present,
+/* Opens the project of a text (docs/use/PROJECT_TEXT.md) in place of what the handle held: the mandatory group alone is present,
  * epoch and serial are 0, each register block is owed. ZANGJULF_DONE; a project's fault, 201 to 210, the lowest;
  * ZANGJULF_TOO_MANY_DATAGRAMS, and `*task` is the lowest task, 0 to 7, that needs more than 16; or ZANGJULF_MEMORY. Unless it
  * is done the handle is closed. With `changes` 0 the line keeps no changes for `zangjulf_next_change`, which then always answers
@@ -507,7 +507,7 @@ uint8_t zangjulf_alias_read(uint16_t position, uint8_t *out, size_t length, size
 uint8_t zangjulf_station_write(uint16_t position, uint16_t station, uint8_t *out, size_t length, size_t *size);
 
 /* A simulated slave, over 12,288 bytes that the caller keeps: registers and process memory from register 0 on
- * (docs/SLAVE_MACHINE.md). ZANGJULF_DONE; ZANGJULF_MISUSED where `size` is another, and then nothing is written. Neither takes
+ * (docs/meaning/DEFINITIONS.md). ZANGJULF_DONE; ZANGJULF_MISUSED where `size` is another, and then nothing is written. Neither takes
  * memory. */
 
 /* Its memory as no frame has met it: zeros but for its configured station alias. */

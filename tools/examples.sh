@@ -1,6 +1,6 @@
 #!/bin/sh
 # Compares what the program that `rt ci` has built prints with what is written of it: each examples/NAME.in with
-# examples/NAME.out, and the sessions of docs/HOT_CONNECT.md, whose commands are the lines that begin with `> `, with the
+# examples/NAME.out, and the sessions of docs/use/HOT_CONNECT.md, whose commands are the lines that begin with `> `, with the
 # lines below them. The last line is 'N passed, M failed'.
 set -u
 cd "$(dirname "$0")/.."
@@ -37,7 +37,7 @@ for output in examples/*.out; do
     [ -f "${output%.out}.in" ] || fail "$output has no input"
 done
 
-sessions=docs/HOT_CONNECT.md
+sessions=docs/use/HOT_CONNECT.md
 sed -n 's/^    > //p' "$sessions" >"$scratch/commands"
 awk '/^    > / { inside = 1; next } !/^    / { inside = 0 } inside { print substr($0, 5) }' "$sessions" >"$scratch/written"
 if [ -s "$scratch/commands" ] && [ -s "$scratch/written" ]; then

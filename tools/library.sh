@@ -7,22 +7,23 @@
 #   aarch64     every 64-bit processor of ARM
 #
 # each of Linux with glibc. hc_c is checked by it and the libraries below it aren't, where `rt ci` or another check has left them;
-# where one is missing, `rt lib` proves them all. It wants the Rattle kit, gcc and ar, and those of the target.
+# where one is missing, `rt lib` proves them all. It wants the Rattle kit, gcc, ar and objcopy, and those of the target.
 set -eu
 cd "$(dirname "$0")/.."
 target=${1:-x86_64-v2}
 mkdir -p "${2:-build}"
 folder=$(cd "${2:-build}" && pwd)
 case $target in
-x86_64) cc=gcc ar=ar flags="--cpu x86-64" ;;
-x86_64-v2) cc=gcc ar=ar flags="--cpu x86-64-v2" ;;
-aarch64) cc=aarch64-linux-gnu-gcc ar=aarch64-linux-gnu-ar flags="--target aarch64-unknown-linux-gnu" ;;
+x86_64) prefix= flags="--cpu x86-64" ;;
+x86_64-v2) prefix= flags="--cpu x86-64-v2" ;;
+aarch64) prefix=aarch64-linux-gnu- flags="--target aarch64-unknown-linux-gnu" ;;
 *)
     echo "library: $target is no target: x86_64, x86_64-v2 and aarch64 are" >&2
     exit 2
     ;;
 esac
-for needed in rt $cc $ar; do
+cc=${prefix}gcc ar=${prefix}ar objcopy=${prefix}objcopy
+for needed in rt $cc $ar $objcopy; do
     command -v "$needed" >/dev/null || { echo "library: $needed is missing"; exit 1; }
 done
 kit=$(dirname "$(dirname "$(readlink -f "$(command -v rt)")")")
@@ -67,16 +68,11 @@ if [ "$target" = aarch64 ]; then
     rm -f "$heap"
     $ar rcD "$heap" "$folder/heap.o"
 fi
-(
-    cd "$folder"
-    $ar -M <<END
-create libzangjulf.a
-addlib libhc_c.a
-addlib $heap
-save
-end
-END
-)
+# One object, from which only the header's calls can be seen: so a program may link two libraries that this kit made.
+$cc -r -nostdlib -o "$folder/zangjulf.o" -Wl,--whole-archive "$folder/libhc_c.a" -Wl,--no-whole-archive "$heap"
+$objcopy --wildcard --keep-global-symbol='zangjulf_*' "$folder/zangjulf.o"
+rm -f "$folder/libzangjulf.a"
+$ar rcD "$folder/libzangjulf.a" "$folder/zangjulf.o"
 # The code is position independent, so the archive makes a shared object. It exports the header's calls and nothing else, and its
 # name has the number of the binary interface: programs look for it by that name.
 sed "s|@ABI@|$abi|" tools/package/zangjulf.map.in >"$folder/zangjulf.map"

@@ -1,5 +1,5 @@
 //! The simulated line: what each slave's memory holds, and what a slave does with a datagram (ETG.1000.4, 5.4 and 6.6, in
-//! this project's profile; docs/SLAVE_MACHINE.md has it). Bits are paired one by one, and nothing is kept of an FMMU.
+//! this project's profile; docs/meaning/DEFINITIONS.md has it). Bits are paired one by one, and nothing is kept of an FMMU.
 
 use crate::shared::frames::{Datagram, FPWR, LRW};
 use crate::shared::line::Line;

@@ -1,5 +1,5 @@
 //! What tasks post and view. A post waits with the epoch in which its task made it, and is judged when it is taken; the
-//! values that are sent are looked up in the accepted posts. docs/DEFINITIONS.md has the rules.
+//! values that are sent are looked up in the accepted posts. docs/meaning/DEFINITIONS.md has the rules.
 
 use super::record::{Entry, line, slot};
 use crate::shared::edits::Refusal;

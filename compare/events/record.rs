@@ -1,6 +1,6 @@
 //! The whole list of what was accepted since the opening, the oldest first, and what it says when it is looked back upon.
 //! Nothing is kept beside it. Which arrival answers which sending and when a block is owed is this project's profile;
-//! docs/DEFINITIONS.md has it under "Events and their record".
+//! docs/meaning/DEFINITIONS.md has it under "Events and their record".
 
 use super::posts::outputs;
 use super::reading::Arrival;

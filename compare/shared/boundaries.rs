@@ -1,5 +1,5 @@
 //! What an edit cuts anew, by comparing the lists of the line before it and behind it. This project's profile;
-//! docs/DEFINITIONS.md has it under "What an edit leaves as it was".
+//! docs/meaning/DEFINITIONS.md has it under "What an edit leaves as it was".
 
 use super::packing::{Key, Layout, Placed};
 use std::collections::BTreeMap;

@@ -1,5 +1,5 @@
 //! Where the areas of a line stand: each task's list is packed from its front. The rules of packing are this project's
-//! profile; docs/DEFINITIONS.md has them.
+//! profile; docs/meaning/DEFINITIONS.md has them.
 
 use super::records::{Area, Member, Slave};
 use std::collections::{BTreeMap, BTreeSet};

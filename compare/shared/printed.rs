@@ -1,4 +1,4 @@
-//! The lines that the program prints, as docs/PROGRAM.md has them.
+//! The lines that the program prints, as docs/use/PROGRAM.md has them.
 
 use super::blocks::{Block, blocks_of};
 use super::edits::{Edit, Refusal, naming_fault};

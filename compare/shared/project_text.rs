@@ -1,4 +1,4 @@
-//! The text of a project, as docs/PROJECT_TEXT.md has it.
+//! The text of a project, as docs/use/PROJECT_TEXT.md has it.
 
 use std::fmt::Write;
 

@@ -71,7 +71,7 @@ def parsed(words: list[str]) -> argparse.Namespace:
         prog="tools/esi",
         description="Writes devices of ESI files as slaves of a project text, and lists what such a text can't say.",
         epilog="Status: 0 written, 1 written and the slave would work otherwise than its file says (lines `differs`), "
-        "2 there is no such device or a file can't be read. docs/use/ESI.md has the rest.",
+        "2 there is no such device or a file can't be read. docs/use/TOOLS.md has the rest.",
     )
     parser.add_argument("files", nargs="+", metavar="DEVICE.xml", help="ESI files (ETG.2000)")
     parser.add_argument("--list", action="store_true", help="list the devices with their PDOs and write nothing")

@@ -42,6 +42,8 @@ header() {
     g++ -std=c++17 $warnings -Iinclude tools/embed/linked.cpp build/libzangjulf.a -o "$scratch/linked" &&
         "$scratch/linked" >"$scratch/printed"
     tell_said $? "the library is another version than the header's"
+    ! nm -g --defined-only build/libzangjulf.a | grep ' [A-Z] ' | grep -qv ' zangjulf_'
+    tell $? "the archive exports more than the header's calls"
 }
 
 # callers_in_c CALLS: players, callers that do wrong, the page's cycle, and so many drawn calls
@@ -61,7 +63,7 @@ callers_in_c() {
     tell $? "the master isn't built"
     gcc -std=c11 -g -O1 $warnings -fsanitize=address,undefined -Iinclude examples/cycle/cycle.c build/libzangjulf.a -o "$scratch/cycle" &&
         timeout 60 "$scratch/cycle" examples/tool_changer.toml >"$scratch/printed" && diff examples/cycle/cycle.out "$scratch/printed"
-    tell_said $? "the cycle of docs/EMBEDDING.md: < is written, > is printed"
+    tell_said $? "the cycle of docs/use/EMBEDDING.md: < is written, > is printed"
 }
 
 # callers_in_rust: the crate's player, and the examples in its pages

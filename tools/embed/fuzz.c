@@ -7,7 +7,7 @@
  *     fuzz PROJECT CALLS SEED [FOLDER [declare]]
  *
  * PROJECT is a text, which a line `%%` may end. With FOLDER each opened line leaves two files there: N.in is the script of
- * those calls for which the program hotline has a command (docs/PROGRAM.md), and N.out what they were answered, in the
+ * those calls for which the program hotline has a command (docs/use/PROGRAM.md), and N.out what they were answered, in the
  * program's words. A call that changes nothing and has no command is left out, as one with a short slice, a refused growth or
  * a question; so what stands must be what the program prints, whatever was called in between. Posts, for which there is no
  * command, are of zeros there, as if none had been made; a group is declared there only with `declare`. */

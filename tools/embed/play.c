@@ -1,5 +1,5 @@
 /* Plays a script of the program hotline through the C library: project text, a line `%%` and commands on standard input, what
- * each answers on standard output (docs/PROGRAM.md). Scripts are well formed: a word that is none ends it with status 2. */
+ * each answers on standard output (docs/use/PROGRAM.md). Scripts are well formed: a word that is none ends it with status 2. */
 #define _POSIX_C_SOURCE 200809L
 #include <stdio.h>
 #include <stdlib.h>

@@ -1,4 +1,4 @@
-/* What the program hotline prints of the answers of calls (docs/PROGRAM.md), for callers in C: its words and numbers, and of
+/* What the program hotline prints of the answers of calls (docs/use/PROGRAM.md), for callers in C: its words and numbers, and of
  * each call's answer the line that the program prints of the same command. */
 #ifndef WORDS_H
 #define WORDS_H

@@ -24,7 +24,7 @@ def parsed(words: list[str]) -> argparse.Namespace:
         prog="tools/lint",
         description="Looks a project text through for what the program takes and a machine wouldn't like.",
         epilog="Status: 0 nothing found, 1 findings, 2 the input can't be read or the program failed. "
-        "docs/use/LINT.md has the kinds, and how a text says that one is meant.",
+        "docs/use/TOOLS.md has the kinds, and how a text says that one is meant.",
     )
     parser.add_argument("project", help="a project text, or an input of hotline that begins with one; - for stdin")
     parser.add_argument("--program", default=BUILT, help="the program that is asked, if not the built hotline")

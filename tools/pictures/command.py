@@ -17,7 +17,7 @@ def parsed(words: list[str]) -> argparse.Namespace:
     parser = argparse.ArgumentParser(
         prog="tools/picture",
         description="Draws the line of a project, and what the last accepted edit of the commands made of it.",
-        epilog="Status: 0 drawn, 2 the input can't be read or the program refuses it. docs/PICTURES.md tells the rest.",
+        epilog="Status: 0 drawn, 2 the input can't be read or the program refuses it. docs/use/TOOLS.md tells the rest.",
     )
     parser.add_argument("project", help="a project text, or an input of hotline: a text, a line %%%% and commands")
     parser.add_argument("commands", nargs="?", help="a file with a command in each line, or - for standard input")

@@ -15,7 +15,7 @@ def run(words: list[str]) -> int:
     parser = argparse.ArgumentParser(
         prog="tools/names",
         description="Prints the names of a project's variables, slaves, groups and tasks as constants.",
-        epilog="Status: 0 printed, 2 a name is wrong, or the input can't be read. docs/use/NAMES.md has the names.",
+        epilog="Status: 0 printed, 2 a name is wrong, or the input can't be read. docs/use/TOOLS.md has the names.",
     )
     parser.add_argument("project", help="a project text, or an input of hotline that begins with one; - for stdin")
     languages = parser.add_mutually_exclusive_group(required=True)

@@ -16,7 +16,7 @@ def run(words: list[str]) -> int:
     parser = argparse.ArgumentParser(
         prog="tools/line",
         description="A line at a prompt, or on a page of this machine: the program's commands, with names.",
-        epilog="Status: 0 at the end of the session, 2 the project can't be opened. docs/use/LINE.md has the commands.",
+        epilog="Status: 0 at the end of the session, 2 the project can't be opened. docs/use/TOOLS.md has the commands.",
     )
     parser.add_argument("project", help="a project text, or an input of hotline, whose commands are left out")
     parser.add_argument("--program", default=BUILT, help="the program that is asked, if not the built hotline")

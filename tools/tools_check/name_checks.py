@@ -4,7 +4,7 @@ import shutil
 import subprocess
 from collections.abc import Callable
 
-from checks import TOOLS, Checks
+from checks import Checks
 
 from projects.faults import Refusal
 from projects.names import Names, names_of
@@ -120,7 +120,6 @@ def check(checks: Checks) -> None:
     compiled(checks, "cc", C, "names.h", ["-fsyntax-only", "-Werror", "-x", "c"])
     options = ["--crate-type", "lib", "--emit", "metadata", "--out-dir", checks.scratch]
     compiled(checks, "rustc", RUST, "names.rs", options)
-    check_page(checks)
     check_program(checks)
     check_lookups(checks)
     for old, new, kind, line in FAULTS + CONSTANT_FAULTS + BROKEN:
@@ -143,15 +142,6 @@ def compiled(checks: Checks, compiler: str, text: str, name: str, options: list[
     if shutil.which(compiler):
         run = subprocess.run([compiler, *options, checks.file(name, text)], capture_output=True, timeout=60)
         checks.equal(f"{compiler} over {name}", (0, b""), (run.returncode, run.stderr))
-
-
-def check_page(checks: Checks) -> None:
-    """The text on the page of names has the constants that the page shows."""
-    page = (TOOLS.parent / "docs/use/NAMES.md").read_text()
-    text = page.split("```toml\n")[1].split("```")[0]
-    said = checks.tool("names", checks.file("page.toml", text), "--c").said.splitlines()
-    shown = [line.strip() for line in page.splitlines() if line.startswith("    #define")]
-    checks.equal("constants on the page", (2, []), (len(shown), [line for line in shown if line not in said]))
 
 
 def check_program(checks: Checks) -> None:

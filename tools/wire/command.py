@@ -16,7 +16,7 @@ def run(words: list[str]) -> int:
     parser = argparse.ArgumentParser(
         prog="tools/capture",
         description="Writes the frames of a run, both ways, as a capture file that Wireshark opens.",
-        epilog="Status: 0 written, 2 the input can't be read or the program refuses it. docs/WIRESHARK.md has examples.",
+        epilog="Status: 0 written, 2 the input can't be read or the program refuses it. docs/use/TOOLS.md has examples.",
     )
     parser.add_argument("input", help="an input of hotline: a text, a line %%%% and commands; - for stdin")
     parser.add_argument("capture", help="the file that is written")

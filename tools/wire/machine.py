@@ -1,4 +1,4 @@
-"""A slave of a simulated line: its memory, and what it makes of the datagrams that pass it (docs/SLAVE_MACHINE.md)."""
+"""A slave of a simulated line: its memory, and what it makes of the datagrams that pass it (docs/meaning/DEFINITIONS.md)."""
 
 from collections.abc import Iterator
 from dataclasses import dataclass, replace

@@ -1,5 +1,5 @@
 //! Plays a script of the program hotline: project text, a line `%%` and commands on standard input, what each answers on
-//! standard output (docs/PROGRAM.md). What an edit would cost is asked before it is carried out.
+//! standard output (docs/use/PROGRAM.md). What an edit would cost is asked before it is carried out.
 
 use std::error::Error;
 use std::io::{self, Read, Write};

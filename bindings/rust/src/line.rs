@@ -15,7 +15,7 @@ pub struct Line {
 }
 
 // What a handle holds is memory of its own, and no thread's identity counts, which is proved of the library's handle (`Send`).
-// Look-ups write no word of it, so that threads may make them at the same time, which is only tested (docs/EMBEDDING.md).
+// Look-ups write no word of it, so that threads may make them at the same time, which is only tested (docs/use/EMBEDDING.md).
 unsafe impl Send for Line {}
 unsafe impl Sync for Line {}
 

@@ -5,6 +5,7 @@ ghost use Rattle.hc_groups.specs.Changes.{changed_groups};
 ghost use Rattle.hc_groups.specs.Rows.{areas_in_line, count_of, row};
 
 use hc_cuts::areas::SlaveAreas;
+use hc_groups::index::Indexed;
 use hc_groups::prepared::Prepared;
 use hc_records::records::{Area, Declared, Slave};
 use std::alloc::{AllocError, Global};
@@ -98,7 +99,7 @@ fn areas_of<'a>(slaves: &[SlaveAreas<'a>], index: usize) -> &'a [Area]
 /// of the others follow.
 #[derive(Drop)]
 pub struct EditedLine<'a> {
-    groups: &'a [Declared],
+    groups: &'a Indexed<'a>,
     change: &'a Prepared,
     before: Vec<SlaveAreas<'a>>,
     after: Vec<SlaveAreas<'a>>,
@@ -117,10 +118,11 @@ impl<'a> Model for EditedLine<'a> {
 }
 
 impl<'a> EditedLine<'a> {
-    ghost use Rattle.std.specs.Prelude.{◌≡◌, ◌+◌, ◌<◌, [], IfNone, IfSome, MatchOption, None, Some, false, if◌then◌else◌, length, slice_get};
+    ghost use Rattle.std.specs.Prelude.{◌≡◌, ◌+◌, ◌<◌, ◌≤◌, ◌⊎◌, [], IfNone, IfSome, MatchOption, None, Some, false, if◌then◌else◌, length, slice_get, sum_by, take};
     ghost use Rattle.hc_records.specs.Line.{groups_of};
     ghost use Rattle.hc_records.specs.Project.{lowest_fault};
     ghost use Rattle.hc_groups.specs.Changes.{changed_groups};
+    ghost use Rattle.hc_groups.specs.Index.{declared_count};
     ghost use Rattle.hc_groups.specs.Rows.{ChangesRow};
     ghost use Rattle.hc_cuts.specs.Areas.{areas_at, areas_by_rank};
     ghost use Rattle.hc_changes.specs.Edited.{HasEdit};
@@ -128,7 +130,11 @@ impl<'a> EditedLine<'a> {
 
     /// What a prepared edit makes of the line of the groups of a project, which it leaves a project's, in memory
     /// that was taken for it.
-    pub fn of(room: EditedLineRoom, groups: &'a [Declared], change: &'a Prepared) -> EditedLine<'a>
+    pub fn of(
+        room: EditedLineRoom,
+        groups: &'a Indexed<'a>,
+        change: &'a Prepared,
+    ) -> EditedLine<'a>
         requires edited { HasEdit groups.now (changed_groups change.now groups.now) }
         requires was { lowest_fault (groups_of groups.now) ≡ None }
         requires is { lowest_fault (groups_of (changed_groups change.now groups.now)) ≡ None }
@@ -137,11 +143,12 @@ impl<'a> EditedLine<'a> {
         ensures { result ≡ edited_line_of change.now groups.now }
     {
         let EditedLineRoom { before, after } = room;
+        let declared = groups.groups();
         EditedLine {
             groups,
             change,
-            before: areas_before(before, groups, change),
-            after: areas_after(after, groups, change),
+            before: areas_before(before, declared, change),
+            after: areas_after(after, declared, change),
         }
     }
 
@@ -150,7 +157,17 @@ impl<'a> EditedLine<'a> {
         ensures groups { result.now ≡ self.now.old }
         ensures known { IsEditedLine self.now }
     {
-        self.groups
+        self.groups.groups()
+    }
+
+    /// The number, from 0, of a declared group from which a walk over the slaves meets each one with this rank or a
+    /// higher one, and the rank of the group's first slave. It takes no memory.
+    pub(crate) fn group_before(&self, rank: u16) -> (usize, u16)
+        ensures inside { result.0 ≤ length self.now.old }
+        ensures first { result.1 ≡ sum_by declared_count (take result.0 self.now.old) + 1 }
+        ensures low { (result.1 ≡ 1) ⊎ (result.1 ≤ rank) }
+    {
+        self.groups.group_before(rank)
     }
 
     /// The rank of the first slave that the edit concerns.

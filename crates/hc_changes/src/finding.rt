@@ -233,8 +233,8 @@ impl<'b, 'a> CandidateTest<'b, 'a> {
         ranks
     }
 
-    /// The candidates, which all stand between two ranks, in line and record order, by the declared groups
-    /// before the edit.
+    /// The candidates, which are all of slaves with these ranks, in line and record order, by the declared groups
+    /// before the edit. Only the groups of such slaves are gone over.
     fn all(
         &self,
         alloc: Global,
@@ -248,8 +248,12 @@ impl<'b, 'a> CandidateTest<'b, 'a> {
     {
         let mut places = Finder::of(self.cuts);
         let mut found = Vec::new(alloc);
-        let mut first = 1;
-        for declared in groups {
+        let (start, mut first) = self.edited_line.group_before(ranks.low);
+        for i in start..groups.len() {
+            let declared = &groups[i];
+            if ranks.high < first {
+                return Ok(found);
+            }
             self.add_group(&mut places, &mut found, first, declared, ranks)?;
             first += declared.group.slaves.len() as u16;
         }

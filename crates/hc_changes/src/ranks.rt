@@ -9,8 +9,8 @@ use hc_records::records::Dir;
 /// Ranks from one up to another, both among them; none where the second is lower.
 #[derive(Clone, Copy)]
 pub(crate) struct Ranks {
-    low: u16,
-    high: u16,
+    pub(crate) low: u16,
+    pub(crate) high: u16,
 }
 
 impl Ranks {

@@ -52,7 +52,7 @@ fn add_moved(
     for row in found {
         let (variable, place) = *row;
         if is_new(old, &mut near, variable, place) {
-            rows.push((variable, Some(place)))?;
+            rows.push(ChangedRow::of(variable, Some(place), near))?;
         }
     }
     Ok(())
@@ -105,7 +105,7 @@ fn add_gone(rows: &mut Vec<ChangedRow>, before: &[VarId], after: &[VarId]) -> Re
 {
     for variable in before {
         if !is_among(*variable, after) {
-            rows.push((*variable, None))?;
+            rows.push(ChangedRow::of(*variable, None, 0))?;
         }
     }
     Ok(())

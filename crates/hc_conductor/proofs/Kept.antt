@@ -3,7 +3,7 @@ use Rattle.std.proofs.Common.{◌≡◌, ⊎_elim, List, [], ◌∷◌, refl, �
 use Rattle.std.specs.Prelude.{OnErr, OnOk, Result, Ok, Err}
 use Rattle.hc_records.specs.declared.records.Group.{Group}
 use Rattle.hc_events.specs.declared.answer.Answer.{Answer}
-use Rattle.hc_events.specs.Entries.{Record, Opened, Edited, Posted, Sent, Wrote, Came}
+use Rattle.hc_events.specs.Entries.{Record, Opened, Edited, Posted, Sent, Wrote, Came, Forgot}
 use Rattle.hc_events.specs.Points.{opened_with}
 use Rattle.hc_events.specs.Sendings.{Frame}
 use Rattle.hc_events.specs.Steps.{Step, entries_after, entries_after_all, with_sent}
@@ -21,6 +21,7 @@ opened_more groups past (Posted task bytes) accepted before = before
 opened_more groups past (Sent frame) accepted before = before
 opened_more groups past (Wrote block) accepted before = before
 opened_more groups past (Came arrival) accepted before = before
+opened_more groups past (Forgot station) accepted before = before
 
 pub opened-after : (past : Record) (step : Step) → opened_with (entries_after past step) ≡ opened_with past
 opened-after past step = kept-after (OpenedWith (opened_with past)) (opened_more (opened_with past)) past step refl

@@ -1,13 +1,14 @@
 //! The events that the core is given one by one.
-ghost use Rattle.std.specs.Prelude.{◌≡◌, ◌≢◌, [], Err, IfErr, IfOk, IfSome, None, Ok, OnErr, OnOk, Some, length, option_map};
+ghost use Rattle.std.specs.Prelude.{◌≡◌, ◌≢◌, [], ◌∷◌, Err, IfErr, IfOk, IfSome, None, Ok, OnErr, OnOk, Some, length, option_map};
 ghost use Rattle.hc_records.specs.Lists.{lowest};
 ghost use Rattle.hc_frames.specs.Arrived.{fault_in};
 ghost use Rattle.hc_events.specs.declared.answer.Arrived.TheVariants.{Answered};
 ghost use Rattle.hc_events.specs.declared.faults.CoreFault.TheVariants.{Memory};
 ghost use Rattle.hc_events.specs.Calls.{MayAnswer, write_into_faults};
+ghost use Rattle.hc_events.specs.Entries.{Forgot};
 ghost use Rattle.hc_events.specs.Faults.{frame_refusal};
 ghost use Rattle.hc_events.specs.Outcomes.{told_with};
-ghost use Rattle.hc_events.specs.Steps.{Arrives, Edits, SendsWrite, answer_to, entries_after, step_of};
+ghost use Rattle.hc_events.specs.Steps.{Arrives, Edits, SendsWrite, answer_to, entries_after, forget_faults, step_of};
 ghost use Rattle.hc_core.specs.Early.{TellsEarly};
 ghost use Rattle.hc_core.specs.Serving.{IsAsked};
 ghost use Rattle.hc_core.specs.Written.{HoldsWrite};
@@ -85,5 +86,19 @@ impl Conductor {
         ensures untouched { OnErr result (out.new ≡ out.old) }
     {
         self.core.write_into(out)
+    }
+
+    /// The slave with this station address may have lost its registers: all its blocks are owed, as the core's
+    /// `forget` says, and a write to it that was sent before confirms nothing. Views show nothing of it.
+    /// `UnknownStation` where no declared slave has the address; `Absent` where that slave isn't in the line. Then
+    /// nothing changed. It takes no memory.
+    pub fn forget(&mut self, station: u16) -> Result<(), CoreFault>
+        ensures accepted { OnOk result (lowest (forget_faults (past_of self.old) station) ≡ None) }
+        ensures entries { OnOk result (past_of self.new ≡ Forgot station ∷ past_of self.old) }
+        ensures lists { SameLists self.old self.new }
+        ensures refused { IfErr result (λ fault. lowest (forget_faults (past_of self.old) station) ≡ Some fault) }
+        ensures unchanged { OnErr result (self.new ≡ self.old) }
+    {
+        self.core.forget(station)
     }
 }

@@ -44,8 +44,8 @@ use Rattle.hc_core.specs.Waits.{IsUnderWay}
 
 -- a stale one
 
-none_fresh : (past : Record) (arrival : Arrival) → is_stale_to past arrival ≡ true → fresh_by past arrival ≡ []
-none_fresh past arrival stale = search (rules, goods-of_news, not-true)
+pub none-fresh : (past : Record) (arrival : Arrival) → is_stale_to past arrival ≡ true → fresh_by past arrival ≡ []
+none-fresh past arrival stale = search (rules, goods-of_news, not-true)
 
 -- without a good answer the serials stay
 none_dated : (past : Record) (arrival : Arrival) (task d : ℕ) → fresh_by past arrival ≡ [] → data_serial (Came arrival ∷ past) task d ≡ data_serial past task d
@@ -63,10 +63,10 @@ agree-stale kept past taken arrival stale agree =
       left = agree.left;
       waits = waits-stale past kept.awaited arrival stale agree.waits;
       slots = λ task d below. agree.slots task d below ∙ sym (says.slots task d);
-      dates = λ task d below. agree.dates task d below ∙ sym (none_dated past arrival task d (none_fresh past arrival stale));
+      dates = λ task d below. agree.dates task d below ∙ sym (none_dated past arrival task d (none-fresh past arrival stale));
       values = values-came past arrival kept.outputs agree.values;
       known = agree.known ∙ kept-alike (known_bytes past) (known_bytes (Came arrival ∷ past)) (state_of past) (λ station number. sym (says.known station number));
-      tells = news-none taken past arrival kept.changes (none_fresh past arrival stale) agree.tells;
+      tells = news-none taken past arrival kept.changes (none-fresh past arrival stale) agree.tells;
     }
 
 all_sent : (past : Record) → AreAccepted past → AllSent StandsIn past

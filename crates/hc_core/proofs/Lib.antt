@@ -1,3 +1,4 @@
+pub mod Added
 pub mod Arrivals
 pub mod Awaits
 pub mod Commits

@@ -1,7 +1,7 @@
 -- The changes that nobody took, behind good answers.
-use Rattle.std.proofs.Common.{◌≡◌, List, [], ◌∷◌, ◌++◌, map, refl, ap, append_assoc, rules}
+use Rattle.std.proofs.Common.{◌≡◌, ◌-◌, List, [], ◌∷◌, ◌++◌, map, refl, ap, append_assoc, arith, length, length-append, rules}
 use Rattle.std.specs.Prelude.{All}
-use Rattle.std.proofs.lemmas.List.{map-append}
+use Rattle.std.proofs.lemmas.List.{length-map, map-append}
 use Rattle.std.proofs.lemmas.List.Elements.{All-head, All-tail}
 use Rattle.hc_records.specs.Line.{State, line}
 use Rattle.hc_records.specs.Edits.{state_after}
@@ -13,7 +13,7 @@ use Rattle.hc_events.specs.Exact.{SwapsAreExactFrom}
 use Rattle.hc_events.specs.Points.{line_of}
 use Rattle.hc_events.specs.Accepted.{StandsIn}
 use Rattle.hc_events.specs.Images.{Fresh, fresh_by}
-use Rattle.hc_events.specs.Changes.{Answered, AreLegalFrom, told_by}
+use Rattle.hc_events.specs.Changes.{Answered, AreLegalFrom, News, news_of, told_by}
 use Rattle.hc_events.specs.NewsLaws.{state_behind}
 use Rattle.hc_events.proofs.lemmas.Slots.{FitsFresh}
 use Rattle.hc_events.proofs.lemmas.Views.{legal-joined}
@@ -57,3 +57,9 @@ news-none taken past arrival changes none tells = search rules
 
 pub agree-taken : (kept : CoreParts) (past taken : Record) → Agree kept past taken → Agree (record kept { changes = [] }) past past
 agree-taken kept past taken agree = search rules
+
+-- they are as many as there is news since then
+
+pub count-untaken : (taken past : Record) (changes : List Change) → TellNews taken past changes → length changes ≡ length (news_of past) - length (news_of taken)
+count-untaken taken past changes tells =
+    omega (arith, ap (λ (news : List News). length news) tells.told, length-append (news_of taken) (map told_by changes), length-map changes told_by)

@@ -1,5 +1,5 @@
 -- The good answers of an arrival, by its outcomes and what came back.
-use Rattle.std.specs.Prelude.{List, [], ◌∷◌, ◌++◌, map}
+use Rattle.std.specs.Prelude.{Bool, true, false, List, [], ◌∷◌, ◌++◌, map}
 use Rattle.hc_frames.specs.Arrived.{Placed}
 use Rattle.hc_events.specs.declared.answer.Outcome.{Outcome}
 use Rattle.hc_events.specs.declared.answer.Outcome.TheVariants.{Inputs, WrongCount, Stale}
@@ -13,6 +13,12 @@ abbrev pub good_of : Outcome → Part → List Fresh
 good_of (Inputs task d) part = record { task = task; datagram = d; bytes = part.bytes } ∷ []
 good_of (WrongCount expected got) part = []
 good_of Stale part = []
+
+-- an outcome is a good answer
+abbrev pub is_inputs : Outcome → Bool
+is_inputs (Inputs task d) = true
+is_inputs (WrongCount expected got) = false
+is_inputs Stale = false
 
 -- outcome beside part, in order
 abbrev pub goods_in : List Outcome → List Part → List Fresh

@@ -70,7 +70,7 @@ impl Core {
     /// The frames that `propose_into` proposes, where an arena of so many bytes has room for all of them, and the bytes that
     /// they have. `NoSuchTask`, `Unprogrammed` and `SerialsSpent` as there; `Room` with the size needed where the arena is
     /// shorter; and of several the first of these. `Memory` where a growth was refused, and only after the first two. The
-    /// list is empty where the frames are refused. Nothing is sent by it.
+    /// list is empty where the frames are refused, and its room never falls. Nothing is sent by it.
     pub fn propose_within(
         &self,
         tasks: &[u8],
@@ -89,6 +89,7 @@ impl Core {
         ensures refused { IfErr result (λ fault. fault ≢ Memory → lowest (send_into_faults self.now.past tasks.now room) ≡ Some fault) }
         ensures early { IfSome (lowest (early_faults (length (owed_blocks self.now.past)) tasks.now)) (λ fault. result ≡ Err fault) }
         ensures room { IfErr result (λ fault. fault ≡ Memory → vec_capacity frames.old < MOST_DATAGRAMS * TASKS) }
+        ensures capacity { vec_capacity frames.old ≤ vec_capacity frames.new }
         ensures none { OnErr result (frames.new.items ≡ []) }
     {
         self.propose_into(tasks, frames)?;
@@ -106,7 +107,8 @@ impl Core {
     /// their number; `SerialsSpent` where too few serials are left; `Room` with the size needed where the arena is shorter;
     /// and of several the first of these. `Memory` where a growth was refused, and only after the first two. Then nothing
     /// is sent, nothing changed, the arena is as it was, and the list is empty. A list with room for 128 frames, 16 of each of
-    /// the eight tasks, takes no memory, and is never refused for `Memory` (this project's profile).
+    /// the eight tasks, takes no memory, and is never refused for `Memory` (this project's profile). The list's room never
+    /// falls.
     pub fn send_into(
         &mut self,
         tasks: &[u8],
@@ -122,6 +124,7 @@ impl Core {
         ensures refused { IfErr result (λ fault. fault ≢ Memory → lowest (send_into_faults self.old.past tasks.now (length arena.old)) ≡ Some fault) }
         ensures early { IfSome (lowest (early_faults (length (owed_blocks self.old.past)) tasks.now)) (λ fault. result ≡ Err fault) }
         ensures room { IfErr result (λ fault. fault ≡ Memory → vec_capacity frames.old < MOST_DATAGRAMS * TASKS) }
+        ensures capacity { vec_capacity frames.old ≤ vec_capacity frames.new }
         ensures unchanged { OnErr result (self.new ≡ self.old) }
         ensures untouched { OnErr result (arena.new ≡ arena.old) }
         ensures none { OnErr result (frames.new.items ≡ []) }

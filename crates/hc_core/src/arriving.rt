@@ -1,5 +1,5 @@
 //! What an arrival is, and what it changes.
-ghost use Rattle.std.specs.Prelude.{◌≡◌, ◌≢◌, [], ◌∷◌, Err, IfErr, IfOk, IfSome, Ok, OnErr, OnOk, Some, option_map};
+ghost use Rattle.std.specs.Prelude.{◌≡◌, ◌≢◌, ◌<◌, ◌≤◌, [], ◌∷◌, Err, IfErr, IfOk, IfSome, Ok, OnErr, OnOk, Some, option_map, vec_capacity};
 ghost use Rattle.hc_frames.specs.Arrived.{fault_in};
 ghost use Rattle.hc_events.specs.declared.answer.Answer.TheVariants as answer;
 ghost use Rattle.hc_events.specs.declared.answer.Arrived.TheVariants.{Answered};
@@ -10,6 +10,7 @@ ghost use Rattle.hc_events.specs.Entries.{Came};
 ghost use Rattle.hc_events.specs.Faults.{frame_refusal};
 ghost use Rattle.hc_events.specs.Outcomes.{told_with};
 ghost use Rattle.hc_events.specs.Steps.{Arrives, answer_to, entries_after, told_of};
+ghost use Rattle.hc_sendings.specs.declared.awaited.TheConstants.{FRAME_DATAGRAMS};
 
 use crate::goods::{put_changes, put_goods};
 use crate::keeping::Core;
@@ -19,9 +20,23 @@ use hc_frames::reading::{Returned, read_frame};
 use hc_records::items::Items;
 use std::alloc::{AllocError, Global};
 
+/// Empties the list of an arrival that answers no frame of tasks.
+fn empty_unless_answered(arrived: Arrived, outcomes: &mut Vec<Outcome>)
+    ensures told { told_with arrived outcomes.new.items ≡ told_with arrived outcomes.old.items }
+    ensures none { arrived ≢ Answered → outcomes.new.items ≡ [] }
+    ensures capacity { vec_capacity outcomes.new ≡ vec_capacity outcomes.old }
+{
+    match arrived {
+        Arrived::Answered => {}
+        Arrived::WriteDone => outcomes.clear(),
+        Arrived::WriteMissed => outcomes.clear(),
+        Arrived::Stale => outcomes.clear(),
+    }
+}
+
 impl Core {
     /// A stale arrival is recorded, and nothing else changes.
-    fn take_stale(&mut self, bytes: &[u8], arrival: &Returned<'_>)
+    pub(crate) fn take_stale(&mut self, bytes: &[u8], arrival: &Returned<'_>)
         requires read { arrival_in bytes.now ≡ Ok arrival.now }
         requires told { told_of (judged_by self.old.past arrival.now) ≡ answer.Stale }
         ensures { self.new ≡ record self.old { past = Came arrival.now ∷ self.old.past } }
@@ -56,7 +71,7 @@ impl Core {
     }
 
     /// The answer to a register write with another working counter: the block stays owed.
-    fn take_missed(&mut self, bytes: &[u8], arrival: &Returned<'_>)
+    pub(crate) fn take_missed(&mut self, bytes: &[u8], arrival: &Returned<'_>)
         requires read { arrival_in bytes.now ≡ Ok arrival.now }
         requires told { told_of (judged_by self.old.past arrival.now) ≡ answer.WriteMissed }
         ensures { self.new ≡ record self.old { past = Came arrival.now ∷ self.old.past } }
@@ -66,7 +81,7 @@ impl Core {
     }
 
     /// The answer to a register write with a working counter of 1: the block is known.
-    fn take_written(&mut self, bytes: &[u8], arrival: &Returned<'_>)
+    pub(crate) fn take_written(&mut self, bytes: &[u8], arrival: &Returned<'_>)
         requires read { arrival_in bytes.now ≡ Ok arrival.now }
         requires told { told_of (judged_by self.old.past arrival.now) ≡ answer.WriteDone }
         ensures { self.new ≡ record self.old { past = Came arrival.now ∷ self.old.past } }
@@ -78,8 +93,11 @@ impl Core {
         self.past = self.past.came(bytes);
     }
 
-    /// What an arrival changes, by what it is. `AllocError` where a growth was refused, and nothing changed.
-    fn take(
+    /// What an arrival that was read as a frame changes, by what it is: `judge` gives that, and the list of what it is for each
+    /// datagram. It is recorded. It takes memory where the list of the changes grows, and for the data of good answers, which go
+    /// into buffers that came back (`give_back`) as long as there are some. `AllocError` where a growth was refused, and nothing
+    /// changed.
+    pub fn take_arrival(
         &mut self,
         alloc: Global,
         bytes: &[u8],
@@ -102,23 +120,23 @@ impl Core {
         Ok(())
     }
 
-    /// An arrival that was read as a frame is recorded, and its answer tells datagram by datagram what it is.
-    /// `AllocError` where a growth was refused, and nothing changed.
-    fn take_read(
-        &mut self,
-        alloc: Global,
-        bytes: &[u8],
+    /// What an arrival is that was read as a frame, and nothing changes. The list is used again: what it held is dropped, and
+    /// where the arrival answers frames of tasks the list has of each datagram, in the frame's order, what it is; else it is
+    /// empty. It takes memory where the list has room for fewer than the frame's datagrams, 115 at most, alone: `AllocError`
+    /// where that was refused. The list's room never falls.
+    pub fn judge(
+        &self,
         arrival: &Returned<'_>,
         outcomes: &mut Vec<Outcome>,
     ) -> Result<Arrived, AllocError>
-        requires read { arrival_in bytes.now ≡ Ok arrival.now }
-        requires empty { outcomes.old.items ≡ [] }
-        ensures answer { IfOk result (λ arrived. told_with arrived outcomes.new.items ≡ told_of (judged_by self.old.past arrival.now)) }
-        ensures taken { OnOk result (self.new ≡ record self.old { past = Came arrival.now ∷ self.old.past }) }
-        ensures unchanged { OnErr result (self.new ≡ self.old) }
+        ensures answer { IfOk result (λ arrived. told_with arrived outcomes.new.items ≡ told_of (judged_by self.now.past arrival.now)) }
+        ensures none { result ≢ Ok Answered → outcomes.new.items ≡ [] }
+        ensures room { OnErr result (vec_capacity outcomes.old < FRAME_DATAGRAMS) }
+        ensures capacity { vec_capacity outcomes.old ≤ vec_capacity outcomes.new }
     {
+        outcomes.clear();
         let arrived = self.awaited.judge(&self.plan, arrival, outcomes)?;
-        self.take(alloc, bytes, arrival, arrived, outcomes.as_slice())?;
+        empty_unless_answered(arrived, outcomes);
         Ok(arrived)
     }
 
@@ -136,27 +154,9 @@ impl Core {
             Err(fault) => return Ok(Answer::Refused(CoreFault::from(fault))),
         };
         let mut outcomes = Vec::new(alloc);
-        let arrived = self.take_read(alloc, bytes, &arrival, &mut outcomes)?;
+        let arrived = self.judge(&arrival, &mut outcomes)?;
+        self.take_arrival(alloc, bytes, &arrival, arrived, outcomes.as_slice())?;
         Ok(arrived.answer(outcomes))
-    }
-
-    /// The same, and what it is for each datagram is put into an empty list.
-    fn arrive_with(
-        &mut self,
-        alloc: Global,
-        bytes: &[u8],
-        outcomes: &mut Vec<Outcome>,
-    ) -> Result<Arrived, CoreFault>
-        requires { outcomes.old.items ≡ [] }
-        ensures answer { IfOk result (λ arrived. told_with arrived outcomes.new.items ≡ answer_to self.old.past (Arrives bytes.now)) }
-        ensures entries { OnOk result (self.new ≡ record self.old { past = entries_after self.old.past (Arrives bytes.now) }) }
-        ensures refused { IfErr result (λ fault. fault ≢ Memory → option_map frame_refusal (fault_in bytes.now) ≡ Some fault) }
-        ensures early { IfSome (fault_in bytes.now) (λ fault. result ≡ Err (frame_refusal fault)) }
-        ensures unchanged { OnErr result (self.new ≡ self.old) }
-    {
-        let arrival = read_frame(bytes)?;
-        let arrived = self.take_read(alloc, bytes, &arrival, outcomes)?;
-        Ok(arrived)
     }
 
     /// An arrival, any bytes, as `step` serves it, for a list that is used again: where it answers frames of tasks the
@@ -164,7 +164,7 @@ impl Core {
     /// has no room for these outcomes, 115 at most; where the list of the changes grows; and for the data of good
     /// answers, which go into buffers that came back (`give_back`) as long as there are some. A fault of the frame, 20
     /// to 27, is told whatever memory does, and `Memory` where a growth was refused; then nothing changed, and the list
-    /// is empty.
+    /// is empty. The list's room never falls.
     pub fn arrive_into(
         &mut self,
         alloc: Global,
@@ -176,14 +176,19 @@ impl Core {
         ensures refused { IfErr result (λ fault. fault ≢ Memory → option_map frame_refusal (fault_in bytes.now) ≡ Some fault) }
         ensures early { IfSome (fault_in bytes.now) (λ fault. result ≡ Err (frame_refusal fault)) }
         ensures none { result ≢ Ok Answered → outcomes.new.items ≡ [] }
+        ensures capacity { vec_capacity outcomes.old ≤ vec_capacity outcomes.new }
         ensures unchanged { OnErr result (self.new ≡ self.old) }
     {
         outcomes.clear();
-        let told = self.arrive_with(alloc, bytes, outcomes);
-        if !matches!(told, Ok(Arrived::Answered)) {
-            outcomes.clear();
+        let arrival = read_frame(bytes)?;
+        let arrived = self.judge(&arrival, outcomes)?;
+        match self.take_arrival(alloc, bytes, &arrival, arrived, outcomes.as_slice()) {
+            Ok(()) => Ok(arrived),
+            Err(_) => {
+                outcomes.clear();
+                Err(CoreFault::Memory)
+            }
         }
-        told
     }
 
     /// The memory of a good answer that nobody reads any more comes back, for the data of good answers to come: up to

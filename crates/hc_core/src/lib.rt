@@ -2,10 +2,12 @@
 //! answers to these and to reads. What an event means is this project's profile, over frames of ETG.1000.4.
 #![tactic(auto)]
 
+mod adding;
 pub mod arena;
 mod arriving;
 mod buffers;
 mod declaring;
+mod discarding;
 mod editing;
 mod filling;
 mod forgetting;

@@ -47,7 +47,7 @@ impl Core {
 
     /// The same frames in a list that is used again: what it held is dropped, and it is empty where they are refused. A
     /// list with room for 128 frames, 16 of each of the eight tasks, takes no memory and is never refused for `Memory`
-    /// (this project's profile).
+    /// (this project's profile). The list's room never falls.
     pub fn propose_into(&self, tasks: &[u8], frames: &mut Vec<Sending>) -> Result<(), CoreFault>
         requires { AreSentTogether tasks.now }
         ensures frames { OnOk result (frames.new.items ≡ proposal self.now.past tasks.now) }
@@ -58,6 +58,7 @@ impl Core {
         ensures refused { IfErr result (λ fault. fault ≢ Memory → lowest (task_faults self.now.past tasks.now) ≡ Some fault) }
         ensures early { IfSome (lowest (early_faults (length (owed_blocks self.now.past)) tasks.now)) (λ fault. result ≡ Err fault) }
         ensures room { IfErr result (λ fault. fault ≡ Memory → vec_capacity frames.old < MOST_DATAGRAMS * TASKS) }
+        ensures capacity { vec_capacity frames.old ≤ vec_capacity frames.new }
         ensures none { OnErr result (frames.new.items ≡ []) }
     {
         let owed = self.owed.count();

@@ -1,8 +1,8 @@
-//! Takes the changes.
+//! Takes the changes, counts or discards them.
 ghost use Rattle.std.specs.Prelude.{◌≡◌};
 ghost use Rattle.hc_events.specs.Changes.{SwapsLeadFrom};
 ghost use Rattle.hc_events.specs.Points.{state_of};
-ghost use Rattle.hc_core.specs.News.{TellNews};
+ghost use Rattle.hc_core.specs.News.{TellNews, untaken};
 
 use crate::keeping::Core;
 use hc_events::change::Change;
@@ -35,5 +35,21 @@ impl Core {
         next.clear();
         self.taken = Snapshot::of(&self.past);
         mem::replace(&mut self.changes, next)
+    }
+
+    /// How many changes came since they were taken last, or since the opening.
+    pub fn untaken(&self) -> usize
+        ensures { result ≡ untaken self.now }
+    {
+        self.changes.len()
+    }
+
+    /// The changes since they were taken last, or since the opening, are dropped, as if they were taken. It takes no memory.
+    pub fn discard_changes(&mut self)
+        ensures { self.new ≡ record { past = self.old.past; taken = self.old.past } }
+    {
+        self.changes.clear();
+        let now = Snapshot::of(&self.past);
+        self.taken = now;
     }
 }

@@ -9,5 +9,6 @@ mod Ready
 pub mod Blocks
 pub mod Small
 pub mod Through
+pub mod Together
 pub mod Wrote
 pub mod lemmas

@@ -4,6 +4,7 @@ pub mod Pairs
 pub mod PairLaws
 pub mod Writing
 pub mod WritingLaws
+pub mod TogetherLaws
 pub mod Carrying
 pub mod CarryingLaws
 pub mod FrameLaws

@@ -1,6 +1,7 @@
 //! What the register blocks of a line mean to the slaves: each function here does nothing, and its contract is a law. Nobody
 //! calls it.
 ghost use Rattle.hc_exchange.specs.PairLaws.{AreasWithBitsAreMapped, BlocksGoOneWay, BlocksPairTheirAreas, LinesPairTheirAreas, NoLogicalBitTwice, NoMemoryBitTwice, PairsAreOneToOne, UnmappedAreasPairNothing};
+ghost use Rattle.hc_exchange.specs.TogetherLaws.{JointFramesProgramAlike};
 ghost use Rattle.hc_exchange.specs.WritingLaws.{ProgrammedSlavesPairTheirAreas, WritingKeepsBytes, WritingKeepsTheCount, WritingProgramsTheLine};
 
 /// The pairs that the slave machine reads from the FMMU block of a mapped area are exactly these: the k-th bit of the area in
@@ -64,4 +65,10 @@ pub fn programmed_slaves_pair_their_areas()
 /// Where each number of the machines' memories is a byte, so is it behind the writes.
 pub fn writing_keeps_bytes()
     ensures { WritingKeepsBytes }
+{}
+
+/// Blocks that are written by one frame, each by a datagram of its own, leave the machines of a line as frames of one write
+/// each do, in the same order.
+pub fn joint_frames_program_alike()
+    ensures { JointFramesProgramAlike }
 {}

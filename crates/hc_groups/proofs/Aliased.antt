@@ -39,7 +39,7 @@ others groups index alias is none k d within =
     let long : k < length (aliases groups) = let same = aliases-length groups in omega (arith, same, within) in
     differs (get_or groups k d).group.alias alias (subst (λ (own : Alias). own.alias ≢ alias) (alias-at groups k d nobody within) (all k nobody long))
 
-alone : (groups : List Declared) (alias : ℕ) → lowest_fault (groups_of groups) ≡ None → AllPairs (λ a b. has_alias alias b ≡ true → has_alias alias a ≡ false) groups
+pub alone : (groups : List Declared) (alias : ℕ) → lowest_fault (groups_of groups) ≡ None → AllPairs (λ a b. has_alias alias b ≡ true → has_alias alias a ≡ false) groups
 alone groups alias none =
     AllPairs-weaker (λ (a b : Declared). a.group.alias ≢ b.group.alias) (λ a b. has_alias alias b ≡ true → has_alias alias a ≡ false)
     (λ a b other is. differs-behind a.group.alias b.group.alias alias other is) groups

@@ -30,6 +30,14 @@ found-from test first n (x ∷ xs) at = found-by (test x) test first n x xs refl
 pub first-at : {X : Type 0} (test : X → Bool) (i : ℕ) (xs : List X) → position test xs ≡ Some i → IsFirstAt test i xs
 first-at test i xs at = search (rules, found-from, position_from-zero)
 
+first-from : {X : Type 0} (test : X → Bool) (first i n : ℕ) (xs : List X) → n ≡ first + i → IsFirstAt test i xs → position_from test first xs ≡ Some n
+first-from test first i n [] is here = absurd here
+first-from test first zero n (x ∷ xs) is here = rw here (ap Some (omega (arith, is)))
+first-from test first (suc i) n (x ∷ xs) is here = let other = here.0 in rw other (first-from test (first + 1) i n xs (omega (arith, is)) here.1)
+
+pub position-first : {X : Type 0} (test : X → Bool) (i : ℕ) (xs : List X) → IsFirstAt test i xs → position test xs ≡ Some i
+position-first test i xs here = position_from-zero test xs ∙ first-from test 0 i i xs (omega arith) here
+
 -- where nothing is found, it passes nowhere
 none-by : (passes : Bool) (first : ℕ) (rest : Option ℕ) (others : Bool) → (rest ≡ None → others ≡ false) → cond passes (Some first) rest ≡ None → (passes || others) ≡ false
 none-by passes first rest others later none = search rules
@@ -37,6 +45,9 @@ none-by passes first rest others later none = search rules
 none-from : {X : Type 0} (test : X → Bool) (first : ℕ) (xs : List X) → position_from test first xs ≡ None → list_any test xs ≡ false
 none-from test first [] none = refl
 none-from test first (x ∷ xs) none = none-by (test x) first (position_from test (first + 1) xs) (list_any test xs) (none-from test (first + 1) xs) none
+
+pub none-found : {X : Type 0} (test : X → Bool) (xs : List X) → position test xs ≡ None → list_any test xs ≡ false
+none-found test xs none = search (rules, none-from, position_from-zero)
 
 pub some-found : {X : Type 0} (test : X → Bool) (xs : List X) → list_any test xs ≡ true → position test xs ≢ None
 some-found test xs some none = search (rules, none-from, position_from-zero)

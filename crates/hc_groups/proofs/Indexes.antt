@@ -13,13 +13,14 @@ use Rattle.hc_records.specs.declared.records.Slave.{Slave}
 use Rattle.hc_records.specs.Edits.{has_station}
 use Rattle.hc_records.specs.Line.{Member, groups_of, is_at, line_from}
 use Rattle.hc_records.specs.Project.{lowest_fault}
+use Rattle.hc_records.proofs.lemmas.Lines.{RankWithin, declared_slaves, line-ascends, line-within}
 use Rattle.hc_records.proofs.lemmas.Lists.{AllPairs-weaker}
 use Rattle.hc_records.proofs.lemmas.Slaves.{line-inside, line-stations, project-counted}
 use Rattle.hc_records.proofs.lemmas.Walks.{length-line}
 use Rattle.hc_groups.specs.declared.addresses.Address.{Address}
-use Rattle.hc_groups.specs.Index.{AreSums, Index, IsIndexOf, IsMember, address_of, addresses, block_sum, blocks_of, declared_count, own_blocks, own_sum, owned_by, present_count, rank_in, slave_in, IsSpot, block_sums}
+use Rattle.hc_groups.specs.Index.{AreSums, Index, IsDeclaredAt, IsIndexOf, IsMember, address_of, addresses, block_sum, blocks_of, declared_count, own_blocks, own_sum, owned_by, present_count, rank_in, slave_in, IsSpot, block_sums}
 use Rattle.hc_groups.proofs.Declaring.{addresses-distinct, addresses-ranked, addresses-some, any-station, line-among}
-use Rattle.hc_groups.proofs.IndexFound.{differs, differs-behind, any-none, any-some, find-position, only-one, position-at, position-none}
+use Rattle.hc_groups.proofs.IndexFound.{differs, differs-behind, any-none, any-some, find-none, find-position, only-one, position-at, position-none}
 use Rattle.hc_groups.proofs.Lines.{line-absent, line-at, line-front, line-length, line-ranks}
 use Rattle.hc_groups.proofs.Owned.{owned, owners-length}
 use Rattle.hc_groups.proofs.Owners.{line-sum, owned-at, owned-past}
@@ -40,7 +41,7 @@ line-low groups none = search (rules, length-line, project-counted)
 alone : (groups : List Declared) (station : ℕ) → lowest_fault (groups_of groups) ≡ None → AllPairs (λ a b. is_at station b ≡ true → is_at station a ≡ false) (line_from 1 groups)
 alone groups station none = search (rules, AllPairs-weaker, differs-behind, line-stations)
 
-ranked-apart : (groups : List Declared) → AllPairs (λ a b. a.rank ≢ b.rank) (addresses groups)
+pub ranked-apart : (groups : List Declared) → AllPairs (λ a b. a.rank ≢ b.rank) (addresses groups)
 ranked-apart groups = search (rules, AllPairs-weaker, addresses-ranked)
 
 -- its rank is at least 1
@@ -222,6 +223,15 @@ ranked groups index group place declared is at low =
     let same = ap declared_count (get_or_from_slice_get groups group declared declared at) in
     record { inside = front.0; rank = front.1; low = let sum = front.1 in omega (arith, counted, own, same, low, sum) }
 
+-- and that of a group's first slave
+pub first-ranked : (groups : List Declared) (index : Index) (group : ℕ) → IsIndexOf groups index → group < length groups → Ranked groups index group 0
+first-ranked groups index group is inside =
+    let here = some-at groups group inside in
+    let front = front-at declared_count index.ranks groups group is.declared.ranks (omega (arith, inside)) in
+    let counted = project-counted groups is.declared.project in
+    let own = sum_by_more_le declared_count groups group here.0 inside in
+    record { inside = front.0; rank = front.1; low = let sum = front.1 in omega (arith, counted, own, sum) }
+
 -- how many slaves and blocks the line has
 
 pub slaves-total : (groups : List Declared) (index : Index) → IsIndexOf groups index
@@ -248,19 +258,31 @@ pub record Owner (groups : List Declared) (index : Index) (rank group : ℕ) : T
   pub ranked : rank ≡ rank_in groups group (rank - 1 - get_or index.ranks group 0)
   pub low : rank - 1 - get_or index.ranks group 0 < length declared.group.slaves
 
-pub owner-present : (groups : List Declared) (index : Index) (rank group : ℕ) (owner : Owner groups index rank group) (d : Declared) (present : Bool) → (get_or groups group d).present ≡ present
-    → owner.declared.present ≡ present
-owner-present groups index rank group owner d present is = sym (ap (λ (own : Declared). own.present) (get_or_from_slice_get groups group owner.declared d owner.at)) ∙ is
+-- the declared slave with a rank, in a group that is present or isn't
+
+pub at-present : (groups : List Declared) (rank group place : ℕ) (it : IsDeclaredAt groups rank group place) (d : Declared) (present : Bool) → (get_or groups group d).present ≡ present
+    → it.declared.present ≡ present
+at-present groups rank group place it d present is = sym (ap (λ (own : Declared). own.present) (get_or_from_slice_get groups group it.declared d it.at)) ∙ is
+
+pub at-member : (groups : List Declared) (rank group place : ℕ) (it : IsDeclaredAt groups rank group place) → it.declared.present ≡ true → IsMember groups rank group place
+at-member groups rank group place it present = record { declared = it.declared; at = it.at; present = present; inside = it.inside; ranked = it.ranked }
+
+pub at-absent : (groups : List Declared) (rank group place : ℕ) (it : IsDeclaredAt groups rank group place) → it.declared.present ≡ false → All (λ member. member.rank ≢ rank) (line_from 1 groups)
+at-absent groups rank group place it absent =
+    subst (λ (r : ℕ). All (λ member. member.rank ≢ r) (line_from 1 groups)) (sym it.ranked) (line-absent 1 groups group place it.declared it.at absent it.inside)
+
+-- no slave has a rank past the last
+pub none-past : (groups : List Declared) (rank : ℕ) → sum_by declared_count groups < rank → All (λ member. member.rank ≢ rank) (line_from 1 groups)
+none-past groups rank past =
+    All-weaker (λ (member : Member). member.rank < 1 + sum_by declared_count groups) (λ member. member.rank ≢ rank) (λ member below same. omega (arith, past, below, same)) (line_from 1 groups) (line-ranks 1 groups)
 
 module _ (groups : List Declared) (index : Index) (is : IsIndexOf groups index) where
   pub slaves-sums : AreSums index.slaves
   slaves-sums = are-sums present_count index.slaves groups is.slaves
 
-  -- no slave has a rank past the last
-  pub rank-behind : (rank : ℕ) → 1 ≤ rank → length index.owners ≤ rank - 1 → All (λ member. member.rank ≢ rank) (line_from 1 groups)
-  rank-behind rank some past =
-      let long = ap length is.declared.owners ∙ owners-length 0 groups in
-      All-weaker (λ (member : Member). member.rank < 1 + sum_by declared_count groups) (λ member. member.rank ≢ rank) (λ member below same. omega (arith, long, past, some, below, same)) (line_from 1 groups) (line-ranks 1 groups)
+  -- a rank past the last
+  pub rank-past : (rank : ℕ) → 1 ≤ rank → length index.owners ≤ rank - 1 → sum_by declared_count groups < rank
+  rank-past rank some past = let long = ap length is.declared.owners ∙ owners-length 0 groups in omega (arith, long, past, some)
 
   falls-owned : (n group : ℕ) → slice_get index.owners n ≡ Some group → (offset : ℕ) × FallsIn declared_count groups n group offset
   falls-owned n group at =
@@ -288,14 +310,8 @@ module _ (groups : List Declared) (index : Index) (is : IsIndexOf groups index) 
         low = omega (arith, sum, first, some, low);
       }
 
-  pub rank-member : (rank group : ℕ) → (owner : Owner groups index rank group) → owner.declared.present ≡ true → IsMember groups rank group (rank - 1 - get_or index.ranks group 0)
-  rank-member rank group owner present =
-      record { declared = owner.declared; at = owner.at; present = present; inside = owner.low; ranked = owner.ranked }
-
-  pub rank-absent : (rank group : ℕ) → (owner : Owner groups index rank group) → owner.declared.present ≡ false → All (λ member. member.rank ≢ rank) (line_from 1 groups)
-  rank-absent rank group owner absent =
-      subst (λ (r : ℕ). All (λ member. member.rank ≢ r) (line_from 1 groups)) (sym owner.ranked)
-      (line-absent 1 groups group (rank - 1 - get_or index.ranks group 0) owner.declared owner.at absent owner.low)
+  pub rank-at : (rank group : ℕ) → Owner groups index rank group → IsDeclaredAt groups rank group (rank - 1 - get_or index.ranks group 0)
+  rank-at rank group owner = record { declared = owner.declared; at = owner.at; inside = owner.low; ranked = owner.ranked }
 
   pub nth-found : (position group place : ℕ) → IsSpot index.slaves position group place
       → option_map {U = Member} (λ slave. record { rank = rank_in groups group place; slave = slave }) (slave_in groups group place) ≡ slice_get (line_from 1 groups) position
@@ -332,3 +348,31 @@ member-found groups index station rank group place is declared member =
     member-in groups group place (rank_in groups group place) stands.slave refl stands.found
     ∙ sym stands.at
     ∙ sym (find-position (is_at station) (line_from 1 groups) (sum_by present_count (take group groups) + place) (position-found groups index station rank group place is declared member))
+
+-- so is a slave by its rank
+
+alone-ranked : (groups : List Declared) (rank : ℕ) → AllPairs (λ a b. (b.rank == rank) ≡ true → (a.rank == rank) ≡ false) (line_from 1 groups)
+alone-ranked groups rank =
+    AllPairs-weaker (λ (a b : Member). a.rank < b.rank) (λ a b. (b.rank == rank) ≡ true → (a.rank == rank) ≡ false)
+    (λ a b less is. let same = eqb-true b.rank rank is in differs a.rank rank (λ also. omega (arith, less, same, also))) (line_from 1 groups) (line-ascends 1 groups)
+
+pub ranked-found : (groups : List Declared) (rank group place : ℕ) → IsMember groups rank group place
+    → option_map {U = Member} (λ slave. record { rank = rank_in groups group place; slave = slave }) (slave_in groups group place) ≡ find (λ member. member.rank == rank) (line_from 1 groups)
+ranked-found groups rank group place member =
+    let line = line_from 1 groups in
+    let stands = stands-at groups group place member.declared member.at member.present member.inside in
+    let of : Member = record { rank = rank_in groups group place; slave = stands.slave } in
+    let position = sum_by present_count (take group groups) + place in
+    let at = position-at (λ (m : Member). m.rank == rank) line position of (alone-ranked groups rank) stands.at (eq-eqb of.rank rank (sym member.ranked)) in
+    member-in groups group place (rank_in groups group place) stands.slave refl stands.found ∙ sym stands.at ∙ sym (find-position (λ (m : Member). m.rank == rank) line position at)
+
+pub ranked-none : (groups : List Declared) (rank : ℕ) → All (λ member. member.rank ≢ rank) (line_from 1 groups) → find (λ (member : Member). member.rank == rank) (line_from 1 groups) ≡ None
+ranked-none groups rank none =
+    let line = line_from 1 groups in
+    find-none (λ (m : Member). m.rank == rank) line
+    (position-none (λ (m : Member). m.rank == rank) line (All-weaker (λ (m : Member). m.rank ≢ rank) (λ m. (m.rank == rank) ≡ false) (λ m other. differs m.rank rank other) line none))
+
+-- no slave has rank 0
+pub ranks-some : (groups : List Declared) → All (λ (member : Member). member.rank ≢ 0) (line_from 1 groups)
+ranks-some groups =
+    All-weaker (RankWithin 1 (1 + length (declared_slaves groups))) (λ member. member.rank ≢ 0) (λ member within is. let some = within.0 in omega (arith, some, is)) (line_from 1 groups) (line-within 1 groups)

@@ -3,7 +3,6 @@ pub mod Found
 pub mod Harmless
 pub mod Kept
 pub mod Known
-pub mod Ranks
 pub mod Repeats
 pub mod Same
 pub mod Set
@@ -24,3 +23,6 @@ pub mod Owners
 pub mod Searched
 pub mod IndexStations
 pub mod Summed
+pub mod Presences
+pub mod SlavePlaces
+pub mod Turned

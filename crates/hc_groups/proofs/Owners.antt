@@ -42,7 +42,7 @@ line-sum rank (declared ∷ groups) =
 
 -- a slave has at most 16
 
-few-blocks : (slaves : List Slave) → All IsSlaveInside slaves → block_sum slaves ≤ 16 * length slaves
+pub few-blocks : (slaves : List Slave) → All IsSlaveInside slaves → block_sum slaves ≤ 16 * length slaves
 few-blocks [] inside = omega arith
 few-blocks (slave ∷ slaves) inside =
     let here = (All-head IsSlaveInside slave slaves inside).few in
@@ -53,7 +53,7 @@ few-blocks (slave ∷ slaves) inside =
 few-own : (present : Bool) (slaves : List Slave) → All IsSlaveInside slaves → block_sum (if present then slaves else []) ≤ 16 * length slaves
 few-own present slaves inside = search (rules, few-blocks)
 
-few-groups : (groups : List Declared) → All (λ declared. All IsSlaveInside declared.group.slaves) groups → sum_by own_sum groups ≤ 16 * sum_by declared_count groups
+pub few-groups : (groups : List Declared) → All (λ declared. All IsSlaveInside declared.group.slaves) groups → sum_by own_sum groups ≤ 16 * sum_by declared_count groups
 few-groups [] inside = omega arith
 few-groups (declared ∷ groups) inside =
     let here = few-own declared.present declared.group.slaves (All-head (λ declared. All IsSlaveInside declared.group.slaves) declared groups inside) in
@@ -62,7 +62,7 @@ few-groups (declared ∷ groups) inside =
     let count = sum_by-cons declared_count declared groups in
     omega (arith, here, rest, sum, count)
 
-all-inside : (groups : List Declared) → lowest_fault (groups_of groups) ≡ None → All (λ declared. All IsSlaveInside declared.group.slaves) groups
+pub all-inside : (groups : List Declared) → lowest_fault (groups_of groups) ≡ None → All (λ declared. All IsSlaveInside declared.group.slaves) groups
 all-inside groups none = each-group IsSlaveInside groups (project-inside (groups_of groups) none).slaves
 
 pub few-present : (groups : List Declared) → lowest_fault (groups_of groups) ≡ None → sum_by own_sum groups < 4294967296

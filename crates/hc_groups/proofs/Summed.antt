@@ -35,7 +35,7 @@ module _ {X : Type 0} (count : X → ℕ) where
   sums-at front (x ∷ xs) zero low = ap Some (omega arith)
   sums-at front (x ∷ xs) (suc k) low = search (rules, sum_by-cons, sums-at (front + count x) xs k (omega arith))
 
-  sums-first : (front : ℕ) (xs : List X) → slice_get (sums_from count front xs) 0 ≡ Some front
+  pub sums-first : (front : ℕ) (xs : List X) → slice_get (sums_from count front xs) 0 ≡ Some front
   sums-first front [] = refl
   sums-first front (x ∷ xs) = refl
 

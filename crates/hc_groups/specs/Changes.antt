@@ -1,5 +1,5 @@
 -- What an edit changes of declared groups: which group comes or goes, or which slave gets which areas.
-use Rattle.std.specs.Prelude.{ℕ, ◌+◌, ◌==◌, Bool, true, false, List, [], length, position, slice_get, option_and_then, option_map, sum_by, take, Option, None}
+use Rattle.std.specs.Prelude.{◌≡◌, ℕ, ◌+◌, ◌==◌, Bool, true, false, List, [], length, position, slice_get, option_and_then, option_map, sum_by, take, Option, None, Some}
 use Rattle.std.specs.Option.{option_map_or}
 use Rattle.hc_records.specs.declared.records.Area.{Area}
 use Rattle.hc_records.specs.declared.records.Slave.{Slave}
@@ -75,6 +75,10 @@ change_by groups (Disconnect alias) = option_map Presence (presence_change group
 change_by groups (Remap station area pdos) = option_map Areas (areas_change groups station area (λ a. record a { assigned = pdos }))
 change_by groups (Move station area task) = option_map Areas (areas_change groups station area (λ a. record a { task = task }))
 change_by groups (Declare group) = None
+
+-- an edit makes the change of these groups
+abbrev pub IsMade : List Declared → Prepared → Type 0
+IsMade groups change = (edit : Edit) × (change_by groups edit ≡ Some change)
 
 -- the groups with the presence of one of them set, and with the areas of one slave replaced; as they were where there is none
 abbrev pub with_present : Bool → Declared → Declared

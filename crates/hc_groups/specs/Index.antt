@@ -144,6 +144,13 @@ owned_by [] n = None
 owned_by (member ∷ members) n =
     if nat_lt n (own_blocks member) then Some (member, n) else owned_by members (n - own_blocks member)
 
+-- the declared slave with a rank, present or not: its group has this number, and it has this place in it
+pub record IsDeclaredAt (groups : List Declared) (rank group place : ℕ) : Type 0 where
+  pub declared : Declared
+  pub at : slice_get groups group ≡ Some declared
+  pub inside : place < length declared.group.slaves
+  pub ranked : rank ≡ rank_in groups group place
+
 -- the slave with a rank stands in the line: its group, with this number, is present, and it has this place in it
 pub record IsMember (groups : List Declared) (rank group place : ℕ) : Type 0 where
   pub declared : Declared

@@ -4,3 +4,4 @@ pub mod Laws
 pub mod Rows
 pub mod Index
 pub mod Room
+pub mod inner

@@ -1,15 +1,15 @@
 //! What an edit changes, found in the declared groups: the group that comes or goes, or the slave whose
 //! areas change and the areas that it gets.
-ghost use Rattle.std.specs.Prelude.{◌≡◌, ◌+◌, ◌<◌, ◌≤◌, true, IfOk, Some, length, position, sum_by};
+ghost use Rattle.std.specs.Prelude.{◌≡◌, true, IfOk, Some};
 ghost use Rattle.std.specs.List.{list_any};
-ghost use Rattle.hc_records.specs.Edits.{has_station};
-ghost use Rattle.hc_records.specs.Line.{IsCounted, has_address};
+ghost use Rattle.hc_records.specs.Line.{IsCounted};
 ghost use Rattle.hc_groups.specs.Edits.{changed};
-ghost use Rattle.hc_groups.specs.Changes.{areas_at, areas_change, areas_changed, first_rank, has_alias, has_slave, presence_change, slave_place, slaves_at};
+ghost use Rattle.hc_groups.specs.Changes.{areas_at, areas_change, areas_changed, has_slave, presence_change};
 
 use crate::areas::{AreaEdit, areas_after};
+use crate::index::Indexed;
 use hc_records::items::Items;
-use hc_records::records::{Area, Declared, Slave};
+use hc_records::records::{Area, Declared};
 use std::alloc::{AllocError, Global};
 
 /// A declared group that comes or goes.
@@ -45,89 +45,22 @@ pub struct AreasChange {
     pub areas: Items<Area>,
 }
 
-/// How many slaves these groups have.
-fn count_slaves(groups: &[Declared]) -> usize
-    requires { IsCounted groups.now }
-    ensures { result ≡ sum_by (λ declared. length declared.group.slaves) groups.now }
-{
-    let mut count = 0;
-    for declared in groups {
-        count += declared.group.slaves.len();
-    }
-    count
-}
-
-/// The rank of a slave by its group's place and its own in the group. It takes no memory.
-fn rank_at(groups: &[Declared], group: usize, slave: usize) -> u16
-    requires counted { IsCounted groups.now }
-    requires within { group < length groups.now }
-    requires slaves { slave ≤ length (slaves_at groups.now group) }
-    ensures { result ≡ first_rank groups.now group + slave }
-{
-    let before = count_slaves(&groups[..group]);
-    (1 + before + slave) as u16
-}
-
-/// The place of the group with an alias, none where none has it.
-fn group_place(groups: &[Declared], alias: u16) -> Option<usize>
-    ensures { result ≡ position (has_alias alias) groups.now }
-{
-    groups
-        .iter()
-        .position(|declared| declared.group.alias == alias)
-}
-
 /// What becomes different where the group with an alias comes or goes, none where no group has it. It
 /// takes no memory.
 pub(crate) fn presence_change(
-    groups: &[Declared],
+    groups: &Indexed,
     alias: u16,
     present: bool,
 ) -> Option<PresenceChange>
     requires { IsCounted groups.now }
     ensures { result ≡ presence_change groups.now alias present }
 {
-    let group = group_place(groups, alias)?;
+    let group = groups.group(alias)?;
     Some(PresenceChange {
         group,
         present,
-        first: rank_at(groups, group, 0),
-        slaves: groups[group].group.slaves.len() as u16,
-    })
-}
-
-/// Whether one of these slaves has a station address.
-fn has_station(slaves: &[Slave], station: u16) -> bool
-    ensures { result ≡ has_station station slaves.now }
-{
-    slaves.iter().any(|slave| slave.station == station)
-}
-
-/// The place of the group that has the slave with a station address, none where none has it.
-fn group_with(groups: &[Declared], station: u16) -> Option<usize>
-    ensures { result ≡ position (has_slave station) groups.now }
-{
-    groups.iter().position(|declared| has_station(declared.group.slaves.as_slice(), station))
-}
-
-/// The place of the slave with a station address in its group, none where none has it.
-fn place_among(slaves: &[Slave], station: u16) -> Option<usize>
-    ensures { result ≡ position (has_address station) slaves.now }
-{
-    slaves.iter().position(|slave| slave.station == station)
-}
-
-/// Where the slave with a station address stands, none where none is declared. It takes no memory.
-fn slave_place(groups: &[Declared], station: u16) -> Option<SlavePlace>
-    requires { IsCounted groups.now }
-    ensures { result ≡ slave_place groups.now station }
-{
-    let group = group_with(groups, station)?;
-    let slave = place_among(groups[group].group.slaves.as_slice(), station)?;
-    Some(SlavePlace {
-        group,
-        slave,
-        rank: rank_at(groups, group, slave),
+        first: groups.first_rank(group),
+        slaves: groups.groups()[group].group.slaves.len() as u16,
     })
 }
 
@@ -162,15 +95,14 @@ fn areas_changed(
 /// refused.
 pub(crate) fn areas_change(
     alloc: Global,
-    groups: &[Declared],
+    groups: &Indexed,
     edit: &AreaEdit,
 ) -> Result<AreasChange, AllocError>
-    requires counted { IsCounted groups.now }
     requires known { list_any (has_slave edit.now.station) groups.now ≡ true }
     ensures { IfOk result (λ found. areas_change groups.now edit.now.station edit.now.area (changed edit.now.change) ≡ Some found) }
 {
-    let Some(place) = slave_place(groups, edit.station) else {
+    let Some(place) = groups.slave_place(edit.station) else {
         unreachable!()
     };
-    areas_changed(alloc, groups, place, edit)
+    areas_changed(alloc, groups.groups(), place, edit)
 }

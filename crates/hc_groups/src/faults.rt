@@ -1,74 +1,51 @@
 //! Whether an edit is refused by itself: by what is declared, what is present, and its own words.
-ghost use Rattle.std.specs.Prelude.{◌≡◌, ◌==◌, ◌&&◌, None, Some, IfErr, IfOk};
-ghost use Rattle.std.specs.List.{list_any};
+ghost use Rattle.std.specs.Prelude.{◌≡◌, None, Some, IfErr, IfOk};
 ghost use Rattle.hc_records.specs.Edits.{area_at, area_faults};
-ghost use Rattle.hc_records.specs.Line.{IsCounted};
 ghost use Rattle.hc_records.specs.Lists.{lowest};
 ghost use Rattle.hc_records.specs.declared.edit.Edit.TheVariants.{Connect, Disconnect, Remap, Move};
 ghost use Rattle.hc_groups.specs.Edits.{assigning_faults, own_fault, state_of};
 
+use crate::index::Indexed;
 use hc_records::assignment::repeats;
 use hc_records::edit::Edit;
 use hc_records::faults::EditFault;
 use hc_records::limits::{MOST_AREA_BITS, TASKS};
-use hc_records::line;
-use hc_records::records::{Area, Declared};
+use hc_records::records::Area;
 
-/// Whether a group with an alias is declared.
-fn is_declared(groups: &[Declared], alias: u16) -> bool
-    ensures { result ≡ list_any (λ declared. declared.group.alias == alias) groups.now }
-{
-    groups.iter().any(|declared| declared.group.alias == alias)
-}
-
-/// Whether a group with an alias is present.
-fn is_present(groups: &[Declared], alias: u16) -> bool
-    ensures { result ≡ list_any (λ declared. (declared.group.alias == alias) && declared.present) groups.now }
-{
-    groups.iter().any(|declared| declared.group.alias == alias && declared.present)
-}
-
-fn connect_fault(groups: &[Declared], alias: u16) -> Option<EditFault>
+fn connect_fault(groups: &Indexed, alias: u16) -> Option<EditFault>
     ensures { result ≡ own_fault groups.now (Connect alias) }
 {
-    if !is_declared(groups, alias) {
-        return Some(EditFault::UnknownAlias);
+    match groups.presence(alias) {
+        Some(false) => None,
+        Some(true) => Some(EditFault::AlreadyPresent),
+        None => Some(EditFault::UnknownAlias),
     }
-    if is_present(groups, alias) {
-        return Some(EditFault::AlreadyPresent);
-    }
-    None
 }
 
-fn disconnect_fault(groups: &[Declared], alias: u16) -> Option<EditFault>
+fn disconnect_fault(groups: &Indexed, alias: u16) -> Option<EditFault>
     ensures { result ≡ own_fault groups.now (Disconnect alias) }
 {
-    if !is_declared(groups, alias) {
-        return Some(EditFault::UnknownAlias);
+    match groups.presence(alias) {
+        Some(true) if alias == 0 => Some(EditFault::Mandatory),
+        Some(true) => None,
+        Some(false) => Some(EditFault::NotPresent),
+        None => Some(EditFault::UnknownAlias),
     }
-    if !is_present(groups, alias) {
-        return Some(EditFault::NotPresent);
-    }
-    if alias == 0 {
-        return Some(EditFault::Mandatory);
-    }
-    None
 }
 
 /// An area of the present slave with a station address, or why there is none.
-fn area_of<'a>(groups: &'a [Declared], station: u16, area: u8) -> Result<&'a Area, EditFault>
-    requires { IsCounted groups.now }
+fn area_of<'a>(groups: &Indexed<'a>, station: u16, area: u8) -> Result<&'a Area, EditFault>
     ensures found { IfOk result (λ found. area_at (state_of groups.now) station area ≡ Some found.now) }
     ensures free { IfOk result (λ found. lowest (area_faults (state_of groups.now) station area) ≡ None) }
     ensures refused { IfErr result (λ fault. lowest (area_faults (state_of groups.now) station area) ≡ Some fault) }
 {
-    if !line::is_declared_station(groups, station) {
+    if !groups.is_declared_station(station) {
         return Err(EditFault::UnknownStation);
     }
-    let Some(member) = line::member_at(groups, station) else {
+    let Some(slave) = groups.slave_at(station) else {
         return Err(EditFault::Absent);
     };
-    match member.slave().areas.as_slice().get(usize::from(area)) {
+    match slave.slave().areas.as_slice().get(usize::from(area)) {
         Some(found) => Ok(found),
         None => Err(EditFault::NoSuchArea),
     }
@@ -92,8 +69,7 @@ fn assigning_fault(area: &Area, pdos: &[u16]) -> Option<EditFault>
 
 /// The lowest fault that a remap with these indexes has by itself, as `own_fault` of that edit; a caller that has them
 /// in a slice needs no list of them for it. It takes no memory.
-pub fn remap_fault(groups: &[Declared], station: u16, area: u8, pdos: &[u16]) -> Option<EditFault>
-    requires { IsCounted groups.now }
+pub fn remap_fault(groups: &Indexed, station: u16, area: u8, pdos: &[u16]) -> Option<EditFault>
     ensures { result ≡ own_fault groups.now (Remap station area pdos.now) }
 {
     match area_of(groups, station, area) {
@@ -102,8 +78,7 @@ pub fn remap_fault(groups: &[Declared], station: u16, area: u8, pdos: &[u16]) ->
     }
 }
 
-fn move_fault(groups: &[Declared], station: u16, area: u8, task: u8) -> Option<EditFault>
-    requires { IsCounted groups.now }
+fn move_fault(groups: &Indexed, station: u16, area: u8, task: u8) -> Option<EditFault>
     ensures { result ≡ own_fault groups.now (Move station area task) }
 {
     match area_of(groups, station, area) {
@@ -115,9 +90,8 @@ fn move_fault(groups: &[Declared], station: u16, area: u8, task: u8) -> Option<E
 
 /// The lowest fault that an edit has by itself, none where it has none: of the faults 1 to 11, by
 /// number, the first that holds over the declared groups. An edit that declares a group has none of
-/// these. The groups of a project meet the condition. It takes no memory.
-pub fn own_fault(groups: &[Declared], edit: &Edit) -> Option<EditFault>
-    requires { IsCounted groups.now }
+/// these. It takes no memory.
+pub fn own_fault(groups: &Indexed, edit: &Edit) -> Option<EditFault>
     ensures { result ≡ own_fault groups.now edit.now }
 {
     match edit {

@@ -1,13 +1,19 @@
 //! The index of a project's declared groups, and the look-ups in groups by it.
-ghost use Rattle.std.specs.Prelude.{◌≡◌, None, IfOk};
+ghost use Rattle.std.specs.Prelude.{◌≡◌, ◌<◌, None, IfOk, length};
 ghost use Rattle.hc_records.specs.Line.{groups_of};
 ghost use Rattle.hc_records.specs.Project.{lowest_fault};
-ghost use Rattle.hc_groups.specs.Index.{IsIndexOf, IsIndexOfDeclared};
+ghost use Rattle.hc_groups.specs.Changes.{IsMade, changed_groups};
+ghost use Rattle.hc_groups.specs.Index.{IsIndexOf};
+ghost use Rattle.hc_groups.specs.inner.Turned.{turned_index};
 
 use crate::addresses::{find_rank, ranks_by_station};
 use crate::aliases::{Alias, find_group, sorted_aliases};
+use crate::changes::{PresenceChange, SlavePlace};
 use crate::owning::owners;
-use crate::sums::{Spot, declared_sums, find_spot, group_fronts, number_at, sum_line};
+use crate::prepared::Prepared;
+use crate::sums::{
+    Spot, declared_sums, find_spot, group_fronts, line_counts, number_at, recount, sum_line,
+};
 use crate::variables::{is_one_of, sorted_variables};
 use hc_records::records::{Declared, Slave, VarId};
 use std::alloc::{AllocError, Global};
@@ -121,16 +127,31 @@ impl Index {
         })
     }
 
-    /// Other groups of those that it has the aliases and the slaves' addresses of are present: it becomes
-    /// the index of the groups as they are now. It looks at no slave, and takes no memory.
-    pub fn follow(&mut self, groups: &[Declared])
-        requires { IsIndexOfDeclared groups.now self.old }
-        ensures { IsIndexOf groups.now self.new }
+    /// A group comes or goes: the sums of the groups after it change, and no other group is looked at.
+    fn turn(&mut self, groups: &[Declared], change: &PresenceChange)
+        requires index { IsIndexOf groups.now self.old }
+        requires inside { change.now.group < length groups.now }
+        ensures { self.new ≡ turned_index groups.now change.now self.old }
     {
-        self.slaves.clear();
-        self.blocks.clear();
-        let fronts = self.fronts.as_slice();
-        sum_line(&mut self.slaves, &mut self.blocks, fronts, groups);
+        let sums = self.fronts[change.group].as_slice();
+        let (slaves, blocks) = line_counts(&groups[change.group], change.present, sums);
+        recount(self.slaves.as_mut_slice(), change.group, slaves);
+        recount(self.blocks.as_mut_slice(), change.group, blocks);
+    }
+
+    /// A change that an edit makes of the groups that it is the index of: it becomes the index of the groups that the
+    /// change leaves. Where a group comes or goes, the sums of the groups after it change; where a slave gets other
+    /// areas they stay, since it gets as many. It takes no memory.
+    pub fn follow(&mut self, groups: &[Declared], change: &Prepared)
+        requires index { IsIndexOf groups.now self.old }
+        requires made { IsMade groups.now change.now }
+        requires project { lowest_fault (groups_of (changed_groups change.now groups.now)) ≡ None }
+        ensures { IsIndexOf (changed_groups change.now groups.now) self.new }
+    {
+        match change {
+            Prepared::Presence(change) => self.turn(groups, change),
+            Prepared::Areas(_) => {}
+        }
     }
 
     /// The groups that it is the index of, for look-ups.
@@ -180,12 +201,20 @@ impl<'a> Model for Indexed<'a> {
 }
 
 impl<'a> Indexed<'a> {
-    ghost use Rattle.std.specs.Prelude.{◌≡◌, ◌≢◌, ◌==◌, ◌<◌, ◌≤◌, All, IfSome, MatchOption, find, length, option_map, position, slice_get, sum_by};
+    ghost use Rattle.std.specs.Prelude.{◌≡◌, ◌≢◌, ◌==◌, ◌&&◌, ◌+◌, ◌<◌, ◌≤◌, ◌⊎◌, All, IfSome, MatchOption, Some, false, find, is_some, length, option_map, position, slice_get, sum_by, take, unwrap_or};
     ghost use Rattle.std.specs.List.{list_any};
     ghost use Rattle.hc_records.specs.Edits.{has_station, is_declared_variable};
     ghost use Rattle.hc_records.specs.Line.{groups_of, is_at, line_from};
     ghost use Rattle.hc_records.specs.Project.{slaves_of};
-    ghost use Rattle.hc_groups.specs.Index.{IsMember, own_blocks, owned_by, rank_in, slave_in};
+    ghost use Rattle.hc_groups.specs.Changes.{first_rank, slave_place};
+    ghost use Rattle.hc_groups.specs.Index.{IsDeclaredAt, IsMember, declared_count, own_blocks, owned_by, rank_in, slave_in};
+
+    /// The declared groups, present or not.
+    pub fn groups(&self) -> &'a [Declared]
+        ensures { result.now ≡ self.now }
+    {
+        self.groups
+    }
 
     /// How many slaves the line has.
     pub fn slaves(&self) -> usize
@@ -205,10 +234,38 @@ impl<'a> Indexed<'a> {
     /// The number among the declared groups, from 0, of the one with an alias, present or not; none where
     /// none has it.
     pub fn group(&self, alias: u16) -> Option<usize>
-        ensures { result ≡ position (λ declared. declared.group.alias == alias) self.now }
+        ensures value { result ≡ position (λ declared. declared.group.alias == alias) self.now }
+        ensures low { IfSome result (λ group. group < 65536) }
     {
         let group = find_group(self.aliases, alias)?;
         Some(usize::from(group))
+    }
+
+    /// Whether the group with an alias, which has this number, from 0, is in the line.
+    fn is_present(&self, alias: u16, group: usize) -> bool
+        requires named { position (λ declared. declared.group.alias == alias) self.now ≡ Some group }
+        requires low { group < 65536 }
+        ensures { result ≡ list_any (λ declared. (declared.group.alias == alias) && declared.present) self.now }
+    {
+        self.groups[group].present
+    }
+
+    /// Whether the group with an alias is in the line; none where no declared group has it.
+    pub(crate) fn presence(&self, alias: u16) -> Option<bool>
+        ensures declared { is_some result ≡ list_any (λ declared. declared.group.alias == alias) self.now }
+        ensures present { unwrap_or result false ≡ list_any (λ declared. (declared.group.alias == alias) && declared.present) self.now }
+    {
+        let group = self.group(alias)?;
+        Some(self.is_present(alias, group))
+    }
+
+    /// The rank of the first slave of the group with a number, counted from 1 over all declared slaves; those of its
+    /// others follow.
+    pub(crate) fn first_rank(&self, group: usize) -> u16
+        requires { group < length self.now }
+        ensures { result ≡ first_rank self.now group }
+    {
+        number_at(self.ranks, group, 0) + 1
     }
 
     /// Whether a slave with a station address is declared, present or not.
@@ -232,19 +289,65 @@ impl<'a> Indexed<'a> {
         is_one_of(self.variables, variable.number())
     }
 
-    /// Where the slave with a rank stands, if its group is present: the number of the group, from 0, and the
-    /// slave's place in it.
+    /// The number of the group, from 0, of the declared slave with a rank, present or not, and the slave's place in it;
+    /// none where fewer slaves are declared.
+    fn find_declared(&self, rank: u16) -> Option<Spot>
+        requires { 1 ≤ rank }
+        ensures spot { MatchOption result (sum_by declared_count self.now < rank) (λ spot. IsDeclaredAt self.now rank spot.index spot.offset) }
+        ensures low { IfSome result (λ spot. spot.index < 65536) }
+    {
+        let index = usize::from(*self.owners.get(usize::from(rank) - 1)?);
+        let offset = u32::from(rank) - 1 - self.ranks[index];
+        Some(Spot { index, offset })
+    }
+
+    /// The same of a slave of the line.
     fn find_present(&self, rank: u16) -> Option<Spot>
         requires { 1 ≤ rank }
         ensures { MatchOption result (All (λ member. member.rank ≢ rank) (line_from 1 self.now)) (λ spot. IsMember self.now rank spot.index spot.offset) }
     {
-        let index = usize::from(*self.owners.get(usize::from(rank) - 1)?);
-        let offset = u32::from(rank) - 1 - self.ranks[index];
-        if self.groups[index].present {
-            Some(Spot { index, offset })
+        let spot = self.find_declared(rank)?;
+        if self.groups[spot.index].present {
+            Some(spot)
         } else {
             None
         }
+    }
+
+    /// Where the slave with a station address is declared, present or not; none where none is.
+    pub(crate) fn slave_place(&self, station: u16) -> Option<SlavePlace>
+        ensures { result ≡ slave_place self.now station }
+    {
+        let rank = find_rank(self.stations, station)?;
+        let spot = self.find_declared(rank)?;
+        Some(SlavePlace {
+            group: spot.index,
+            slave: spot.offset as usize,
+            rank,
+        })
+    }
+
+    /// A group from which a walk over the declared slaves meets each one with this rank or a higher one: the group's
+    /// number, from 0, and the rank of its first slave, which is no higher unless it is 1. It takes no memory.
+    pub fn group_before(&self, rank: u16) -> (usize, u16)
+        ensures inside { result.0 ≤ length self.now }
+        ensures first { result.1 ≡ sum_by declared_count (take result.0 self.now) + 1 }
+        ensures low { (result.1 ≡ 1) ⊎ (result.1 ≤ rank) }
+    {
+        if rank == 0 {
+            return (0, 1);
+        }
+        match self.find_declared(rank) {
+            Some(spot) => (spot.index, self.first_rank(spot.index)),
+            None => (self.groups.len(), self.first_rank_after()),
+        }
+    }
+
+    /// One more than the rank of the last declared slave.
+    fn first_rank_after(&self) -> u16
+        ensures { result ≡ sum_by declared_count self.now + 1 }
+    {
+        self.owners.len() as u16 + 1
     }
 
     /// The position in the line, from 0, of the slave with a station address; none where it isn't
@@ -288,6 +391,17 @@ impl<'a> Indexed<'a> {
         ensures { result ≡ find (is_at station) (line_from 1 self.now) }
     {
         let rank = find_rank(self.stations, station)?;
+        let spot = self.find_present(rank)?;
+        self.slave_in(spot.index, spot.offset)
+    }
+
+    /// The slave of the line with a rank, counted from 1 over all declared slaves; none where it isn't present.
+    pub fn slave_of_rank(&self, rank: u16) -> Option<LineSlave<'a>>
+        ensures { result ≡ find (λ member. member.rank == rank) (line_from 1 self.now) }
+    {
+        if rank == 0 {
+            return None;
+        }
         let spot = self.find_present(rank)?;
         self.slave_in(spot.index, spot.offset)
     }

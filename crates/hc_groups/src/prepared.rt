@@ -11,6 +11,7 @@ use crate::areas::{AreaChange, AreaEdit};
 use crate::carrying::{reassign, turn};
 use crate::changes::{AreasChange, PresenceChange, areas_change, presence_change};
 use crate::faults::own_fault;
+use crate::index::Indexed;
 use hc_records::edit::Edit;
 use hc_records::faults::EditFault;
 use hc_records::items::Items;
@@ -27,7 +28,7 @@ pub enum Prepared {
 }
 
 /// A declared group comes or goes.
-fn presence_by(groups: &[Declared], alias: u16, present: bool) -> Prepared
+fn presence_by(groups: &Indexed, alias: u16, present: bool) -> Prepared
     requires counted { IsCounted groups.now }
     requires known { list_any (has_alias alias) groups.now ≡ true }
     ensures { option_map Presence (presence_change groups.now alias present) ≡ Some result }
@@ -39,7 +40,7 @@ fn presence_by(groups: &[Declared], alias: u16, present: bool) -> Prepared
 }
 
 /// What an edit without a fault of its own changes, one that declares no group. `AllocError` where a growth was refused.
-fn change_by(alloc: Global, groups: &[Declared], edit: &Edit) -> Result<Prepared, AllocError>
+fn change_by(alloc: Global, groups: &Indexed, edit: &Edit) -> Result<Prepared, AllocError>
     requires counted { IsCounted groups.now }
     requires changes { declares edit.now ≡ false }
     requires own { own_fault groups.now edit.now ≡ None }
@@ -90,8 +91,9 @@ impl Prepared {
     /// leaves, again a project's. The slaves that it concerns have ranks that follow one another, and each
     /// other slave keeps its record, and whether it is present. The areas that a slave gets are taken into
     /// memory here. Otherwise the lowest fault that the edit has by itself, judged before the first growth,
-    /// or `Memory` where a growth was refused. Either way the groups given stay as they are.
-    pub fn of(alloc: Global, groups: &[Declared], edit: &Edit) -> Result<Prepared, EditFault>
+    /// or `Memory` where a growth was refused. Either way the groups given stay as they are. No group and no slave is
+    /// gone over: the index finds them.
+    pub fn of(alloc: Global, groups: &Indexed, edit: &Edit) -> Result<Prepared, EditFault>
         requires project { lowest_fault (groups_of groups.now) ≡ None }
         requires changes { declares edit.now ≡ false }
         ensures change { IfOk result (λ change. change_by groups.now edit.now ≡ Some change) }

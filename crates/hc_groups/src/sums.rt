@@ -1,8 +1,9 @@
 //! Sums along lists, in which the element that a number falls in is found by halves.
-ghost use Rattle.std.specs.Prelude.{◌≡◌, ◌+◌, ◌<◌, ◌≤◌, if◌then◌else◌, All, IfOk, MatchOption, length, map, slice_index, sum_by, vec_capacity, vec_len};
+ghost use Rattle.std.specs.Prelude.{◌≡◌, ◌+◌, ◌-◌, ◌<◌, ◌≤◌, if◌then◌else◌, All, IfOk, [], MatchOption, length, map, slice_index, sum_by, vec_capacity, vec_len};
 ghost use Rattle.std.specs.List.Sorted.{IsNonDecreasing, IsPartitionPoint};
 ghost use Rattle.hc_records.specs.Line.{IsCounted};
 ghost use Rattle.hc_groups.specs.Index.{AreSums, IsSpot, block_sum, block_sums, blocks_of, declared_count, own_sum, present_count, sums_from};
+ghost use Rattle.hc_groups.specs.inner.Turned.{recounted};
 
 use hc_records::records::{Declared, Slave};
 use std::alloc::{AllocError, Global};
@@ -105,14 +106,15 @@ pub(crate) fn declared_sums(alloc: Global, groups: &[Declared]) -> Result<Vec<u3
     Ok(ranks)
 }
 
-/// How many slaves and how many blocks a declared group has in the line.
-fn line_counts(declared: &Declared, sums: &[u32]) -> (u32, u32)
+/// How many slaves and how many blocks a declared group has in the line, where it is present or isn't, by the sums of
+/// its slaves' blocks.
+pub(crate) fn line_counts(declared: &Declared, present: bool, sums: &[u32]) -> (u32, u32)
     requires sums { sums.now ≡ block_sums declared.now }
     requires few { declared_count declared.now < 65535 }
-    ensures slaves { result.0 ≡ present_count declared.now }
-    ensures blocks { result.1 ≡ own_sum declared.now }
+    ensures slaves { result.0 ≡ length (if present then declared.now.group.slaves else []) }
+    ensures blocks { result.1 ≡ block_sum (if present then declared.now.group.slaves else []) }
 {
-    if !declared.present {
+    if !present {
         return (0, 0);
     }
     let count = declared.group.slaves.len();
@@ -141,11 +143,33 @@ pub(crate) fn sum_line(
     for declared in groups {
         slaves.push_reserved(line);
         blocks.push_reserved(line_blocks);
-        let (count, own) = line_counts(declared, fronts[group].as_slice());
+        let sums = fronts[group].as_slice();
+        let (count, own) = line_counts(declared, declared.present, sums);
         line += count;
         line_blocks += own;
         group += 1;
     }
     slaves.push_reserved(line);
     blocks.push_reserved(line_blocks);
+}
+
+/// Each of these is so much more, and then so much less.
+fn shift(sums: &mut [u32], more: u32, less: u32)
+    requires { All (λ sum. (less ≤ sum) × (sum + more < 4294967296)) sums.old }
+    ensures { sums.new ≡ map (λ sum. sum + more - less) sums.old }
+{
+    for sum in sums.iter_mut() {
+        *sum = *sum + more - less;
+    }
+}
+
+/// The element with an index counts for so many from now on: the sums after it follow.
+pub(crate) fn recount(sums: &mut [u32], index: usize, count: u32)
+    requires inside { index + 1 < length sums.old }
+    requires rising { IsNonDecreasing sums.old }
+    requires low { All (λ sum. sum + count < 4294967296) sums.old }
+    ensures { sums.new ≡ recounted index count sums.old }
+{
+    let own = sums[index + 1] - sums[index];
+    shift(&mut sums[index + 1..], count, own);
 }

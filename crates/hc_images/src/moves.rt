@@ -79,8 +79,8 @@ impl Moves {
     ghost use Rattle.hc_images.specs.Pieces.{carried_bit};
     ghost use Rattle.hc_images.specs.Values.{KeepEntries};
 
-    /// The moves of output values over what a swap changes in a table. It looks the changed variables up,
-    /// and no others. `AllocError` where a growth was refused.
+    /// The moves of output values over what a swap changes in a table. The swap tells where the changed variables stand
+    /// there, and no others are looked at. `AllocError` where a growth was refused.
     pub fn of(alloc: Global, old: &Places, swap: &Swap) -> Result<Moves, AllocError>
         ensures { IfOk result (λ moves. moves ≡ record { before = old.now; change = swap.now.change }) }
     {
@@ -88,8 +88,8 @@ impl Moves {
         let changed = swap.changes();
         let mut places = Vec::with_capacity(alloc, changed.len())?;
         let mut values = Vec::with_capacity(alloc, changed.len())?;
-        for (variable, _) in changed {
-            places.push(output(old.place(*variable)))?;
+        for row in changed {
+            places.push(output(old.old_place(row)))?;
             values.push(0)?;
         }
         Ok(Moves {

@@ -146,7 +146,7 @@ pub(crate) fn put_down(rows: &mut [Row], changed: &[ChangedRow], values: &[u64])
     ensures { WritesEach (length changed.now) (of_changed changed.now) (λ i. bit_at (slice_index_or values.now i 0)) rows.old rows.new }
 {
     for i in 0..changed.len() {
-        put(rows, output(changed[i].1), values[i]);
+        put(rows, output(changed[i].place()), values[i]);
     }
 }
 

@@ -3,3 +3,4 @@ pub mod Logical
 pub mod Memories
 pub mod Passed
 pub mod Returned
+pub mod Sizes

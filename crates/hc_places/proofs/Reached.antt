@@ -7,7 +7,7 @@ use Rattle.std.proofs.lemmas.Bool.{cond-true, eq-eqb, ltb-false, lt-ltb, le-ltb}
 use Rattle.std.proofs.lemmas.Bool.Decides.{nat_tests}
 use Rattle.std.proofs.lemmas.List.{get_or_default, get_or-drop, get_or-map, get_or-take, length-drop, length-take}
 use Rattle.hc_records.specs.Image.{VariablePlace}
-use Rattle.hc_places.specs.inner.Overwritten.{AreBelow, row_with}
+use Rattle.hc_places.specs.inner.Overwritten.{AreBelow, EndsLower, GoesOn, row_with}
 use Rattle.hc_places.specs.Swap.{ChangedRow, ChangesAscend}
 use Rattle.hc_places.specs.Table.{Row, RowsAscend}
 use Rattle.hc_places.proofs.Overwritten.{above-stay, other-row, same-number}
@@ -31,6 +31,19 @@ reached-row rows variable reach row ascends is reached k d low within =
     let here = ap (λ (r : Row). r.0) (is ∙ get_or_default rows reach row d (omega arith)) in
     let up = ascends-rises rows ascends reach k d low within in
     le-ltb (get_or rows k d).0 variable (omega (arith, here, up, reached))
+
+-- so the rows on both sides tell how many are lower
+pub below-told : (rows : List Row) (variable count : ℕ) → RowsAscend rows → EndsLower rows variable count → GoesOn rows variable count → count ≤ length rows → AreBelow rows variable count
+below-told rows variable count ascends front behind bound = (
+  (λ k d low high.
+      let up = ascends-rises rows ascends k (count - 1) d (omega (arith, high)) (omega (arith, bound, high)) in
+      let last = front d (omega (arith, high)) in
+      lt-ltb (get_or rows k d).0 variable (omega (arith, up, last))),
+  (λ k d low high.
+      let up = ascends-rises rows ascends count k d low high in
+      let first = behind d (omega (arith, low, high)) in
+      le-ltb (get_or rows k d).0 variable (omega (arith, up, first))),
+)
 
 -- those among the first rows are those of all, where none behind these is lower
 pub below-reached : (rows : List Row) (variable reach count : ℕ) → count ≤ length (take reach rows) → AreBelow (take reach rows) variable count

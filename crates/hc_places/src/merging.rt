@@ -1,8 +1,8 @@
 //! Rows and changes, both in the order of their numbers: merged into memory that has the room, and rows
 //! counted and overwritten where they stand.
-ghost use Rattle.std.specs.Prelude.{◌≡◌, ◌+◌, ◌≤◌, ◌<◌, ◌++◌, ◌↔◌, [], IsTrue, length, map, option_to_list, vec_capacity};
+ghost use Rattle.std.specs.Prelude.{◌≡◌, ◌+◌, ◌≤◌, ◌<◌, ◌++◌, ◌↔◌, [], IsTrue, false, length, map, option_to_list, true, vec_capacity};
 ghost use Rattle.std.specs.List.{AllWithin};
-ghost use Rattle.hc_places.specs.inner.Overwritten.{AreBelow, overwritten, row_with};
+ghost use Rattle.hc_places.specs.inner.Overwritten.{AreBelow, EndsLower, GoesOn, overwritten, row_with};
 ghost use Rattle.hc_places.specs.Swap.{ChangesAscend, KeepRows, keeps_row, new_row};
 ghost use Rattle.hc_places.specs.Table.{RowsAscend};
 ghost use Rattle.hc_places.specs.inner.Walk.{merges, walked};
@@ -15,8 +15,8 @@ use hc_records::records::VarId;
 fn new_row(changed: &ChangedRow) -> Option<Row>
     ensures { option_to_list result ≡ new_row changed.now }
 {
-    let place = changed.1?;
-    Some((changed.0, place))
+    let place = changed.place()?;
+    Some((changed.variable(), place))
 }
 
 /// The row that a change leaves of the variable with the lowest number, and what is left of the
@@ -33,9 +33,9 @@ fn next_row<'a>(
         ([change, others @ ..], []) => (new_row(change), others, old),
         ([], [row, rows @ ..]) => (Some(*row), changed, rows),
         ([change, others @ ..], [row, rows @ ..]) => {
-            if change.0.number() < row.0.number() {
+            if change.variable().number() < row.0.number() {
                 (new_row(change), others, old)
-            } else if row.0.number() < change.0.number() {
+            } else if row.0.number() < change.variable().number() {
                 (Some(*row), changed, rows)
             } else {
                 (new_row(change), others, rows)
@@ -93,6 +93,58 @@ pub(crate) fn count_from(rows: &[Row], front: usize, variable: VarId) -> usize
     front + count_near(&rows[front..], variable)
 }
 
+/// Whether the last of so many rows has a lower number than a variable, if there is one.
+fn ends_lower(rows: &[Row], count: usize, variable: VarId) -> bool
+    requires { count ≤ length rows.now }
+    ensures { result ≡ true → EndsLower rows.now variable count }
+{
+    if count == 0 {
+        return true;
+    }
+    rows[count - 1].0.number() < variable.number()
+}
+
+/// Whether the row after so many has a lower number than a variable.
+fn goes_on_lower(rows: &[Row], count: usize, variable: VarId) -> bool
+    ensures { result ≡ false → GoesOn rows.now variable count }
+{
+    match rows.get(count) {
+        Some(row) => row.0.number() < variable.number(),
+        None => false,
+    }
+}
+
+/// Whether so many rows have a lower number than a variable, and no others.
+fn is_count_below(rows: &[Row], count: usize, variable: VarId) -> bool
+    requires { RowsAscend rows.now }
+    ensures { result ≡ true → (count ≤ length rows.now) × AreBelow rows.now variable count }
+{
+    if rows.len() < count {
+        return false;
+    }
+    if !ends_lower(rows, count, variable) {
+        return false;
+    }
+    !goes_on_lower(rows, count, variable)
+}
+
+/// How many rows have a lower number than a changed variable, where so many are known to have: as the change tells,
+/// or else by a search.
+pub(crate) fn find_row(rows: &[Row], front: usize, changed: &ChangedRow) -> usize
+    requires ascends { RowsAscend rows.now }
+    requires front { front ≤ length rows.now }
+    requires lower { AllWithin (λ row. row.0 < changed.now.0) rows.now 0 front }
+    ensures bound { result ≤ length rows.now }
+    ensures below { AreBelow rows.now changed.now.0 result }
+{
+    let told = changed.row();
+    if is_count_below(rows, told, changed.variable()) {
+        told
+    } else {
+        count_from(rows, front, changed.variable())
+    }
+}
+
 /// How many rows have no higher number than a variable, where so many have a lower one.
 pub(crate) fn count_with(rows: &[Row], below: usize, variable: VarId) -> usize
     requires ascends { RowsAscend rows.now }
@@ -118,7 +170,7 @@ pub(crate) fn keeps_row(rows: &[Row], at: usize, changed: &ChangedRow) -> bool
     let Some(row) = rows.get(at) else {
         return false;
     };
-    row.0 == changed.0 && changed.1.is_some()
+    row.0 == changed.variable() && changed.place().is_some()
 }
 
 /// Whether each changed variable keeps its row.
@@ -129,11 +181,11 @@ pub(crate) fn keep_rows(rows: &[Row], changed: &[ChangedRow]) -> bool
 {
     let mut front = 0;
     for change in changed {
-        let at = count_from(rows, front, change.0);
+        let at = find_row(rows, front, change);
         if !keeps_row(rows, at, change) {
             return false;
         }
-        front = count_with(rows, at, change.0);
+        front = count_with(rows, at, change.variable());
     }
     true
 }
@@ -145,11 +197,11 @@ fn overwrite_row(rows: &mut Vec<Row>, at: usize, changed: &ChangedRow)
     requires below { AreBelow rows.old.items changed.now.0 at }
     ensures { rows.new.items ≡ map (row_with changed.now) rows.old.items }
 {
-    let Some(place) = changed.1 else {
+    let Some(place) = changed.place() else {
         return;
     };
-    if at < rows.len() && rows[at].0 == changed.0 {
-        rows[at] = (changed.0, place);
+    if at < rows.len() && rows[at].0 == changed.variable() {
+        rows[at] = (changed.variable(), place);
     }
 }
 
@@ -161,8 +213,8 @@ pub(crate) fn overwrite(rows: &mut Vec<Row>, changed: &[ChangedRow])
 {
     let mut front = 0;
     for change in changed {
-        let at = count_from(rows.as_slice(), front, change.0);
-        front = count_with(rows.as_slice(), at, change.0);
+        let at = find_row(rows.as_slice(), front, change);
+        front = count_with(rows.as_slice(), at, change.variable());
         overwrite_row(rows, at, change);
     }
 }

@@ -5,7 +5,7 @@ ghost use Rattle.std.specs.List.{AllWithin};
 ghost use Rattle.hc_places.specs.Swap.{ChangesAscend, keeps_row, merged};
 ghost use Rattle.hc_places.specs.Table.{RowsAscend};
 
-use crate::merging::{count_from, count_near, count_with, keeps_row, merge, overwrite};
+use crate::merging::{count_near, count_with, find_row, keeps_row, merge, overwrite};
 use crate::swap::ChangedRow;
 use crate::table::Row;
 
@@ -24,8 +24,8 @@ fn find_middle(rows: &[Row], changed: &[ChangedRow]) -> (usize, usize)
     let mut end = 0;
     for i in 0..changed.len() {
         let change = &changed[i];
-        let at = count_from(rows, lower, change.0);
-        lower = count_with(rows, at, change.0);
+        let at = find_row(rows, lower, change);
+        lower = count_with(rows, at, change.variable());
         if !keeps_row(rows, at, change) {
             first = if end == 0 { i } else { first };
             end = i + 1;
@@ -45,12 +45,10 @@ fn find_rows(rows: &[Row], changed: &[ChangedRow]) -> (usize, usize)
     let (Some(first), Some(last)) = (changed.first(), changed.last()) else {
         return (0, 0);
     };
-    let low = count_near(rows, first.0);
+    let low = count_near(rows, first.variable());
     let behind = &rows[low..];
-    (
-        low,
-        low + count_with(behind, count_near(behind, last.0), last.0),
-    )
+    let last = last.variable();
+    (low, low + count_with(behind, count_near(behind, last), last))
 }
 
 /// Shifts the rows behind the first `high` up by as many as `more` are, into room that there is.

@@ -1,9 +1,10 @@
-//! Variables that are looked up one after another, each near the one before.
+//! Variables that are looked up one after another, each near the one before, and changed ones, whose old rows are told.
 ghost use Rattle.std.specs.Prelude.{◌≡◌, ◌≤◌, length};
 ghost use Rattle.hc_places.specs.inner.Overwritten.{AreBelow};
 ghost use Rattle.hc_places.specs.Table.{RowsAscend};
 
-use crate::merging::count_from;
+use crate::merging::{count_from, find_row};
+use crate::swap::ChangedRow;
 use crate::table::{Place, Places, Row, count_below, place_at};
 use hc_records::records::VarId;
 
@@ -34,5 +35,14 @@ impl Places {
         let at = count_beside(rows, *near, variable);
         *near = at;
         place_at(rows, at, variable)
+    }
+
+    /// Where a changed variable stands, as `place` tells it: without a search in the table that the change was made for.
+    /// It takes no memory.
+    pub fn old_place(&self, changed: &ChangedRow) -> Option<Place>
+        ensures { result ≡ place_in self.now changed.now.0 }
+    {
+        let rows = self.variables();
+        place_at(rows, find_row(rows, 0, changed), changed.variable())
     }
 }

@@ -13,8 +13,58 @@ use std::marker::Model;
 /// A task whose table differs, and its new table.
 pub type ChangedTask = (Task, TaskTable);
 
-/// A variable that stands elsewhere, appears or goes, and its new place or none.
-pub type ChangedRow = (VarId, Option<Place>);
+/// A variable that stands elsewhere, appears or goes. Contracts see its number, and its new place or none.
+#[derive(Debug, Drop)]
+pub struct ChangedRow {
+    variable: VarId,
+    place: Option<Place>,
+    // how many rows of the table that changes have lower numbers
+    row: usize,
+}
+
+impl Model for ChangedRow {
+    ghost use Rattle.hc_places.specs.Swap.{ChangedRow};
+
+    ghost Value = { ChangedRow };
+
+    ghost view = { λ changed. (changed.variable, changed.place) };
+}
+
+impl ChangedRow {
+    ghost use Rattle.std.specs.Prelude.{◌≡◌};
+
+    /// That of a variable and its new place, none where it goes. `row` tells how many rows of the table that changes
+    /// have lower numbers, so that the variable's old row is found there without a search. With any other number it is
+    /// searched for, and nothing else changes.
+    pub fn of(variable: VarId, place: Option<Place>, row: usize) -> ChangedRow
+        ensures { result ≡ (variable, place) }
+    {
+        ChangedRow {
+            variable,
+            place,
+            row,
+        }
+    }
+
+    /// The variable.
+    pub fn variable(&self) -> VarId
+        ensures { result ≡ self.now.0 }
+    {
+        self.variable
+    }
+
+    /// Its new place; none where it goes.
+    pub fn place(&self) -> Option<Place>
+        ensures { result ≡ self.now.1 }
+    {
+        self.place
+    }
+
+    /// How many rows of the table that changes have lower numbers, as whoever made the change says.
+    pub(crate) fn row(&self) -> usize {
+        self.row
+    }
+}
 
 /// What an edit changes in the table of a line: the tasks whose tables differ, at most 8, and the
 /// places of the variables that stand elsewhere, appear or go.
@@ -52,7 +102,7 @@ fn sort_changes(rows: &mut Vec<ChangedRow>) -> Result<(), AllocError>
     ensures ascends { OnOk result (ChangesAscend rows.new.items) }
     ensures same { OnOk result ((variable : ℕ) → find (λ changed. changed.0 == variable) rows.new.items ≡ find (λ changed. changed.0 == variable) rows.old.items) }
 {
-    rows.sort_by_key(|row| row.0.number())
+    rows.sort_by_key(|row| row.variable().number())
 }
 
 impl Swap {
@@ -100,7 +150,7 @@ impl Swap {
 
     /// The variables that stand elsewhere, appear or go, each once, in the order of their numbers, with
     /// their new places; none for one that goes.
-    pub fn changes(&self) -> &[(VarId, Option<Place>)]
+    pub fn changes(&self) -> &[ChangedRow]
         ensures rows { result.now ≡ self.now.change.rows }
         ensures ascends { ChangesAscend self.now.change.rows }
     {
@@ -117,7 +167,7 @@ impl Swap {
             return 0;
         };
         // the rows ascend, so their first and last number bound how many there are
-        prove!(rows.len() <= 1 + (last.0.number() - first.0.number()) as usize);
+        prove!(rows.len() <= 1 + (last.variable().number() - first.variable().number()) as usize);
         rows.len() as u32
     }
 }

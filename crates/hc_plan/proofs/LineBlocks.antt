@@ -1,6 +1,6 @@
 -- The blocks of a line, slave by slave.
-use Rattle.std.proofs.Common.{◌≡◌, ℕ, ◌+◌, ◌-◌, ◌*◌, ◌<◌, ◌≤◌, List, [], ◌∷◌, length, refl, sym, ap, subst, arith, length-append, if◌then◌else◌, rules}
-use Rattle.std.specs.Prelude.{All, Bool, Option, Some, None, find, option_and_then, option_map, slice_get, slice_index_or, nat_lt, sum_by}
+use Rattle.std.proofs.Common.{◌≡◌, ◌∙◌, ℕ, ◌+◌, ◌-◌, ◌*◌, ◌<◌, ◌≤◌, List, [], ◌∷◌, length, refl, sym, ap, subst, arith, length-append, if◌then◌else◌, rules}
+use Rattle.std.specs.Prelude.{◌==◌, All, Bool, Option, Some, None, find, option_and_then, option_map, slice_get, slice_index_or, nat_lt, sum_by}
 use Rattle.std.specs.List.{enumerate_from, flat_map}
 use Rattle.std.proofs.lemmas.Option.{slice_get-get_or, slice_get-map}
 use Rattle.std.proofs.lemmas.Bool.{ltb-false, ltb-true}
@@ -19,7 +19,7 @@ use Rattle.hc_registers.specs.declared.fmmu.Mapping.{Mapping}
 use Rattle.hc_registers.specs.Blocks.{LineBlock, RegisterBlock, area_blocks, line_blocks, member_blocks, moved_blocks, slave_blocks, sync_manager_block, fmmu_block, mapping_of}
 use Rattle.hc_places.proofs.lemmas.Found.{find-holds}
 use Rattle.hc_plan.specs.inner.Blocks.{IsLayoutOf, IsMappedSlave, area_blocks_in, mapping_in, slave_blocks_in}
-use Rattle.hc_plan.specs.Configuration.{at_station, block_at, line_block_at}
+use Rattle.hc_plan.specs.Configuration.{at_station, block_at, block_of_rank, line_block_at}
 use Rattle.hc_changes.proofs.lemmas.Compared.{flat_map-among}
 use Rattle.hc_records.proofs.lemmas.Lists.{filter-few}
 use Rattle.hc_plan.proofs.Mapped.{slave-mapped}
@@ -32,9 +32,9 @@ layout-slaves groups layout known j d inside =
     subst (λ (l : List (List Placed)). IsMappedSlave l member) (sym known.stands)
     (slave-mapped groups j member known.project known.uncrowded (slice_get-get_or (line_from 1 groups) j d inside))
 
-pub found-mapped : (groups : List Declared) (layout : List (List Placed)) (station : ℕ) (member : Member) → IsLayoutOf groups layout
-    → find (is_at station) (line_from 1 groups) ≡ Some member → IsMappedSlave layout member
-found-mapped groups layout station member known found = (find-holds (IsMappedSlave layout) (is_at station) (line_from 1 groups) member found (layout-slaves groups layout known)).0
+pub found-mapped : (groups : List Declared) (layout : List (List Placed)) (test : Member → Bool) (member : Member) → IsLayoutOf groups layout
+    → find test (line_from 1 groups) ≡ Some member → IsMappedSlave layout member
+found-mapped groups layout test member known found = (find-holds (IsMappedSlave layout) test (line_from 1 groups) member found (layout-slaves groups layout known)).0
 
 -- the blocks by a layout of the line are the blocks of the line
 slave_blocks-line : (groups : List Declared) (layout : List (List Placed)) (member : Member) → IsLayoutOf groups layout → IsMappedSlave layout member
@@ -116,7 +116,23 @@ same-member rank slave member ranked own = search rules
 
 pub found-block : (groups : List Declared) (layout : List (List Placed)) (station number : ℕ) (member : Member) → IsLayoutOf groups layout
     → find (is_at station) (line_from 1 groups) ≡ Some member → block_at (line_from 1 groups) station number ≡ slice_get (slave_blocks_in layout member) number
-found-block groups layout station number member known found = search (rules, slave_blocks-line, found-mapped)
+found-block groups layout station number member known found =
+    let same = slave_blocks-line groups layout member known (found-mapped groups layout (is_at station) member known found) in
+    ap (option_and_then (λ (m : Member). slice_get (slave_blocks (line_from 1 groups) m) number)) found ∙ ap (λ (blocks : List RegisterBlock). slice_get blocks number) (sym same)
+
+abbrev has_rank : ℕ → Member → Bool
+has_rank rank member = member.rank == rank
+
+-- the same of the slave with a rank
+pub found-ranked : (groups : List Declared) (layout : List (List Placed)) (rank number : ℕ) (member : Member) → IsLayoutOf groups layout
+    → find (λ (m : Member). m.rank == rank) (line_from 1 groups) ≡ Some member
+    → block_of_rank (line_from 1 groups) rank number
+    ≡ option_map (λ block. record { station = member.slave.station; number = number; block = block }) (slice_get (slave_blocks_in layout member) number)
+found-ranked groups layout rank number member known found =
+    let line = line_from 1 groups in
+    let same = slave_blocks-line groups layout member known (found-mapped groups layout (has_rank rank) member known found) in
+    ap (option_and_then (λ (m : Member). option_map {U = LineBlock} (λ block. record { station = m.slave.station; number = number; block = block }) (slice_get (slave_blocks line m) number))) found
+    ∙ ap (λ (blocks : List RegisterBlock). option_map {U = LineBlock} (λ block. record { station = member.slave.station; number = number; block = block }) (slice_get blocks number)) (sym same)
 
 -- a slave has at most 16 blocks
 length-blocks : (layout : List (List Placed)) (all members : List Member) → All (IsMappedSlave layout) members

@@ -70,12 +70,12 @@ is-prepared old work it edit report blocks project fits changes same =
 
 -- and what is kept for carrying it out
 pub is-ready : (old : State) (work : LineWork) (it : EditedLine) (edit : Edit) (report : Report) (table : Table)
-    → report.swap.edit ≡ edit → declares edit ≡ false → changed_groups work.change old.groups ≡ groups_after old.groups edit → lowest_fault (groups_of (changed_groups work.change old.groups)) ≡ None
+    → report.swap.edit ≡ edit → declares edit ≡ false → change_by old.groups edit ≡ Some work.change → changed_groups work.change old.groups ≡ groups_after old.groups edit → lowest_fault (groups_of (changed_groups work.change old.groups)) ≡ None
     → ChangesRow work.change old.groups
     → it ≡ edited_line_of work.change old.groups → AreStartsOf (areas_by_rank it.new) work.starts → HasRoomFor work.change work.slaves
     → table ≡ table_of (line old) → IsRoomFor report.swap.change table work.rows
     → IsReady old report (NewLine work)
-is-ready old work it edit report table named changes leads project row same known room stands space = search rules
+is-ready old work it edit report table named changes made leads project row same known room stands space = search rules
 
 -- a declared group changes no block of the line
 pub declared-prepared : (old : State) (edit : Edit) (declaration : Declaration) (report : Report) → lowest_fault (groups_of old.groups) ≡ None → crowded_task (line old) ≡ None

@@ -1,5 +1,5 @@
 -- What a master configures: all that depends on the line alone.
-use Rattle.std.specs.Prelude.{ℕ, if◌then◌else◌, List, find, position, slice_get, option_and_then, option_map, Option, Some, None, Result, Ok, Err}
+use Rattle.std.specs.Prelude.{ℕ, ◌==◌, if◌then◌else◌, List, find, position, slice_get, option_and_then, option_map, Option, Some, None, Result, Ok, Err}
 use Rattle.hc_records.specs.declared.faults.EditFault.{EditFault}
 use Rattle.hc_records.specs.declared.faults.EditFault.TheVariants.{Absent, UnknownStation}
 use Rattle.hc_records.specs.Line.{Member, State, is_at, line}
@@ -20,6 +20,13 @@ config line = record { table = table_of line; blocks = line_blocks line }
 abbrev pub block_at : List Member → ℕ → ℕ → Option RegisterBlock
 block_at line station number =
     option_and_then (λ member. slice_get (slave_blocks line member) number) (find (is_at station) line)
+
+-- the block with a number in the order of the slave with a rank, with its slave's station address
+abbrev pub block_of_rank : List Member → ℕ → ℕ → Option LineBlock
+block_of_rank line rank number =
+    option_and_then
+    (λ member. option_map (λ block. record { station = member.slave.station; number = number; block = block }) (slice_get (slave_blocks line member) number))
+    (find (λ member. member.rank == rank) line)
 
 -- a block with its slave's station address
 abbrev pub at_station : ℕ → RegisterBlock → ℕ × RegisterBlock

@@ -2,7 +2,7 @@
 ghost use Rattle.std.specs.Prelude.{◌≡◌, ◌<◌, option_map, slice_get};
 ghost use Rattle.hc_records.specs.declared.limits.TheConstants.{MOST_AREAS};
 ghost use Rattle.hc_records.specs.Line.{line_from};
-ghost use Rattle.hc_plan.specs.Configuration.{at_station, block_at, line_block_at};
+ghost use Rattle.hc_plan.specs.Configuration.{at_station, block_at, block_of_rank, line_block_at};
 ghost use Rattle.hc_plan.specs.inner.Blocks.{IsLayoutOf, IsMappedArea, IsMappedSlave, area_block_in, slave_blocks_in};
 
 use crate::placed_line::PlacedLine;
@@ -87,6 +87,25 @@ pub(crate) fn block_at(
         Some(slave) => slave_block(layout, slave.rank(), slave.slave(), number),
         None => None,
     }
+}
+
+/// The block with a number, from 0, in the order of the slave with a rank, with its slave's station address.
+pub(crate) fn block_of_rank(
+    groups: &Indexed<'_>,
+    layout: &PlacedLine,
+    rank: u16,
+    number: u8,
+) -> Option<LineBlock>
+    requires { IsLayoutOf groups.now layout.now }
+    ensures { result ≡ block_of_rank (line_from 1 groups.now) rank number }
+{
+    let slave = groups.slave_of_rank(rank)?;
+    let block = slave_block(layout, slave.rank(), slave.slave(), number)?;
+    Some(LineBlock {
+        station: slave.slave().station,
+        number,
+        block,
+    })
 }
 
 /// A block, if there is one, with its slave's station address.

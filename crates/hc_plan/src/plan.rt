@@ -3,11 +3,9 @@ ghost use Rattle.std.specs.Prelude.{◌≡◌, false, IfOk, MatchOption, map};
 ghost use Rattle.hc_records.specs.declared.edit.Edit.TheVariants.{Declare};
 ghost use Rattle.hc_records.specs.Edits.{declares};
 ghost use Rattle.hc_records.specs.Line.{opened_group};
-ghost use Rattle.hc_groups.specs.Index.{IsIndexOf};
-ghost use Rattle.hc_plan.specs.inner.Applied.{Follows};
 
 use crate::applying::work_out;
-use crate::blocks::{block_at, nth_block};
+use crate::blocks::{LineBlock, block_at, block_of_rank, nth_block};
 use crate::declaring::{Declaration, declared_report};
 use crate::placed_line::PlacedLine;
 use crate::prepared::PreparedEdit;
@@ -16,6 +14,7 @@ use crate::turning::turn_on;
 use crate::work::{LineWork, Work};
 use hc_changes::edited_line::{EditedLine, EditedLineRoom};
 use hc_cuts::tasks::LineCuts;
+use hc_groups::faults::remap_fault;
 use hc_groups::index::{Index, Indexed};
 use hc_groups::prepared::Prepared;
 use hc_places::configure::{OpenedLine, open_line};
@@ -44,20 +43,6 @@ fn opened_groups(alloc: Global, groups: Vec<Group>) -> Result<Items<Declared>, A
         opened.push(Declared { group, present })?;
     }
     Ok(Items::of(opened))
-}
-
-/// Makes the index of the groups before an edit, which was carried out in them, that of the groups as they are
-/// now. Where an area got other PDOs or another task it is already: the line has the same slaves, and each has
-/// as many blocks.
-fn follow(index: &mut Index, groups: &[Declared], edit: &Edit)
-    requires { Follows groups.now edit.now index.old }
-    ensures { IsIndexOf groups.now index.new }
-{
-    match edit {
-        Edit::Connect(_) | Edit::Disconnect(_) => index.follow(groups),
-        Edit::Remap { .. } | Edit::Move { .. } => {}
-        Edit::Declare(_) => unreachable!(),
-    }
 }
 
 /// The group that an edit declares, none where it declares none.
@@ -120,7 +105,7 @@ impl Plan {
     ghost use Rattle.hc_records.specs.Boundaries.{boundaries};
     ghost use Rattle.hc_records.specs.TaskList.{task_list};
     ghost use Rattle.std.specs.List.{zip};
-    ghost use Rattle.hc_records.specs.declared.edit.Edit.TheVariants.{Declare};
+    ghost use Rattle.hc_records.specs.declared.edit.Edit.TheVariants.{Declare, Remap};
     ghost use Rattle.hc_records.specs.Edits.{crowded_task, declares, edited, state_after_all};
     ghost use Rattle.hc_records.specs.Line.{groups_of, line, opened};
     ghost use Rattle.hc_records.specs.Project.{lowest_fault};
@@ -131,7 +116,7 @@ impl Plan {
     ghost use Rattle.hc_plan.specs.inner.Blocks.{IsLayoutOf};
     ghost use Rattle.hc_plan.specs.inner.Prepared.{CanCarry, left_by};
     ghost use Rattle.hc_plan.specs.Prepared.{IsPrepared};
-    ghost use Rattle.hc_plan.specs.Configuration.{block_at, config, line_block_at, position_of, station_at};
+    ghost use Rattle.hc_plan.specs.Configuration.{block_at, block_of_rank, config, line_block_at, position_of, station_at};
     ghost use Rattle.hc_plan.specs.Reports.{AreAnswers, Tells, carried_out};
 
     /// The plan of a project at its opening: the mandatory group alone is present and the epoch is 0.
@@ -189,6 +174,23 @@ impl Plan {
         ensures { result ≡ block_at (line self.now) station number }
     {
         block_at(&self.indexed(), &self.placed_line(), station, number)
+    }
+
+    /// The block with a number, from 0, in the order of the slave with a rank, counted from 1 over all declared slaves,
+    /// present or not: the block that `block` tells by the slave's station address. None where the slave isn't present
+    /// or has fewer blocks. It takes no memory.
+    pub fn block_of_rank(&self, rank: u16, number: u8) -> Option<LineBlock>
+        ensures { result ≡ block_of_rank (line self.now) rank number }
+    {
+        block_of_rank(&self.indexed(), &self.placed_line(), rank, number)
+    }
+
+    /// The lowest fault that a remap with these indexes has by itself, as an edit of it is judged; a caller that has them in
+    /// a slice needs no list of them for it. It takes no memory.
+    pub fn remap_fault(&self, station: u16, area: u8, pdos: &[u16]) -> Option<EditFault>
+        ensures { result ≡ own_fault self.now.groups (Remap station area pdos.now) }
+    {
+        remap_fault(&self.indexed(), station, area, pdos)
     }
 
     /// The number of blocks of the present line. It takes no memory.
@@ -311,10 +313,11 @@ impl Plan {
         ensures own { IfSome (own_fault self.old.groups edit.now) (λ fault. result ≡ Err fault) }
         ensures unchanged { self.new ≡ self.old }
     {
-        let change = Prepared::of(alloc, self.groups.as_slice(), edit)?;
+        let groups = self.index.of(self.groups.as_slice());
+        let change = Prepared::of(alloc, &groups, edit)?;
         let slaves = EditedLineRoom::of(alloc, &change)?;
         let room = EditedLineRoom::of(alloc, &change)?;
-        let edited_line = EditedLine::of(room, self.groups.as_slice(), &change);
+        let edited_line = EditedLine::of(room, &groups, &change);
         let worked = work_out::<Brand>(
             alloc,
             edit,
@@ -325,6 +328,7 @@ impl Plan {
             Blank::new(1),
         )?;
         drop(edited_line);
+        drop(groups);
         Ok(PreparedEdit {
             was: Snapshot::of(&*self),
             report: worked.report,
@@ -380,11 +384,13 @@ impl Plan {
             slaves,
             rows,
         } = work;
-        let edited_line = EditedLine::of(slaves, self.groups.as_slice(), &change);
+        let groups = self.index.of(self.groups.as_slice());
+        let edited_line = EditedLine::of(slaves, &groups, &change);
         turn_on(&mut self.cuts, &edited_line, &starts);
         drop(edited_line);
+        drop(groups);
+        self.index.follow(self.groups.as_slice(), &change);
         change.carry_out(&mut self.groups);
-        follow(&mut self.index, self.groups.as_slice(), report.swap.edit());
         self.places.carry_out(&report.swap, rows);
     }
 

@@ -148,6 +148,7 @@ one_of_edit answer.WriteDone is edited refused = is
 one_of_edit answer.WriteMissed is edited refused = is
 one_of_edit answer.Stale is edited refused = is
 one_of_edit (answer.Image epoch slots) is edited refused = is
+one_of_edit answer.Forgotten is edited refused = is
 
 -- the answers to an arrival that can be read: refused only in want of memory
 abbrev pub IsOfArrival : Answer → Type 0
@@ -191,6 +192,7 @@ one_of_arrival answer.Posted is answered done missed stale refused = is
 one_of_arrival (answer.Sent frames) is answered done missed stale refused = is
 one_of_arrival (answer.WriteSent frame) is answered done missed stale refused = is
 one_of_arrival (answer.Image epoch slots) is answered done missed stale refused = is
+one_of_arrival answer.Forgotten is answered done missed stale refused = is
 
 -- an arrival is something for no more datagrams than it has
 

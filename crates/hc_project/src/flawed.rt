@@ -1,5 +1,5 @@
 //! Where reading finds a flaw: the levels of a project's text once more, each with the place of its first flaw.
-//! The keys of a table are gone through in the order in which docs/PROJECT_TEXT.md names them, since a table that
+//! The keys of a table are gone through in the order in which docs/use/PROJECT_TEXT.md names them, since a table that
 //! is read doesn't know theirs; the items of an array stand in the order of the text.
 ghost use Rattle.std.specs.Prelude.{◌≡◌, ◌<◌, ◌||◌, ℕ, Option, IfOk, option_map, false};
 ghost use Rattle.toml.specs.Data.{Data};

@@ -116,7 +116,7 @@ fn find_lowest(alloc: Global, document: &Value) -> Result<Option<Found>, AllocEr
 /// Where a text is no project: nothing where `read_project` accepts it, else the same fault as that answers, and the
 /// first place at which the fault's condition holds. `AllocError`, whatever the text, where a growth was refused.
 ///
-/// Places are ordered as the text orders the items of its arrays, and the keys of a table as docs/PROJECT_TEXT.md names
+/// Places are ordered as the text orders the items of its arrays, and the keys of a table as docs/use/PROJECT_TEXT.md names
 /// them: a table that is read doesn't know where in the text its keys stood. Of two things that may not stand together
 /// the later one's place counts, and the earliest is told that it can't stand with. Of too many of something the first
 /// over the limit is told.

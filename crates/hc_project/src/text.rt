@@ -29,7 +29,7 @@ pub fn settle(alloc: Global, groups: Reading<Items<Group>>) -> Result<Project, P
     Project::checked(alloc, value)
 }
 
-/// The project of a text: the bytes of a TOML document in UTF-8, as docs/PROJECT_TEXT.md describes it.
+/// The project of a text: the bytes of a TOML document in UTF-8, as docs/use/PROJECT_TEXT.md describes it.
 ///
 /// Otherwise the lowest fault whose condition holds over the whole text: `NotToml` where the bytes
 /// aren't UTF-8 or TOML refuses them, `MissingField` where a needed key is absent or something is of
@@ -66,7 +66,7 @@ fn only_group(groups: Items<Group>) -> Result<Group, ProjectFault>
     groups.pop().ok_or(ProjectFault::NotOneGroup)
 }
 
-/// The group of a text: a project's text, as docs/PROJECT_TEXT.md describes it, with exactly one group and
+/// The group of a text: a project's text, as docs/use/PROJECT_TEXT.md describes it, with exactly one group and
 /// no mandatory slave.
 ///
 /// Otherwise the lowest fault whose condition holds over the whole text, as `read_project` answers it, or

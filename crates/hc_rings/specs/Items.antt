@@ -1,5 +1,5 @@
 -- What goes through a ring of posts: posts, and behind the last of them the end.
-use Rattle.std.specs.Prelude.{◌≡◌, Bool, true, false, List, [], ◌∷◌, ◌++◌, map}
+use Rattle.std.specs.Prelude.{◌≡◌, ◌-◌, Bool, true, false, List, [], ◌∷◌, ◌++◌, length, map, take}
 use Rattle.hc_rings.specs.Post.{Post}
 use Rattle.hc_rings.specs.declared.item.Item.{Item}
 use Rattle.hc_rings.specs.declared.item.Item.TheVariants.{Buffer, End}
@@ -24,3 +24,7 @@ Follows before item = is_open before ≡ true
 abbrev pub items_of : List Post → Bool → List Item
 items_of posts false = map Buffer posts
 items_of posts true = map Buffer posts ++ End ∷ []
+
+-- the first of some posts, without as many of the last as there are others
+abbrev pub all_but : List Post → List Post → List Post
+all_but last posts = take (length posts - length last) posts

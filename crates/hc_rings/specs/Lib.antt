@@ -1,7 +1,6 @@
 pub mod Post
 pub mod Items
 pub mod Ends
-pub mod Taken
 pub mod Ring
 pub mod Lending
 pub mod Finished

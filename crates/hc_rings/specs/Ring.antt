@@ -2,9 +2,8 @@
 use Rattle.std.specs.Prelude.{◌≡◌, ◌+◌, ℕ, List, ◌++◌, length, true, Option, Some, None}
 use Rattle.rtrb.specs.Ring.{sent, received, known_free, known_items, IsPair, SameProducer, SameConsumer}
 use Rattle.hc_rings.specs.Post.{Post, count_of}
-use Rattle.hc_rings.specs.Items.{items_of}
-use Rattle.hc_rings.specs.Ends.{put_in, known_ahead}
-use Rattle.hc_rings.specs.Taken.{posts_taken}
+use Rattle.hc_rings.specs.Items.{all_but, items_of}
+use Rattle.hc_rings.specs.Ends.{put_in, came_out, known_ahead}
 use Rattle.hc_rings.specs.declared.posts.PostSender.{PostSender}
 use Rattle.hc_rings.specs.declared.posts.PostReceiver.{PostReceiver}
 
@@ -36,9 +35,9 @@ Holds old new post = (held new ≡ Some post) × (handed_out new + count_of (hel
 abbrev pub PostsEach : PostSender → Type 0
 PostsEach s = handed_out s ≡ length (posted s) + count_of (held s)
 
--- every post that the receiver has taken, oldest first
+-- every post that the receiver has taken, oldest first: all that came out of the ring but those that wait in `rest`
 abbrev pub taken : PostReceiver → List Post
-taken r = posts_taken r.took
+taken r = all_but r.rest.items (came_out r.posts)
 
 -- the posts that the receiver knows to be left, oldest first: the next that it takes
 abbrev pub left : PostReceiver → List Post

@@ -15,7 +15,6 @@ mod outgoing;
 mod post_buffer;
 mod posts;
 mod spares;
-mod taken;
 
 pub use frames::{FrameBox, FrameReceiver, FrameSender, LARGEST_FRAME, frame_ring};
 pub use post_buffer::{LARGEST_IMAGE, PostBuffer};

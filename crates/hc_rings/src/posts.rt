@@ -2,14 +2,12 @@
 ghost use Rattle.std.specs.Prelude.{◌≡◌, ◌≤◌, ◌++◌};
 ghost use Rattle.std.specs.VecDeque.{deque_len, deque_capacity};
 ghost use Rattle.rtrb.specs.Ring.{received, producer_capacity};
-ghost use Rattle.hc_rings.specs.Items.{posts_of};
-ghost use Rattle.hc_rings.specs.Taken.{posts_taken};
+ghost use Rattle.hc_rings.specs.Items.{all_but, posts_of};
 
 use crate::incoming::IncomingPosts;
 use crate::outgoing::OutgoingPosts;
 use crate::post_buffer::PostBuffer;
 use crate::spares::SpareBuffers;
-use crate::taken::Taken;
 use rtrb::Producer;
 use std::collections::VecDeque;
 
@@ -45,10 +43,8 @@ pub struct PostReceiver {
     posts: IncomingPosts,
     // Posts that came out of the ring ahead of its end and were not taken yet.
     rest: VecDeque<PostBuffer>,
-    // The posts that were taken, for contracts alone.
-    took: Taken,
     spares: Producer<PostBuffer>,
     ghost four: { producer_capacity spares ≡ 4 },
     ghost room: { (deque_len rest ≤ 5) × (5 ≤ deque_capacity rest) },
-    ghost in_order: { posts_taken took ++ rest.items ≡ posts_of (received posts.ring) },
+    ghost in_order: { all_but rest.items (posts_of (received posts.ring)) ++ rest.items ≡ posts_of (received posts.ring) },
 }

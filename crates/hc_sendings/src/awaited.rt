@@ -15,6 +15,10 @@ use hc_registers::blocks::Block;
 use std::alloc::{AllocError, Global};
 use std::marker::Model;
 
+/// The most datagrams of a frame: each has 13 bytes at least, and 1,498 bytes follow the EtherCAT header (ETG.1000.4, 5.3 and
+/// 5.4).
+pub const FRAME_DATAGRAMS: usize = 115;
+
 /// A register write as it was sent.
 #[derive(Debug, Drop)]
 pub(crate) struct Write {

@@ -78,7 +78,7 @@ fn most_frames(plan: &Plan, tasks: &[u8]) -> usize
 
 /// Puts the frames in which tasks are sent, with serials from this one on, into an empty list: datagrams in the tasks'
 /// order, each of which joins the frame before it where that has room, else begins a frame. A list with room for 128
-/// frames is never refused a growth.
+/// frames is never refused a growth, and the list's room never falls.
 pub(crate) fn put_frames(
     plan: &Plan,
     serial: u64,
@@ -90,6 +90,7 @@ pub(crate) fn put_frames(
     requires empty { frames.old.items ≡ [] }
     ensures frames { OnOk result (frames.new.items ≡ sendings_of (line plan.now) serial tasks.now) }
     ensures full { OnErr result (vec_capacity frames.old < MOST_DATAGRAMS * TASKS) }
+    ensures room { vec_capacity frames.old ≤ vec_capacity frames.new }
 {
     frames.reserve(most_frames(plan, tasks))?;
     for task in tasks {

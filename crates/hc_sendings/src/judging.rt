@@ -1,6 +1,6 @@
 //! What an arrival is for what is awaited with its serial.
 ghost use Rattle.std.specs.Option.{option_map_or};
-ghost use Rattle.std.specs.Prelude.{◌≡◌, ◌==◌, List, [], All, IfOk, None, Some, if◌then◌else◌};
+ghost use Rattle.std.specs.Prelude.{◌≡◌, ◌==◌, ◌<◌, ◌≤◌, List, [], All, IfOk, None, OnErr, Some, if◌then◌else◌, vec_capacity};
 ghost use Rattle.hc_records.specs.Line.{line};
 ghost use Rattle.hc_registers.specs.declared.counters.TheConstants.{WRITE_COUNT};
 ghost use Rattle.hc_places.specs.Table.{datagram_of};
@@ -11,6 +11,7 @@ ghost use Rattle.hc_events.specs.Heads.{data_head};
 ghost use Rattle.hc_events.specs.Outcomes.{told_with};
 ghost use Rattle.hc_events.specs.Sendings.{Named};
 ghost use Rattle.hc_events.specs.Steps.{outcome_for, told_of, told_of_block};
+ghost use Rattle.hc_sendings.specs.declared.awaited.TheConstants.{FRAME_DATAGRAMS};
 ghost use Rattle.hc_sendings.specs.Waiting.{IsNamed};
 ghost use Rattle.hc_sendings.specs.Judging.{frame_due, judge_due, judged_due, write_due};
 ghost use Rattle.hc_sendings.specs.Kept.{frame_by};
@@ -132,7 +133,10 @@ fn judge_parts(
     requires named { All IsNamed frame.now.datagrams }
     requires stands { All (StandsIn (line plan.now)) frame.now.datagrams }
     requires empty { outcomes.old.items ≡ [] }
-    ensures { IfOk result (λ whole. (if whole then Some outcomes.new.items else None) ≡ outcomes_in (frame_due (line plan.now) (frame_by newest.now frame.now)) arrival.now.parts) }
+    ensures outcomes { IfOk result (λ whole. (if whole then Some outcomes.new.items else None) ≡ outcomes_in (frame_due (line plan.now) (frame_by newest.now frame.now)) arrival.now.parts) }
+    ensures room { OnErr result (vec_capacity outcomes.old < FRAME_DATAGRAMS) }
+    ensures capacity { vec_capacity outcomes.old ≤ vec_capacity outcomes.new }
+    ensures none { OnErr result (outcomes.new.items ≡ []) }
 {
     outcomes.reserve(frame.datagrams().len())?;
     let mut parts = arrival.parts();
@@ -144,16 +148,17 @@ fn judge_parts(
             return Ok(false);
         };
         let is_newest = newest.is(frame.serial(), *datagram);
-        outcomes.push(judge(*datagram, sent, is_newest, &part))?;
+        outcomes.push_reserved(judge(*datagram, sent, is_newest, &part));
     }
     Ok(parts.next().is_none())
 }
 
 impl Awaited {
-    ghost use Rattle.std.specs.Prelude.{◌≡◌, [], IfOk};
+    ghost use Rattle.std.specs.Prelude.{◌≡◌, ◌<◌, ◌≤◌, [], IfOk, OnErr, vec_capacity};
     ghost use Rattle.hc_records.specs.Line.{line};
     ghost use Rattle.hc_events.specs.Outcomes.{told_with};
     ghost use Rattle.hc_events.specs.Steps.{told_of};
+    ghost use Rattle.hc_sendings.specs.declared.awaited.TheConstants.{FRAME_DATAGRAMS};
     ghost use Rattle.hc_sendings.specs.Waiting.{AllStand};
     ghost use Rattle.hc_sendings.specs.Judging.{judged_in};
 
@@ -162,7 +167,7 @@ impl Awaited {
     /// register write, by its working counter; else `Answered`, and the list, which is empty before, has of each
     /// datagram in the frame's order that it is stale where it was sent again since, else good or wrong by its working
     /// counter. What is awaited is of the plan's line. It takes memory where the list has no room for the frame's
-    /// datagrams, 115 at most, alone: `AllocError` where that was refused.
+    /// datagrams, 115 at most, alone: `AllocError` where that was refused, and the list is empty. Its room never falls.
     pub fn judge(
         &self,
         plan: &Plan,
@@ -171,7 +176,10 @@ impl Awaited {
     ) -> Result<Arrived, AllocError>
         requires stand { AllStand (line plan.now) self.now }
         requires empty { outcomes.old.items ≡ [] }
-        ensures { IfOk result (λ arrived. told_with arrived outcomes.new.items ≡ told_of (judged_in (line plan.now) self.now arrival.now)) }
+        ensures answer { IfOk result (λ arrived. told_with arrived outcomes.new.items ≡ told_of (judged_in (line plan.now) self.now arrival.now)) }
+        ensures room { OnErr result (vec_capacity outcomes.old < FRAME_DATAGRAMS) }
+        ensures capacity { vec_capacity outcomes.old ≤ vec_capacity outcomes.new }
+        ensures none { OnErr result (outcomes.new.items ≡ []) }
     {
         if has_serial(&self.write, arrival.serial()) {
             return Ok(judge_write(&self.write, arrival));

@@ -20,7 +20,8 @@ impl Model for KeptFrame {
 }
 
 impl KeptFrame {
-    ghost use Rattle.std.specs.Prelude.{◌≡◌, []};
+    ghost use Rattle.std.specs.Prelude.{◌≡◌, ◌≤◌, [], length};
+    ghost use Rattle.hc_sendings.specs.declared.awaited.TheConstants.{FRAME_DATAGRAMS};
     ghost use Rattle.hc_sendings.specs.Kept.{kept_of};
 
     /// What is kept of a frame.
@@ -53,7 +54,8 @@ impl KeptFrame {
 
     /// Its datagrams, in order.
     pub(crate) fn datagrams(&self) -> &[Named]
-        ensures { result.now ≡ self.now.datagrams }
+        ensures datagrams { result.now ≡ self.now.datagrams }
+        ensures few { length result.now ≤ FRAME_DATAGRAMS }
     {
         self.datagrams.as_slice()
     }

@@ -56,6 +56,7 @@ fn plan_frames(
     ensures left { OnOk result (serial + length frames.new.items ≤ SETUP_SERIAL) }
     ensures refused { IfErr result (λ fault. fault ≢ Memory → (fault ≡ SerialsSpent) × (SETUP_SERIAL < serial + length (sendings_of (line plan.now) serial tasks.now))) }
     ensures room { IfErr result (λ fault. fault ≡ Memory → vec_capacity frames.old < MOST_DATAGRAMS * TASKS) }
+    ensures capacity { vec_capacity frames.old ≤ vec_capacity frames.new }
 {
     put_frames(plan, serial, tasks, frames)?;
     if SETUP_SERIAL < serial + frames.len() as u64 {
@@ -71,7 +72,7 @@ fn plan_frames(
 ///
 /// They are put into a list that is used again: what it held is dropped, and it is empty where they are refused. It takes
 /// memory where the list has no room for as many frames as the tasks have datagrams; so one with room for 128, 16 of each
-/// of the eight tasks, takes none (this project's profile).
+/// of the eight tasks, takes none (this project's profile). The list's room never falls.
 ///
 /// `NoSuchTask` where a number is over 7; `Unprogrammed` where register blocks are owed, `owed` of them;
 /// `SerialsSpent` where the frames need more serials than are left; and of several the first of these.
@@ -92,6 +93,7 @@ pub fn propose_into(
     ensures refused { IfErr result (λ fault. fault ≢ Memory → lowest (sending_faults (line plan.now) serial owed tasks.now) ≡ Some fault) }
     ensures early { IfSome (lowest (early_faults owed tasks.now)) (λ fault. result ≡ Err fault) }
     ensures room { IfErr result (λ fault. fault ≡ Memory → vec_capacity frames.old < MOST_DATAGRAMS * TASKS) }
+    ensures capacity { vec_capacity frames.old ≤ vec_capacity frames.new }
     ensures none { OnErr result (frames.new.items ≡ []) }
 {
     frames.clear();

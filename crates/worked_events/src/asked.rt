@@ -35,6 +35,8 @@ pub enum Asked {
     /// The frame with a serial arrives that carries these datagrams.
     Comes(u64, &'static [Back]),
     Read(u8),
+    /// The slave with this station address is forgotten.
+    Forget(u16),
 }
 
 /// What a row's event is to be answered.
@@ -51,6 +53,7 @@ pub enum Wanted {
     Stale,
     /// The epoch and the slots.
     Image(u32, &'static [Option<&'static [u8]>]),
+    Forgotten,
     Refused(CoreFault),
 }
 
@@ -150,6 +153,7 @@ pub fn is_wanted(answer: &Answer, wanted: &Wanted) -> bool {
         (Answer::Image { epoch, slots }, Wanted::Image(number, others)) => {
             *epoch == *number && are_slots(slots.as_slice(), *others)
         }
+        (Answer::Forgotten, Wanted::Forgotten) => true,
         (Answer::Refused(fault), Wanted::Refused(other)) => *fault == *other,
         _ => false,
     }
@@ -191,6 +195,7 @@ fn other_answer(driven: &mut Driven, alloc: Global, asked: Asked) -> Result<Answ
             driven.put(alloc, Event::Arrive(bytes.as_slice()))
         }
         Asked::Read(task) => driven.put(alloc, Event::Read(task)),
+        Asked::Forget(station) => driven.put(alloc, Event::Forget(station)),
         _ => Ok(Answer::Refused(CoreFault::NothingOwed)),
     }
 }

@@ -15,6 +15,8 @@ mod driven;
 #[cfg(test)]
 mod followed;
 #[cfg(test)]
+mod forgotten;
+#[cfg(test)]
 mod frames;
 #[cfg(test)]
 mod handed;

@@ -160,7 +160,7 @@ const UNDER_WAY: &[Row] = &[
 ];
 
 /// An axis with a byte of outputs and a byte of inputs, and its tool with a byte of outputs.
-const TOOL_CHANGER: &str = r#"
+pub const TOOL_CHANGER: &str = r#"
 slave = [
   { station = 1001, area = [
     { sm = 2, dir = "out", phys = 0x1100, task = 0, assigned = [0x1600], pdo = [

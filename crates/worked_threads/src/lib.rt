@@ -22,6 +22,8 @@ mod lines;
 #[cfg(test)]
 mod logical;
 #[cfg(test)]
+mod mail;
+#[cfg(test)]
 mod one_thread;
 #[cfg(test)]
 mod parts;

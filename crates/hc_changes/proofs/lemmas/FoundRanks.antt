@@ -1,14 +1,16 @@
 -- The candidates by ranks are those of the line: an area, a slave and a group at a time.
-use Rattle.std.proofs.Common.{◌≡◌, ℕ, zero, suc, ◌+◌, ◌-◌, ◌<◌, ◌≤◌, List, [], ◌∷◌, ◌++◌, Contains, None, append-nil, length, length-append, drop, drop-cons, take, refl, sym, ap, subst, ◌∙◌, append_assoc, arith, rules}
-use Rattle.std.specs.Prelude.{if◌then◌else◌, map, slice_index_or}
+use Rattle.std.proofs.Common.{◌≡◌, ℕ, zero, suc, ◌+◌, ◌-◌, ◌<◌, ◌≤◌, ◌⊎◌, inl, inr, List, [], ◌∷◌, ◌++◌, Contains, None, append-nil, length, length-append, drop, drop-cons, take, refl, sym, ap, subst, ◌∙◌, append_assoc, arith, rules}
+use Rattle.std.specs.Prelude.{if◌then◌else◌, map, slice_index_or, sum_by}
 use Rattle.std.proofs.lemmas.Grind.{flat_map-append, common_steps}
 use Rattle.std.proofs.lemmas.List.{length-map, take_more}
+use Rattle.std.proofs.lemmas.List.Sums.{sum_by-cons}
 use Rattle.hc_records.specs.declared.limits.TheConstants.{MOST_SLAVES, TASKS}
 use Rattle.hc_records.specs.declared.records.Area.{Area}
 use Rattle.hc_records.specs.declared.records.Declared.{Declared}
 use Rattle.hc_records.specs.declared.records.Slave.{Slave}
 use Rattle.hc_records.specs.Line.{groups_of}
 use Rattle.hc_records.specs.Project.{lowest_fault}
+use Rattle.hc_groups.specs.Index.{declared_count}
 use Rattle.hc_cuts.specs.Areas.{areas_at, areas_by_rank, present_areas}
 use Rattle.hc_cuts.proofs.lemmas.Told.{length-present}
 use Rattle.hc_changes.specs.Candidates.{Candidate}
@@ -95,7 +97,7 @@ group-station groups first declared i slave at within is =
     let many = length-map {B = ℕ} slaves (λ s. s.station) in
     search (rules, flat_map-append, index-front, at-mapped)
 
-group-few : (groups : List Declared) (first : ℕ) (declared : Declared) → IsGroupAt groups first declared → first + length declared.group.slaves ≤ length (areas_by_rank groups) + 1
+pub group-few : (groups : List Declared) (first : ℕ) (declared : Declared) → IsGroupAt groups first declared → first + length declared.group.slaves ≤ length (areas_by_rank groups) + 1
 group-few groups first declared at =
     let slaves = declared.group.slaves in
     let many = length-present declared.present slaves in
@@ -117,6 +119,35 @@ pub behind-passed : (it : EditedLine) (low high first to end : ℕ) → LieWithi
 behind-passed it low high first to end within order out =
     let all : first + to + (end - to) ≡ first + end = omega (arith, order) in
     search (rules, passed-over)
+
+pub none-yet : (it : EditedLine) → found_below it 1 ≡ []
+unfolding found_below rank_found areas_found
+none-yet it = refl
+
+-- what is found in front of a group that is no lower, and behind one that is higher
+
+pub ranks-counted : (groups : List Declared) → length (areas_by_rank groups) ≡ sum_by declared_count groups
+ranks-counted [] = refl
+ranks-counted (declared ∷ groups) =
+    let many = length-present declared.present declared.group.slaves in
+    let parts = length-append (present_areas declared) (areas_by_rank groups) in
+    let rest = ranks-counted groups in
+    let sum = sum_by-cons declared_count declared groups in
+    omega (arith, many, parts, rest, sum)
+
+pub start-found : (it : EditedLine) (low high first : ℕ) → LieWithin it low high → 1 ≤ first → (first ≡ 1) ⊎ (first ≤ low) → [] ≡ found_below it first
+start-found it low high first within some (inl one) = sym (ap (found_below it) one ∙ none-yet it)
+start-found it low high first within some (inr below) =
+    sym (none-yet it) ∙ front-passed it low high 1 (first - 1) within (λ i less out. omega (arith, less, out, below)) ∙ ap (found_below it) (omega (arith, some))
+
+pub end-found : (it : EditedLine) (low high first : ℕ) (declared : Declared) → LieWithin it low high → high < first → IsGroupAt it.old first declared
+    → found_below it first ≡ found_below it (length (areas_by_rank it.old) + 1)
+end-found it low high first declared within above at =
+    let few = group-few it.old first declared at in
+    let end = length (areas_by_rank it.old) + 1 - first in
+    ap (found_below it) (omega arith)
+    ∙ behind-passed it low high first 0 end within (omega arith) (λ i some less out. omega (arith, above, out))
+    ∙ ap (found_below it) (omega (arith, few))
 
 -- the groups one by one
 
@@ -149,7 +180,3 @@ past-none xs n past = grind (arith, common_steps)
 pub above-none : (it : EditedLine) (rank : ℕ) → length (areas_by_rank it.new) < rank → rank_found it rank ≡ []
 unfolding rank_found areas_found
 above-none it rank above = search (rules, past-none)
-
-pub none-yet : (it : EditedLine) → found_below it 1 ≡ []
-unfolding found_below rank_found areas_found
-none-yet it = refl

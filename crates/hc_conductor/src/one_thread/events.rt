@@ -1,5 +1,5 @@
 //! The events of the core: the conductor's own, by which nothing is shown or posted.
-ghost use Rattle.std.specs.Prelude.{◌≡◌, ◌≢◌, ◌++◌, Err, IfErr, IfOk, IfSome, None, OnErr, OnOk, Some, drop, length};
+ghost use Rattle.std.specs.Prelude.{◌≡◌, ◌≢◌, ◌∷◌, ◌++◌, Err, IfErr, IfOk, IfSome, None, OnErr, OnOk, Some, drop, length};
 ghost use Rattle.std.specs.List.{flat_map};
 ghost use Rattle.hc_records.specs.Lists.{lowest};
 ghost use Rattle.hc_core.specs.Early.{TellsEarly};
@@ -7,8 +7,9 @@ ghost use Rattle.hc_core.specs.Proposed.{IsProposal};
 ghost use Rattle.hc_core.specs.Written.{HoldsWrite};
 ghost use Rattle.hc_events.specs.Calls.{AreSentTogether, MayAnswer, frames_size, send_into_faults, write_into_faults};
 ghost use Rattle.hc_events.specs.declared.faults.CoreFault.TheVariants.{Memory};
+ghost use Rattle.hc_events.specs.Entries.{Forgot};
 ghost use Rattle.hc_events.specs.Owed.{owed_blocks};
-ghost use Rattle.hc_events.specs.Steps.{Arrives, Edits, SendsTasks, SendsWrite, entries_after, proposal, sent_text, with_sent};
+ghost use Rattle.hc_events.specs.Steps.{Arrives, Edits, SendsTasks, SendsWrite, entries_after, forget_faults, proposal, sent_text, with_sent};
 ghost use Rattle.hc_sendings.specs.Refusals.{early_faults};
 ghost use Rattle.hc_conductor.specs.Conducting.{IsConducting};
 ghost use Rattle.hc_conductor.specs.Mastering.{SameTasks, past_of};
@@ -64,6 +65,19 @@ impl Master {
         ensures untouched { OnErr result (out.new ≡ out.old) }
     {
         self.conductor.next_write(out)
+    }
+
+    /// The slave with this station address may have lost its registers: all its blocks are owed, as the core's
+    /// `forget` says, and a write to it that was sent before confirms nothing. `UnknownStation` where no declared
+    /// slave has the address; `Absent` where that slave isn't in the line. Then nothing changed. It takes no memory.
+    pub fn forget(&mut self, station: u16) -> Result<(), CoreFault>
+        ensures accepted { OnOk result (lowest (forget_faults (past_of self.old) station) ≡ None) }
+        ensures entries { OnOk result (past_of self.new ≡ Forgot station ∷ past_of self.old) }
+        ensures tasks { SameTasks self.old self.new }
+        ensures refused { IfErr result (λ fault. lowest (forget_faults (past_of self.old) station) ≡ Some fault) }
+        ensures unchanged { OnErr result (self.new ≡ self.old) }
+    {
+        self.conductor.forget(station)
     }
 
     /// Tasks are sent, 1 to 8 distinct ones: the frames stand in the arena one after another, each of its own size,

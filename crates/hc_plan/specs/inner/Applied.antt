@@ -2,10 +2,7 @@
 use Rattle.std.specs.Prelude.{◌≡◌, ℕ, ◌==◌, false, List, None, find, option_map, slice_get}
 use Rattle.hc_records.specs.declared.edit.Edit.{Edit}
 use Rattle.hc_records.specs.Edits.{crowded_task, declares, groups_after}
-use Rattle.hc_records.specs.Line.{groups_of, line_from}
-use Rattle.hc_records.specs.Project.{lowest_fault}
-use Rattle.hc_records.specs.declared.records.Declared.{Declared}
-use Rattle.hc_groups.specs.Index.{Index, IsIndexOf}
+use Rattle.hc_records.specs.Line.{line_from}
 use Rattle.hc_groups.specs.Edits.{own_fault}
 use Rattle.hc_places.specs.Swap.{ChangedTask, ChangesAscend, IsNewTask}
 use Rattle.hc_places.specs.Table.{Table, table_of}
@@ -29,11 +26,3 @@ pub record AreSeen (edited_line : EditedLine) (found : List Candidate) (tasks : 
       → IsNewTask (slice_get (table_of (line_from 1 edited_line.old)).tasks task) (slice_get (table_of (line_from 1 edited_line.new)).tasks task)
       (option_map (λ changed. changed.1) (find (λ changed. changed.0 == task) tasks))
   pub ascends : ChangesAscend tasks
-
--- an index is that of a project's groups before an edit that declares none, which led to these, a project's again
-pub record Follows (groups : List Declared) (edit : Edit) (index : Index) : Type 0 where
-  pub before : List Declared
-  pub was : IsIndexOf before index
-  pub changes : declares edit ≡ false
-  pub leads : groups ≡ groups_after before edit
-  pub project : lowest_fault (groups_of groups) ≡ None

@@ -1,5 +1,5 @@
 -- What a prepared edit keeps, so that carrying it out takes no memory and can't be refused.
-use Rattle.std.specs.Prelude.{◌≡◌, ◌+◌, false, [], ◌∷◌, ◌++◌, List, None}
+use Rattle.std.specs.Prelude.{◌≡◌, ◌+◌, false, [], ◌∷◌, ◌++◌, List, None, Some}
 use Rattle.hc_records.specs.declared.records.Declared.{Declared}
 use Rattle.hc_records.specs.Edits.{absent, declares, groups_after}
 use Rattle.hc_records.specs.Line.{State, groups_of, line}
@@ -8,7 +8,7 @@ use Rattle.hc_registers.specs.declared.ranked.Gone.{Gone}
 use Rattle.hc_registers.specs.Ranked.{RankedBlock}
 use Rattle.hc_cuts.specs.Areas.{areas_by_rank}
 use Rattle.hc_cuts.specs.Turn.{AreStartsOf}
-use Rattle.hc_groups.specs.Changes.{changed_groups}
+use Rattle.hc_groups.specs.Changes.{change_by, changed_groups}
 use Rattle.hc_groups.specs.Rows.{ChangesRow}
 use Rattle.hc_places.specs.Room.{IsRoomFor}
 use Rattle.hc_places.specs.Table.{table_of}
@@ -41,8 +41,9 @@ prepared_of old work report blocks = record {
   blocks = blocks;
 }
 
--- the change leads from a project's groups to those of a project again, the boundaries are those of its line's tasks, and there is memory for the areas of the change's slaves and for the new table's rows
+-- the edit makes the change, which leads from a project's groups to those of a project again, the boundaries are those of its line's tasks, and there is memory for the areas of the change's slaves and for the new table's rows
 pub record IsLineReady (old : State) (report : Report) (work : LineWork) : Type 0 where
+  pub made : change_by old.groups report.swap.edit ≡ Some work.change
   pub changes : declares report.swap.edit ≡ false
   pub leads : changed_groups work.change old.groups ≡ groups_after old.groups report.swap.edit
   pub project : lowest_fault (groups_of (changed_groups work.change old.groups)) ≡ None

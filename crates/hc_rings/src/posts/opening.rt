@@ -9,7 +9,6 @@ use crate::item::EndComesLast;
 use crate::outgoing::OutgoingPosts;
 use crate::post_buffer::PostBuffer;
 use crate::spares::SpareBuffers;
-use crate::taken::Taken;
 use rtrb::{Consumer, Producer, RingBuffer};
 use std::alloc::{AllocError, Global};
 use std::collections::VecDeque;
@@ -39,7 +38,6 @@ pub fn post_ring(alloc: Global) -> Result<(PostSender, PostReceiver), AllocError
             ended: false,
         },
         rest,
-        took: Taken::Nothing,
         spares: spares_in,
     };
     Ok((sender, receiver))

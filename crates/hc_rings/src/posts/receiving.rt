@@ -25,12 +25,9 @@ impl PostReceiver {
         ensures given_back { given_back self.new ≡ given_back self.old }
     {
         if let Some(buffer) = self.rest.pop_front() {
-            self.took.add(&buffer);
             return Some(buffer);
         }
-        let buffer = self.posts.next()?;
-        self.took.add(&buffer);
-        Some(buffer)
+        self.posts.next()
     }
 
     /// Puts a buffer among the spares, for the sender to fill again. It is dropped where no place is found.

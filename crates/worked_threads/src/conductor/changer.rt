@@ -1,4 +1,4 @@
-//! The loops of docs/CONDUCTOR.md on the machine with a tool changer of examples/tool_changer.toml: its gripper comes and
+//! The loops of docs/use/CONDUCTOR.md on the machine with a tool changer of examples/tool_changer.toml: its gripper comes and
 //! goes between cycles, and its slaves are simulated.
 
 use crate::conductor::changer::Tool::{Comes, Goes, Stays};

@@ -1,4 +1,4 @@
-//! The loops of docs/CONDUCTOR.md, as they stand there.
+//! The loops of docs/use/CONDUCTOR.md, as they stand there.
 ghost use Rattle.std.specs.Prelude.{◌≡◌};
 ghost use Rattle.hc_conductor.specs.Conducting.{origin_of};
 ghost use Rattle.hc_conductor.specs.Seats.{seat_origin};

@@ -1,9 +1,9 @@
 //! What comes of views and publishings in one thread: rows worked out by hand.
-use crate::one_thread::steps::Step::{Exchange, Publish, Remap, Take, View, Write};
+use crate::one_thread::steps::Step::{Exchange, Forget, Publish, Remap, Take, View, Write};
 use crate::one_thread::steps::{Step, wrong_step};
 
 /// Steps in a row.
-const ROWS: [&[Step]; 2] = [
+const ROWS: [&[Step]; 3] = [
     // a view shows what was published last
     &[
         View(0, 2, 0, Err(4)),
@@ -34,6 +34,19 @@ const ROWS: [&[Step]; 2] = [
         View(0, 2, 1, Err(4)),
         Publish,
         View(0, 2, 1, Ok(2612)),
+    ],
+    // a slave that is forgotten is written again; nothing of it is shown, and its task goes on in its epoch
+    &[
+        Write(4),
+        Exchange(0),
+        Publish,
+        Forget,
+        Publish,
+        View(0, 2, 0, Ok(2612)),
+        Write(4),
+        Exchange(0),
+        Publish,
+        View(0, 2, 0, Ok(2612)),
     ],
 ];
 

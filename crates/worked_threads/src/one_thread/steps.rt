@@ -22,6 +22,8 @@ pub enum Step {
     Remap(u32),
     /// Task 0 is sent with this byte, and answered well.
     Exchange(u8),
+    /// The axis is forgotten, so its four blocks are owed.
+    Forget,
     /// All is published.
     Publish,
     /// A task views a variable: the epoch, and its value or the fault's number.
@@ -98,6 +100,7 @@ fn comes<R: Wait>(rt: &R, alloc: Global, master: &mut Master, step: &Step) -> bo
         }
         Step::Remap(epoch) => is_mapped(alloc, master, *epoch),
         Step::Exchange(outputs) => is_exchanged(alloc, master, *outputs),
+        Step::Forget => master.forget(1001).is_ok() && master.core().owed() == 4,
         Step::Publish => master.publish(rt, alloc).is_ok(),
         Step::View(task, variable, epoch, value) => {
             is_viewed(master, *task, *variable, *epoch, *value)

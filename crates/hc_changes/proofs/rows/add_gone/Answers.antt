@@ -1,4 +1,4 @@
-use Rattle.std.proofs.Common.{◌≡◌, ◌==◌, ℕ, Bool, true, false, not, None, ap, ◌∙◌, sym, append-nil}
+use Rattle.std.proofs.Common.{◌≡◌, ◌==◌, ◌∷◌, ◌++◌, [], ℕ, Bool, true, false, not, None, ap, ◌∙◌, sym, append-nil}
 use Rattle.std.specs.List.{list_any}
 use Rattle.std.proofs.lemmas.List.{drop_all}
 use Rattle.hc_places.specs.Swap.{ChangedRow}
@@ -17,7 +17,7 @@ loop-variable-preserved c =
     elim c.if-not-is_among.branch [
       | then-not-is_among+in_ok-push w ↦
           let passed : is_gone variable ≡ true = told ∙ ap not w.if-not-is_among.true in
-          kept-added gone is_gone c.args.before.now i variable true c.loop-variable.rows.items c.if-not-is_among.rows.items _ within c.variable-item.is passed (ap (λ rows. rows.items) w.rows-is ∙ w.in_ok-push.ensures.items) c.loop-variable.invariant
+          kept-added gone is_gone c.args.before.now i variable true c.loop-variable.rows.items c.if-not-is_among.rows.items _ within c.variable-item.is passed (ap (λ rows. rows.items) w.rows-is ∙ w.in_ok-push.ensures.items ∙ ap (λ (row : ChangedRow). c.loop-variable.rows.items ++ row ∷ []) w.of.ensures) c.loop-variable.invariant
       | else-not-is_among w ↦
           let failed : is_gone variable ≡ false = told ∙ ap not w.if-not-is_among.false in
           kept-added gone is_gone c.args.before.now i variable false c.loop-variable.rows.items c.if-not-is_among.rows.items _ within c.variable-item.is failed (ap (λ rows. rows.items) w.rows-is ∙ sym (append-nil c.loop-variable.rows.items)) c.loop-variable.invariant

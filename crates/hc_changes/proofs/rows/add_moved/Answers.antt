@@ -1,4 +1,4 @@
-use Rattle.std.proofs.Common.{◌≡◌, ◌∷◌, ◌++◌, [], Some, append-nil, sym, if◌then◌else◌, ◌∙◌}
+use Rattle.std.proofs.Common.{◌≡◌, ◌∷◌, ◌++◌, [], Some, ap, append-nil, sym, if◌then◌else◌, ◌∙◌}
 use Rattle.std.proofs.lemmas.List.{drop_all}
 use Rattle.hc_places.specs.Swap.{ChangedRow}
 use Rattle.hc_places.specs.Table.{Row}
@@ -16,7 +16,7 @@ loop-row-preserved c =
     let make : Row → ChangedRow = λ r. (r.0, Some r.1) in
     let adds : c.if-is_new.rows.items ≡ l.rows.items ++ (if c.is_new.result then make row ∷ [] else []) =
     elim c.if-is_new.branch [
-      | then-is_new+in_ok-push w ↦ rw (w.rows-is, w.if-is_new.true) w.in_ok-push.ensures.items
+      | then-is_new+in_ok-push w ↦ rw (w.rows-is, w.if-is_new.true) (w.in_ok-push.ensures.items ∙ ap (λ (one : ChangedRow). l.rows.items ++ one ∷ []) w.of.ensures)
       | else-is_new w ↦ rw (w.rows-is, w.if-is_new.false) (sym (append-nil l.rows.items))
     ] in
     kept-added make (is_new_row old) found l.row-index row c.is_new.result l.rows.items c.if-is_new.rows.items (c.args.rows.now.items ++ moved_rows old found) c.loop-row-test.true c.row-item.is

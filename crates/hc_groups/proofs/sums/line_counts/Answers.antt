@@ -14,5 +14,5 @@ returns-clause-blocks c =
     ap (λ (k : ℕ). get_or c.args.sums.now k 0) c.len-count.ensures
     ∙ ap (λ (sums : List ℕ). get_or sums (length slaves) 0) c.requires.sums
     ∙ get_or_from_slice_get (block_sums declared) (length slaves) (0 + block_sum slaves) 0 (sums-last blocks_of 0 slaves)
-    ∙ sym (ap (λ (present : Bool). 0 + block_sum (if present then slaves else [])) c.if-not-declared.false)
+    ∙ sym (ap (λ (present : Bool). 0 + block_sum (if present then slaves else [])) c.if-not-present.false)
     ∙ omega arith

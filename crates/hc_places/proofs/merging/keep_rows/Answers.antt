@@ -1,8 +1,10 @@
-use Rattle.std.proofs.Common.{◌∙◌, ◌<◌, arith, length, subst, sym}
+use Rattle.std.proofs.Common.{◌∙◌, ℕ, ◌<◌, ◌≤◌, arith, length, subst, sym}
 use Rattle.std.specs.Prelude.{IsTrue}
 use Rattle.std.proofs.lemmas.List.{take_all}
 use Rattle.std.proofs.lemmas.List.Elements.{All-more}
+use Rattle.std.specs.List.{AllWithin}
 use Rattle.hc_places.specs.Swap.{ChangedRow, keeps_row}
+use Rattle.hc_places.specs.Table.{Row}
 use Rattle.hc_places.proofs.Reached.{lower-next}
 use Rattle.hc_places.proofs.merging.keep_rows.Goals as goal
 
@@ -16,7 +18,8 @@ loop-change-preserved c =
     let keeps = sym c.keeps_row.ensures ∙ c.if-not-keeps_row.false in
     record {
       within = c.count_with-front.ensures.bound;
-      lower = lower-next rows c.count_with-front.result changed index change c.requires.changes inside c.change-item.is c.count_with-front.ensures.low;
+      lower = lower-next rows c.count_with-front.result changed index change c.requires.changes inside c.change-item.is
+          (subst (λ (v : ℕ). AllWithin (λ (row : Row). row.0 ≤ v) rows 0 c.count_with-front.result) c.variable.ensures c.count_with-front.ensures.low);
       kept = All-more (λ (one : ChangedRow). IsTrue (keeps_row rows one)) changed index change inside c.loop-change.invariant.kept
           (subst (λ (one : ChangedRow). IsTrue (keeps_row rows one)) c.change-item.is keeps);
     }

@@ -1,4 +1,4 @@
-use Rattle.std.proofs.Common.{◌≡◌, ◌∙◌, ap, arith, refl, sym}
+use Rattle.std.proofs.Common.{◌≡◌, ◌∙◌, ℕ, ap, arith, refl, sym}
 use Rattle.std.specs.Prelude.{Option, Some, None, find, is_some, ◌==◌, ◌&&◌}
 use Rattle.std.proofs.lemmas.Option.{gets}
 use Rattle.std.proofs.lemmas.Grind.{common_steps}
@@ -20,9 +20,9 @@ returns-then-eq c =
     let changed = c.args.changed.now in
     let row = c.in-Some.row.now in
     let found = find-row rows changed.0 c.args.at (Some row) (ascends-rises rows c.requires.ascends) c.requires.below (grind (arith, common_steps, gets)) in
-    let same = sym c.eq.ensures ∙ c.if-eq.true in
+    let same = ap (λ (v : ℕ). row.0 == v) (sym c.variable.ensures) ∙ sym c.eq.ensures ∙ c.if-eq.true in
     let own : find (λ (r : Row). r.0 == changed.0) rows ≡ Some row = found ∙ rw same refl in
-    c.is_some.ensures ∙ ap (λ (f : Option Row). is_some f && is_some changed.1) (sym own)
+    c.is_some.ensures ∙ ap is_some c.place.ensures ∙ ap (λ (f : Option Row). is_some f && is_some changed.1) (sym own)
 
 pub returns-else-eq : goal.returns-else-eq
 returns-else-eq c =
@@ -30,6 +30,6 @@ returns-else-eq c =
     let changed = c.args.changed.now in
     let row = c.in-Some.row.now in
     let found = find-row rows changed.0 c.args.at (Some row) (ascends-rises rows c.requires.ascends) c.requires.below (grind (arith, common_steps, gets)) in
-    let same = sym c.eq.ensures ∙ c.if-eq.false in
+    let same = ap (λ (v : ℕ). row.0 == v) (sym c.variable.ensures) ∙ sym c.eq.ensures ∙ c.if-eq.false in
     let none : find (λ (r : Row). r.0 == changed.0) rows ≡ None = found ∙ rw same refl in
     c.if-eq.false ∙ ap (λ (f : Option Row). is_some f && is_some changed.1) (sym none)

@@ -1,4 +1,4 @@
-use Rattle.std.proofs.Common.{◌≡◌, ◌∙◌, ◌+◌, ◌<◌, ◌≤◌, List, ap, arith, length, map, subst, sym}
+use Rattle.std.proofs.Common.{◌≡◌, ◌∙◌, ℕ, ◌+◌, ◌<◌, ◌≤◌, List, ap, arith, length, map, subst, sym}
 use Rattle.std.proofs.lemmas.List.{drop_all, length-map}
 use Rattle.std.specs.List.{AllWithin}
 use Rattle.hc_places.specs.Swap.{ChangedRow}
@@ -20,7 +20,8 @@ loop-change-preserved c =
     let is : next ≡ map (row_with change) rows = c.overwrite_row.ensures in
     let same = c.as_slice-in-loop-change.ensures.value in
     let bound : front ≤ length rows = subst (λ (l : List Row). front ≤ length l) same c.count_with-front.ensures.bound in
-    let low : AllWithin (λ (row : Row). row.0 ≤ change.0) rows 0 front = subst (λ (l : List Row). AllWithin (λ (row : Row). row.0 ≤ change.0) l 0 front) same c.count_with-front.ensures.low in
+    let low : AllWithin (λ (row : Row). row.0 ≤ change.0) rows 0 front = subst (λ (l : List Row). AllWithin (λ (row : Row). row.0 ≤ change.0) l 0 front) same
+        (subst (λ (v : ℕ). AllWithin (λ (row : Row). row.0 ≤ v) c.as_slice-in-loop-change.result.now 0 front) c.variable.ensures c.count_with-front.ensures.low) in
     let size = ap length is ∙ length-map rows (row_with change) in
     record {
       is = overwritten-more changed rows next index change inside c.change-item.is is ∙ c.loop-change.invariant.is;
@@ -33,8 +34,8 @@ pub returns : goal.returns
 returns c =
     ap (λ (left : List ChangedRow). overwritten left c.loop-change.rows.items) (sym (drop_all c.loop-change.change-index c.args.changed.now c.loop-change-test.false)) ∙ c.loop-change.invariant.is
 
-pub count_from-at-requires-clause-ascends : goal.count_from-at-requires-clause-ascends
-count_from-at-requires-clause-ascends c = subst RowsAscend (sym c.as_slice.ensures.value) c.loop-change.invariant.ascends
+pub find_row-at-requires-clause-ascends : goal.find_row-at-requires-clause-ascends
+find_row-at-requires-clause-ascends c = subst RowsAscend (sym c.as_slice.ensures.value) c.loop-change.invariant.ascends
 
 pub count_with-front-requires-clause-ascends : goal.count_with-front-requires-clause-ascends
 count_with-front-requires-clause-ascends c = subst RowsAscend (sym c.as_slice-in-loop-change.ensures.value) c.loop-change.invariant.ascends

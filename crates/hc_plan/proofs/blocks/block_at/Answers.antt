@@ -1,6 +1,6 @@
 use Rattle.std.proofs.Common.{◌∙◌, sym, ap, subst}
 use Rattle.std.specs.Prelude.{slice_get}
-use Rattle.hc_records.specs.Line.{Member}
+use Rattle.hc_records.specs.Line.{Member, is_at}
 use Rattle.hc_plan.specs.inner.Blocks.{IsMappedSlave, slave_blocks_in}
 use Rattle.hc_plan.proofs.LineBlocks.{found-block, found-mapped, same-member}
 use Rattle.hc_plan.proofs.blocks.block_at.Goals as goal
@@ -8,7 +8,7 @@ use Rattle.hc_plan.proofs.blocks.block_at.Goals as goal
 pub slave_block-requires : goal.slave_block-requires
 slave_block-requires c =
     subst (IsMappedSlave c.args.layout.now) (same-member c.rank.result c.slave.result.now c.in-Some.slave c.rank.ensures c.slave.ensures)
-    (found-mapped c.args.groups.now c.args.layout.now c.args.station c.in-Some.slave c.requires (sym c.slave_at.ensures ∙ c.in-Some.is))
+    (found-mapped c.args.groups.now c.args.layout.now (is_at c.args.station) c.in-Some.slave c.requires (sym c.slave_at.ensures ∙ c.in-Some.is))
 
 pub returns-in-Some : goal.returns-in-Some
 returns-in-Some c =

@@ -9,5 +9,5 @@ pub returns : goal.returns
 returns c =
     c.is_any.ensures
     ∙ ap (λ (serial : ℕ). list_any (is_newest c.args.newest.now serial) c.datagrams.result.now) c.serial.ensures
-    ∙ ap (λ (datagrams : List Named). list_any (is_newest c.args.newest.now c.args.frame.now.serial) datagrams) c.datagrams.ensures
+    ∙ ap (λ (datagrams : List Named). list_any (is_newest c.args.newest.now c.args.frame.now.serial) datagrams) c.datagrams.ensures.datagrams
     ∙ any-told (newest_of c.args.newest.now) c.args.frame.now.serial c.args.frame.now.datagrams

@@ -4,10 +4,10 @@ use Rattle.hc_cuts.specs.Kept.{line_kept}
 use Rattle.hc_changes.specs.inner.Found.{found_below}
 use Rattle.hc_changes.proofs.finding.CandidateTest.all.Given as goal
 
--- the rank of the first slave of the groups that are left, and the candidates of those so far
-abbrev pub invariant-loop-declared : goal.invariant-loop-declared
-invariant-loop-declared l = record {
+-- the rank of the first slave of the groups that are left, and the candidates of the slaves before it
+abbrev pub invariant-loop-i : goal.invariant-loop-i
+invariant-loop-i l = record {
   places : l.places ≡ line_kept (areas_by_rank l.self.new);
-  first : l.first ≡ length (areas_by_rank (take l.declared-index l.self.old)) + 1;
+  first : l.first ≡ length (areas_by_rank (take l.i l.self.old)) + 1;
   found : l.found.items ≡ found_below l.self l.first;
 }

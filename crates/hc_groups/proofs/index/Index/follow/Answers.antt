@@ -1,21 +1,30 @@
-use Rattle.std.proofs.Common.{◌∙◌, length, ap, arith}
-use Rattle.std.proofs.lemmas.List.{length-map}
-use Rattle.hc_records.proofs.lemmas.Slaves.{project-counted}
-use Rattle.hc_groups.specs.Index.{Index, block_sums}
-use Rattle.hc_groups.proofs.Owners.{few-present}
+use Rattle.std.proofs.Common.{◌≡◌, None, subst, sym}
+use Rattle.hc_records.specs.Line.{groups_of}
+use Rattle.hc_records.specs.Project.{lowest_fault}
+use Rattle.hc_groups.specs.declared.prepared.Prepared.{Prepared}
+use Rattle.hc_groups.specs.declared.prepared.Prepared.TheVariants.{Presence}
+use Rattle.hc_groups.specs.Changes.{IsMade, changed_groups}
+use Rattle.hc_groups.specs.Index.{IsIndexOf}
+use Rattle.hc_groups.proofs.Summed.{some-at}
+use Rattle.hc_groups.proofs.Turned.{areas-kept, made-inside, turned-kept}
 use Rattle.hc_groups.proofs.index.Index.follow.Goals as goal
 
-pub sum_line-requires-clause-room : goal.sum_line-requires-clause-room
-sum_line-requires-clause-room c =
-    let own = length-map c.self.inside.fronts.items (λ sums. sums.items) in
-    let fronts = ap (λ (index : Index). length index.fronts) c.self.view_is in
-    let groups = ap length c.requires.fronts ∙ length-map c.args.groups.now block_sums in (
-      omega (arith, own, fronts, groups),
-      omega (arith, own, fronts, groups),
-    )
+pub turn-requires-clause-inside : goal.turn-requires-clause-inside
+turn-requires-clause-inside c = made-inside c.args.groups.now c.in-Presence.change (subst (IsMade c.args.groups.now) c.in-Presence.is c.requires.made)
 
-pub sum_line-requires-clause-counted : goal.sum_line-requires-clause-counted
-sum_line-requires-clause-counted c = project-counted c.args.groups.now c.requires.project
+pub returns-in-Presence : goal.returns-in-Presence
+returns-in-Presence c =
+    let groups = c.args.groups.now in
+    let change = c.in-Presence.change in
+    let made = subst (IsMade groups) c.in-Presence.is c.requires.made in
+    let own = some-at groups change.group (made-inside groups change made) in
+    let project = subst (λ (p : Prepared). lowest_fault (groups_of (changed_groups p groups)) ≡ None) c.in-Presence.is c.requires.project in
+    subst (λ (p : Prepared). IsIndexOf (changed_groups p groups) c.turn.new.self) (sym c.in-Presence.is)
+    (subst (IsIndexOf (changed_groups (Presence change) groups)) (sym c.turn.ensures) (turned-kept groups change c.args.self.now own.0 c.requires.index made project own.1))
 
-pub sum_line-requires-clause-few : goal.sum_line-requires-clause-few
-sum_line-requires-clause-few c = few-present c.args.groups.now c.requires.project
+pub returns-in-Areas : goal.returns-in-Areas
+returns-in-Areas c =
+    let groups = c.args.groups.now in
+    let project = subst (λ (p : Prepared). lowest_fault (groups_of (changed_groups p groups)) ≡ None) c.in-Areas.is c.requires.project in
+    subst (λ (p : Prepared). IsIndexOf (changed_groups p groups) c.args.self.now) (sym c.in-Areas.is)
+    (areas-kept groups _ c.args.self.now c.requires.index (subst (IsMade groups) c.in-Areas.is c.requires.made) project)

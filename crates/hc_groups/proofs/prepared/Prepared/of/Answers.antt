@@ -8,9 +8,6 @@ use Rattle.hc_groups.proofs.lemmas.Concerned.{change-of-row}
 use Rattle.hc_groups.proofs.Kept.{project-kept}
 use Rattle.hc_groups.proofs.prepared.Prepared.of.Goals as goal
 
-pub own_fault-requires : goal.own_fault-requires
-own_fault-requires c = project-counted c.args.groups.now c.requires.project
-
 pub change_by-requires-clause-counted : goal.change_by-requires-clause-counted
 change_by-requires-clause-counted c = project-counted c.args.groups.now c.requires.project
 

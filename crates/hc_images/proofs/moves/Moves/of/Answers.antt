@@ -10,41 +10,41 @@ use Rattle.hc_images.specs.Pieces.{Keeps, of_list, output_in, output_of}
 use Rattle.hc_images.proofs.Standing.{next-stands}
 use Rattle.hc_images.proofs.moves.Moves.of.Goals as goal
 
-pub loop-variable-preserved : goal.loop-variable-preserved
-loop-variable-preserved c =
+pub loop-row-preserved : goal.loop-row-preserved
+loop-row-preserved c =
     let old = c.args.old.now in
     let rows = c.args.swap.now.change.rows in
     let items = c.changes-changed.result.now in
-    let n = c.loop-variable.variable-index in
-    let places = c.loop-variable.places.items in
-    let last = c.loop-variable-item.result in
+    let n = c.loop-row.row-index in
+    let places = c.loop-row.places.items in
+    let last = c.row-item.result in
     let there : slice_get rows n ≡ Some last =
-    subst (λ (l : List ChangedRow). slice_get l n ≡ Some last) c.changes-changed.ensures.rows (slice_get_read items (length items) n last refl c.loop-variable-test.true c.loop-variable-item.is) in
-    let own : c.output.result ≡ output_in old last.0 = ◌∙◌ {A = Option VariablePlace} c.output.ensures (ap (option_and_then output_of) c.place.ensures) in
+    subst (λ (l : List ChangedRow). slice_get l n ≡ Some last) c.changes-changed.ensures.rows (slice_get_read items (length items) n last refl c.loop-row-test.true c.row-item.is) in
+    let own : c.output.result ≡ output_in old last.0 = ◌∙◌ {A = Option VariablePlace} c.output.ensures (ap (option_and_then output_of) c.old_place.ensures) in
     let all = ◌∙◌ {A = List (Option VariablePlace)} c.in_ok-push.ensures.items (ap (λ (found : Option VariablePlace). places ++ found ∷ []) own) in
     let values = c.in_ok-push-2.ensures.items in
     record {
-      count = let size = ap length all in let more = length-append places (output_in old last.0 ∷ []) in let count = c.loop-variable.invariant.count in omega arith;
-      room = let size = ap length values in let more = length-append c.loop-variable.values.items (0 ∷ []) in let room = c.loop-variable.invariant.room in omega arith;
+      count = let size = ap length all in let more = length-append places (output_in old last.0 ∷ []) in let count = c.loop-row.invariant.count in omega arith;
+      room = let size = ap length values in let more = length-append c.loop-row.values.items (0 ∷ []) in let room = c.loop-row.invariant.room in omega arith;
       each = λ i row below at.
           subst (λ (l : List (Option VariablePlace)). of_list l i ≡ output_in old row.0) (sym all)
-          (next-stands old rows places n last there c.loop-variable.invariant.count c.loop-variable.invariant.each i row below at);
+          (next-stands old rows places n last there c.loop-row.invariant.count c.loop-row.invariant.each i row below at);
     }
 
 pub invariant_of-result : goal.invariant_of-result
 invariant_of-result c =
     let old = c.args.old.now in
     let change = c.args.swap.now.change in
-    let places = c.loop-variable.places.items in
-    let values = c.loop-variable.values.items in
-    let n : c.loop-variable.variable-index ≡ length change.rows = omega (arith, ap length c.changes-changed.ensures.rows) in
+    let places = c.loop-row.places.items in
+    let values = c.loop-row.values.items in
+    let n : c.loop-row.row-index ≡ length change.rows = omega (arith, ap length c.changes-changed.ensures.rows) in
     let keeps : Keeps (record { before = old; change = change }) places values =
     record {
       table = c.is_table.ensures;
       stand = record {
-        count = c.loop-variable.invariant.count ∙ n;
-        each = λ i row there. let inside = slice_get_within change.rows i row there in c.loop-variable.invariant.each i row (omega arith) there;
+        count = c.loop-row.invariant.count ∙ n;
+        each = λ i row there. let inside = slice_get_within change.rows i row there in c.loop-row.invariant.each i row (omega arith) there;
       };
-      room = c.loop-variable.invariant.room ∙ n;
+      room = c.loop-row.invariant.room ∙ n;
     } in
     subst (λ (moves : Moves). Keeps moves places values) (ap₂ (λ (t : Table) (s : Swap). record { before = t; change = s.change }) (sym c.of.ensures) (sym c.of-2.ensures)) keeps

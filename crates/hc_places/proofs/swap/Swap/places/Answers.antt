@@ -14,10 +14,10 @@ pub overflow_sub-number : goal.overflow_sub-number
 overflow_sub-number c =
     let met = c.in-Some-Some in
     let far = shown c.args.self.now.change.rows c.changes-rows.result.now met.first.now met.last.now c.changes-rows.ensures.ascends c.changes-rows.ensures.rows met.ensures.value met.ensures'.value in
-    omega (arith, far.0, far.1, c.number.ensures.value, c.number-2.ensures.value)
+    omega (arith, far.0, far.1, c.variable.ensures, c.variable-2.ensures, c.number.ensures.value, c.number-2.ensures.value)
 
 pub prove-unreachable-requires : goal.prove-unreachable-requires
 prove-unreachable-requires c =
     let met = c.in-Some-Some in
     let far = shown c.args.self.now.change.rows c.changes-rows.result.now met.first.now met.last.now c.changes-rows.ensures.ascends c.changes-rows.ensures.rows met.ensures.value met.ensures'.value in
-    omega (arith, far.0, far.1, c.number.ensures.value, c.number-2.ensures.value, c.if-prove.true)
+    omega (arith, far.0, far.1, c.variable.ensures, c.variable-2.ensures, c.number.ensures.value, c.number-2.ensures.value, c.if-prove.true)

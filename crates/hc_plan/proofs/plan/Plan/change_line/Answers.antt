@@ -7,7 +7,7 @@ use Rattle.hc_records.specs.Project.{lowest_fault}
 use Rattle.hc_cuts.specs.Areas.{areas_by_rank}
 use Rattle.hc_cuts.specs.Kept.{line_kept}
 use Rattle.hc_cuts.specs.Turn.{AreStartsOf}
-use Rattle.hc_groups.specs.Changes.{changed_groups}
+use Rattle.hc_groups.specs.Changes.{IsMade, changed_groups}
 use Rattle.hc_groups.specs.Index.{IsIndexOf}
 use Rattle.hc_places.specs.Swap.{swapped}
 use Rattle.hc_places.specs.Table.{table_of}
@@ -24,33 +24,36 @@ pub turn_on-requires-clause-trees : goal.turn_on-requires-clause-trees
 turn_on-requires-clause-trees c =
     c.self.invariant.3
     ∙ ap (λ (g : List Declared). line_kept (areas_by_rank g))
-    (sym (old-groups c.of-edited_line.result c.args.work.change c.as_slice.result.now c.self.inside.groups c.of-edited_line.ensures c.as_slice.ensures))
+    (sym (old-groups c.of-edited_line.result c.args.work.change c.of-groups.result c.self.inside.groups c.of-edited_line.ensures (c.of-groups.ensures ∙ c.as_slice.ensures)))
 
 pub turn_on-requires-clause-starts : goal.turn_on-requires-clause-starts
 turn_on-requires-clause-starts c =
     let change = c.args.work.change in
-    let new = ap (λ (it : EditedLine). it.new) c.of-edited_line.ensures ∙ ap (changed_groups change) c.as_slice.ensures ∙ ap (λ (s : State). changed_groups change s.groups) c.self.view_is in
+    let new = ap (λ (it : EditedLine). it.new) c.of-edited_line.ensures ∙ ap (changed_groups change) (c.of-groups.ensures ∙ c.as_slice.ensures) ∙ ap (λ (s : State). changed_groups change s.groups) c.self.view_is in
     subst (λ (g : List Declared). AreStartsOf (areas_by_rank g) c.args.work.starts) (sym new) c.requires.ready.starts
 
-pub follow-requires : goal.follow-requires
-follow-requires c =
-    let old : State = record { groups = c.self.inside.groups; epoch = c.self.inside.epoch } in
+pub of-groups-requires : goal.of-groups-requires
+of-groups-requires c = subst (λ (g : List Declared). IsIndexOf g c.self.inside.index) (sym c.as_slice.ensures) c.self.invariant.4
+
+pub follow-requires-clause-index : goal.follow-requires-clause-index
+follow-requires-clause-index c = subst (λ (g : List Declared). IsIndexOf g c.self.inside.index) (sym c.as_slice-2.ensures) c.self.invariant.4
+
+pub follow-requires-clause-made : goal.follow-requires-clause-made
+follow-requires-clause-made c =
     let ready = subst (λ (s : State). IsLineReady s c.args.report.now c.args.work) (sym c.self.view_is) c.requires.ready in
-    let groups = c.as_slice-2.ensures ∙ c.carry_out.ensures.groups in
-    record {
-      before = old.groups;
-      was = c.self.invariant.4;
-      changes = subst (λ (e : Edit). declares e ≡ false) (sym c.edit.ensures) ready.changes;
-      leads = groups ∙ ready.leads ∙ ap (groups_after old.groups) (sym c.edit.ensures);
-      project = subst (λ (g : List Declared). lowest_fault (groups_of g) ≡ None) (sym groups) ready.project;
-    }
+    subst (λ (g : List Declared). IsMade g c.args.work.change) (sym c.as_slice-2.ensures) (c.args.report.now.swap.edit, ready.made)
+
+pub follow-requires-clause-project : goal.follow-requires-clause-project
+follow-requires-clause-project c =
+    let ready = subst (λ (s : State). IsLineReady s c.args.report.now c.args.work) (sym c.self.view_is) c.requires.ready in
+    subst (λ (g : List Declared). lowest_fault (groups_of (changed_groups c.args.work.change g)) ≡ None) (sym c.as_slice-2.ensures) ready.project
 
 pub invariant_of-self : goal.invariant_of-self
 invariant_of-self c =
     let change = c.args.work.change in
     let made = c.carry_out.ensures.groups in
     let same = made ∙ ap (λ (s : State). changed_groups change s.groups) c.self.view_is in
-    let new = ap (λ (it : EditedLine). it.new) c.of-edited_line.ensures ∙ ap (changed_groups change) c.as_slice.ensures ∙ sym made in (
+    let new = ap (λ (it : EditedLine). it.new) c.of-edited_line.ensures ∙ ap (changed_groups change) (c.of-groups.ensures ∙ c.as_slice.ensures) ∙ sym made in (
       subst (λ (g : List Declared). lowest_fault (groups_of g) ≡ None) (sym same) c.requires.ready.project,
       subst (λ (g : List Declared). crowded_task (line_from 1 g) ≡ None) (sym same) c.requires.prepared.crowds.1,
       c.carry_out-2.ensures
@@ -58,7 +61,7 @@ invariant_of-self c =
           ∙ c.requires.prepared.told.leads
           ∙ ap (λ (g : List Declared). table_of (line_from 1 g)) (sym same),
       c.turn_on.ensures ∙ ap (λ (g : List Declared). line_kept (areas_by_rank g)) new,
-      subst (λ (g : List Declared). IsIndexOf g c.follow.new.index) c.as_slice-2.ensures c.follow.ensures,
+      subst (λ (g : List Declared). IsIndexOf g c.follow.new.self) (ap (changed_groups change) c.as_slice-2.ensures ∙ sym made) c.follow.ensures,
     )
 
 pub returns : goal.returns
@@ -72,22 +75,22 @@ of-edited_line-requires-clause-edited c =
     let old : State = record { groups = c.self.inside.groups; epoch = c.self.inside.epoch } in
     let ready = subst (λ (s : State). IsLineReady s c.args.report.now c.args.work) (sym c.self.view_is) c.requires.ready in
     let edit = c.args.report.now.swap.edit in
-    record { edit = edit; changes = ready.changes; leads = subst (λ (g : List Declared). changed_groups c.args.work.change g ≡ groups_after g edit) (sym c.as_slice.ensures) ready.leads }
+    record { edit = edit; changes = ready.changes; leads = subst (λ (g : List Declared). changed_groups c.args.work.change g ≡ groups_after g edit) (sym (c.of-groups.ensures ∙ c.as_slice.ensures)) ready.leads }
 
 pub of-edited_line-requires-clause-was : goal.of-edited_line-requires-clause-was
-of-edited_line-requires-clause-was c = subst (λ (g : List Declared). lowest_fault (groups_of g) ≡ None) (sym c.as_slice.ensures) c.self.invariant.0
+of-edited_line-requires-clause-was c = subst (λ (g : List Declared). lowest_fault (groups_of g) ≡ None) (sym (c.of-groups.ensures ∙ c.as_slice.ensures)) c.self.invariant.0
 
 pub of-edited_line-requires-clause-is : goal.of-edited_line-requires-clause-is
 of-edited_line-requires-clause-is c =
     let old : State = record { groups = c.self.inside.groups; epoch = c.self.inside.epoch } in
     let ready = subst (λ (s : State). IsLineReady s c.args.report.now c.args.work) (sym c.self.view_is) c.requires.ready in
-    subst (λ (g : List Declared). lowest_fault (groups_of (changed_groups c.args.work.change g)) ≡ None) (sym c.as_slice.ensures) ready.project
+    subst (λ (g : List Declared). lowest_fault (groups_of (changed_groups c.args.work.change g)) ≡ None) (sym (c.of-groups.ensures ∙ c.as_slice.ensures)) ready.project
 
 pub of-edited_line-requires-clause-row : goal.of-edited_line-requires-clause-row
 of-edited_line-requires-clause-row c =
     let old : State = record { groups = c.self.inside.groups; epoch = c.self.inside.epoch } in
     let ready = subst (λ (s : State). IsLineReady s c.args.report.now c.args.work) (sym c.self.view_is) c.requires.ready in
-    subst (ChangesRow c.args.work.change) (sym c.as_slice.ensures) ready.row
+    subst (ChangesRow c.args.work.change) (sym (c.of-groups.ensures ∙ c.as_slice.ensures)) ready.row
 
 pub turn_on-requires-clause-edited : goal.turn_on-requires-clause-edited
 turn_on-requires-clause-edited c =
@@ -95,5 +98,5 @@ turn_on-requires-clause-edited c =
     let ready = subst (λ (s : State). IsLineReady s c.args.report.now c.args.work) (sym c.self.view_is) c.requires.ready in
     let change = c.args.work.change in
     subst IsEditedLine (sym c.of-edited_line.ensures)
-    (subst (λ (g : List Declared). IsEditedLine (edited_line_of change g)) (sym c.as_slice.ensures)
+    (subst (λ (g : List Declared). IsEditedLine (edited_line_of change g)) (sym (c.of-groups.ensures ∙ c.as_slice.ensures))
     (change-edited_line old.groups change (record { edit = c.args.report.now.swap.edit; changes = ready.changes; leads = ready.leads }) c.self.invariant.0 ready.project ready.row))

@@ -30,14 +30,14 @@ returns-in_err-change-clause-refused c =
     rw (p.1, p.2) (λ other.
     subst (λ (s : State). edited s edit ≡ Err fault) c.self.view_is
     (own-refuses (record { groups = groups; epoch = c.self.inside.epoch }) edit fault
-    (judged c.as_slice.result.now groups edit (Some fault) c.as_slice.ensures (sym (c.in_err-change.ensures.refused other)))))
+    (judged c.of-groups.result groups edit (Some fault) (c.of-groups.ensures ∙ c.as_slice.ensures) (sym (c.in_err-change.ensures.refused other)))))
 
 pub returns-in_err-worked-clause-refused : goal.returns-in_err-worked-clause-refused
 returns-in_err-worked-clause-refused c =
     let edit = c.args.edit.now in
     let epoch = c.self.inside.epoch in
     let fault = c.in_err-worked.field-0.0 in
-    let was = old-groups c.of-edited_line.result c.in_ok-change.change c.as_slice-2.result.now c.self.inside.groups c.of-edited_line.ensures c.as_slice-2.ensures in
+    let was = old-groups c.of-edited_line.result c.in_ok-change.change c.of-groups.result c.self.inside.groups c.of-edited_line.ensures (c.of-groups.ensures ∙ c.as_slice.ensures) in
     let old = ap (λ (g : List Declared). record { groups = g; epoch = epoch }) was ∙ c.self.view_is in
     let p = err_from_is_err_and c.from_residual-in_err-worked.result c.from_residual-in_err-worked.ensures.1 in
     rw (p.1, p.2) (λ other. subst (λ (s : State). edited s edit ≡ Err fault) old (c.in_err-worked.ensures.refused other))
@@ -45,13 +45,13 @@ returns-in_err-worked-clause-refused c =
 pub returns-in_err-worked-clause-own : goal.returns-in_err-worked-clause-own
 returns-in_err-worked-clause-own c =
     let edit = c.args.edit.now in
-    let none = judged c.as_slice.result.now c.self.inside.groups edit None c.as_slice.ensures (sym c.in_ok-change.ensures.accepted) in
+    let none = judged c.of-groups.result c.self.inside.groups edit None (c.of-groups.ensures ∙ c.as_slice.ensures) (sym c.in_ok-change.ensures.accepted) in
     MatchOption-from_none (own_fault c.args.self.now.groups edit) _ (ap (λ (s : State). own_fault s.groups edit) (sym c.self.view_is) ∙ none)
 
 pub returns-clause-own : goal.returns-clause-own
 returns-clause-own c =
     let edit = c.args.edit.now in
-    let none = judged c.as_slice.result.now c.self.inside.groups edit None c.as_slice.ensures (sym c.in_ok-change.ensures.accepted) in
+    let none = judged c.of-groups.result c.self.inside.groups edit None (c.of-groups.ensures ∙ c.as_slice.ensures) (sym c.in_ok-change.ensures.accepted) in
     MatchOption-from_none (own_fault c.args.self.now.groups edit) _ (ap (λ (s : State). own_fault s.groups edit) (sym c.self.view_is) ∙ none)
 
 pub work_out-requires-clause-edit : goal.work_out-requires-clause-edit
@@ -60,9 +60,9 @@ work_out-requires-clause-edit c =
     let change = c.in_ok-change.change in
     makes c.of-edited_line.result change edit c.self.inside.places c.self.inside.groups c.requires
     (subst IsEditedLine c.edited_line.view_is c.edited_line.invariant)
-    (c.of-edited_line.ensures ∙ ap (edited_line_of change) c.as_slice-2.ensures)
-    (subst (λ (g : List Declared). own_fault g edit ≡ None) c.as_slice.ensures c.in_ok-change.ensures.accepted)
-    (subst (λ (g : List Declared). changed_groups change g ≡ groups_after g edit) c.as_slice.ensures c.in_ok-change.ensures.groups)
+    (c.of-edited_line.ensures ∙ ap (edited_line_of change) (c.of-groups.ensures ∙ c.as_slice.ensures))
+    (subst (λ (g : List Declared). own_fault g edit ≡ None) (c.of-groups.ensures ∙ c.as_slice.ensures) c.in_ok-change.ensures.accepted)
+    (subst (λ (g : List Declared). changed_groups change g ≡ groups_after g edit) (c.of-groups.ensures ∙ c.as_slice.ensures) c.in_ok-change.ensures.groups)
     c.self.invariant.1 c.self.invariant.2
 
 pub invariant_of-result : goal.invariant_of-result
@@ -73,14 +73,15 @@ invariant_of-result c =
     let worked = c.in_ok-worked.worked in
     let told = c.in_ok-worked.ensures in
     let work : LineWork = record { change = change; starts = worked.starts; slaves = c.in_ok-slaves.slaves; rows = worked.room } in
-    let edited_line = c.of-edited_line.ensures ∙ ap (edited_line_of change) c.as_slice-2.ensures in
-    let slice = c.as_slice.ensures in
+    let edited_line = c.of-edited_line.ensures ∙ ap (edited_line_of change) (c.of-groups.ensures ∙ c.as_slice.ensures) in
+    let slice = (c.of-groups.ensures ∙ c.as_slice.ensures) in
     subst
     (λ (s : State). IsPrepared (prepared_of s (NewLine work) worked.report worked.blocks.items) × IsReady s worked.report (NewLine work))
     (sym c.of-4.ensures) (
       is-prepared old work c.of-edited_line.result edit worked.report worked.blocks.items c.self.invariant.0 c.self.invariant.1
           (subst (λ (g : List Declared). change_by g edit ≡ Some change) slice c.in_ok-change.ensures.change) edited_line told.report told.accepted told.fits told.blocks,
       is-ready old work c.of-edited_line.result edit worked.report c.self.inside.places told.report.named c.requires
+          (subst (λ (g : List Declared). change_by g edit ≡ Some change) slice c.in_ok-change.ensures.change)
           (subst (λ (g : List Declared). changed_groups change g ≡ groups_after g edit) slice c.in_ok-change.ensures.groups)
           (subst (λ (g : List Declared). lowest_fault (groups_of (changed_groups change g)) ≡ None) slice c.in_ok-change.ensures.kept)
           (subst (ChangesRow change) slice c.in_ok-change.ensures.row)
@@ -92,23 +93,23 @@ returns-clause-prepared c = (invariant_of-result c).0
 
 pub of-edited_line-requires-clause-edited : goal.of-edited_line-requires-clause-edited
 of-edited_line-requires-clause-edited c =
-    record { edit = c.args.edit.now; changes = c.requires; leads = subst (λ (g : List Declared). changed_groups c.in_ok-change.change g ≡ groups_after g c.args.edit.now) (c.as_slice.ensures ∙ sym c.as_slice-2.ensures) c.in_ok-change.ensures.groups }
+    record { edit = c.args.edit.now; changes = c.requires; leads = subst (λ (g : List Declared). changed_groups c.in_ok-change.change g ≡ groups_after g c.args.edit.now) refl c.in_ok-change.ensures.groups }
 
 pub of-edited_line-requires-clause-was : goal.of-edited_line-requires-clause-was
-of-edited_line-requires-clause-was c = subst (λ (g : List Declared). lowest_fault (groups_of g) ≡ None) (sym c.as_slice-2.ensures) c.self.invariant.0
+of-edited_line-requires-clause-was c = subst (λ (g : List Declared). lowest_fault (groups_of g) ≡ None) (sym (c.of-groups.ensures ∙ c.as_slice.ensures)) c.self.invariant.0
 
 pub of-edited_line-requires-clause-is : goal.of-edited_line-requires-clause-is
 of-edited_line-requires-clause-is c =
-    subst (λ (g : List Declared). lowest_fault (groups_of (changed_groups c.in_ok-change.change g)) ≡ None) (c.as_slice.ensures ∙ sym c.as_slice-2.ensures) c.in_ok-change.ensures.kept
+    subst (λ (g : List Declared). lowest_fault (groups_of (changed_groups c.in_ok-change.change g)) ≡ None) refl c.in_ok-change.ensures.kept
 
 pub of-edited_line-requires-clause-row : goal.of-edited_line-requires-clause-row
-of-edited_line-requires-clause-row c = subst (ChangesRow c.in_ok-change.change) (c.as_slice.ensures ∙ sym c.as_slice-2.ensures) c.in_ok-change.ensures.row
+of-edited_line-requires-clause-row c = subst (ChangesRow c.in_ok-change.change) refl c.in_ok-change.ensures.row
 
 pub work_out-requires-clause-trees : goal.work_out-requires-clause-trees
 work_out-requires-clause-trees c =
     c.self.invariant.3
     ∙ ap (λ (g : List Declared). line_kept (areas_by_rank g))
-    (sym (old-groups c.of-edited_line.result c.in_ok-change.change c.as_slice-2.result.now c.self.inside.groups c.of-edited_line.ensures c.as_slice-2.ensures))
+    (sym (old-groups c.of-edited_line.result c.in_ok-change.change c.of-groups.result c.self.inside.groups c.of-edited_line.ensures (c.of-groups.ensures ∙ c.as_slice.ensures)))
 
 pub invariant_of-self : goal.invariant_of-self
 invariant_of-self c = (c.self.invariant.0, c.self.invariant.1, c.self.invariant.2, c.work_out.ensures.unchanged ∙ c.self.invariant.3, c.self.invariant.4)
@@ -125,7 +126,7 @@ returns-clause-unchanged c = c.self.view_is
 pub returns-in_err-slaves-clause-own : goal.returns-in_err-slaves-clause-own
 returns-in_err-slaves-clause-own c =
     let edit = c.args.edit.now in
-    let none = judged c.as_slice.result.now c.self.inside.groups edit None c.as_slice.ensures (sym c.in_ok-change.ensures.accepted) in
+    let none = judged c.of-groups.result c.self.inside.groups edit None (c.of-groups.ensures ∙ c.as_slice.ensures) (sym c.in_ok-change.ensures.accepted) in
     MatchOption-from_none (own_fault c.args.self.now.groups edit) _ (ap (λ (s : State). own_fault s.groups edit) (sym c.self.view_is) ∙ none)
 
 pub returns-in_err-slaves-clause-refused : goal.returns-in_err-slaves-clause-refused
@@ -136,7 +137,7 @@ returns-in_err-slaves-clause-refused c =
 pub returns-in_err-room-clause-own : goal.returns-in_err-room-clause-own
 returns-in_err-room-clause-own c =
     let edit = c.args.edit.now in
-    let none = judged c.as_slice.result.now c.self.inside.groups edit None c.as_slice.ensures (sym c.in_ok-change.ensures.accepted) in
+    let none = judged c.of-groups.result c.self.inside.groups edit None (c.of-groups.ensures ∙ c.as_slice.ensures) (sym c.in_ok-change.ensures.accepted) in
     MatchOption-from_none (own_fault c.args.self.now.groups edit) _ (ap (λ (s : State). own_fault s.groups edit) (sym c.self.view_is) ∙ none)
 
 pub returns-in_err-room-clause-refused : goal.returns-in_err-room-clause-refused

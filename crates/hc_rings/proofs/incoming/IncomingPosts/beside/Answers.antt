@@ -1,6 +1,6 @@
-use Rattle.std.proofs.Common.{◌≡◌, ◌≤◌, ◌+◌, ◌++◌, ◌∙◌, true, false, sym, ap, length, arith}
+use Rattle.std.proofs.Common.{◌≡◌, ◌≤◌, ◌++◌, ◌∙◌, true, false, sym, ap, length, arith}
 use Rattle.std.proofs.lemmas.List.{length-append}
-use Rattle.rtrb.specs.Ring.{received, known_items, known_free, sent}
+use Rattle.rtrb.specs.Ring.{received, known_items}
 use Rattle.hc_rings.specs.Items.{posts_of, is_open}
 use Rattle.hc_rings.proofs.Items.{posts_of_append, posts_of_prefix, length_posts_of, is_open_before, is_open_behind, came_same, none_ended}
 use Rattle.hc_rings.proofs.Prefixes.{prefix_trans}

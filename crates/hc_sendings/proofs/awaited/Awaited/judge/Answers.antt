@@ -24,8 +24,8 @@ judge_parts-requires-clause-stands c =
     found-stands (line c.args.plan.now) newest frame
     (found-holds (λ (one : AwaitedFrame). All (λ (carried : Carried). StandsIn (line c.args.plan.now) carried.datagram) one.datagrams) serial c.args.self.now.frames (frame_by newest frame) c.requires.stand found)
 
-pub returns-then-branch : goal.returns-then-branch
-returns-then-branch c =
+pub returns-then-branch-clause-answer : goal.returns-then-branch-clause-answer
+returns-then-branch-clause-answer c =
     let newest : Newest = c.self.inside.newest in
     let serial : ℕ = c.args.arrival.now.serial in
     let frame : KeptFrame = c.in-Some.frame.now in
@@ -37,6 +37,6 @@ returns-then-branch c =
     let other : option_map_or (λ (one : AwaitedWrite). one.serial == serial) c.self.inside.write false ≡ false =
     ap (λ (n : ℕ). option_map_or (λ (one : AwaitedWrite). one.serial == n) c.self.inside.write false) (sym c.serial.ensures.value) ∙ sym c.has_serial.ensures ∙ c.if-has_serial.false in
     let whole : Some c.judge_parts.new.outcomes.items ≡ outcomes_in (frame_due (line c.args.plan.now) (frame_by newest frame)) c.args.arrival.now.parts =
-    ap (λ (b : Bool). cond b (Some c.judge_parts.new.outcomes.items) None) (sym c.if-branch.true) ∙ c.in_ok-judge_parts.ensures in
+    ap (λ (b : Bool). cond b (Some c.judge_parts.new.outcomes.items) None) (sym c.if-branch.true) ∙ c.in_ok-judge_parts.ensures.outcomes in
     frame-told (line c.args.plan.now) (frame_by newest frame) c.args.arrival.now c.judge_parts.new.outcomes.items c.in-Some.ensures.alive whole
     ∙ ap told_of (judged-frame (line c.args.plan.now) c.args.self.now c.args.arrival.now c.self.inside.write (Some (frame_by newest frame)) (ap (λ (w : Waiting). w.write) c.self.view_is) other found)

@@ -1,0 +1,62 @@
+//! How many changes an arrival would add.
+ghost use Rattle.std.specs.Prelude.{◌≡◌, ◌+◌, ◌≤◌, ◌∷◌, count_by, length};
+ghost use Rattle.hc_events.specs.Answering.{judged_by};
+ghost use Rattle.hc_events.specs.Changes.{news_of};
+ghost use Rattle.hc_events.specs.Entries.{Came};
+ghost use Rattle.hc_events.specs.Outcomes.{told_with};
+ghost use Rattle.hc_events.specs.Steps.{told_of};
+ghost use Rattle.hc_core.specs.Goods.{is_inputs};
+
+use crate::keeping::Core;
+use hc_events::answer::{Arrived, Outcome};
+use hc_frames::reading::Returned;
+
+/// Whether an outcome is a good answer.
+fn is_inputs(outcome: &Outcome) -> bool
+    ensures { result ≡ is_inputs outcome.now }
+{
+    match outcome {
+        Outcome::Inputs {
+            task: _,
+            datagram: _,
+        } => true,
+        Outcome::WrongCount {
+            expected: _,
+            got: _,
+        } => false,
+        Outcome::Stale => false,
+    }
+}
+
+/// How many outcomes are good answers. A frame has 115 at most, so deep is this recursion.
+fn count_inputs(outcomes: &[Outcome]) -> usize
+    ensures count { result ≡ count_by is_inputs outcomes.now }
+    ensures few { result ≤ length outcomes.now }
+{
+    match outcomes {
+        [] => 0,
+        [outcome, rest @ ..] => usize::from(is_inputs(outcome)) + count_inputs(rest),
+    }
+}
+
+impl Core {
+    /// How many changes an arrival that was read as a frame would add, by what it is: `judge` gives that, and the list of what
+    /// it is for each datagram. Each good answer is a change, so they are 115 at most. It takes no memory.
+    pub fn changes_by(
+        &self,
+        arrival: &Returned<'_>,
+        arrived: Arrived,
+        outcomes: &[Outcome],
+    ) -> usize
+        requires { told_of (judged_by self.now.past arrival.now) ≡ told_with arrived outcomes.now }
+        ensures { length (news_of (Came arrival.now ∷ self.now.past)) ≡ length (news_of self.now.past) + result }
+    {
+        let _ = arrival;
+        match arrived {
+            Arrived::Answered => count_inputs(outcomes),
+            Arrived::WriteDone => 0,
+            Arrived::WriteMissed => 0,
+            Arrived::Stale => 0,
+        }
+    }
+}

@@ -1,0 +1,81 @@
+//! Arrivals for who asks for no changes: they make none, and those that came before are discarded.
+ghost use Rattle.std.specs.Prelude.{◌≡◌, ◌≢◌, ◌<◌, ◌≤◌, ◌∷◌, [], IfOk, Ok, OnErr, OnOk, vec_capacity};
+ghost use Rattle.hc_events.specs.declared.answer.Answer.TheVariants as answer;
+ghost use Rattle.hc_events.specs.declared.answer.Arrived.TheVariants.{Answered};
+ghost use Rattle.hc_events.specs.Answering.{judged_by};
+ghost use Rattle.hc_events.specs.Arrivals.{arrival_in};
+ghost use Rattle.hc_events.specs.Entries.{Came};
+ghost use Rattle.hc_events.specs.Outcomes.{told_with};
+ghost use Rattle.hc_events.specs.Steps.{Arrives, answer_to, entries_after, told_of};
+ghost use Rattle.hc_sendings.specs.declared.awaited.TheConstants.{FRAME_DATAGRAMS};
+
+use crate::goods::put_goods;
+use crate::keeping::Core;
+use hc_events::answer::{Arrived, Outcome};
+use hc_frames::reading::Returned;
+use std::alloc::AllocError;
+use std::snapshot::Snapshot;
+
+impl Core {
+    /// The answer to a frame of tasks: the data of its good answers are what the tasks read from now on, with their serial,
+    /// and no change is left.
+    fn discard_inputs(&mut self, bytes: &[u8], arrival: &Returned<'_>, outcomes: &[Outcome])
+        requires read { arrival_in bytes.now ≡ Ok arrival.now }
+        requires told { told_of (judged_by self.old.past arrival.now) ≡ answer.Answered outcomes.now }
+        ensures { self.new ≡ record { past = Came arrival.now ∷ self.old.past; taken = Came arrival.now ∷ self.old.past } }
+    {
+        // a look at the core tells its invariant, by which the data fit an image
+        let _ = &self.past;
+        put_goods(&mut self.inputs, &mut self.data_serials, outcomes, arrival);
+        self.awaited.end(arrival.serial());
+        let came = self.past.came(bytes);
+        self.changes.clear();
+        self.taken = Snapshot::of(&came);
+        self.past = came;
+    }
+
+    /// What an arrival changes, by what it is; no change is left.
+    fn take_discarding(
+        &mut self,
+        bytes: &[u8],
+        arrival: &Returned<'_>,
+        arrived: Arrived,
+        outcomes: &[Outcome],
+    )
+        requires read { arrival_in bytes.now ≡ Ok arrival.now }
+        requires told { told_of (judged_by self.old.past arrival.now) ≡ told_with arrived outcomes.now }
+        ensures { self.new ≡ record { past = Came arrival.now ∷ self.old.past; taken = Came arrival.now ∷ self.old.past } }
+    {
+        match arrived {
+            Arrived::Answered => return self.discard_inputs(bytes, arrival, outcomes),
+            Arrived::WriteDone => self.take_written(bytes, arrival),
+            Arrived::WriteMissed => self.take_missed(bytes, arrival),
+            Arrived::Stale => self.take_stale(bytes, arrival),
+        }
+        self.discard_changes();
+    }
+
+    /// An arrival that was read as a frame (`read_frame`), for who asks for no changes. The answer and the list are those of
+    /// `arrive_into`, and so is what tasks read afterwards. Then all changes that nobody took are discarded, those of this
+    /// arrival's good answers among them, which are never made. So it takes memory only where the list has room for fewer than
+    /// the frame's datagrams, 115 at most: `AllocError` where that was refused, and then nothing changed and the list is empty.
+    /// The list's room never falls.
+    pub fn arrive_discarding(
+        &mut self,
+        bytes: &[u8],
+        arrival: &Returned<'_>,
+        outcomes: &mut Vec<Outcome>,
+    ) -> Result<Arrived, AllocError>
+        requires { arrival_in bytes.now ≡ Ok arrival.now }
+        ensures answer { IfOk result (λ arrived. told_with arrived outcomes.new.items ≡ answer_to self.old.past (Arrives bytes.now)) }
+        ensures entries { OnOk result (self.new ≡ record { past = entries_after self.old.past (Arrives bytes.now); taken = entries_after self.old.past (Arrives bytes.now) }) }
+        ensures none { result ≢ Ok Answered → outcomes.new.items ≡ [] }
+        ensures room { OnErr result (vec_capacity outcomes.old < FRAME_DATAGRAMS) }
+        ensures capacity { vec_capacity outcomes.old ≤ vec_capacity outcomes.new }
+        ensures unchanged { OnErr result (self.new ≡ self.old) }
+    {
+        let arrived = self.judge(arrival, outcomes)?;
+        self.take_discarding(bytes, arrival, arrived, outcomes.as_slice());
+        Ok(arrived)
+    }
+}

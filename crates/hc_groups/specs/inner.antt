@@ -1,0 +1,2 @@
+-- What mirrors the code: only contracts of private functions cite it.
+pub mod Turned

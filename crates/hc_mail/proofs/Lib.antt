@@ -1,0 +1,4 @@
+pub mod Lists
+pub mod Roles
+pub mod Seats
+pub mod Moves

@@ -1,0 +1,23 @@
+-- What contracts see of the two ends and of a note.
+use Rattle.std.specs.Prelude.{ℕ, List, [], ◌∷◌, Option, None}
+use Rattle.atomic_table.specs.declared.shared.Seat.{Seat}
+use Rattle.hc_mail.specs.declared.table.Insight.{Insight}
+use Rattle.hc_mail.specs.declared.table.Role.{Role}
+use Rattle.hc_mail.specs.Images.{Image}
+use Rattle.hc_mail.specs.Rule.{insight}
+
+-- an end's place at the table
+abbrev pub Place : Type 0
+Place = Seat (Option Image) Insight
+
+-- the images that it sent, or that had been sent when it looked
+abbrev pub seen : Place → List Image
+seen place = place.me.0.seen
+
+-- the images that a note of the other end named
+abbrev pub reported : Place → List Image
+reported place = place.me.0.reported
+
+-- the place in a role, with an empty slot in hand
+abbrev pub posed : Place → Role → ℕ → Place
+posed place role slot = record place { me = (insight role (seen place) (reported place), (slot, None) ∷ []) }

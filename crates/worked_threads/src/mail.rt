@@ -1,0 +1,130 @@
+//! The newest image goes from one thread to another through a mailbox.
+ghost use Rattle.std.specs.Prelude.{◌≡◌};
+
+use hc_mail::image::InputImage;
+use hc_mail::opening::open;
+use hc_mail::receiver::ImageReceiver;
+use hc_mail::sender::ImageSender;
+use std::test::Fail;
+use std::thread;
+
+/// So many images are sent at full speed.
+const SENDINGS: u32 = 2_000;
+
+/// So often a look is tried.
+const TURNS: u32 = 100_000_000;
+
+/// Sends an image of an epoch with four bytes, of which datagram 1 has the last two: the epoch modulo 251, twice. They answer
+/// the sending whose serial is the epoch.
+fn send_epoch(sender: &mut ImageSender, epoch: u32)
+    requires { sender.old.own.room ≡ (4, 2) }
+    ensures room { sender.new.own.room ≡ (4, 2) }
+    ensures one { sender.new.place.table_id ≡ sender.old.place.table_id }
+{
+    let byte = (epoch % 251) as u8;
+    sender.begin(epoch, 4);
+    sender.add(1, 2, &[byte, byte], u64::from(epoch));
+    sender.send();
+}
+
+/// Whether an image is whole: that of an epoch as it was sent, or the blank one.
+fn is_whole(image: &InputImage) -> bool {
+    let byte = (image.epoch() % 251) as u8;
+    if image.epoch() == 0 {
+        return image.bytes().is_empty() && image.serial(1).is_none();
+    }
+    image.bytes() == [0, 0, byte, byte].as_slice()
+        && image.serial(0).is_none()
+        && image.serial(1) == Some(u64::from(image.epoch()))
+        && image.serial(2).is_none()
+}
+
+/// Sends the images of all epochs, one after another.
+fn send_all(mut sender: ImageSender)
+    requires { sender.own.room ≡ (4, 2) }
+{
+    for epoch in 1..=SENDINGS {
+        send_epoch(&mut sender, epoch);
+    }
+}
+
+/// Looks, and whether the image is whole and none older than the one of an epoch before.
+fn is_newer(receiver: &mut ImageReceiver, epoch: &mut u32) -> bool {
+    receiver.look();
+    let image = receiver.image();
+    let before = *epoch;
+    *epoch = image.epoch();
+    is_whole(image) && before <= image.epoch()
+}
+
+/// Looks until the last image is there, and at most so often: whether each image was whole and none older than the one before,
+/// and the epoch of the last one.
+fn watch(mut receiver: ImageReceiver) -> (bool, u32) {
+    let mut epoch = 0;
+    for _ in 0..TURNS {
+        if !is_newer(&mut receiver, &mut epoch) {
+            return (false, epoch);
+        }
+        if epoch == SENDINGS {
+            break;
+        }
+        thread::yield_now();
+    }
+    (true, epoch)
+}
+
+#[test]
+fn images_go_from_thread_to_thread(rt: HostRuntime) -> Result<(), Fail> {
+    let (sender, receiver) = open(rt.alloc(), 4, 2)?;
+    let ((), watched) = thread::join(&rt, move || send_all(sender), move || watch(receiver));
+    assert_eq!(rt; watched, (true, SENDINGS));
+    Ok(())
+}
+
+/// The epoch and the last byte of what is shown; no byte where it has none.
+fn shown(receiver: &ImageReceiver) -> (u32, Option<u8>) {
+    let image = receiver.image();
+    (image.epoch(), image.bytes().last().copied())
+}
+
+#[test]
+fn a_look_shows_the_newest(rt: HostRuntime) -> Result<(), Fail> {
+    let (mut sender, mut receiver) = open(rt.alloc(), 4, 2)?;
+    receiver.look();
+    let blank = shown(&receiver);
+    send_epoch(&mut sender, 1);
+    send_epoch(&mut sender, 2);
+    let before = shown(&receiver);
+    receiver.look();
+    let second = shown(&receiver);
+    receiver.look();
+    let again = shown(&receiver);
+    assert_eq!(rt;
+        (blank, before, second, again),
+        ((0, None), (0, None), (2, Some(2)), (2, Some(2)))
+    );
+    Ok(())
+}
+
+#[test]
+fn an_end_goes_on_alone(rt: HostRuntime) -> Result<(), Fail> {
+    let (mut sender, mut receiver) = open(rt.alloc(), 4, 2)?;
+    send_epoch(&mut sender, 7);
+    receiver.learn(sender.note());
+    drop(sender.moved());
+    receiver.look();
+    let is_last = is_whole(receiver.image());
+    assert_eq!(rt; (shown(&receiver), is_last), ((7, Some(7)), true));
+    Ok(())
+}
+
+#[test]
+fn what_was_seen_was_sent(rt: HostRuntime) -> Result<(), Fail> {
+    let (mut sender, receiver) = open(rt.alloc(), 4, 2)?;
+    send_epoch(&mut sender, 3);
+    let mut receiver = receiver.moved();
+    receiver.look();
+    sender.check(receiver.note());
+    assert_eq!(rt; shown(&receiver), (3, Some(3)));
+    Ok(())
+}
