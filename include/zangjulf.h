@@ -296,7 +296,8 @@ uint8_t zangjulf_block(const struct zangjulf *handle, uint16_t station, uint8_t 
 /* What an edit does. */
 struct zangjulf_cost {
     uint32_t epoch;  /* the epoch that begins with it */
-    uint32_t recut;  /* how many spans of touched tasks aren't settled; an emptied task counts one */
+    uint32_t recut;  /* how many datagrams are cut anew, an emptied task counting one: all others carry the same areas at the
+                      * same bits as before, perhaps under another number */
     uint32_t moved;  /* how many register blocks of the new line weren't blocks with the same bytes at the same register of
                       * the same slave in the old line */
     uint32_t places; /* how many variables stand elsewhere, appear or go */
