@@ -113,6 +113,7 @@ extern "C" {
     ANSWER(PROJECT_UNKNOWN_PDO, 209, "an assigned PDO is not one offered PDO") \
     ANSWER(PROJECT_AREA_TOO_BIG, 210, "an area has more bits than a datagram, 11,888") \
     ANSWER(PROJECT_NOT_ONE_GROUP, 212, "the text is a project, but not one group's") \
+    ANSWER(CHANGES_FULL, 252, "the line keeps no more changes: ask for those that it has first") \
     ANSWER(BUSY, 253, "another call with the handle runs") \
     ANSWER(MISUSED, 254, "what the call asks of its caller does not hold") \
     ANSWER(CLOSED, 255, "the handle is closed")
@@ -165,9 +166,9 @@ void zangjulf_version(uint32_t *major, uint32_t *minor, uint32_t *patch);
 /* Opens the project of a text (docs/use/PROJECT_TEXT.md) in place of what the handle held: the mandatory group alone is present,
  * epoch and serial are 0, each register block is owed. ZANGJULF_DONE; a project's fault, 201 to 210, the lowest;
  * ZANGJULF_TOO_MANY_DATAGRAMS, and `*task` is the lowest task, 0 to 7, that needs more than 16; or ZANGJULF_MEMORY. Unless it
- * is done the handle is closed. With `changes` 0 the line keeps no changes for `zangjulf_next_change`, which then always answers
- * ZANGJULF_NOTHING; with any other number it keeps all of them until they are asked for, and takes memory for them. Takes
- * memory. */
+ * is done the handle is closed. `changes` is how many changes the line keeps at most until `zangjulf_next_change` asks for them:
+ * 0 for none, and then that call always answers ZANGJULF_NOTHING. A call that would add more is answered ZANGJULF_CHANGES_FULL,
+ * and the changes that are there stay. Takes memory. */
 uint8_t zangjulf_open(struct zangjulf *handle, const uint8_t *text, size_t length, uint32_t changes, uint8_t *task);
 
 /* Frees what the handle holds; it is closed then, and may be opened anew. Also a closed handle may be closed. */
@@ -291,7 +292,8 @@ uint8_t zangjulf_block(const struct zangjulf *handle, uint16_t station, uint8_t 
                        struct zangjulf_block *block);
 
 /* Edits. Where `asks` is true nothing changes, and what the edit would do is told. It is a byte, 0 or 1: a caller whose
- * language has another bool passes no other number. */
+ * language has another bool passes no other number. An edit that no fault refuses adds a change: a line that keeps changes, and
+ * has as many as it may, answers it ZANGJULF_CHANGES_FULL, unless it is only asked for. */
 
 /* What an edit does. */
 struct zangjulf_cost {
@@ -366,10 +368,11 @@ struct zangjulf_sent {
 };
 
 /* Tasks are sent, 1 to 8 and none twice, in this order: their frames stand at the front of `out` one after another, each of its
- * own size (`zangjulf_frame_size`). ZANGJULF_DONE; 8, 17, 19, or 29 with the bytes needed in `sent->size`; ZANGJULF_MISUSED
- * where there is no task, more than 8 or one twice; ZANGJULF_MEMORY or ZANGJULF_CLOSED. Unless it is done nothing is sent and
- * nothing changed, `out` neither. Takes no memory after the first cycles: the list of its frames has had its room since the
- * opening, and that of buffers which are used again grows to 128; where that growth is refused, a buffer is freed instead. */
+ * own size (`zangjulf_frame_size`). ZANGJULF_DONE; 8, 17, 19, or 29 with the bytes needed in `sent->size`; before these
+ * ZANGJULF_CHANGES_FULL where the line keeps changes and has as many as it may, so that an answer could not be taken;
+ * ZANGJULF_MISUSED where there is no task, more than 8 or one twice; or ZANGJULF_CLOSED. Unless it is done nothing is sent and
+ * nothing changed, `out` neither. Takes no memory, and is never answered ZANGJULF_MEMORY: the list of its frames has had its
+ * room since the opening. */
 uint8_t zangjulf_send(struct zangjulf *handle, const uint8_t *tasks, size_t count, uint8_t *out, size_t length,
                       struct zangjulf_sent *sent);
 
@@ -413,9 +416,11 @@ struct zangjulf_arrival {
 /* A frame arrives: any bytes, without the check sequence. ZANGJULF_DONE where they answer frames of tasks, whatever their
  * counters are, and the outcomes of the first datagrams stand in `outcomes`, as many as there is room for: look at each
  * `kind`. ZANGJULF_WRITE_DONE or ZANGJULF_WRITE_MISSED of a register write, and `*arrival` names it. ZANGJULF_STALE, and
- * `*arrival` tells its serial. Or nothing changed: 20 to 27 where they can't be read, ZANGJULF_MEMORY, ZANGJULF_BUSY or
- * ZANGJULF_CLOSED; then `*arrival` is as it was. Only with ZANGJULF_DONE `outcomes` is written. Takes memory for the data
- * of good answers, unless some came back, and where the list of changes grows. */
+ * `*arrival` tells its serial. Or nothing changed: 20 to 27 where they can't be read, ZANGJULF_CHANGES_FULL where the line
+ * keeps changes and has no room for those of all the good answers, ZANGJULF_MEMORY, ZANGJULF_BUSY or ZANGJULF_CLOSED; then
+ * `*arrival` is as it was. Only with ZANGJULF_DONE `outcomes` is written. In a line that keeps no changes it takes no memory,
+ * and is never answered ZANGJULF_MEMORY; in another one it takes memory for the data of good answers, and where the list of
+ * changes grows. */
 uint8_t zangjulf_arrive(struct zangjulf *handle, const uint8_t *bytes, size_t length, struct zangjulf_outcome *outcomes,
                         size_t room, struct zangjulf_arrival *arrival);
 
@@ -462,8 +467,8 @@ struct zangjulf_change {
 
 /* The next change that wasn't told yet, in the order in which they came. ZANGJULF_DONE, and a good answer's data stand at the
  * front of `out`; ZANGJULF_NOTHING where there is none, and always where the line was opened to keep none; 29 where `out` is
- * shorter than `change->size`, and the same change is told again; or ZANGJULF_CLOSED. Unless it is done `out` is as it was. A
- * line that keeps changes keeps those that nobody asks for until the handle is closed. Takes no memory. */
+ * shorter than `change->size`, and the same change is told again; or ZANGJULF_CLOSED. Unless it is done `out` is as it was.
+ * Takes no memory. */
 uint8_t zangjulf_next_change(struct zangjulf *handle, uint8_t *out, size_t length, struct zangjulf_change *change);
 
 /* Bits of bytes that the caller keeps, counted from the least significant bit of the first byte. None takes memory. */

@@ -69,6 +69,12 @@ def refusals(text):
         raises(ValueError, line.place, -1)
         raises(ValueError, line.part, 256)
         assert line.next_change() is None
+    with zangjulf.Line(text, changes=1) as line:
+        line.connect(100)
+        raises(zangjulf.ChangesFull, line.disconnect, 100)
+        raises(zangjulf.ChangesFull, line.send, 0)
+        assert line.changes() == [zangjulf.Swapped()]
+        assert raises(zangjulf.Unprogrammed, line.send, 0).detail
     raises(zangjulf.Closed, lambda: line.epoch)
     raises(zangjulf.Misused, zangjulf.get_bits, b"", 0, 1)
 

@@ -285,6 +285,51 @@ static void line_of_slaves(void) {
     zangjulf_close(&line);
 }
 
+/* A line that keeps two changes: they stay, and what would add more is refused before anything changes. */
+static void full(void) {
+    const uint8_t tasks[2] = {0, 1};
+    struct zangjulf line = {0};
+    struct zangjulf_cost cost = {7, 7, 7, 7, 7};
+    struct zangjulf_sent sent = {7, 7, 7};
+    struct zangjulf_outcome outcomes[2];
+    struct zangjulf_arrival arrival = {7, 7, 7, 7};
+    struct zangjulf_change change;
+    uint8_t task, *frames = slice(80), *data = slice(26);
+    uint32_t epoch = 7;
+    uint64_t serial = 7;
+    EXPECT(zangjulf_open(&line, text, length, 2, &task) == ZANGJULF_DONE);
+    start();
+    write_all(&line);
+    EXPECT(zangjulf_connect(&line, 900, false, &cost) == ZANGJULF_UNKNOWN_ALIAS);
+    EXPECT(zangjulf_send(&line, tasks, 2, frames, 80, &sent) == ZANGJULF_DONE);
+    pass(frames, sent.size);
+    EXPECT(zangjulf_remap(&line, 1002, 0, NULL, 0, true, &cost) == ZANGJULF_DONE);
+    /* two good answers: the line is full */
+    EXPECT(zangjulf_arrive(&line, frames, sent.size, outcomes, 2, &arrival) == ZANGJULF_DONE && arrival.datagrams == 2);
+    sent.size = 7, cost.epoch = 7;
+    EXPECT(zangjulf_send(&line, tasks, 2, frames, 80, &sent) == ZANGJULF_CHANGES_FULL && sent.size == 7);
+    EXPECT(zangjulf_send(&line, tasks, 0, frames, 80, &sent) == ZANGJULF_MISUSED);
+    EXPECT(zangjulf_next_serial(&line, &serial) == ZANGJULF_DONE && serial == 13);
+    EXPECT(zangjulf_connect(&line, 100, false, &cost) == ZANGJULF_CHANGES_FULL && cost.epoch == 7);
+    EXPECT(zangjulf_connect(&line, 901, false, &cost) == ZANGJULF_UNKNOWN_ALIAS);
+    EXPECT(zangjulf_connect(&line, 100, true, &cost) == ZANGJULF_DONE && cost.epoch == 1);
+    EXPECT(zangjulf_epoch(&line, &epoch) == ZANGJULF_DONE && !epoch);
+    EXPECT(zangjulf_arrive(&line, frames, 68, outcomes, 2, &arrival) == ZANGJULF_STALE);
+    /* one is asked for: there is room for one, and not for two */
+    EXPECT(zangjulf_next_change(&line, data, 26, &change) == ZANGJULF_DONE && change.task == 0);
+    EXPECT(zangjulf_send(&line, tasks, 2, frames, 80, &sent) == ZANGJULF_DONE);
+    pass(frames, sent.size);
+    arrival.serial = 7, outcomes[0].kind = 7;
+    EXPECT(zangjulf_arrive(&line, frames, sent.size, outcomes, 2, &arrival) == ZANGJULF_CHANGES_FULL && arrival.serial == 7 && outcomes[0].kind == 7);
+    EXPECT(zangjulf_next_change(&line, data, 26, &change) == ZANGJULF_DONE && change.task == 1);
+    EXPECT(zangjulf_arrive(&line, frames, sent.size, outcomes, 2, &arrival) == ZANGJULF_DONE && arrival.serial == 13);
+    EXPECT(zangjulf_next_change(&line, data, 26, &change) == ZANGJULF_DONE && zangjulf_next_change(&line, data, 26, &change) == ZANGJULF_DONE);
+    EXPECT(zangjulf_next_change(&line, data, 26, &change) == ZANGJULF_NOTHING);
+    zangjulf_close(&line);
+    free(frames);
+    free(data);
+}
+
 #ifdef WRAPPED
 /* Each growth of an opening refused in turn: a closed handle, and nothing live. */
 static void refused_openings(void) {
@@ -333,6 +378,7 @@ int main(int count, char **words) {
     bits();
     beside();
     line_of_slaves();
+    full();
 #ifdef WRAPPED
     refused_openings();
     refused_edits();

@@ -2,7 +2,8 @@
  * each of which ends where a page that can't be touched begins, growths that are refused. It ends with status 1 at an answer
  * that include/zangjulf.h doesn't allow, at a slice that was written though the call was refused, at an outcome, an age, a counter
  * or an owed block that isn't the plain model's (model.h), at bits that aren't those taken one by one, at a change that isn't the
- * next of what happened, and where memory is live once all handles are closed.
+ * next of what happened, at a line that is full of changes and isn't answered so, or the other way round, and where memory is live
+ * once all handles are closed.
  *
  *     fuzz PROJECT CALLS SEED [FOLDER [declare]]
  *
@@ -56,13 +57,13 @@ static void expect(unsigned number, bool was_open, const char *allowed) {
     if (!memchr(allowed, (int)number, strlen(allowed + 1) + 1)) fail("not an answer of this call", number);
 }
 
-/* A handle, its model, its news if it keeps changes, frames that it sent, most of them as its slaves made of them, and where its commands and their answers
- * are written, or NULL. */
+/* A handle, its model, how many changes it keeps and which it has, frames that it sent, most of them as its slaves made of them,
+ * and where its commands and their answers are written, or NULL. */
 struct line {
     struct zangjulf handle;
     struct model model;
     struct news news;
-    bool keeps_changes;
+    uint32_t most_changes;
     uint8_t kept[KEPT][ZANGJULF_FRAME];
     size_t kept_sizes[KEPT], newest;
     FILE *script, *told;
@@ -99,7 +100,7 @@ static void begin_script(struct line *line, const uint8_t *text, size_t size, un
 /* Whether an answered call stands in the line's script: not one that changed nothing and for which the program has no word. */
 static bool is_told(struct line *line, unsigned number) {
     if (line->script && ftell(line->script) > MOST_SCRIPT) end_script(line);
-    return line->script && number != ZANGJULF_MEMORY && number != ZANGJULF_ROOM && number < ZANGJULF_MISUSED;
+    return line->script && number != ZANGJULF_MEMORY && number != ZANGJULF_ROOM && number < ZANGJULF_CHANGES_FULL;
 }
 
 /* Writes a command. */
@@ -152,12 +153,19 @@ static void opening(struct line *line) {
     if (size) moved[size - 1] = '\n';
     end_script(line);
     forget_news(&line->news);
-    line->keeps_changes = below(3);
-    unsigned number = zangjulf_open(&line->handle, moved, size, line->keeps_changes ? UINT32_MAX : 0, &task);
+    line->most_changes = below(3) ? 0 : below(2) ? 1 + (uint32_t)below(20) : UINT32_MAX;
+    unsigned number = zangjulf_open(&line->handle, moved, size, line->most_changes, &task);
     bool is_fault = number == ZANGJULF_TOO_MANY_DATAGRAMS || number == ZANGJULF_MEMORY || (number > 200 && number <= ZANGJULF_PROJECT_AREA_TOO_BIG);
     if (line->handle.is_open != !number || (number && !is_fault)) fail("an opening", number);
     model_opened(&line->model);
     begin_script(line, moved, size, number, task);
+}
+
+/* Whether a line that keeps changes would have too many with so many more: 252 answers just that, where no change was missed. */
+static void expect_full(const struct line *line, bool was_open, unsigned number, size_t more) {
+    bool is_full = was_open && line->most_changes && line->news.count + more > line->most_changes;
+    if (!was_open || (line->most_changes && !line->news.is_sure)) return;
+    if ((number == ZANGJULF_CHANGES_FULL) != is_full) fail("a line full of changes and 252", number);
 }
 
 static void closing(struct line *line) {
@@ -218,7 +226,8 @@ static void sending(struct line *line, bool was_open) {
     zangjulf_next_serial(&line->handle, &serial);
     zangjulf_owed(&line->handle, &owed);
     unsigned number = zangjulf_send(&line->handle, tasks, count, out, room, &sent);
-    expect(number, was_open, "\0\x08\x11\x13\x1d\xfe");
+    expect(number, was_open, "\0\x08\x11\x13\x1d\xfc\xfe");
+    if (number != ZANGJULF_MISUSED) expect_full(line, was_open, number, 1);
     if (number) expect_untouched(out, room, number);
     if (number == ZANGJULF_UNPROGRAMMED && sent.owed != owed) fail("how many blocks are owed", number);
     if (number == ZANGJULF_ROOM && sent.size <= room) fail("a sending's room", number);
@@ -249,10 +258,13 @@ static void arriving(struct line *line, bool was_open) {
     struct zangjulf_outcome *outcomes = (void *)last(&words, room * sizeof *outcomes);
     struct zangjulf_arrival arrival = {0, 0, 0, 0};
     unsigned number = zangjulf_arrive(&line->handle, in, size, outcomes, room, &arrival);
-    expect(number, was_open, "\0\x14\x15\x16\x17\x18\x19\x1a\x1b\x1c\x65\x66\x67");
+    expect(number, was_open, "\0\x14\x15\x16\x17\x18\x19\x1a\x1b\x1c\x65\x66\x67\xfc");
     bool is_judged = !number || (number >= ZANGJULF_WRITE_DONE && number <= ZANGJULF_STALE);
+    bool is_full = number == ZANGJULF_CHANGES_FULL;
+    if (number == ZANGJULF_MEMORY && !line->most_changes) fail("memory where no change is kept", number);
+    if (is_judged || is_full) expect_full(line, was_open, number, model_adds(&line->model, in));
     if (is_judged && !model_arrived(&line->model, in, number, &arrival, outcomes, room)) fail("another arrival than the model's", number);
-    if (!number && line->keeps_changes) add_answers(&line->news, in, outcomes, arrival.datagrams, room);
+    if (!number && line->most_changes) add_answers(&line->news, in, outcomes, arrival.datagrams, room);
     if (!size || !is_told(line, number)) return;
     say(line, "arrive ");
     tell_hex(line->script, in, size);
@@ -285,8 +297,8 @@ static void changing(struct line *line, bool was_open) {
     unsigned number = zangjulf_next_change(&line->handle, out, room, &change);
     expect(number, was_open, "\0\x1d\x64");
     if (number) expect_untouched(out, room, number);
-    if (was_open && !line->keeps_changes && number != ZANGJULF_NOTHING) fail("a change that wasn't to be kept", number);
-    if (was_open && line->keeps_changes && !is_next(&line->news, number, &change, out, room)) fail("not the next change", number);
+    if (was_open && !line->most_changes && number != ZANGJULF_NOTHING) fail("a change that wasn't to be kept", number);
+    if (was_open && line->most_changes && !is_next(&line->news, number, &change, out, room)) fail("not the next change", number);
 }
 
 static void previewing(struct line *line, bool was_open) {
@@ -434,14 +446,17 @@ static void editing(struct line *line, bool was_open) {
     if (epoch != before) fail("an edit that was only asked for", asked);
     bool is_left_out = edit.kind == 4 && folder && !declares;
     unsigned number = asked_for(line, &edit, is_left_out, &cost);
-    const char *allowed = "\0\x01\x02\x03\x04\x05\x06\x07\x08\x09\x0a\x0b\x0c\x0d\x1c";
-    expect(number, was_open, edit.kind == 4 ? "\0\x0d\x1c\x1f\x20\x21\x22\x23\xc9\xca\xcb\xcc\xcd\xce\xcf\xd0\xd1\xd2\xd4" : allowed);
+    const char *allowed = "\0\x01\x02\x03\x04\x05\x06\x07\x08\x09\x0a\x0b\x0c\x0d\x1c\xfc";
+    expect(number, was_open, edit.kind == 4 ? "\0\x0d\x1c\x1f\x20\x21\x22\x23\xc9\xca\xcb\xcc\xcd\xce\xcf\xd0\xd1\xd2\xd4\xfc" : allowed);
+    if (!is_left_out && (!number || number == ZANGJULF_CHANGES_FULL)) expect_full(line, was_open, number, 1);
     zangjulf_epoch(&line->handle, &epoch);
     if (was_open && epoch != before + (!number && !is_left_out)) fail("an edit's epoch", number);
-    if (asked != ZANGJULF_MEMORY && number != ZANGJULF_MEMORY && (asked != number || would.moved != cost.moved)) fail("what an edit was told to do", number);
+    bool is_full = number == ZANGJULF_CHANGES_FULL;
+    if (is_full && (cost.epoch || (asked && asked != ZANGJULF_MEMORY))) fail("an edit of a line full of changes", asked);
+    if (!is_full && asked != ZANGJULF_MEMORY && number != ZANGJULF_MEMORY && (asked != number || would.moved != cost.moved)) fail("what an edit was told to do", number);
     if (is_left_out) return;
     if (!number) model_edited(&line->model, &line->handle);
-    if (!number && line->keeps_changes) add_edit(&line->news);
+    if (!number && line->most_changes) add_edit(&line->news);
     if (is_told(line, number)) tell_edited(line, &edit, number, &cost);
 }
 

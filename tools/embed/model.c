@@ -90,17 +90,24 @@ void model_sent(struct model *model, const struct zangjulf *line, const uint8_t 
     }
 }
 
-/* The sending that a frame answers, or NULL; it is answered then. */
-static struct sending *answered_by(struct model *model, const uint8_t *frame, const struct head *came, size_t count) {
+/* The place of the sending that a frame answers, or MODEL_SENDINGS. */
+static size_t awaited_by(const struct model *model, const uint8_t *frame, const struct head *came, size_t count) {
     uint64_t serial = serial_of(frame);
-    struct sending *sending = &model->sendings[serial % MODEL_SENDINGS];
-    if (!sending->is_open || sending->serial != serial || sending->count != count) return NULL;
+    const struct sending *sending = &model->sendings[serial % MODEL_SENDINGS];
+    if (!sending->is_open || sending->serial != serial || sending->count != count) return MODEL_SENDINGS;
     for (size_t i = 0; i < count; i++) {
         const struct head *head = &sending->heads[i];
-        if (head->command != came[i].command || head->address != came[i].address || head->length != came[i].length) return NULL;
+        if (head->command != came[i].command || head->address != came[i].address || head->length != came[i].length) return MODEL_SENDINGS;
     }
-    sending->is_open = false;
-    return sending;
+    return serial % MODEL_SENDINGS;
+}
+
+/* The sending that a frame answers, or NULL; it is answered then. */
+static struct sending *answered_by(struct model *model, const uint8_t *frame, const struct head *came, size_t count) {
+    size_t place = awaited_by(model, frame, came, count);
+    if (place == MODEL_SENDINGS) return NULL;
+    model->sendings[place].is_open = false;
+    return &model->sendings[place];
 }
 
 /* The answer to a register write that came back with a working counter. */
@@ -112,7 +119,7 @@ static unsigned write_answer(struct model *model, const struct sending *sending,
 }
 
 /* What a datagram's outcome is; it is counted by `judged`. */
-static struct zangjulf_outcome outcome_of(struct model *model, const struct sending *sending, size_t i, size_t place, uint16_t got) {
+static struct zangjulf_outcome outcome_of(const struct model *model, const struct sending *sending, size_t i, size_t place, uint16_t got) {
     const struct head *head = &sending->heads[i];
     const struct history *history = &model->tasks[task_of(head)][datagram_of(head)];
     bool is_again = history->sent != sending->serial;
@@ -161,6 +168,18 @@ bool model_arrived(struct model *model, const uint8_t *frame, unsigned number, c
         if (i < room && !is_same(&outcomes[i], &expected[i])) return false;
     }
     return true;
+}
+
+size_t model_adds(const struct model *model, const uint8_t *frame) {
+    struct head came[ZANGJULF_OUTCOMES];
+    size_t places[ZANGJULF_OUTCOMES], count = heads_of(frame, came, places), good = 0;
+    size_t place = awaited_by(model, frame, came, count);
+    if (place == MODEL_SENDINGS || came[0].command == 5) return 0;
+    for (size_t i = 0; i < count; i++) {
+        uint16_t got = (uint16_t)number_at(frame + places[i] + came[i].length, 2);
+        good += outcome_of(model, &model->sendings[place], i, places[i], got).kind == ZANGJULF_INPUTS;
+    }
+    return good;
 }
 
 bool model_reads(const struct model *model, uint8_t task, const struct zangjulf_image *image, const uint64_t *serials, size_t room) {

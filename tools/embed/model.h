@@ -65,6 +65,9 @@ void model_sent(struct model *model, const struct zangjulf *line, const uint8_t 
 bool model_arrived(struct model *model, const uint8_t *frame, unsigned number, const struct zangjulf_arrival *arrival,
                    const struct zangjulf_outcome *outcomes, size_t room);
 
+/* How many good answers an arrival would be, of a frame that can be read; nothing changes. */
+size_t model_adds(const struct model *model, const uint8_t *frame);
+
 /* Whether a task's datagrams have data as a read says, and of these sendings. */
 bool model_reads(const struct model *model, uint8_t task, const struct zangjulf_image *image, const uint64_t *serials, size_t room);
 

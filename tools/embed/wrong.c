@@ -51,6 +51,21 @@ uint8_t __wrap_zangjulf_arrive(struct zangjulf *handle, const uint8_t *bytes, si
 }
 #endif
 
+#ifdef WRONG_send /* a sending of a line that is full of changes */
+uint8_t __real_zangjulf_send(struct zangjulf *handle, const uint8_t *tasks, size_t count, uint8_t *out, size_t length, struct zangjulf_sent *sent);
+uint8_t __wrap_zangjulf_send(struct zangjulf *handle, const uint8_t *tasks, size_t count, uint8_t *out, size_t length, struct zangjulf_sent *sent) {
+    unsigned number = __real_zangjulf_send(handle, tasks, count, out, length, sent);
+    return number == ZANGJULF_CHANGES_FULL ? ZANGJULF_NO_SUCH_TASK : (uint8_t)number;
+}
+#endif
+
+#ifdef WRONG_open /* one change more than the line is opened to keep */
+uint8_t __real_zangjulf_open(struct zangjulf *handle, const uint8_t *text, size_t length, uint32_t changes, uint8_t *task);
+uint8_t __wrap_zangjulf_open(struct zangjulf *handle, const uint8_t *text, size_t length, uint32_t changes, uint8_t *task) {
+    return __real_zangjulf_open(handle, text, length, changes && changes < UINT32_MAX ? changes + 1 : changes, task);
+}
+#endif
+
 #ifdef WRONG_next_change /* changes that are never told */
 uint8_t __real_zangjulf_next_change(struct zangjulf *handle, uint8_t *out, size_t length, struct zangjulf_change *change);
 uint8_t __wrap_zangjulf_next_change(struct zangjulf *handle, uint8_t *out, size_t length, struct zangjulf_change *change) {

@@ -22,7 +22,7 @@ from .faults import (
     Memory, Room, AliasTaken, StationTaken, VariableTaken, TooManyGroups, TooManySlaves, Nothing, IsInput, TooWide,
     ProjectNotToml, ProjectMissingField, ProjectOutOfRange, ProjectRepeatedAlias, ProjectRepeatedStation,
     ProjectRepeatedSyncManager, ProjectOverlappingAreas, ProjectRepeatedVariable, ProjectUnknownPdo,
-    ProjectAreaTooBig, ProjectNotOneGroup, Busy, Misused, Closed,
+    ProjectAreaTooBig, ProjectNotOneGroup, ChangesFull, Busy, Misused, Closed,
 )
 from .library import library_path, library_version
 from .line import FRAMES, IMAGE, Line
@@ -32,7 +32,7 @@ from .version import VERSION as __version__
 
 __all__ = [
     "Absent", "AliasTaken", "AlreadyPresent", "AreaTooBig", "Arrival", "Arrived", "BadLength", "BadType", "Block",
-    "Busy", "Circulating", "Closed", "Cost", "Counters", "Datagram", "EpochsSpent", "FAULTS", "FRAMES",
+    "Busy", "ChangesFull", "Circulating", "Closed", "Cost", "Counters", "Datagram", "EpochsSpent", "FAULTS", "FRAMES",
     "Fault", "FrameFault", "Good", "IMAGE", "Image", "IndexMismatch", "IsInput", "Line", "Location", "Mandatory",
     "Memory", "Misused", "MoreFollows", "NoSuchArea", "NoSuchTask", "NotEtherCat", "NotPresent", "Nothing",
     "NothingOwed", "OTHER_SOURCE", "Outcome", "OutcomeKind", "OwedBlock", "Part", "Place", "PostLength",

@@ -351,6 +351,13 @@ class ProjectNotOneGroup(ProjectFault):
     text = "the text is a project, but not one group's"
 
 
+class ChangesFull(Fault):
+    """The line keeps no more changes: ask for those that it has first."""
+
+    number = 252
+    text = "the line keeps no more changes: ask for those that it has first"
+
+
 class Busy(Fault):
     """Another call with the handle runs."""
 

@@ -25,8 +25,9 @@ Answer = TypeVar("Answer")
 
 
 class Line:
-    """An open line. `close` frees it, as does the end of a `with`. Unless `changes` is 0 it keeps the changes of what tasks read
-    for `next_change`, until they are asked for. The faults of a project, `TooManyDatagrams` with the task, `Memory`."""
+    """An open line. `close` frees it, as does the end of a `with`. It keeps so many `changes` of what tasks read until
+    `next_change` asks for them: none where that is 0. A call that would add more raises `ChangesFull`. The faults of a project,
+    `TooManyDatagrams` with the task, `Memory`."""
 
     def __init__(self, text: Bytes, changes: int = 0) -> None:
         self._handle = c.Handle(False, None)
@@ -173,7 +174,7 @@ class Line:
 
     def send(self, *tasks: int) -> list[bytes]:
         """Sends tasks, 1 to 8 and none twice: their frames. `NoSuchTask`, `Unprogrammed` with the number of owed blocks,
-        `SerialsSpent`; `Misused` of other tasks."""
+        `SerialsSpent`; `ChangesFull` of a line that keeps changes and has as many as it may; `Misused` of other tasks."""
         sent = c.Sent()
         number = self._call("send", *c.slice_of(bytes(tasks)), *c.slice_of(self._out), byref(sent))
         self._done(number, sent.owed if number == 17 else sent.size)
@@ -191,7 +192,8 @@ class Line:
         return self._found(made, "preview", task, datagram, *c.slice_of(self._out), byref(size))
 
     def arrive(self, data: Bytes) -> Arrival:
-        """A frame arrives: what it answers. A `FrameFault` of one that can't be read, which is somebody else's; `Memory`."""
+        """A frame arrives: what it answers. A `FrameFault` of one that can't be read, which is somebody else's; `ChangesFull`;
+        `Memory`."""
         it = c.Arrival()
         number = self._call("arrive", *c.slice_of(data), self._outcomes, _OUTCOMES, byref(it))
         if number in (101, 102):

@@ -131,8 +131,9 @@ impl Line {
     }
 
     /// Sends tasks, 1 to 8 and none twice: their frames are at the front of `out`, for which [`crate::FRAMES`] bytes are enough.
-    /// `NoSuchTask`, `Unprogrammed` with the number of owed blocks, `SerialsSpent`, `Room` with the bytes needed, `Misused` of
-    /// other tasks; then nothing is sent, and nothing changed, `out` neither.
+    /// `NoSuchTask`, `Unprogrammed` with the number of owed blocks, `SerialsSpent`, `Room` with the bytes needed, `ChangesFull`
+    /// where the line keeps changes and has as many as it may, `Misused` of other tasks; then nothing is sent, and nothing
+    /// changed, `out` neither. It takes no memory.
     ///
     /// ```
     /// # fn main() -> Result<(), Box<dyn std::error::Error>> {
@@ -184,8 +185,9 @@ impl Line {
         }
     }
 
-    /// A frame arrives: any bytes, without the check sequence. The faults 20 to 27 of a frame that can't be read, `Memory`;
-    /// then nothing changed.
+    /// A frame arrives: any bytes, without the check sequence. The faults 20 to 27 of a frame that can't be read, `ChangesFull`
+    /// where the line keeps changes and has no room for those of all good answers, `Memory`, but never of a line that keeps no
+    /// changes; then nothing changed.
     ///
     /// ```
     /// # fn main() -> Result<(), Box<dyn std::error::Error>> {

@@ -97,6 +97,7 @@ faults! {
     ProjectUnknownPdo = 209, "an assigned PDO is not one offered PDO";
     ProjectAreaTooBig = 210, "an area has more bits than a datagram, 11,888";
     ProjectNotOneGroup = 212, "the text is a project, but not one group's";
+    ChangesFull = 252, "the line keeps no more changes: ask for those that it has first";
     Busy = 253, "another call with the handle runs";
     Misused = 254, "what the call asks of its caller does not hold";
     Closed = 255, "the handle is closed";

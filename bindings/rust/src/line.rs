@@ -53,14 +53,16 @@ impl Line {
         Line::open_with_changes(text, 0)
     }
 
-    /// Opens the project of a text as [`Line::open`] does, and, unless `changes` is 0, keeps the changes of what tasks read for
-    /// [`Line::next_change`], until they are asked for.
+    /// Opens the project of a text as [`Line::open`] does, and keeps so many changes of what tasks read, until
+    /// [`Line::next_change`] asks for them: none where `changes` is 0. A call that would add more is refused as `ChangesFull`, and
+    /// the changes that are there stay.
     ///
     /// ```
     /// # fn main() -> Result<(), Box<dyn std::error::Error>> {
     /// let text = include_bytes!("../../../examples/tool_changer.toml");
     /// let mut line = zangjulf::Line::open_with_changes(text, 1)?;
     /// line.edit(&zangjulf::Edit::Connect(200))?;
+    /// assert_eq!(line.edit(&zangjulf::Edit::Disconnect(200)), Err(zangjulf::Fault::ChangesFull));
     /// assert_eq!(line.next_change(&mut [])?, Some(zangjulf::Change::Swapped));
     /// # Ok(())
     /// # }

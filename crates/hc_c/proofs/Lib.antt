@@ -6,3 +6,4 @@ mod InFrame
 mod Refusals
 mod Returned
 mod Rooms
+mod Taken

@@ -1,5 +1,5 @@
 -- What C is told of an arrival.
-use Rattle.std.specs.Prelude.{◌≡◌, ℕ, ◌+◌, List, [], ◌∷◌, length, Result, Ok, Err}
+use Rattle.std.specs.Prelude.{◌≡◌, ◌≢◌, ℕ, ◌+◌, ◌-◌, ◌==◌, ◌||◌, Bool, false, if◌then◌else◌, List, [], ◌∷◌, length, Option, Some, None, Result, Ok, Err}
 use Rattle.hc_frames.specs.declared.reading.faults.FrameFault.{FrameFault}
 use Rattle.hc_events.specs.declared.answer.Answer.{Answer}
 use Rattle.hc_events.specs.declared.answer.Answer.TheVariants as answer
@@ -7,12 +7,13 @@ use Rattle.hc_events.specs.Answering.{Judged, Verdict, Good, Wrong, Stale, judge
 use Rattle.hc_events.specs.Arrivals as frame
 use Rattle.hc_events.specs.Arrivals.{arrival_in}
 use Rattle.hc_events.specs.Calls.{MayAnswer}
+use Rattle.hc_events.specs.Changes.{news_of}
 use Rattle.hc_events.specs.Entries.{Record}
 use Rattle.hc_events.specs.Faults.{core_fault_number}
 use Rattle.hc_events.specs.Heads.{Item, Datagram, Block}
 use Rattle.hc_events.specs.Names.{written_at}
 use Rattle.hc_events.specs.Sendings.{Named}
-use Rattle.hc_events.specs.Steps.{Arrives as ArrivesStep}
+use Rattle.hc_events.specs.Steps.{Arrives as ArrivesStep, entries_after}
 use Rattle.hc_core.specs.Early.{TellsEarly}
 use Rattle.hc_core.specs.LastData.{StaleLeavesNothing}
 use Rattle.hc_core.specs.State.{CoreState}
@@ -20,9 +21,9 @@ use Rattle.hc_c.specs.declared.arriving.Arrival.{Arrival}
 use Rattle.hc_c.specs.declared.arriving.Outcome.{Outcome}
 use Rattle.hc_c.specs.declared.arriving.TheConstants.{INPUTS, SENT_AGAIN, WRONG_COUNT}
 use Rattle.hc_c.specs.declared.embedded.Embedded.{Embedded}
-use Rattle.hc_c.specs.declared.numbers.TheConstants.{DONE, STALE, WRITE_DONE, WRITE_MISSED}
+use Rattle.hc_c.specs.declared.numbers.TheConstants.{CHANGES_FULL, DONE, MEMORY, STALE, WRITE_DONE, WRITE_MISSED}
 use Rattle.hc_c.specs.Counts.{Counts, all_judged}
-use Rattle.hc_c.specs.Embedded.{past_of, with_counts, with_past}
+use Rattle.hc_c.specs.Embedded.{are_too_many, changes_room, keeps_changes, past_of, settled, with_counts, with_past}
 use Rattle.hc_c.specs.Lists.{put}
 
 -- the kind of a datagram that came back, by what that is for its task
@@ -100,7 +101,29 @@ pub record Tells (old new : Record) (bytes : List ℕ) (number : ℕ) (before af
   pub arrival_is : arrival' ≡ arrival_of told (serial_in (arrival_in bytes)) (judged_in old (arrival_in bytes)) arrival
   pub counted : counts' ≡ all_judged counts (outcomes_in told (judged_in old (arrival_in bytes)))
 
--- so it is with a handle's line, of which nothing else changes
+-- such a number is that of an arrival which is recorded, and no refusal
+abbrev pub is_taken : ℕ → Bool
+is_taken number = (number == DONE) || ((number == WRITE_DONE) || ((number == WRITE_MISSED) || (number == STALE)))
+
+-- so it is with a handle's line, of which nothing else changes; one that keeps no changes lets those that came go, and never wants memory
 pub record Arrives (old new : Embedded) (bytes : List ℕ) (number : ℕ) (before after : List Outcome) (arrival arrival' : Arrival) : Type 0 where
   pub tells : Tells (past_of old) (past_of new) bytes number before after arrival arrival' old.counts new.counts
-  pub kept : new ≡ with_counts (with_past old (past_of new)) new.counts
+  pub kept : new ≡ (if is_taken number then settled (with_counts (with_past old (past_of new)) new.counts) else old)
+  pub memory : keeps_changes old ≡ false → number ≢ MEMORY
+
+-- how many changes an arrival adds to those that a record has
+abbrev pub added_by : Record → List ℕ → ℕ
+added_by past bytes = length (news_of (entries_after past (ArrivesStep bytes))) - length (news_of past)
+
+-- the line keeps changes, and has room for fewer than an arrival would add
+abbrev pub overflows : Embedded → List ℕ → Bool
+overflows old bytes = are_too_many (changes_room old) (added_by (past_of old) bytes)
+
+-- a core that took an arrival, with room for changes; where none are kept all of them are let go
+abbrev pub with_arrived : Option ℕ → CoreState → Record → CoreState
+with_arrived None core past = record { past = past; taken = past }
+with_arrived (Some room) core past = record core { past = past }
+
+-- why it didn't take one: its room is too small for the changes, or memory was wanted
+abbrev pub refused_number : Option ℕ → ℕ → ℕ
+refused_number room added = if are_too_many room added then CHANGES_FULL else MEMORY

@@ -1,5 +1,5 @@
 -- What C is told of an edit.
-use Rattle.std.specs.Prelude.{◌≡◌, ◌≢◌, ℕ, Bool, true, false, ◌∷◌, length, IfSome, Result, Ok, Err}
+use Rattle.std.specs.Prelude.{◌≡◌, ◌≢◌, ℕ, Bool, true, false, not, ◌&&◌, if◌then◌else◌, ◌∷◌, length, IfSome, Result, Ok, Err}
 use Rattle.hc_records.specs.declared.edit.Edit.{Edit}
 use Rattle.hc_records.specs.declared.faults.EditFault.{EditFault}
 use Rattle.hc_records.specs.declared.faults.EditFault.TheVariants.{TooManyDatagrams}
@@ -15,8 +15,8 @@ use Rattle.hc_places.specs.Swap.{changed_variables}
 use Rattle.hc_places.specs.Table.{table_of}
 use Rattle.hc_c.specs.declared.editing.Cost.{Cost}
 use Rattle.hc_c.specs.declared.embedded.Embedded.{Embedded}
-use Rattle.hc_c.specs.declared.numbers.TheConstants.{CROWDED, DONE, MEMORY}
-use Rattle.hc_c.specs.Embedded.{past_of, with_past}
+use Rattle.hc_c.specs.declared.numbers.TheConstants.{CHANGES_FULL, CROWDED, DONE, MEMORY}
+use Rattle.hc_c.specs.Embedded.{is_full, past_of, settled, with_past}
 
 -- what an edit does that leads from one state to another; no task is crowded by it
 pub record IsCost (old new : State) (cost : Cost) : Type 0 where
@@ -26,17 +26,21 @@ pub record IsCost (old new : State) (cost : Cost) : Type 0 where
   pub places : cost.places ≡ length (changed_variables (table_of (line old)) (table_of (line new)))
   pub crowded : cost.crowded ≡ 0
 
--- 0 where the state accepts an edit, else its fault's number
-abbrev pub edit_number : Result State EditFault → ℕ
-edit_number (Ok state) = DONE
-edit_number (Err fault) = core_fault_number (edit_refusal fault)
+-- where the state accepts an edit 0, or 252 of a line without room for its change; else its fault's number
+abbrev pub edit_number : Bool → Result State EditFault → ℕ
+edit_number full (Ok state) = if full then CHANGES_FULL else DONE
+edit_number full (Err fault) = core_fault_number (edit_refusal fault)
 
--- the edit is judged as the core judges it, or memory was wanted, which no fault that the edit has by itself waits for; where it is accepted its cost is told, and it is carried out where C doesn't only ask; else nothing changes, and of the cost only the crowded task is told, where there is one
+-- an edit that is carried out, and not only asked for, is refused by a line that is full of changes
+abbrev pub is_full_for : Embedded → Bool → Bool
+is_full_for old asks = not asks && is_full old
+
+-- the edit is judged as the core judges it, or memory was wanted, which no fault that the edit has by itself waits for; where it is accepted its cost is told, and it is carried out where C doesn't only ask, and where no changes are kept its change is let go; else nothing changes, and of the cost only the crowded task is told, where there is one
 pub record Serves (old new : Embedded) (edit : Edit) (asks : Bool) (number : ℕ) (before after : Cost) : Type 0 where
-  pub told : number ≢ MEMORY → number ≡ edit_number (edited (state_of (past_of old)) edit)
+  pub told : number ≢ MEMORY → number ≡ edit_number (is_full_for old asks) (edited (state_of (past_of old)) edit)
   pub own : IfSome (own_fault (state_of (past_of old)).groups edit) (λ fault. number ≡ core_fault_number (edit_refusal fault))
   pub cost : number ≡ DONE → IsCost (state_of (past_of old)) (state_after (state_of (past_of old)) edit) after
-  pub carried : number ≡ DONE → asks ≡ false → new ≡ with_past old (Edited edit ∷ past_of old)
+  pub carried : number ≡ DONE → asks ≡ false → new ≡ settled (with_past old (Edited edit ∷ past_of old))
   pub asked : asks ≡ true → new ≡ old
   pub refused : number ≢ DONE → new ≡ old
   pub unwritten : number ≢ DONE → number ≢ CROWDED → after ≡ before

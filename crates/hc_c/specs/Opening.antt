@@ -1,5 +1,5 @@
 -- What opening the project of a text gives.
-use Rattle.std.specs.Prelude.{ℕ, Bool, ◌+◌, List, [], Option, Some, None, Result, Ok, Err}
+use Rattle.std.specs.Prelude.{ℕ, ◌+◌, List, [], Option, Some, None, Result, Ok, Err}
 use Rattle.hc_records.specs.declared.records.Group.{Group}
 use Rattle.hc_records.specs.declared.faults.ProjectFault.{ProjectFault}
 use Rattle.hc_records.specs.Edits.{crowded_task}
@@ -10,14 +10,14 @@ use Rattle.hc_c.specs.Counts.{fresh_counts}
 use Rattle.hc_c.specs.declared.embedded.Embedded.{Embedded}
 use Rattle.hc_c.specs.declared.numbers.TheConstants.{CROWDED, DONE, PROJECT}
 
--- a core in which nothing has happened, with no change to tell, nothing counted and no call that runs; who opens it says whether changes are kept
-abbrev pub fresh : Bool → List Group → Embedded
-fresh keeps groups = record { core = record { past = just_opened groups; taken = just_opened groups }; untold = []; keeps_changes = keeps; counts = fresh_counts; spare = tt; calls = record { count = tt } }
+-- a core in which nothing has happened, with no change to tell, nothing counted and no call that runs; who opens it says how many changes are kept at most
+abbrev pub fresh : ℕ → List Group → Embedded
+fresh most groups = record { core = record { past = just_opened groups; taken = just_opened groups }; untold = []; most_changes = most; counts = fresh_counts; spare = tt; calls = record { count = tt } }
 
 -- it, where the text is a project
-abbrev pub opened_by : Bool → Result (List Group) ProjectFault → Option Embedded
-opened_by keeps (Ok groups) = Some (fresh keeps groups)
-opened_by keeps (Err fault) = None
+abbrev pub opened_by : ℕ → Result (List Group) ProjectFault → Option Embedded
+opened_by most (Ok groups) = Some (fresh most groups)
+opened_by most (Err fault) = None
 
 -- the lowest task of the opening line that needs more than 16 datagrams
 abbrev pub crowded_in : Result (List Group) ProjectFault → Option ℕ

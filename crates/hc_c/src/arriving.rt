@@ -1,14 +1,21 @@
 //! Frames arrive.
-ghost use Rattle.std.specs.Prelude.{◌≡◌, ◌≢◌, All, IfSome, None, is_some};
-ghost use Rattle.hc_c.specs.Arrivals.{Arrives, Tells};
+ghost use Rattle.std.specs.Prelude.{◌≡◌, ◌≢◌, ◌≤◌, All, IfErr, IfOk, IfSome, None, OnErr, OnOk, [], false, is_some, true, vec_capacity};
+ghost use Rattle.hc_events.specs.declared.answer.Arrived.TheVariants.{Answered};
+ghost use Rattle.hc_events.specs.Arrivals.{arrival_in};
+ghost use Rattle.hc_events.specs.Outcomes.{told_with};
+ghost use Rattle.hc_events.specs.Steps.{Arrives as ArrivesStep, answer_to, entries_after};
+ghost use Rattle.hc_sendings.specs.declared.awaited.TheConstants.{FRAME_DATAGRAMS};
+ghost use Rattle.hc_c.specs.Arrivals.{Arrives, added_by, overflows, refused_number, with_arrived};
 ghost use Rattle.hc_c.specs.Counts.{all_judged};
+ghost use Rattle.hc_c.specs.Embedded.{are_too_many};
 ghost use Rattle.hc_c.specs.Lists.{put};
 ghost use Rattle.hc_c.specs.Returned.{IsInFrame, arrived_number, expected_in, first_written, kind_by, told_arrival, told_part, told_parts};
 ghost use Rattle.hc_c.specs.declared.numbers.TheConstants.{BUSY, CLOSED};
 
 use crate::counting::Counts;
+use crate::embedded::Embedded;
 use crate::handle::Handle;
-use crate::numbers::{DONE, MEMORY, STALE, WRITE_DONE, WRITE_MISSED};
+use crate::numbers::{CHANGES_FULL, DONE, MEMORY, STALE, WRITE_DONE, WRITE_MISSED};
 use hc_core::keeping::Core;
 use hc_core::naming::{named_by, written_by};
 use hc_events::answer::{Arrived, Outcome as CoreOutcome};
@@ -105,29 +112,18 @@ fn told_part(places: &Places, outcome: &CoreOutcome, part: &Part<'_>) -> Outcome
     }
 }
 
-/// Tells outcomes one after another, as many as there is room for. A frame has 115 at most, so deep is this recursion.
-fn put_outcomes(places: &Places, outcomes: &[CoreOutcome], parts: Parts<'_>, out: &mut [Outcome])
+/// Counts outcomes one after another, and answers as many of them as there is room for. A frame has 115 at most, so deep is
+/// this recursion.
+fn put_outcomes(
+    counts: &mut Counts,
+    places: &Places,
+    outcomes: &[CoreOutcome],
+    parts: Parts<'_>,
+    out: &mut [Outcome],
+)
     requires { All IsInFrame parts }
-    ensures { out.new ≡ put (told_parts places.now outcomes.now parts.entry) out.old }
-{
-    let Some((outcome, rest)) = outcomes.split_first() else {
-        return;
-    };
-    let Some((first, others)) = out.split_first_mut() else {
-        return;
-    };
-    let mut left = parts;
-    let Some(part) = left.next() else {
-        return;
-    };
-    *first = told_part(places, outcome, &part);
-    put_outcomes(places, rest, left, others);
-}
-
-/// Counts outcomes one after another. So deep is this recursion too.
-fn count_outcomes(counts: &mut Counts, places: &Places, outcomes: &[CoreOutcome], parts: Parts<'_>)
-    requires { All IsInFrame parts }
-    ensures { counts.new ≡ all_judged counts.old (told_parts places.now outcomes.now parts.entry) }
+    ensures put { out.new ≡ put (told_parts places.now outcomes.now parts.entry) out.old }
+    ensures counted { counts.new ≡ all_judged counts.old (told_parts places.now outcomes.now parts.entry) }
 {
     let Some((outcome, rest)) = outcomes.split_first() else {
         return;
@@ -138,7 +134,12 @@ fn count_outcomes(counts: &mut Counts, places: &Places, outcomes: &[CoreOutcome]
     };
     let told = told_part(places, outcome, &part);
     counts.count_arrival(told.kind, told.task, told.datagram);
-    count_outcomes(counts, places, rest, left);
+    let Some((first, others)) = out.split_first_mut() else {
+        put_outcomes(counts, places, rest, left, &mut []);
+        return;
+    };
+    *first = told;
+    put_outcomes(counts, places, rest, left, others);
 }
 
 /// The station address and the register that a frame's first datagram addresses.
@@ -182,39 +183,82 @@ fn arrived_number(arrived: Arrived) -> u8
     }
 }
 
-/// Gives a core bytes that arrived, and tells what they are, with a list for the core's outcomes.
-fn arrive(
+/// An arrival that was read: a core takes it, and keeps its changes where there is room for changes. `CHANGES_FULL` where the
+/// room is too small for them, and nothing changed; or `MEMORY`, likewise, but never of a core whose changes aren't kept.
+fn take(
     core: &mut Core,
     alloc: Global,
     bytes: &[u8],
+    frame: &Returned<'_>,
+    room: Option<usize>,
     list: &mut Vec<CoreOutcome>,
-    counts: &mut Counts,
+) -> Result<Arrived, u8>
+    requires read { arrival_in bytes.now ≡ Ok frame.now }
+    requires enough { FRAME_DATAGRAMS ≤ vec_capacity list.old }
+    ensures answer { IfOk result (λ arrived. told_with arrived list.new.items ≡ answer_to core.old.past (ArrivesStep bytes.now)) }
+    ensures none { IfOk result (λ arrived. arrived ≢ Answered → list.new.items ≡ []) }
+    ensures entries { OnOk result (core.new ≡ with_arrived room core.old (entries_after core.old.past (ArrivesStep bytes.now))) }
+    ensures fits { OnOk result (are_too_many room (added_by core.old.past bytes.now) ≡ false) }
+    ensures refused { IfErr result (λ number. number ≡ refused_number room (added_by core.old.past bytes.now)) }
+    ensures kept { OnErr result (is_some room ≡ true) }
+    ensures unchanged { OnErr result (core.new ≡ core.old) }
+    ensures capacity { vec_capacity list.old ≤ vec_capacity list.new }
+{
+    let Some(room) = room else {
+        return match core.arrive_discarding(bytes, frame, list) {
+            Ok(arrived) => Ok(arrived),
+            Err(_) => Err(MEMORY),
+        };
+    };
+    let Ok(arrived) = core.judge(frame, list) else {
+        return Err(MEMORY);
+    };
+    if room < core.changes_by(frame, arrived, list.as_slice()) {
+        return Err(CHANGES_FULL);
+    }
+    match core.take_arrival(alloc, bytes, frame, arrived, list.as_slice()) {
+        Ok(()) => Ok(arrived),
+        Err(_) => Err(MEMORY),
+    }
+}
+
+/// Gives a line bytes that arrived, and tells what they are.
+fn arrive(
+    own: &mut Embedded,
+    alloc: Global,
+    bytes: &[u8],
     outcomes: &mut [Outcome],
     arrival: &mut Arrival,
 ) -> u8
-    ensures tells { Tells core.old.past core.new.past bytes.now result outcomes.old outcomes.new arrival.old arrival.new counts.old counts.new }
-    ensures kept { core.new ≡ record core.old { past = core.new.past } }
+    ensures told { overflows own.old bytes.now ≡ false → Arrives own.old own.new bytes.now result outcomes.old outcomes.new arrival.old arrival.new }
+    ensures full { overflows own.old bytes.now ≡ true → (result ≡ CHANGES_FULL) × (own.new ≡ own.old) × (outcomes.new ≡ outcomes.old) × (arrival.new ≡ arrival.old) }
+    ensures busy { result ≢ BUSY }
 {
     let frame = match read_frame(bytes) {
         Ok(frame) => frame,
         Err(fault) => return CoreFault::from(fault).number(),
     };
-    let Ok(arrived) = core.arrive_into(alloc, bytes, list) else {
-        return MEMORY;
+    let room = own.changes_room();
+    let spare = &mut own.spare;
+    let list = &mut spare.outcomes;
+    let arrived = match take(&mut own.core, alloc, bytes, &frame, room, list) {
+        Ok(arrived) => arrived,
+        Err(number) => return number,
     };
-    let places = core.plan().places();
     let told = list.as_slice();
+    let places = own.core.plan().places();
     *arrival = told_arrival(arrived, told.len(), &frame);
-    put_outcomes(places, told, frame.parts(), outcomes);
-    count_outcomes(counts, places, told, frame.parts());
+    put_outcomes(&mut own.counts, places, told, frame.parts(), outcomes);
     arrived_number(arrived)
 }
 
 /// Bytes arrive, any, without the check sequence. `DONE` where they answer frames of tasks: `outcomes` has of each
 /// datagram, in the frame's order, what it is, as many as there is room for; a frame has at most 115. `WRITE_DONE`,
 /// `WRITE_MISSED` or `STALE`; with these four `arrival` is written, and with `DONE` alone `outcomes`, and each datagram is
-/// counted. Else a fault, 20 to 27, with which the bytes can't be read, or `MEMORY`; or `BUSY` or `CLOSED`; then nothing
-/// changed and nothing is written. The answers are this project's profile over frames of ETG.1000.4, 5.3 and 5.4.
+/// counted. Else a fault, 20 to 27, with which the bytes can't be read; `CHANGES_FULL` where the line keeps changes, and this
+/// arrival's good answers are more than it has room for; `MEMORY`, but never of a line that keeps no changes; `BUSY` or
+/// `CLOSED`; then nothing changed and nothing is written. Where the line keeps no changes, none is made. The answers are this
+/// project's profile over frames of ETG.1000.4, 5.3 and 5.4.
 #[unsafe(no_mangle)]
 pub extern "C" fn zangjulf_arrive(
     alloc: Global,
@@ -223,7 +267,8 @@ pub extern "C" fn zangjulf_arrive(
     outcomes: &mut [Outcome],
     arrival: &mut Arrival,
 ) -> u8
-    ensures told { IfSome handle.old.holding.value (λ old. IfSome handle.new.holding.value (λ new. result ≢ BUSY → Arrives old new bytes.now result outcomes.old outcomes.new arrival.old arrival.new)) }
+    ensures told { IfSome handle.old.holding.value (λ old. IfSome handle.new.holding.value (λ new. result ≢ BUSY → overflows old bytes.now ≡ false → Arrives old new bytes.now result outcomes.old outcomes.new arrival.old arrival.new)) }
+    ensures full { IfSome handle.old.holding.value (λ old. result ≢ BUSY → overflows old bytes.now ≡ true → (result ≡ CHANGES_FULL) × (handle.new.holding.value ≡ handle.old.holding.value) × (outcomes.new ≡ outcomes.old) × (arrival.new ≡ arrival.old)) }
     ensures held { is_some handle.new.holding.value ≡ is_some handle.old.holding.value }
     ensures busy { result ≡ BUSY → (handle.new.holding.value ≡ handle.old.holding.value) × (outcomes.new ≡ outcomes.old) × (arrival.new ≡ arrival.old) }
     ensures closed { handle.old.holding.value ≡ None → (result ≡ CLOSED) × (outcomes.new ≡ outcomes.old) × (arrival.new ≡ arrival.old) }
@@ -232,15 +277,7 @@ pub extern "C" fn zangjulf_arrive(
         return number;
     }
     let own = handle.holding.line_mut();
-    let number = arrive(
-        &mut own.core,
-        alloc,
-        bytes,
-        &mut own.spare.outcomes,
-        &mut own.counts,
-        outcomes,
-        arrival,
-    );
+    let number = arrive(own, alloc, bytes, outcomes, arrival);
     own.calls.end_change();
     number
 }

@@ -2,6 +2,7 @@
 ghost use Rattle.std.specs.Prelude.{◌≡◌, ◌≢◌, ◌++◌, ◌≤◌, ◌⊎◌, ◌↔◌, IfSome, IsSome, IsTrue, None, drop, false, is_some, length, true};
 ghost use Rattle.hc_records.specs.declared.limits.TheConstants.{MOST_DATAGRAM_BYTES};
 ghost use Rattle.hc_c.specs.declared.numbers.TheConstants.{BUSY, CLOSED};
+ghost use Rattle.hc_c.specs.Embedded.{keeps_changes};
 ghost use Rattle.hc_c.specs.Tellings.{AreNext, HasToldAll, Keeps, Tells, carried_by, core_behind, told_of};
 
 use crate::embedded::Embedded;
@@ -88,14 +89,14 @@ fn refill(own: &mut Embedded, alloc: Global)
 /// Tells the next change: `DONE`, or `NOTHING` where there is none, or `ROOM` where its data don't fit `out`.
 fn tell_next(own: &mut Embedded, alloc: Global, out: &mut [u8], told: &mut Told) -> u8
     ensures done { result ≡ DONE → Tells own.old own.new told.new out.old out.new }
-    ensures nothing { result ≡ NOTHING → own.old.keeps_changes ≡ true → HasToldAll own.old own.new }
-    ensures none { own.old.keeps_changes ≡ false → (result ≡ NOTHING) × (own.new ≡ own.old) }
+    ensures nothing { result ≡ NOTHING → keeps_changes own.old ≡ true → HasToldAll own.old own.new }
+    ensures none { keeps_changes own.old ≡ false → (result ≡ NOTHING) × (own.new ≡ own.old) }
     ensures room { result ≡ ROOM → Keeps own.old own.new told.new (length out.old) }
     ensures one { (result ≡ DONE) ⊎ ((result ≡ NOTHING) ⊎ (result ≡ ROOM)) }
     ensures untouched { result ≢ DONE → out.new ≡ out.old }
     ensures unwritten { result ≡ NOTHING → told.new ≡ told.old }
 {
-    if !own.keeps_changes {
+    if !own.keeps_changes() {
         return NOTHING;
     }
     refill(own, alloc);
@@ -123,8 +124,8 @@ pub extern "C" fn zangjulf_next_change(
     told: &mut Told,
 ) -> u8
     ensures done { result ≡ DONE → IfSome handle.old.holding.value (λ old. IfSome handle.new.holding.value (λ new. Tells old new told.new out.old out.new)) }
-    ensures nothing { result ≡ NOTHING → IfSome handle.old.holding.value (λ old. IfSome handle.new.holding.value (λ new. old.keeps_changes ≡ true → HasToldAll old new)) }
-    ensures none { IfSome handle.old.holding.value (λ old. old.keeps_changes ≡ false → result ≢ BUSY → (result ≡ NOTHING) × (handle.new.holding.value ≡ handle.old.holding.value)) }
+    ensures nothing { result ≡ NOTHING → IfSome handle.old.holding.value (λ old. IfSome handle.new.holding.value (λ new. keeps_changes old ≡ true → HasToldAll old new)) }
+    ensures none { IfSome handle.old.holding.value (λ old. keeps_changes old ≡ false → result ≢ BUSY → (result ≡ NOTHING) × (handle.new.holding.value ≡ handle.old.holding.value)) }
     ensures room { result ≡ ROOM → IfSome handle.old.holding.value (λ old. IfSome handle.new.holding.value (λ new. Keeps old new told.new (length out.old))) }
     ensures one { IsSome handle.old.holding.value → result ≢ BUSY → (result ≡ DONE) ⊎ ((result ≡ NOTHING) ⊎ (result ≡ ROOM)) }
     ensures held { is_some handle.new.holding.value ≡ is_some handle.old.holding.value }

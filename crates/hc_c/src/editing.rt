@@ -8,13 +8,13 @@ ghost use Rattle.hc_events.specs.Entries.{Edited};
 ghost use Rattle.hc_events.specs.Faults.{core_fault_number, edit_refusal};
 ghost use Rattle.hc_events.specs.Points.{state_of};
 ghost use Rattle.hc_plan.specs.Prepared.{IsPrepared};
-ghost use Rattle.hc_c.specs.Embedded.{past_of, with_past};
+ghost use Rattle.hc_c.specs.Embedded.{past_of, settled, with_past};
 ghost use Rattle.hc_c.specs.declared.numbers.TheConstants.{BUSY, CLOSED, CROWDED};
-ghost use Rattle.hc_c.specs.Edits.{IsCost, Serves};
+ghost use Rattle.hc_c.specs.Edits.{IsCost, Serves, is_full_for};
 
 use crate::embedded::Embedded;
 use crate::handle::Handle;
-use crate::numbers::{DONE, MEMORY};
+use crate::numbers::{CHANGES_FULL, DONE, MEMORY};
 use hc_core::prepared::CoreEdit;
 use hc_events::faults::CoreFault;
 use hc_plan::prepared::PreparedEdit;
@@ -91,7 +91,7 @@ fn ask(own: &mut Embedded, alloc: Global, edit: &Edit, cost: &mut Cost) -> Resul
 fn carry(own: &mut Embedded, alloc: Global, edit: &Edit, cost: &mut Cost) -> Result<(), EditFault>
     ensures accepted { OnOk result (edited (state_of (past_of own.old)) edit.now ≡ Ok (state_after (state_of (past_of own.old)) edit.now)) }
     ensures cost { OnOk result (IsCost (state_of (past_of own.old)) (state_after (state_of (past_of own.old)) edit.now) cost.new) }
-    ensures carried { OnOk result (own.new ≡ with_past own.old (Edited edit.now ∷ past_of own.old)) }
+    ensures carried { OnOk result (own.new ≡ settled (with_past own.old (Edited edit.now ∷ past_of own.old))) }
     ensures refused { IfErr result (λ fault. fault ≢ Memory → edited (state_of (past_of own.old)) edit.now ≡ Err fault) }
     ensures own { IfSome (own_fault (state_of (past_of own.old)).groups edit.now) (λ fault. result ≡ Err fault) }
     ensures unchanged { OnErr result (own.new ≡ own.old) }
@@ -101,6 +101,7 @@ fn carry(own: &mut Embedded, alloc: Global, edit: &Edit, cost: &mut Cost) -> Res
         Ok(ready) => {
             *cost = cost_of(ready.edit());
             let _ = own.core.carry_out(ready);
+            own.settle();
             Ok(())
         }
         Err(fault) => Err(fault),
@@ -129,7 +130,7 @@ fn work_out(
 ) -> Result<(), EditFault>
     ensures accepted { OnOk result (edited (state_of (past_of own.old)) edit.now ≡ Ok (state_after (state_of (past_of own.old)) edit.now)) }
     ensures cost { OnOk result (IsCost (state_of (past_of own.old)) (state_after (state_of (past_of own.old)) edit.now) cost.new) }
-    ensures carried { OnOk result (asks ≡ false → own.new ≡ with_past own.old (Edited edit.now ∷ past_of own.old)) }
+    ensures carried { OnOk result (asks ≡ false → own.new ≡ settled (with_past own.old (Edited edit.now ∷ past_of own.old))) }
     ensures asked { asks ≡ true → own.new ≡ own.old }
     ensures refused { IfErr result (λ fault. fault ≢ Memory → edited (state_of (past_of own.old)) edit.now ≡ Err fault) }
     ensures own { IfSome (own_fault (state_of (past_of own.old)).groups edit.now) (λ fault. result ≡ Err fault) }
@@ -143,6 +144,26 @@ fn work_out(
     }
 }
 
+/// Whether a line has no room for the change of an edit that C doesn't only ask for.
+fn is_full_for(own: &Embedded, asks: bool) -> bool
+    ensures { result ≡ is_full_for own.now asks }
+{
+    !asks && own.is_full()
+}
+
+/// Serves an edit of a line that has no room for its change: why it is refused, or `CHANGES_FULL`.
+fn serve_full(own: &mut Embedded, alloc: Global, edit: &Edit, asks: bool, cost: &mut Cost) -> u8
+    requires { is_full_for own.old asks ≡ true }
+    ensures { Serves own.old own.new edit.now asks result cost.old cost.new }
+{
+    let _ = asks;
+    let mut unused = *cost;
+    match ask(own, alloc, edit, &mut unused) {
+        Ok(()) => CHANGES_FULL,
+        Err(fault) => refuse(fault, cost),
+    }
+}
+
 /// Serves an edit: `DONE`, or why it is refused.
 pub(crate) fn serve(
     own: &mut Embedded,
@@ -153,6 +174,9 @@ pub(crate) fn serve(
 ) -> u8
     ensures { Serves own.old own.new edit.now asks result cost.old cost.new }
 {
+    if is_full_for(own, asks) {
+        return serve_full(own, alloc, edit, asks, cost);
+    }
     match work_out(own, alloc, edit, asks, cost) {
         Ok(()) => DONE,
         Err(fault) => refuse(fault, cost),

@@ -6,10 +6,6 @@ use crate::counting::Counts;
 use crate::spare::Spare;
 use crate::untold::Untold;
 use hc_core::keeping::Core;
-use hc_events::change::Change;
-use hc_records::limits::{MOST_DATAGRAMS, TASKS};
-use std::alloc::Global;
-use std::mem;
 
 /// A core, the changes that were taken from it and that C wasn't told yet, what was counted, lists that its calls use
 /// again, and the calls that run.
@@ -18,8 +14,8 @@ pub struct Embedded {
     pub core: Core,
     /// The changes.
     pub untold: Untold,
-    /// Whether changes are kept until C asks for them.
-    pub keeps_changes: bool,
+    /// The most changes that are kept until C asks for them; 0 where none is kept.
+    pub most_changes: u32,
     /// How often each datagram was sent, and what arrivals were for it.
     pub counts: Counts,
     /// The lists.
@@ -33,7 +29,7 @@ impl Drop for Embedded {
         let Embedded {
             core: _,
             untold: _,
-            keeps_changes: _,
+            most_changes: _,
             counts: _,
             spare: _,
             calls: _,
@@ -41,34 +37,47 @@ impl Drop for Embedded {
     }
 }
 
-/// Gives the core back the memory of changes, for those to come: of as many as a line has datagrams, 128.
-fn give_back(core: &mut Core, changes: &mut Vec<Change>)
-    ensures { core.new ≡ core.old }
-{
-    for _ in 0..MOST_DATAGRAMS * TASKS as usize {
-        let Some(change) = changes.pop() else {
-            return;
-        };
-        if let Change::Good(good) = change {
-            core.give_back(good.into_bytes());
+impl Embedded {
+    ghost use Rattle.hc_c.specs.Embedded.{changes_room, is_full, keeps_changes, settled};
+
+    /// Whether changes are kept until C asks for them.
+    pub fn keeps_changes(&self) -> bool
+        ensures { result ≡ keeps_changes self.now }
+    {
+        self.most_changes != 0
+    }
+
+    /// How many more changes are kept; none where none is kept.
+    pub fn changes_room(&self) -> Option<usize>
+        ensures { result ≡ changes_room self.now }
+    {
+        if !self.keeps_changes() {
+            return None;
+        }
+        let most = self.most_changes as usize;
+        let waiting = self.untold.len();
+        Some(
+            most.saturating_sub(waiting)
+                .saturating_sub(self.core.untaken()),
+        )
+    }
+
+    /// Whether changes are kept, and no more of them.
+    pub fn is_full(&self) -> bool
+        ensures { result ≡ is_full self.now }
+    {
+        match self.changes_room() {
+            Some(room) => room < 1,
+            None => false,
         }
     }
-}
 
-impl Embedded {
-    ghost use Rattle.hc_c.specs.Embedded.{settled};
-
-    /// Where changes aren't kept, those that came are let go, and their memory serves those to come. It takes none but for the
-    /// core's list of such buffers, while that grows to 128; where it is refused, a buffer is freed instead (`Core::give_back`).
-    pub fn settle(&mut self, alloc: Global)
+    /// Where changes aren't kept, those that came are let go. It takes no memory.
+    pub fn settle(&mut self)
         ensures { self.new ≡ settled self.old }
     {
-        if self.keeps_changes {
-            return;
+        if !self.keeps_changes() {
+            self.core.discard_changes();
         }
-        let empty = mem::replace(&mut self.spare.changes, Vec::new(alloc));
-        let mut changes = self.core.take_changes_into(empty);
-        give_back(&mut self.core, &mut changes);
-        self.spare.changes = changes;
     }
 }

@@ -35,6 +35,9 @@ pub const TOO_WIDE: u8 = 106;
 /// The numbers of a project's faults, 1 to 12, count from here.
 pub const PROJECT: u8 = 200;
 
+/// The line keeps no more changes: the ones that it has are to be asked for first.
+pub const CHANGES_FULL: u8 = 252;
+
 /// Another call with the handle runs, which this one may not meet.
 pub const BUSY: u8 = 253;
 

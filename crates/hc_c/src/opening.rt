@@ -1,5 +1,5 @@
 //! A handle is opened and closed.
-ghost use Rattle.std.specs.Prelude.{◌≡◌, ◌≢◌, ◌⊎◌, IfErr, IfOk, IsSome, None, OnOk, Some, nat_eq, not};
+ghost use Rattle.std.specs.Prelude.{◌≡◌, ◌≢◌, ◌⊎◌, IfErr, IfOk, IsSome, None, OnOk, Some};
 ghost use Rattle.hc_records.specs.Edits.{crowded_task};
 ghost use Rattle.hc_records.specs.Line.{line, opened};
 ghost use Rattle.hc_project.specs.Text.{project_in};
@@ -23,10 +23,10 @@ use std::alloc::Global;
 fn open_project(
     alloc: Global,
     project: Project,
-    keeps_changes: bool,
+    most_changes: u32,
     task: &mut u8,
 ) -> Result<Box<Embedded>, u8>
-    ensures opened { IfOk result (λ own. own.value ≡ fresh keeps_changes project) }
+    ensures opened { IfOk result (λ own. own.value ≡ fresh most_changes project) }
     ensures accepted { OnOk result (crowded_task (line (opened project)) ≡ None) }
     ensures refused { IfErr result (λ number. ((number ≡ MEMORY) × (task.new ≡ task.old)) ⊎ ((number ≡ CROWDED) × (crowded_task (line (opened project)) ≡ Some task.new))) }
     ensures unwritten { OnOk result (task.new ≡ task.old) }
@@ -48,7 +48,7 @@ fn open_project(
     let line = Embedded {
         core,
         untold: Untold::nothing(alloc),
-        keeps_changes,
+        most_changes,
         counts,
         spare,
         calls: Calls::none(),
@@ -62,8 +62,8 @@ fn open_project(
 /// Opens the project of a text in place of what the handle held, and answers `DONE`: the mandatory group alone is present,
 /// and nothing has happened. Otherwise the handle is closed, and the answer is the project's fault, 201 to 210, the lowest
 /// whose condition holds; `CROWDED` where a task of the opening line needs more than 16 datagrams, and `task` is the lowest
-/// such; or `MEMORY`. With every answer but `CROWDED` `task` is as it was. With `changes` 0 the line keeps no changes for
-/// `zangjulf_next_change`; with any other number it keeps all of them until they are asked for.
+/// such; or `MEMORY`. With every answer but `CROWDED` `task` is as it was. The line keeps `changes` changes at most until
+/// `zangjulf_next_change` asks for them, and none where that is 0.
 #[unsafe(no_mangle)]
 pub extern "C" fn zangjulf_open(
     alloc: Global,
@@ -72,7 +72,7 @@ pub extern "C" fn zangjulf_open(
     changes: u32,
     task: &mut u8,
 ) -> u8
-    ensures opened { result ≡ DONE → handle.new.holding.value ≡ opened_by (not (nat_eq changes 0)) (project_in text.now) }
+    ensures opened { result ≡ DONE → handle.new.holding.value ≡ opened_by changes (project_in text.now) }
     ensures open { result ≡ DONE → IsSome handle.new.holding.value }
     ensures told { result ≢ MEMORY → result ≡ opening_number (project_in text.now) }
     ensures crowded { result ≡ CROWDED → crowded_in (project_in text.now) ≡ Some task.new }
@@ -85,7 +85,7 @@ pub extern "C" fn zangjulf_open(
         Err(ProjectFault::Memory) => return MEMORY,
         Err(fault) => return PROJECT + fault.number(),
     };
-    match open_project(alloc, project, changes != 0, task) {
+    match open_project(alloc, project, changes, task) {
         Ok(own) => {
             *handle = Handle::of(own);
             DONE

@@ -1,5 +1,5 @@
 //! Tasks are sent.
-ghost use Rattle.std.specs.Prelude.{◌≡◌, ◌≢◌, IfSome, None, Some, length};
+ghost use Rattle.std.specs.Prelude.{◌≡◌, ◌≢◌, false, true, IfSome, None, Some, length};
 ghost use Rattle.hc_records.specs.Lists.{lowest};
 ghost use Rattle.hc_core.specs.Early.{early_fault};
 ghost use Rattle.hc_events.specs.Calls.{AreSentTogether, frames_size, send_into_faults};
@@ -7,18 +7,17 @@ ghost use Rattle.hc_events.specs.declared.faults.CoreFault.TheVariants.{Room};
 ghost use Rattle.hc_events.specs.Faults.{core_fault_number};
 ghost use Rattle.hc_events.specs.Owed.{owed_blocks};
 ghost use Rattle.hc_events.specs.Steps.{SendsTasks, entries_after, proposal};
-ghost use Rattle.hc_c.specs.Embedded.{past_of, settled, with_past, with_sent};
+ghost use Rattle.hc_c.specs.Embedded.{is_full, past_of, with_past, with_sent};
 ghost use Rattle.hc_c.specs.Numbers.{number_of};
-ghost use Rattle.hc_c.specs.declared.numbers.TheConstants.{BUSY, CLOSED, MEMORY, ROOM};
+ghost use Rattle.hc_c.specs.declared.numbers.TheConstants.{BUSY, CLOSED, ROOM};
 ghost use Rattle.hc_c.specs.Sends.{HoldsFrames};
 
 use crate::embedded::Embedded;
 use crate::handle::Handle;
-use crate::numbers::{DONE, MISUSED, UNPROGRAMMED};
+use crate::numbers::{CHANGES_FULL, DONE, MEMORY, MISUSED, UNPROGRAMMED};
 use crate::too_short::refuse;
 use hc_events::faults::CoreFault;
 use hc_events::together::Together;
-use std::alloc::Global;
 
 /// What was sent, as C is told it.
 #[repr(C)]
@@ -47,20 +46,15 @@ fn refuse_frames(fault: CoreFault, owed: u32, sent: &mut Sent) -> u8
     number
 }
 
-/// Sends tasks that can be sent together: `DONE`, or why they are refused.
+/// Sends tasks that can be sent together, where the line isn't full of changes: `DONE`, or why they are refused.
 #[tactic(auto, using(crate::proofs::Rooms::frames_need))]
-fn send_tasks(
-    own: &mut Embedded,
-    alloc: Global,
-    tasks: &[u8],
-    out: &mut [u8],
-    sent: &mut Sent,
-) -> u8
+fn send_tasks(own: &mut Embedded, tasks: &[u8], out: &mut [u8], sent: &mut Sent) -> u8
     requires { AreSentTogether tasks.now }
-    ensures told { result ≢ MEMORY → result ≡ number_of (lowest (send_into_faults (past_of own.old) tasks.now (length out.old))) }
+    ensures told { result ≡ number_of (lowest (send_into_faults (past_of own.old) tasks.now (length out.old))) }
+    ensures memory { result ≢ MEMORY }
     ensures early { IfSome (early_fault (past_of own.old) (SendsTasks tasks.now)) (λ fault. result ≡ core_fault_number fault) }
     ensures sent { result ≡ DONE → HoldsFrames (past_of own.old) tasks.now out.old out.new sent.new }
-    ensures entries { result ≡ DONE → own.new ≡ settled (with_sent (with_past own.old (entries_after (past_of own.old) (SendsTasks tasks.now))) (proposal (past_of own.old) tasks.now)) }
+    ensures entries { result ≡ DONE → own.new ≡ with_sent (with_past own.old (entries_after (past_of own.old) (SendsTasks tasks.now))) (proposal (past_of own.old) tasks.now) }
     ensures needed { result ≡ ROOM → sent.new ≡ record sent.old { size = frames_size (past_of own.old) tasks.now } }
     ensures owed { result ≡ UNPROGRAMMED → sent.new ≡ record sent.old { owed = length (owed_blocks (past_of own.old)) } }
     ensures unwritten { result ≢ DONE → result ≢ ROOM → result ≢ UNPROGRAMMED → sent.new ≡ sent.old }
@@ -68,7 +62,8 @@ fn send_tasks(
     ensures untouched { result ≢ DONE → out.new ≡ out.old }
 {
     let owed = own.core.owed();
-    let frames = &mut own.spare.frames;
+    let spare = &mut own.spare;
+    let frames = &mut spare.frames;
     match own.core.send_into(tasks, out, frames) {
         Ok(size) => {
             *sent = Sent {
@@ -77,32 +72,53 @@ fn send_tasks(
                 owed: 0,
             };
             own.counts.count_frames(frames.as_slice());
-            own.settle(alloc);
             DONE
         }
         Err(fault) => refuse_frames(fault, owed, sent),
     }
 }
 
+/// The same, and `CHANGES_FULL` where it is full of them.
+fn send_unless_full(own: &mut Embedded, tasks: &[u8], out: &mut [u8], sent: &mut Sent) -> u8
+    requires { AreSentTogether tasks.now }
+    ensures told { is_full own.old ≡ false → result ≡ number_of (lowest (send_into_faults (past_of own.old) tasks.now (length out.old))) }
+    ensures full { is_full own.old ≡ true → result ≡ CHANGES_FULL }
+    ensures memory { result ≢ MEMORY }
+    ensures early { is_full own.old ≡ false → IfSome (early_fault (past_of own.old) (SendsTasks tasks.now)) (λ fault. result ≡ core_fault_number fault) }
+    ensures sent { result ≡ DONE → HoldsFrames (past_of own.old) tasks.now out.old out.new sent.new }
+    ensures entries { result ≡ DONE → own.new ≡ with_sent (with_past own.old (entries_after (past_of own.old) (SendsTasks tasks.now))) (proposal (past_of own.old) tasks.now) }
+    ensures needed { result ≡ ROOM → sent.new ≡ record sent.old { size = frames_size (past_of own.old) tasks.now } }
+    ensures owed { result ≡ UNPROGRAMMED → sent.new ≡ record sent.old { owed = length (owed_blocks (past_of own.old)) } }
+    ensures unwritten { result ≢ DONE → result ≢ ROOM → result ≢ UNPROGRAMMED → sent.new ≡ sent.old }
+    ensures unchanged { result ≢ DONE → own.new ≡ own.old }
+    ensures untouched { result ≢ DONE → out.new ≡ out.old }
+{
+    if own.is_full() {
+        return CHANGES_FULL;
+    }
+    send_tasks(own, tasks, out, sent)
+}
+
 /// Tasks are sent, in their order: the frames stand at the front of `out` one after another, each of its own size, and
 /// `sent` tells their bytes and their number, which is 0 where the tasks have no datagram. `DONE`; else the first of the
-/// faults 8, 17, 19 and 29 that holds, `MEMORY`, `MISUSED` where they aren't 1 to 8 tasks, none twice, `BUSY` or `CLOSED`; and
-/// nothing is sent, and nothing changed, `out` neither. With 29 `sent.size` is the bytes that are needed, and with 17
-/// `sent.owed` how many blocks are owed; all else of `sent` is as it was. That there is no such task (8) and that blocks are
-/// owed (17) is answered whatever memory does. The list of the frames has had its room since the opening. Where the line keeps
-/// no changes, those that came are let go with a sending that is done.
+/// faults 8, 17, 19 and 29 that holds; before these `CHANGES_FULL` where the line keeps changes and has as many as it may, so
+/// that it could not take an answer, and before that `MISUSED` where they aren't 1 to 8 tasks, none twice; `BUSY` or `CLOSED`.
+/// Then nothing is sent, and nothing changed, `out` neither. With 29 `sent.size` is the bytes that are needed, and with 17
+/// `sent.owed` how many blocks are owed; all else of `sent` is as it was. It is never answered `MEMORY`: the list of the frames
+/// has had its room since the opening.
 #[unsafe(no_mangle)]
 pub extern "C" fn zangjulf_send(
-    alloc: Global,
     handle: &mut Handle,
     tasks: &[u8],
     out: &mut [u8],
     sent: &mut Sent,
 ) -> u8
-    ensures told { IfSome handle.old.holding.value (λ old. result ≢ BUSY → AreSentTogether tasks.now → result ≢ MEMORY → result ≡ number_of (lowest (send_into_faults (past_of old) tasks.now (length out.old)))) }
-    ensures early { IfSome handle.old.holding.value (λ old. result ≢ BUSY → AreSentTogether tasks.now → IfSome (early_fault (past_of old) (SendsTasks tasks.now)) (λ fault. result ≡ core_fault_number fault)) }
+    ensures told { IfSome handle.old.holding.value (λ old. result ≢ BUSY → AreSentTogether tasks.now → is_full old ≡ false → result ≡ number_of (lowest (send_into_faults (past_of old) tasks.now (length out.old)))) }
+    ensures full { IfSome handle.old.holding.value (λ old. result ≢ BUSY → AreSentTogether tasks.now → is_full old ≡ true → result ≡ CHANGES_FULL) }
+    ensures memory { result ≢ MEMORY }
+    ensures early { IfSome handle.old.holding.value (λ old. result ≢ BUSY → AreSentTogether tasks.now → is_full old ≡ false → IfSome (early_fault (past_of old) (SendsTasks tasks.now)) (λ fault. result ≡ core_fault_number fault)) }
     ensures sent { result ≡ DONE → IfSome handle.old.holding.value (λ old. HoldsFrames (past_of old) tasks.now out.old out.new sent.new) }
-    ensures entries { result ≡ DONE → IfSome handle.old.holding.value (λ old. handle.new.holding.value ≡ Some (settled (with_sent (with_past old (entries_after (past_of old) (SendsTasks tasks.now))) (proposal (past_of old) tasks.now)))) }
+    ensures entries { result ≡ DONE → IfSome handle.old.holding.value (λ old. handle.new.holding.value ≡ Some (with_sent (with_past old (entries_after (past_of old) (SendsTasks tasks.now))) (proposal (past_of old) tasks.now))) }
     ensures needed { result ≡ ROOM → IfSome handle.old.holding.value (λ old. sent.new ≡ record sent.old { size = frames_size (past_of old) tasks.now }) }
     ensures owed { result ≡ UNPROGRAMMED → IfSome handle.old.holding.value (λ old. sent.new ≡ record sent.old { owed = length (owed_blocks (past_of old)) }) }
     ensures unwritten { result ≢ DONE → result ≢ ROOM → result ≢ UNPROGRAMMED → sent.new ≡ sent.old }
@@ -116,7 +132,7 @@ pub extern "C" fn zangjulf_send(
     }
     let own = handle.holding.line_mut();
     let number = match Together::of(tasks) {
-        Some(_) => send_tasks(own, alloc, tasks, out, sent),
+        Some(_) => send_unless_full(own, tasks, out, sent),
         None => MISUSED,
     };
     own.calls.end_change();

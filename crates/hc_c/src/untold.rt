@@ -25,7 +25,7 @@ impl Model for Untold {
 }
 
 impl Untold {
-    ghost use Rattle.std.specs.Prelude.{◌≡◌, ◌∷◌, [], MatchOption, drop, take};
+    ghost use Rattle.std.specs.Prelude.{◌≡◌, ◌∷◌, [], MatchOption, drop, length, take};
 
     /// No change. It takes no memory.
     pub fn nothing(alloc: Global) -> Untold
@@ -43,6 +43,13 @@ impl Untold {
         Untold {
             changes: VecDeque::from_vec(changes),
         }
+    }
+
+    /// How many they are.
+    pub fn len(&self) -> usize
+        ensures { result ≡ length self.now }
+    {
+        self.changes.len()
     }
 
     /// The oldest one; none where there is none.

@@ -1,8 +1,8 @@
-use Rattle.std.proofs.Common.{◌∙◌, ap, sym, refl}
+use Rattle.std.proofs.Common.{◌∙◌, Bool, ap, cond, sym, refl}
 use Rattle.hc_groups.specs.Edits.{own_fault}
 use Rattle.hc_events.specs.Points.{state_of}
 use Rattle.hc_c.specs.declared.editing.Cost.{Cost}
-use Rattle.hc_c.specs.Edits.{edit_number}
+use Rattle.hc_c.specs.Edits.{edit_number, is_full_for}
 use Rattle.hc_c.specs.Embedded.{past_of}
 use Rattle.hc_c.proofs.Refusals.{not_accepted, not_done, not_memory, own-accepted, own-refused, same_fault}
 use Rattle.hc_c.proofs.editing.serve.Goals as goal
@@ -10,7 +10,7 @@ use Rattle.hc_c.proofs.editing.serve.Goals as goal
 pub returns-in-Ok : goal.returns-in-Ok
 returns-in-Ok c =
     let told = c.in-Ok.ensures in record {
-      told = λ _. sym (ap edit_number told.accepted);
+      told = λ _. sym (ap (edit_number (is_full_for c.args.own.now c.args.asks)) told.accepted ∙ ap (λ (full : Bool). cond full 252 0) (sym c.is_full_for.ensures ∙ c.if-is_full_for.false));
       own = own-accepted (own_fault (state_of (past_of c.args.own.now)).groups c.args.edit.now) tt 0 told.own;
       cost = λ _. told.cost;
       carried = λ _ asks. told.carried asks;
@@ -24,7 +24,7 @@ pub returns-in-Err : goal.returns-in-Err
 returns-in-Err c =
     let fault = c.in-Err.fault in let told = c.in-Err.ensures in let number = c.refuse.ensures.number in
     record {
-      told = λ other. number ∙ sym (ap edit_number (told.refused (not_memory fault (λ is. other (number ∙ is)))));
+      told = λ other. number ∙ sym (ap (edit_number (is_full_for c.args.own.now c.args.asks)) (told.refused (not_memory fault (λ is. other (number ∙ is)))));
       own = own-refused _ (own_fault (state_of (past_of c.args.own.now)).groups c.args.edit.now) fault c.refuse.result number told.own;
       cost = λ is. absurd (not_done fault (sym number ∙ is));
       carried = λ is asks. absurd (not_done fault (sym number ∙ is));

@@ -9,7 +9,7 @@ use Rattle.hc_records.proofs.lemmas.Slaves.{project-counted}
 use Rattle.hc_groups.specs.Edits.{own_fault}
 use Rattle.hc_groups.proofs.lemmas.Refusals.{own-refuses}
 use Rattle.hc_events.specs.Points.{state_of}
-use Rattle.hc_c.specs.Edits.{Serves, edit_number}
+use Rattle.hc_c.specs.Edits.{Serves, edit_number, is_full_for}
 use Rattle.hc_c.specs.Embedded.{past_of}
 use Rattle.hc_c.proofs.Refusals.{not_done, own-found, same_fault}
 use Rattle.hc_c.proofs.editing.serve_remap.Goals as goal
@@ -26,7 +26,7 @@ returns-in-Some c =
     let found : own_fault state.groups edit ≡ Some fault = sym (c.in-Some.ensures ∙ ap (λ (it : List Declared). own_fault it edit) groups) in
     let refused : edited state edit ≡ Err fault = own-refuses state edit fault found in
     record {
-      told = λ other. number ∙ sym (ap edit_number refused);
+      told = λ other. number ∙ sym (ap (edit_number (is_full_for c.args.own.now c.args.asks)) refused);
       own = own-found (own_fault state.groups edit) fault c.refuse.result number found;
       cost = λ is. absurd (not_done fault (sym number ∙ is));
       carried = λ is asks. absurd (not_done fault (sym number ∙ is));
