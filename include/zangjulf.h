@@ -59,8 +59,8 @@
 extern "C" {
 #endif
 
-/* What calls answer: name, number, text. 1 to 35, but 14, are the faults of edits and events, which never change; 201 to 212 are
- * the faults of a project's text. Where several hold, the lowest is answered. */
+/* What calls answer: name, number, text. 1 to 35, but 14 and 30, are the faults of edits and events, which never change;
+ * 201 to 212, but 211, are the faults 1 to 12 of a project's text. Where several hold, the lowest is answered. */
 #define ZANGJULF_ANSWERS(ANSWER) \
     ANSWER(DONE, 0, "done") \
     ANSWER(UNKNOWN_ALIAS, 1, "no declared group has the alias") \
@@ -141,7 +141,7 @@ static inline const char *zangjulf_text(uint8_t answer) {
 #define ZANGJULF_DATA 1486          /* the most bytes of data of a datagram */
 #define ZANGJULF_FRAME 1514         /* the most bytes of a frame; the fewest are 60 */
 #define ZANGJULF_FRAMES 193792      /* bytes in which any sending of tasks has room: 128 frames */
-#define ZANGJULF_IMAGE 23776        /* bytes in which any task's input image has room */
+#define ZANGJULF_IMAGE 23776        /* bytes in which any task's image has room, outputs and inputs */
 #define ZANGJULF_OUTCOMES 115       /* the most datagrams of a frame */
 #define ZANGJULF_SLAVE_MEMORY 12288 /* the bytes of a simulated slave's memory */
 
@@ -178,8 +178,8 @@ static inline void zangjulf_free(struct zangjulf *handle) {
     if (handle) zangjulf_close(handle);
 }
 
-/* A place of a project's text. Indexes count from 0 in the order of the text, and are ZANGJULF_NOWHERE where the place lies in
- * none. */
+/* A place of a project's text. Indexes count from 0 in the order of the text, but `group` from 1; each but `group` is
+ * ZANGJULF_NOWHERE where the place lies in none. */
 #define ZANGJULF_NOWHERE SIZE_MAX
 enum {
     ZANGJULF_KEY_WHOLE = 0,        /* the table itself */
@@ -202,7 +202,7 @@ enum {
     ZANGJULF_KEY_BITS = 17         /* the bits of that entry */
 };
 struct zangjulf_spot {
-    size_t group;     /* the group, counted from 1 as the text declares them; 0 is the top of the document */
+    size_t group;     /* the group, counted from 1: projectcheck's group[0] is 1; 0 is the top of the document */
     size_t slave;     /* the slave in its array */
     size_t area;      /* the area of the slave */
     size_t pdo;       /* the PDO that the area offers */
@@ -296,7 +296,8 @@ uint8_t zangjulf_block(const struct zangjulf *handle, uint16_t station, uint8_t 
 /* What an edit does. */
 struct zangjulf_cost {
     uint32_t epoch;  /* the epoch that begins with it */
-    uint32_t recut;  /* how many spans of touched tasks aren't settled; an emptied task counts one */
+    uint32_t recut;  /* how many datagrams are cut anew, an emptied task counting one: all others carry the same areas at the
+                      * same bits as before, perhaps under another number */
     uint32_t moved;  /* how many register blocks of the new line weren't blocks with the same bytes at the same register of
                       * the same slave in the old line */
     uint32_t places; /* how many variables stand elsewhere, appear or go */
@@ -416,12 +417,12 @@ struct zangjulf_arrival {
     uint16_t start;   /* where it answers a register write, the register at which its block begins; else 0 */
 };
 
-/* A frame arrives: any bytes, without the check sequence. ZANGJULF_DONE where they answer frames of tasks, and the outcomes of
- * the first datagrams stand in `outcomes`, as many as there is room for. ZANGJULF_WRITE_DONE or ZANGJULF_WRITE_MISSED of a
- * register write, and `*arrival` names it. ZANGJULF_STALE, and `*arrival` tells its serial. Or nothing changed: 20
- * to 27 where they can't be read, ZANGJULF_MEMORY, ZANGJULF_BUSY or ZANGJULF_CLOSED; then `*arrival` is as it was. Only with
- * ZANGJULF_DONE `outcomes` is written. Takes memory for the data of good answers, unless some came back, and where the list of
- * changes grows. */
+/* A frame arrives: any bytes, without the check sequence. ZANGJULF_DONE where they answer frames of tasks, whatever their
+ * counters are, and the outcomes of the first datagrams stand in `outcomes`, as many as there is room for: look at each
+ * `kind`. ZANGJULF_WRITE_DONE or ZANGJULF_WRITE_MISSED of a register write, and `*arrival` names it. ZANGJULF_STALE, and
+ * `*arrival` tells its serial. Or nothing changed: 20 to 27 where they can't be read, ZANGJULF_MEMORY, ZANGJULF_BUSY or
+ * ZANGJULF_CLOSED; then `*arrival` is as it was. Only with ZANGJULF_DONE `outcomes` is written. Takes memory for the data
+ * of good answers, unless some came back, and where the list of changes grows. */
 uint8_t zangjulf_arrive(struct zangjulf *handle, const uint8_t *bytes, size_t length, struct zangjulf_outcome *outcomes,
                         size_t room, struct zangjulf_arrival *arrival);
 
@@ -434,10 +435,11 @@ struct zangjulf_image {
 };
 
 /* What a task reads: of each of its datagrams the data of its last good answer in the present epoch, or none. They stand in
- * `out` at the datagram's offset in the task's image; bytes of a datagram without data are 0. `serials` has of each the serial
- * of the sending that its data answer, 0 where it has none, as many as there is room for: the difference to what was sent last
- * is their age. ZANGJULF_DONE, 8, 29 or ZANGJULF_CLOSED. Unless it is done `out` is as it was. Nothing changes. Takes no
- * memory. */
+ * `out` at the datagram's offset in the task's image; bytes of a datagram without data are 0. `serials` has of each the
+ * serial of the sending that its data answer, 0 where it has none, as many as there is room for. Serials count all frames,
+ * register writes too: data are of the last sending where `has` has the datagram's bit and its serial isn't below what
+ * `zangjulf_next_serial` answered before that sending. ZANGJULF_DONE, 8, 29 or ZANGJULF_CLOSED. Unless it is done `out` is
+ * as it was. Nothing changes. Takes no memory. */
 uint8_t zangjulf_read(const struct zangjulf *handle, uint8_t task, uint8_t *out, size_t length, uint64_t *serials, size_t room,
                       struct zangjulf_image *image);
 
@@ -517,10 +519,12 @@ uint8_t zangjulf_station_write(uint16_t position, uint16_t station, uint8_t *out
  * (docs/meaning/DEFINITIONS.md). ZANGJULF_DONE; ZANGJULF_MISUSED where `size` is another, and then nothing is written. Neither takes
  * memory. */
 
-/* Its memory as no frame has met it: zeros but for its configured station alias. */
+/* Its memory as no frame has met it: zeros but for its configured station alias. It takes no register block before it has a
+ * station address (`zangjulf_station_write`). */
 uint8_t zangjulf_slave_start(uint8_t *memory, size_t size, uint16_t alias);
 
-/* It does with a frame what a slave does, in the frame's place; one that can't be read stays as it is. */
+/* It does with a frame what a slave does, in the frame's place; one that can't be read stays as it is. A frame takes inputs
+ * along as they were before it. */
 uint8_t zangjulf_slave_process(uint8_t *memory, size_t size, uint8_t *frame, size_t length);
 
 #ifdef __cplusplus

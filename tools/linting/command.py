@@ -1,14 +1,13 @@
 """The command line of `tools/lint`."""
 
 import argparse
-from pathlib import Path
 
 from linting.buffers import buffer_findings
 from linting.checking import fault_of
 from linting.findings import Finding, remaining
 from linting.keys import every_slave, stray_areas, unknown_keys
 from linting.sharing import shared_tasks
-from projects.asking import BUILT, Program
+from projects.asking import BUILT, Program, add_options, program_of
 from projects.faults import FINDINGS, FINE
 from projects.files import content_of, parted
 from projects.names import Names
@@ -27,7 +26,7 @@ def parsed(words: list[str]) -> argparse.Namespace:
         "docs/use/TOOLS.md has the kinds, and how a text says that one is meant.",
     )
     parser.add_argument("project", help="a project text, or an input of hotline that begins with one; - for stdin")
-    parser.add_argument("--program", default=BUILT, help="the program that is asked, if not the built hotline")
+    add_options(parser)
     parser.add_argument("--check", default=CHECK if CHECK.exists() else None, help="projectcheck, if not the built one")
     return parser.parse_args(words)
 
@@ -60,8 +59,8 @@ def run(words: list[str]) -> int:
     """Prints what is found, a line each."""
     arguments = parsed(words)
     text, _ = parted(content_of(arguments.project))
-    check = Program(Path(arguments.check)) if arguments.check else None
-    findings = findings_of(text, Program(arguments.program), check)
+    check = Program(arguments.check, arguments.seconds) if arguments.check else None
+    findings = findings_of(text, program_of(arguments), check)
     for finding in findings:
         print(f"{arguments.project}:{finding}")
     return FINDINGS if findings else FINE

@@ -6,13 +6,17 @@ from collections.abc import Iterator
 from pathlib import Path
 
 from commands import check_commands, run_commands
+from frames import check_frames
 from links import check_links, check_names, check_words
 from limits import check_limits, check_sentences
 from pages import Pages, read_pages
 from planted import find_planted
 from quotes import check_quotes, check_sessions
 
-CHECKS = (check_links, check_names, check_words, check_quotes, check_sessions, check_limits, check_sentences, check_commands)
+CHECKS = (
+    *(check_links, check_names, check_words, check_quotes, check_sessions, check_frames),
+    *(check_limits, check_sentences, check_commands),
+)
 
 
 def found_on(pages: Pages) -> Iterator[str]:

@@ -5,6 +5,7 @@ from pathlib import Path
 
 from commands import Step, check_commands, run_step
 from findings import Finding
+from frames import check_frames
 from links import check_links, check_names, check_words
 from limits import IN_ALL, check_limits, check_sentences
 from pages import Block, Pages
@@ -13,8 +14,8 @@ from quotes import check_quotes, check_sessions
 Check = Callable[[Pages], Iterator[Finding]]
 
 SOURCE = "int add(int a, int b) {\n    return a + b;\n}\n"
-RUN_IN = "layout\nregs 1001\n"
-RUN_OUT = "epoch 0\nsm 2\n"
+RUN_IN = "layout\nregs 1001\narrive ff0203\n"
+RUN_OUT = "epoch 0\nsm 2\nsent 0: ff0200\n"
 GOOD = """# One page
 
 See [below](#the-end), and `add`.
@@ -30,6 +31,12 @@ See [below](#the-end), and `add`.
     epoch 0
     $ regs 1001
     sm 2
+
+<!-- frames: run -->
+| Sent | Comes back | |
+|---|---|---|
+| ff02 | ff02 | head |
+| 00 | 03 | data |
 
 ```sh
 true
@@ -55,6 +62,10 @@ MISTAKES: tuple[tuple[str, Check, str, str], ...] = (
     ("quote", check_quotes, "```c\n", "```cobol\n"),
     ("session", check_sessions, "    sm 2", "    sm 3"),
     ("session", check_sessions, "    $ regs 1001", "    $ regs 1002"),
+    ("frame", check_frames, "| 00 | 03 |", "| 00 | 04 |"),
+    ("frame", check_frames, "| 00 | 03 |", "| | 03 |"),
+    ("frame", check_frames, "frames: run", "frames: gone"),
+    ("frame", check_frames, "frames: run -->", "frames: run -->\n"),
     ("limit", check_limits, "# One page", "# One page\n\n" + "word " * 1000),
     ("limit", check_limits, "# One page", "# One page\n\n" + "word " * IN_ALL),
     ("sentence", check_sentences, "# One page", "# One page\n\n" + LONG * 9),

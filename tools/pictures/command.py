@@ -7,7 +7,7 @@ from pathlib import Path
 from pictures.drawing import picture
 from pictures.report import report
 from pictures.views import Run, view_against, view_since
-from projects.asking import BUILT, Program
+from projects.asking import Program, add_options, program_of
 from projects.faults import FINE
 from projects.files import content_of, parted
 
@@ -25,7 +25,7 @@ def parsed(words: list[str]) -> argparse.Namespace:
     beside.add_argument("--since", type=int, metavar="EPOCH", help="beside the line as it was in an epoch, 0 at first")
     beside.add_argument("--against", metavar="OTHER", help="beside the line of another text or input")
     parser.add_argument("--report", action="store_true", help="an HTML page with tables in place of an SVG picture")
-    parser.add_argument("--program", default=BUILT, help="the program that is asked, if not the built hotline")
+    add_options(parser)
     return parser.parse_args(words)
 
 
@@ -38,7 +38,7 @@ def run_of(program: Program, name: str, more: bytes = b"") -> Run:
 def run(words: list[str]) -> int:
     """Writes what is asked for to standard output."""
     arguments = parsed(words)
-    program = Program(arguments.program)
+    program = program_of(arguments)
     asked = run_of(program, arguments.project, content_of(arguments.commands) if arguments.commands else b"")
     if arguments.against is None:
         view = view_since(asked, arguments.since)

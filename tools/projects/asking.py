@@ -1,5 +1,6 @@
 """Asks the built program: gives it a project text with commands, and takes its words apart by question."""
 
+import argparse
 import subprocess
 from collections.abc import Callable, Iterator
 from dataclasses import dataclass
@@ -26,19 +27,19 @@ class Ran:
 
 
 class Program:
-    """The program at a path."""
+    """The program at a path, which is given so many seconds for a run."""
 
-    def __init__(self, path: str | Path) -> None:
-        self.path = path
+    def __init__(self, path: str | Path, seconds: int = SECONDS) -> None:
+        self.path, self.seconds = path, seconds
 
     def ran(self, content: bytes) -> Ran:
         """A run over an input."""
         try:
-            run = subprocess.run([self.path], input=content, capture_output=True, timeout=SECONDS)
+            run = subprocess.run([self.path], input=content, capture_output=True, timeout=self.seconds)
         except OSError as error:
-            raise Refusal(f"{self.path}: {error.strerror}; the README says how it is built") from error
+            raise Refusal(f"{self.path}: {error.strerror}; docs/use/TOOLS.md says how it is built") from error
         except subprocess.TimeoutExpired as error:
-            raise Refusal(f"{self.path} didn't end within {SECONDS} seconds") from error
+            raise Refusal(f"{self.path} didn't end within {self.seconds} seconds; --seconds gives it more") from error
         return Ran(run.returncode, run.stdout.decode().splitlines())
 
     def printed(self, content: bytes) -> list[str]:
@@ -48,6 +49,19 @@ class Program:
             said = run.lines[-1] if run.lines else "nothing"
             raise Refusal(f"hotline ended with status {run.status} and said: {said}")
         return run.lines
+
+
+def add_options(parser: argparse.ArgumentParser) -> None:
+    """The options of a tool that asks the program: which one, and how long a run may take."""
+    parser.add_argument("--program", default=BUILT, help="the program that is asked, if not the built hotline")
+    parser.add_argument(
+        "--seconds", type=int, default=SECONDS, metavar="N", help=f"how long a run of it may take, {SECONDS} if it is left out"
+    )
+
+
+def program_of(arguments: argparse.Namespace) -> Program:
+    """The program that these options name."""
+    return Program(arguments.program, arguments.seconds)
 
 
 def input_of(text: bytes, commands: list[bytes]) -> bytes:

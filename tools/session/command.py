@@ -3,7 +3,7 @@
 import argparse
 from pathlib import Path
 
-from projects.asking import BUILT, Program
+from projects.asking import add_options, program_of
 from projects.faults import FINE
 from projects.files import content_of, parted
 from session.line import Line
@@ -19,12 +19,12 @@ def run(words: list[str]) -> int:
         epilog="Status: 0 at the end of the session, 2 the project can't be opened. docs/use/TOOLS.md has the commands.",
     )
     parser.add_argument("project", help="a project text, or an input of hotline, whose commands are left out")
-    parser.add_argument("--program", default=BUILT, help="the program that is asked, if not the built hotline")
+    add_options(parser)
     parser.add_argument("--serve", action="store_true", help="a page on this machine in place of the prompt")
     parser.add_argument("--port", type=int, default=0, help="the page's port; any free one if it is left out")
     arguments = parser.parse_args(words)
     text, _ = parted(content_of(arguments.project))
-    line = Line(Program(arguments.program), Path(arguments.project).stem, text)
+    line = Line(program_of(arguments), Path(arguments.project).stem, text)
     if arguments.serve:
         serve(line, arguments.port)
     else:

@@ -178,7 +178,7 @@ def check_refusals(checks: Checks) -> None:
     ended = checks.tool("capture", checks.file("none.in", "slave = 3\n"), path, "--program", checks.program)
     checks.equal("no project", (2, True), (ended.status, "project fault 2 MissingField" in ended.complaint))
     ended = checks.tool("capture", bad, path, "--program", "/nowhere")
-    checks.equal("no program", (2, True), (ended.status, "how it is built" in ended.complaint))
+    checks.equal("no program", (2, True), (ended.status, "docs/use/TOOLS.md says how it is built" in ended.complaint))
     for label, change in WRONG_PROGRAMS:
         wrong = checks.file("wrong", f"#!/bin/sh\n{checks.program} | sed 's/{change}/'\n")
         wrong.chmod(0o755)

@@ -3,7 +3,7 @@
 import argparse
 from pathlib import Path
 
-from projects.asking import BUILT, Program
+from projects.asking import add_options, program_of
 from projects.faults import FINE, Refusal
 from projects.files import content_of, parted
 from wire.pcap import capture
@@ -21,10 +21,10 @@ def run(words: list[str]) -> int:
     parser.add_argument("input", help="an input of hotline: a text, a line %%%% and commands; - for stdin")
     parser.add_argument("capture", help="the file that is written")
     parser.add_argument("--list", action="store_true", help="print what each frame carries, by the names of the text")
-    parser.add_argument("--program", default=BUILT, help="the program that is asked, if not the built hotline")
+    add_options(parser)
     arguments = parser.parse_args(words)
     text, commands = parted(content_of(arguments.input))
-    play = played(Program(arguments.program), Path(arguments.input).stem, text, commands)
+    play = played(program_of(arguments), Path(arguments.input).stem, text, commands)
     frames = [passed.content for passed in play.frames]
     try:
         Path(arguments.capture).write_bytes(capture(frames))

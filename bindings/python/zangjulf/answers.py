@@ -52,8 +52,8 @@ class OwedBlock(NamedTuple):
 
 
 class Cost(NamedTuple):
-    """What an edit does: the epoch that begins with it; how many spans of touched tasks aren't settled; how many register
-    blocks moved; how many variables have another place, appear or go."""
+    """What an edit does: the epoch that begins with it; how many datagrams are cut anew; how many register blocks
+    moved; how many variables have another place, appear or go."""
 
     epoch: int
     recut: int

@@ -87,7 +87,8 @@ pub struct Write<'a> {
 pub struct Cost {
     /// The epoch that begins with it.
     pub epoch: u32,
-    /// How many spans of touched tasks aren't settled; an emptied task counts one.
+    /// How many datagrams are cut anew, an emptied task counting one: all others carry the same areas at the same bits as
+    /// before, perhaps under another number.
     pub recut: u32,
     /// How many register blocks of the new line weren't blocks of the old line with the same bytes at the same register.
     pub moved: u32,

@@ -17,7 +17,6 @@ use crate::handle::Handle;
 use crate::numbers::{DONE, MEMORY};
 use hc_core::prepared::CoreEdit;
 use hc_events::faults::CoreFault;
-use hc_groups::faults::remap_fault;
 use hc_plan::prepared::PreparedEdit;
 use hc_records::edit::Edit;
 use hc_records::faults::EditFault;
@@ -173,7 +172,7 @@ fn serve_remap(
 ) -> u8
     ensures { Serves own.old own.new (Remap station area pdos.now) asks result cost.old cost.new }
 {
-    if let Some(fault) = remap_fault(own.core.plan().groups(), station, area, pdos) {
+    if let Some(fault) = own.core.plan().remap_fault(station, area, pdos) {
         return refuse(fault, cost);
     }
     match Vec::from_slice(alloc, pdos) {

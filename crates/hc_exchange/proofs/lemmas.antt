@@ -1,6 +1,5 @@
 -- What the crates above cite, a file a subject.
 pub mod Decoded
-pub mod Elements
 pub mod Kept
 pub mod Listed
 pub mod Members

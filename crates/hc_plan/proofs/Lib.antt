@@ -8,6 +8,7 @@ pub mod Numbered
 pub mod Opening
 pub mod Preparing
 pub mod Registers
+pub mod Sharing
 pub mod Telling
 pub mod Turned
 pub mod Widths

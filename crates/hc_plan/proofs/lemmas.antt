@@ -3,3 +3,6 @@ pub mod Configured
 pub mod Differing
 pub mod PlaceNames
 pub mod Unmoved
+pub mod AreaKeys
+pub mod Elements
+pub mod TableRows

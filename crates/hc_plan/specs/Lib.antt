@@ -3,4 +3,5 @@ pub mod Gone
 pub mod Laws
 pub mod Prepared
 pub mod Reports
+pub mod Shares
 pub mod inner

@@ -3,3 +3,4 @@ pub mod Blocks
 pub mod Applied
 pub mod Declaring
 pub mod Prepared
+pub mod Shares

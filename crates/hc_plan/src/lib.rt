@@ -10,5 +10,6 @@ mod placed_line;
 pub mod plan;
 pub mod prepared;
 pub mod report;
+pub mod shares;
 mod turning;
 mod work;

@@ -10,6 +10,7 @@ use crate::declaring::{Declaration, declared_report};
 use crate::placed_line::PlacedLine;
 use crate::prepared::PreparedEdit;
 use crate::report::Report;
+use crate::shares::share_of;
 use crate::turning::turn_on;
 use crate::work::{LineWork, Work};
 use hc_changes::edited_line::{EditedLine, EditedLineRoom};
@@ -118,6 +119,7 @@ impl Plan {
     ghost use Rattle.hc_plan.specs.Prepared.{IsPrepared};
     ghost use Rattle.hc_plan.specs.Configuration.{block_at, block_of_rank, config, line_block_at, position_of, station_at};
     ghost use Rattle.hc_plan.specs.Reports.{AreAnswers, Tells, carried_out};
+    ghost use Rattle.hc_plan.specs.Shares.{share_at};
 
     /// The plan of a project at its opening: the mandatory group alone is present and the epoch is 0.
     /// Otherwise `TooManyDatagrams` with the lowest task that needs more than 16, or `Memory` where a
@@ -238,6 +240,26 @@ impl Plan {
             Some(position) => Ok(position as u32),
             None if indexed.is_declared_station(station) => Err(EditFault::Absent),
             None => Err(EditFault::UnknownStation),
+        }
+    }
+
+    /// What the slave with a station address adds to the working counter of the datagram of a task with a number, 0 to 3: 2
+    /// where the datagram carries outputs of it, and 1 where it carries inputs (ETG.1000.4, 5.4). None where the task has no
+    /// such datagram, or the line no such slave. What all slaves of the line add is the datagram's expected counter. It
+    /// takes no memory.
+    pub fn counter_share(&self, task: u8, datagram: u8, station: u16) -> Option<u16>
+        ensures value { result ≡ share_at (line self.now) task datagram station }
+        ensures low { IfSome result (λ share. share ≤ 3) }
+    {
+        match self.places.datagram(task, datagram) {
+            Some(_) => share_of(
+                &self.indexed(),
+                &self.placed_line(),
+                Task(task),
+                datagram,
+                station,
+            ),
+            None => None,
         }
     }
 

@@ -1,9 +1,9 @@
 -- What a programmed line adds to the working counter of a datagram of a task.
-use Rattle.std.proofs.Common.{◌≡◌, ℕ, suc, ◌+◌, ◌-◌, ◌*◌, ◌<◌, ◌≤◌, ◌⊎◌, ◌∙◌, inl, inr, Bool, true, false, List, [], ◌∷◌, length, refl, sym, ap, ap₂, subst, arith}
-use Rattle.std.specs.Prelude.{All, AllPairs, Contains, IsTrue, Some, filter, map, nat_lt, slice_get, slice_index_or, sum_by, ◌==◌, ◌&&◌, ◌||◌, if◌then◌else◌}
-use Rattle.std.specs.List.{AllZip, enumerate_from, list_any}
+use Rattle.std.proofs.Common.{◌≡◌, ℕ, ◌+◌, ◌-◌, ◌*◌, ◌<◌, ◌≤◌, ◌⊎◌, ◌∙◌, inl, inr, Bool, true, List, [], ◌∷◌, refl, sym, ap, ap₂, subst, arith}
+use Rattle.std.specs.Prelude.{Contains, map, sum_by, ◌==◌, if◌then◌else◌}
+use Rattle.std.specs.List.{AllZip, list_any}
 use Rattle.std.proofs.lemmas.Bool.{eqb-true, and_from, and_parts, eq-eqb}
-use Rattle.std.proofs.lemmas.List.Elements.{All-contains, All-contains_itself, All-filter, Contains-get_or, filter_passes}
+use Rattle.std.proofs.lemmas.List.Elements.{All-contains}
 use Rattle.std.proofs.lemmas.List.Sums.{sum_by-cons}
 use Rattle.std.proofs.lemmas.Grind.{common_steps}
 use Rattle.hc_records.specs.AddressLaws.{IsDatagram}
@@ -14,20 +14,16 @@ use Rattle.hc_records.specs.declared.records.Dir.{Dir}
 use Rattle.hc_records.specs.declared.records.Dir.TheVariants.{Out, In}
 use Rattle.hc_records.specs.Area.{width}
 use Rattle.hc_records.specs.Image.{counter_share, datagram_length, inside, is_of, logical_address, task_places}
-use Rattle.hc_records.specs.Keys.{is_before, is_within, same_dir}
+use Rattle.hc_records.specs.Keys.{same_dir}
 use Rattle.hc_records.specs.Line.{Member, State, line}
-use Rattle.hc_records.specs.Packing.{Placed, opening, packed}
-use Rattle.hc_records.specs.TaskList.{Keyed, task_list}
+use Rattle.hc_records.specs.Packing.{Placed}
+use Rattle.hc_records.specs.TaskList.{task_list}
 use Rattle.hc_records.proofs.lemmas.Addresses.{uncrowded-few}
-use Rattle.hc_records.proofs.lemmas.Ascending.{keys-ascend}
-use Rattle.hc_records.proofs.lemmas.KeyOrder.{before-apart, same_dir-refl, within-refl}
+use Rattle.hc_records.proofs.lemmas.KeyOrder.{same_dir-refl}
 use Rattle.hc_records.proofs.lemmas.Lengths.{length-sendable}
-use Rattle.hc_records.proofs.lemmas.Lists.{AllPairs-unmap, All-unmap}
 use Rattle.hc_records.proofs.lemmas.Packable.{project-packable}
-use Rattle.hc_records.proofs.lemmas.Packed.{area_of, packed-areas}
+use Rattle.hc_records.proofs.lemmas.Packed.{area_of}
 use Rattle.hc_records.proofs.lemmas.Parts.{EndsInDatagram, ends-in-datagram}
-use Rattle.hc_records.proofs.lemmas.Tasks.{task-list-all}
-use Rattle.hc_records.proofs.lemmas.Choices.{contains-first, contains-later}
 use Rattle.hc_records.proofs.lemmas.VariablePlaces.{same_dir-same}
 use Rattle.hc_registers.specs.declared.fmmu.Mapping.{Mapping}
 use Rattle.hc_registers.specs.Blocks.{mapping_at}
@@ -37,33 +33,15 @@ use Rattle.hc_machine.proofs.lemmas.Logical.{counts-tell}
 use Rattle.hc_exchange.specs.PairLaws.{IsConfigurable}
 use Rattle.hc_exchange.specs.Pairs.{key_of}
 use Rattle.hc_exchange.specs.Writing.{IsProgrammed}
-use Rattle.hc_exchange.proofs.lemmas.Elements.{contains-kept, contains-mapped, contains-order, contains-unmapped, numbered-at}
+use Rattle.hc_plan.proofs.lemmas.AreaKeys.{HasArea, one-key, one-rank, placed-areas}
+use Rattle.hc_plan.proofs.lemmas.Elements.{contains-kept, contains-mapped, contains-unkept, contains-unmapped, some-passes, which-passes}
 use Rattle.hc_exchange.proofs.lemmas.Listed.{areas-mapped}
-use Rattle.hc_exchange.proofs.lemmas.Members.{IsGoodPlace, area-inside, keeps-line, one-rank, one-station}
+use Rattle.hc_exchange.proofs.lemmas.Members.{IsGoodPlace, area-inside, keeps-line, one-station}
 use Rattle.hc_exchange.proofs.lemmas.Places.{logical-told, mapped-place, place-widths}
 use Rattle.hc_exchange.specs.Carrying.{CarriesPair, count_through}
 use Rattle.hc_exchange.specs.FrameLaws.{CountersAreExpected}
 use Rattle.hc_exchange.proofs.lemmas.Lines.{Stands, all-stand}
 use Rattle.hc_exchange.proofs.lemmas.Slaves.{carried-reads, carried-writes, reads-carried, writes-carried}
-
--- tests that some element passes
-
-true-any : (a b : Bool) → (a || b) ≡ true → (a ≡ true) ⊎ (b ≡ true)
-true-any true b is = inl refl
-true-any false b is = inr is
-
-passes-at : {X : Type 0} (test : X → Bool) (xs : List X) (k : ℕ) (x : X) → k < length xs → slice_index_or xs k x ≡ x → test x ≡ true → list_any test xs ≡ true
-passes-at test xs k x low is passes = grind (arith, common_steps)
-
-some-passes : {X : Type 0} (test : X → Bool) (xs : List X) (x : X) → Contains xs x → test x ≡ true → list_any test xs ≡ true
-some-passes test xs x (k, low, is) passes = passes-at test xs k x low is passes
-
-which-passes : {X : Type 0} (test : X → Bool) (xs : List X) → list_any test xs ≡ true → (x : X) × Contains xs x × (test x ≡ true)
-which-passes test [] is = cc
-which-passes test (z ∷ xs) is = elim (true-any (test z) (list_any test xs) is) [
-  | inl here ↦ (z, contains-first z xs, here)
-  | inr there ↦ let later = which-passes test xs there in (later.0, contains-later z later.0 xs later.1, later.2)
-]
 
 -- an area of the line that has a bit in the datagram tells that its slave counts there
 
@@ -102,64 +80,6 @@ in-datagram state task datagram member dir bit m can is has low carries =
 
 -- and a slave that counts there has an area with a bit in the datagram
 
-record HasArea (line : List Member) (task : ℕ) (keyed : Keyed) : Type 0 where
-  member : Member
-  index : ℕ
-  area : Area
-  in_line : Contains line member
-  found : slice_get member.slave.areas index ≡ Some area
-  task_is : area.task ≡ task
-  key : keyed.0 ≡ key_of member index area
-
-named-areas : (line : List Member) (task : ℕ) → All (HasArea line task) (task_list task line)
-named-areas line task =
-    task-list-all (HasArea line task) task line
-    (λ dir j d low i e within belonging.
-    let member = slice_index_or line j d in
-    let element = slice_index_or (enumerate_from 0 member.slave.areas) i e in
-    let numbered = numbered-at 0 member.slave.areas i e within in
-    let none : element.0 ≡ element.0 - 0 = omega arith in
-    let area = element.1 in
-    let first = and_parts ((area.task == task) && same_dir area.dir dir) (nat_lt 0 (width area)) belonging in
-    let tests = and_parts (area.task == task) (same_dir area.dir dir) first.0 in
-    record {
-      member = member;
-      index = element.0;
-      area = area;
-      in_line = Contains-get_or line j d low;
-      found = ap (slice_get member.slave.areas) none ∙ numbered.1;
-      task_is = eqb-true area.task task tests.0;
-      key = ap (λ (way : Dir). key-with way member.rank element.0) (sym (same_dir-same area.dir dir tests.1));
-    })
-  where
-    key-with : Dir → ℕ → ℕ → Key
-    key-with way rank number = record { dir = way; rank = rank; area = number }
-
-unkept-at : {X : Type 0} (test : X → Bool) (xs : List X) (x : X) → Contains (filter test xs) x → Contains xs x × (test x ≡ true)
-unkept-at test xs x has =
-    (All-contains (Contains xs) (filter test xs) x (All-filter test (Contains xs) xs (All-contains_itself xs)) has, All-contains (λ y. test y ≡ true) (filter test xs) x (filter_passes test xs) has)
-
-keys-apart : (state : State) (task : ℕ) → AllPairs (λ (a b : Placed). IsTrue (is_before a.key b.key)) (task_places task (line state))
-keys-apart state task =
-    let list = task_list task (line state) in
-    AllPairs-unmap (λ (a b : Keyed). IsTrue (is_before a.0 b.0)) area_of (packed opening list)
-    (subst (AllPairs (λ (a b : Keyed). IsTrue (is_before a.0 b.0))) (sym (packed-areas opening list)) (keys-ascend state task))
-
-not-before : (a b : Key) → a ≡ b → is_before a b ≡ true → ⊥
-not-before a b same before =
-    let within = within-refl a in
-    let apart = before-apart a b before in
-    let other : is_within b a ≡ is_within a a = ap (λ (k : Key). is_within k a) (sym same) in
-    cc
-
-pub one-key : (state : State) (task : ℕ) (a b : Placed) → Contains (task_places task (line state)) a → Contains (task_places task (line state)) b → a.key ≡ b.key → a ≡ b
-one-key state task a b has has' same =
-    elim (contains-order (λ (x y : Placed). IsTrue (is_before x.key y.key)) (task_places task (line state)) a b (keys-apart state task) has has') [
-      | inl one ↦ one
-      | inr (inl before) ↦ absurd (not-before a.key b.key same before)
-      | inr (inr before) ↦ absurd (not-before b.key a.key (sym same) before)
-    ]
-
 -- such a bit, and the memory bit that it is paired with
 record HasBit (line : List Member) (dir : Dir) (station from bits : ℕ) : Type 0 where
   bit : ℕ
@@ -177,13 +97,12 @@ has-bit state task datagram member dir can has some =
     let key = which-passes (is_of member.rank dir) (map (λ (area : Placed). area.key) (inside datagram places)) some in
     let placed = contains-unmapped (λ (area : Placed). area.key) (inside datagram places) key.0 key.1 in
     let p = placed.0 in
-    let kept = unkept-at (λ (area : Placed). area.datagram == datagram) places p placed.1 in
+    let kept = contains-unkept (λ (area : Placed). area.datagram == datagram) places p placed.1 in
     let tests = and_parts (key.0.rank == member.rank) (same_dir key.0.dir dir) key.2 in
-    let named = All-unmap (HasArea members task) area_of places (subst (All (HasArea members task)) (sym (packed-areas opening (task_list task members))) (named-areas members task)) in
-    let source : HasArea members task (area_of p) = All-contains (λ (x : Placed). HasArea members task (area_of x)) places p named kept.0 in
+    let source : HasArea members task (area_of p) = All-contains (λ (x : Placed). HasArea members task (area_of x)) places p (placed-areas members task) kept.0 in
     let area = source.area in
     let own_key : key_of source.member source.index area ≡ key.0 = sym source.key ∙ placed.2 in
-    let one : source.member ≡ member = one-rank members source.member member keeps source.in_line has (ap (λ (k : Key). k.rank) own_key ∙ eqb-true key.0.rank member.rank tests.0) in
+    let one : source.member ≡ member = one-rank members source.member member keeps.ranks source.in_line has (ap (λ (k : Key). k.rank) own_key ∙ eqb-true key.0.rank member.rank tests.0) in
     let way : area.dir ≡ dir = ap (λ (k : Key). k.dir) own_key ∙ same_dir-same key.0.dir dir tests.1 in
     elim (areas-mapped state source.member source.index area can source.in_line source.found) [
       | inl mapped ↦

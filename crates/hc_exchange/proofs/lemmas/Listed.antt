@@ -23,7 +23,7 @@ use Rattle.hc_registers.specs.declared.fmmu.Mapping.{Mapping}
 use Rattle.hc_registers.specs.Blocks.{mapping_at, mapping_of}
 use Rattle.hc_exchange.specs.PairLaws.{AreasWithBitsAreMapped, IsMappedInPlace}
 use Rattle.hc_exchange.specs.Pairs.{key_of}
-use Rattle.hc_exchange.proofs.lemmas.Elements.{contains-joined, contains-kept, contains-mapped, contains-numbered, contains-unmapped}
+use Rattle.hc_plan.proofs.lemmas.Elements.{contains-joined, contains-kept, contains-mapped, contains-numbered, contains-unmapped}
 use Rattle.hc_exchange.proofs.lemmas.Members.{KeepsLine, keeps-line}
 use Rattle.hc_exchange.proofs.lemmas.Places.{mapped-place}
 

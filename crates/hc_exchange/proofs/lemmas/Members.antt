@@ -25,7 +25,7 @@ use Rattle.hc_records.proofs.lemmas.Reaches.{reaches-hold}
 use Rattle.hc_records.proofs.lemmas.Slaves.{line-inside, line-stations}
 use Rattle.hc_records.specs.Laws.{IsPackable}
 use Rattle.hc_exchange.specs.PairLaws.{IsConfigurable}
-use Rattle.hc_exchange.proofs.lemmas.Elements.{contains-order}
+use Rattle.hc_plan.proofs.lemmas.Elements.{contains-order}
 
 -- a place that has bits, within one of a task's 16 datagrams
 pub record IsGoodPlace (placed : Placed) : Type 0 where
@@ -65,15 +65,7 @@ keeps-line state can = record {
   places = λ task low. good-places state task can low;
 }
 
--- a rank names one slave of the line, and so does a station address
-
-pub one-rank : (line : List Member) (a b : Member) → KeepsLine line → Contains line a → Contains line b → a.rank ≡ b.rank → a ≡ b
-one-rank line a b keeps has has' same =
-    elim (contains-order (λ (x y : Member). x.rank < y.rank) line a b keeps.ranks has has') [
-      | inl one ↦ one
-      | inr (inl lower) ↦ absurd (omega arith)
-      | inr (inr higher) ↦ absurd (omega arith)
-    ]
+-- a station address names one slave of the line
 
 pub one-station : (line : List Member) (a b : Member) → KeepsLine line → Contains line a → Contains line b → a.slave.station ≡ b.slave.station → a ≡ b
 one-station line a b keeps has has' same =

@@ -22,8 +22,9 @@ use Rattle.hc_records.proofs.lemmas.Tasks.{task-list-all}
 use Rattle.hc_registers.specs.declared.fmmu.Mapping.{Mapping}
 use Rattle.hc_registers.specs.Blocks.{IsMappable, mapping_at, mapping_of}
 use Rattle.hc_exchange.specs.Pairs.{key_of}
-use Rattle.hc_exchange.proofs.lemmas.Elements.{contains-order, numbered-at}
-use Rattle.hc_exchange.proofs.lemmas.Members.{IsGoodPlace, KeepsLine, area-inside, one-rank}
+use Rattle.hc_plan.proofs.lemmas.AreaKeys.{one-rank}
+use Rattle.hc_plan.proofs.lemmas.Elements.{contains-order, numbered-at}
+use Rattle.hc_exchange.proofs.lemmas.Members.{IsGoodPlace, KeepsLine, area-inside}
 
 passes-by : {X : Type 0} (passes : Bool) (test : X → Bool) (first found : X) (rest : Option X) → test first ≡ passes → (rest ≡ Some found → test found ≡ true)
     → cond passes (Some first) rest ≡ Some found → test found ≡ true
@@ -51,7 +52,7 @@ list-widths line member index area task keeps has own =
     (λ dir j d low i e within belongs same.
     let other = slice_index_or line j d in
     let numbered = numbered-at 0 other.slave.areas i e within in
-    let one : other ≡ member = one-rank line other member keeps (Contains-get_or line j d low) has (ap (λ (key : Key). key.rank) same) in
+    let one : other ≡ member = one-rank line other member keeps.ranks (Contains-get_or line j d low) has (ap (λ (key : Key). key.rank) same) in
     let number = slice_index_or (enumerate_from 0 other.slave.areas) i e in
     let none : number.0 - 0 ≡ number.0 = omega arith in
     named-width member other index number.0 area number.1 one (ap (λ (key : Key). key.area) same)

@@ -11,7 +11,7 @@ use Rattle.hc_registers.specs.Blocks.{LineBlock, RegisterBlock, fmmu_bytes, line
 use Rattle.hc_registers.specs.Laws.{StandApart}
 use Rattle.hc_registers.proofs.lemmas.Registers.{blocks-apart}
 use Rattle.hc_exchange.specs.PairLaws.{NoLogicalBitTwice, NoMemoryBitTwice, ShareNoLogicalBit, ShareNoMemoryBit}
-use Rattle.hc_exchange.proofs.lemmas.Elements.{AllPairs-joined, AllPairs-numbered}
+use Rattle.hc_plan.proofs.lemmas.Elements.{AllPairs-joined, AllPairs-numbered}
 use Rattle.hc_exchange.proofs.lemmas.Members.{KeepsLine, keeps-line, one-index, one-station, slave-of}
 use Rattle.hc_exchange.proofs.lemmas.Places.{mapped-place, one-area}
 use Rattle.hc_exchange.proofs.lemmas.Sources.{IsOfMember, member-sources, own_fmmu, pair-of}

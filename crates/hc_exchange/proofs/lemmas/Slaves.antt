@@ -13,11 +13,12 @@ use Rattle.hc_machine.specs.Fmmus.{block_at, is_read, is_write}
 use Rattle.hc_machine.specs.Laws.{IsPair, Reads, Writes}
 use Rattle.hc_machine.specs.Logical.{logical_data, logical_memory}
 use Rattle.hc_machine.proofs.lemmas.Logical.{read-from-memory, unread-stays, unwritten-stays, written-from-data}
+use Rattle.hc_plan.proofs.lemmas.AreaKeys.{one-rank}
 use Rattle.hc_exchange.specs.Pairs.{AreasPair}
 use Rattle.hc_exchange.specs.Writing.{IsProgrammed}
 use Rattle.hc_exchange.proofs.lemmas.Decoded.{block-way}
 use Rattle.hc_exchange.proofs.lemmas.Kept.{programmed-kept}
-use Rattle.hc_exchange.proofs.lemmas.Members.{KeepsLine, area-inside, one-index, one-rank}
+use Rattle.hc_exchange.proofs.lemmas.Members.{KeepsLine, area-inside, one-index}
 use Rattle.hc_exchange.proofs.lemmas.Places.{mapped-place, one-area}
 use Rattle.hc_exchange.proofs.lemmas.Programmed.{SlaveFmmu, area-stands, slave-fmmu}
 use Rattle.hc_exchange.proofs.lemmas.Sources.{mapped-area}
@@ -35,7 +36,7 @@ one-owner line station other x m n keeps p q =
     one-area line p.member q.member p.index q.index p.area q.area p.mapping q.mapping x p.pair.k q.pair.k
     (mapped-place line p.member p.index p.area p.mapping keeps is.in_line is.in_record is.mapped) (mapped-place line q.member q.index q.area q.mapping keeps is'.in_line is'.in_record is'.mapped)
     p.pair.below p.pair.logical q.pair.below q.pair.logical in
-    let one : p.member ≡ q.member = one-rank line p.member q.member keeps is.in_line is'.in_line same.0 in
+    let one : p.member ≡ q.member = one-rank line p.member q.member keeps.ranks is.in_line is'.in_line same.0 in
     let areas : Some p.area ≡ Some q.area = sym is.in_record ∙ ap₂ (λ (slave : Member) (n : ℕ). slice_get slave.slave.areas n) one same.1 ∙ is'.in_record in
     (one, same.1, cc)
 

@@ -14,7 +14,7 @@ use Rattle.hc_machine.specs.Laws.{IsPair}
 use Rattle.hc_exchange.specs.PairLaws.{LinesPairTheirAreas}
 use Rattle.hc_exchange.specs.Pairs.{AreasPair, BlocksPair, IsAreaPair, IsBlockPair, IsMapped, LiesInMemory, key_of}
 use Rattle.hc_exchange.proofs.lemmas.Decoded.{block-pairs, block-unmapped}
-use Rattle.hc_exchange.proofs.lemmas.Elements.{contains-joined, contains-mapped, contains-numbered, numbered-at}
+use Rattle.hc_plan.proofs.lemmas.Elements.{contains-joined, contains-mapped, contains-numbered, numbered-at}
 use Rattle.hc_exchange.proofs.lemmas.Members.{KeepsLine, area-in-memory, area-inside, area-width, keeps-line, slave-of}
 use Rattle.hc_exchange.proofs.lemmas.Places.{mapped-place, place-mappable}
 

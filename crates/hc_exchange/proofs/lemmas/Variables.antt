@@ -22,11 +22,11 @@ use Rattle.hc_records.proofs.lemmas.VariablePlaces.{same_dir-same}
 use Rattle.hc_registers.specs.Blocks.{mapping_at}
 use Rattle.hc_exchange.specs.PairLaws.{IsConfigurable}
 use Rattle.hc_exchange.specs.Pairs.{key_of}
-use Rattle.hc_exchange.proofs.lemmas.Elements.{contains-unmapped, numbered-at}
+use Rattle.hc_plan.proofs.lemmas.AreaKeys.{one-key}
+use Rattle.hc_plan.proofs.lemmas.Elements.{contains-unmapped, numbered-at}
 use Rattle.hc_exchange.proofs.lemmas.Listed.{areas-mapped}
 use Rattle.hc_exchange.proofs.lemmas.Places.{found-passes}
 use Rattle.hc_exchange.specs.Variables.{IsCarried, VariablesAreCarried}
-use Rattle.hc_exchange.proofs.lemmas.Counts.{one-key}
 
 -- entries that begin later begin their variables as much later
 

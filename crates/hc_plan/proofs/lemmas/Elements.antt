@@ -1,9 +1,10 @@
--- Elements of lists that are joined, mapped, filtered and numbered.
-use Rattle.std.proofs.Common.{◌≡◌, ℕ, zero, suc, ◌+◌, ◌-◌, ◌<◌, ◌≤◌, ◌⊎◌, ◌∙◌, inl, inr, Bool, true, false, cond, List, [], ◌∷◌, length, sym, ap, subst, arith}
-use Rattle.std.specs.Prelude.{All, AllPairs, Contains, Some, filter, map, slice_get, slice_index_or}
-use Rattle.std.specs.List.{enumerate_from, flat_map}
+-- Elements of lists that are joined, mapped, filtered and numbered, and tests that some element passes.
+use Rattle.std.proofs.Common.{◌≡◌, ℕ, zero, suc, ◌+◌, ◌-◌, ◌<◌, ◌≤◌, ◌⊎◌, ◌∙◌, inl, inr, Bool, true, false, cond, List, [], ◌∷◌, length, refl, sym, ap, subst, arith}
+use Rattle.std.specs.Prelude.{◌||◌, All, AllPairs, Contains, Some, filter, map, slice_get, slice_index_or}
+use Rattle.std.specs.List.{enumerate_from, flat_map, list_any}
 use Rattle.std.proofs.lemmas.Bool.{cases_order}
-use Rattle.std.proofs.lemmas.List.Elements.{All-head, All-tail, Contains-append_left, Contains-append_right, at_from_Contains}
+use Rattle.std.proofs.lemmas.List.Elements.{All-contains, All-contains_itself, All-filter, All-head, All-tail, Contains-append_left, Contains-append_right, at_from_Contains, filter_passes}
+use Rattle.std.proofs.lemmas.List.Folds.{list_any_at}
 use Rattle.std.proofs.lemmas.List.Kept.{AllPairs-cons}
 use Rattle.std.proofs.lemmas.Grind.{common_steps}
 use Rattle.hc_records.proofs.lemmas.Lists.{All-enumerate_from, All-flat_map, AllPairs-append, AllPairs-head, AllPairs-nil, AllPairs-tail}
@@ -101,3 +102,23 @@ AllPairs-numbered R n [] pairs = AllPairs-nil (λ a b. R a.1 b.1)
 AllPairs-numbered R n (x ∷ xs) pairs =
     AllPairs-cons (λ a b. R a.1 b.1) (n, x) (enumerate_from (n + 1) xs) (All-enumerate_from (R x) (n + 1) xs (AllPairs-head R x xs pairs))
     (AllPairs-numbered R (n + 1) xs (AllPairs-tail R x xs pairs))
+
+pub contains-unkept : {X : Type 0} (test : X → Bool) (xs : List X) (x : X) → Contains (filter test xs) x → Contains xs x × (test x ≡ true)
+contains-unkept test xs x has =
+    (All-contains (Contains xs) (filter test xs) x (All-filter test (Contains xs) xs (All-contains_itself xs)) has, All-contains (λ y. test y ≡ true) (filter test xs) x (filter_passes test xs) has)
+
+-- tests that some element passes
+
+true-any : (a b : Bool) → (a || b) ≡ true → (a ≡ true) ⊎ (b ≡ true)
+true-any true b is = inl refl
+true-any false b is = inr is
+
+pub some-passes : {X : Type 0} (test : X → Bool) (xs : List X) (x : X) → Contains xs x → test x ≡ true → list_any test xs ≡ true
+some-passes test xs x (k, low, is) passes = list_any_at test xs k x low (ap test is ∙ passes)
+
+pub which-passes : {X : Type 0} (test : X → Bool) (xs : List X) → list_any test xs ≡ true → (x : X) × Contains xs x × (test x ≡ true)
+which-passes test [] is = cc
+which-passes test (z ∷ xs) is = elim (true-any (test z) (list_any test xs) is) [
+  | inl here ↦ (z, contains-first z xs, here)
+  | inr there ↦ let later = which-passes test xs there in (later.0, contains-later z later.0 xs later.1, later.2)
+]
