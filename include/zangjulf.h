@@ -354,6 +354,13 @@ struct zangjulf_write {
  * `zangjulf_arrive`; a write that is lost is sent again by the next call. Takes no memory. */
 uint8_t zangjulf_next_write(struct zangjulf *handle, uint8_t *out, size_t length, struct zangjulf_write *write);
 
+/* The slave with a station address may have lost its registers, as one that was switched off and on: each of its register blocks
+ * is owed again. Nothing else changes: not the epoch, what tasks posted and what they read, nor what arrives of frames that are
+ * under way. A write to it that was sent before confirms nothing: its arrival is ZANGJULF_STALE; and so is, once a write was sent
+ * after this call, that of any write sent before it. ZANGJULF_DONE; 5 or 6; or ZANGJULF_CLOSED, and nothing changed. Takes no
+ * memory. */
+uint8_t zangjulf_forget(struct zangjulf *handle, uint16_t station);
+
 /* Process data. */
 
 /* A task, 0 to 7, posts its outputs: as many bytes as it has output bytes in the epoch for which they were made.

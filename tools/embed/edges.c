@@ -55,6 +55,7 @@ static void closed(void) {
     EXPECT(zangjulf_post(&line, 0, 0, &byte, 1) == ZANGJULF_CLOSED);
     EXPECT(zangjulf_next_write(&line, &byte, 1, &write) == ZANGJULF_CLOSED && byte == 7 && write.size == 7);
     EXPECT(zangjulf_owed_block(&line, 0, &owed) == ZANGJULF_CLOSED && owed.size == 7);
+    EXPECT(zangjulf_forget(&line, 1002) == ZANGJULF_CLOSED);
     EXPECT(zangjulf_counters(&line, 0, 0, &counters) == ZANGJULF_CLOSED && counters.sent == 7);
     EXPECT(zangjulf_send(&line, tasks, 1, &byte, 1, &sent) == ZANGJULF_CLOSED && byte == 7);
     EXPECT(zangjulf_arrive(&line, &byte, 1, outcomes, 1, &arrival) == ZANGJULF_CLOSED && arrival.serial == 7);
@@ -189,6 +190,42 @@ static void exchange(struct zangjulf *line) {
     free(data);
 }
 
+/* Axis X is forgotten while its frame and a register write to it are under way: the frame is answered, the write confirms nothing,
+ * its four blocks are written again, and its task goes on in its epoch with what was posted before. */
+static void forget(struct zangjulf *line) {
+    const uint8_t tasks[1] = {0};
+    uint8_t *frame = slice(60), *first = slice(60), *again = slice(60);
+    struct zangjulf_sent sent = {0, 0, 0};
+    struct zangjulf_write write;
+    struct zangjulf_outcome outcome;
+    struct zangjulf_arrival arrival;
+    struct zangjulf_change change;
+    uint32_t epoch = 7, owed = 7;
+    EXPECT(zangjulf_forget(line, 9999) == ZANGJULF_UNKNOWN_STATION && zangjulf_forget(line, 2001) == ZANGJULF_ABSENT);
+    EXPECT(zangjulf_owed(line, &owed) == ZANGJULF_DONE && !owed);
+    EXPECT(zangjulf_forget(line, 1002) == ZANGJULF_DONE && zangjulf_owed(line, &owed) == ZANGJULF_DONE && owed == 4);
+    write_all(line);
+    /* a datagram of 26 bytes: 16 + 38, so 60 with the padding */
+    EXPECT(zangjulf_send(line, tasks, 1, frame, 60, &sent) == ZANGJULF_DONE && sent.size == 60);
+    pass(frame, 60);
+    EXPECT(zangjulf_forget(line, 1002) == ZANGJULF_DONE);
+    EXPECT(zangjulf_next_write(line, first, 60, &write) == ZANGJULF_DONE && write.block.station == 1002 && write.block.start == 0x0810);
+    pass(first, 60);
+    EXPECT(zangjulf_forget(line, 1002) == ZANGJULF_DONE);
+    EXPECT(zangjulf_arrive(line, first, 60, &outcome, 1, &arrival) == ZANGJULF_STALE);
+    EXPECT(zangjulf_owed(line, &owed) == ZANGJULF_DONE && owed == 4);
+    EXPECT(zangjulf_arrive(line, frame, 60, &outcome, 1, &arrival) == ZANGJULF_DONE && outcome.kind == ZANGJULF_INPUTS);
+    EXPECT(zangjulf_send(line, tasks, 1, again, 60, &sent) == ZANGJULF_UNPROGRAMMED && sent.owed == 4);
+    write_all(line);
+    EXPECT(zangjulf_send(line, tasks, 1, again, 60, &sent) == ZANGJULF_DONE && !memcmp(frame + 26, again + 26, 14));
+    EXPECT(zangjulf_epoch(line, &epoch) == ZANGJULF_DONE && !epoch);
+    for (owed = 0; !zangjulf_next_change(line, frame, 60, &change); owed++) EXPECT(change.kind == ZANGJULF_GOOD);
+    EXPECT(owed == 1);
+    free(frame);
+    free(first);
+    free(again);
+}
+
 /* A tool comes: asked first, then carried out; inputs are of the epoch before, and the change says so. */
 static void edit(struct zangjulf *line) {
     struct zangjulf_cost would, cost;
@@ -277,6 +314,7 @@ static void line_of_slaves(void) {
     start();
     write_all(&line);
     exchange(&line);
+    forget(&line);
     edit(&line);
     declare(&line);
     /* opened anew in its place, and closed twice */

@@ -214,6 +214,24 @@ static void writing(struct line *line, bool was_open) {
     tell_write(line->told, number, serial, out, write.size);
 }
 
+/* There is no command for it: what is written of the line ends with a slave that is forgotten. */
+static void forgetting(struct line *line, bool was_open) {
+    uint32_t position, epoch = 0, after = 0;
+    uint64_t serial = 0, next = 0;
+    uint16_t station = some_station();
+    unsigned where = zangjulf_position(&line->handle, station, &position);
+    zangjulf_epoch(&line->handle, &epoch);
+    zangjulf_next_serial(&line->handle, &serial);
+    unsigned number = zangjulf_forget(&line->handle, station);
+    expect(number, was_open, "\0\x05\x06");
+    if (number != where) fail("a slave that isn't where it is", number);
+    zangjulf_epoch(&line->handle, &after);
+    zangjulf_next_serial(&line->handle, &next);
+    if (after != epoch || next != serial) fail("a forgotten slave that changed more than its blocks", number);
+    if (!number) model_forgot(&line->model, station), end_script(line);
+    if (was_open && !model_owes(&line->model, &line->handle)) fail("other owed blocks than the model's", number);
+}
+
 static void sending(struct line *line, bool was_open) {
     uint8_t *tasks = last(&ins, 9);
     size_t count = below(10), room = below(8) ? some_length(30000) : ZANGJULF_FRAMES;
@@ -464,7 +482,10 @@ static void call_once(struct line *line) {
     bool was_open = line->handle.is_open;
     left = below(12) ? -1 : (long)below(6);
     switch (below(was_open ? 2000 : 20) ? below(10) : 10) {
-    case 0: call = "telling"; telling(line, was_open); break;
+    case 0:
+        if (below(folder ? 150 : 3)) call = "telling", telling(line, was_open);
+        else call = "forget", forgetting(line, was_open);
+        break;
     case 1: call = "post"; posting(line, was_open); break;
     case 2: case 3: call = "next_write"; writing(line, was_open); break;
     case 4: call = "send"; sending(line, was_open); break;

@@ -59,8 +59,17 @@ static struct known *known_of(struct model *model, uint16_t station, uint8_t num
     return NULL;
 }
 
+void model_forgot(struct model *model, uint16_t station) {
+    size_t left = 0;
+    for (size_t i = 0; i < model->known_count; i++)
+        if (model->known[i].station != station) model->known[left++] = model->known[i];
+    model->known_count = left;
+    model->forgets++;
+}
+
 static void wrote(struct model *model, const struct zangjulf *line, struct sending *sending) {
     struct head *head = &sending->heads[0];
+    sending->forgets = model->forgets_at_write = model->forgets;
     sending->station = (uint16_t)head->address, sending->start = (uint16_t)(head->address >> 16);
     head->expected = 1;
     block_at(line, sending);
@@ -113,7 +122,7 @@ static struct sending *answered_by(struct model *model, const uint8_t *frame, co
 /* The answer to a register write that came back with a working counter. */
 static unsigned write_answer(struct model *model, const struct sending *sending, uint16_t got) {
     struct known *known = known_of(model, sending->station, sending->number);
-    if (!known || known->serial != sending->serial) return ZANGJULF_STALE;
+    if (!known || known->serial != sending->serial || sending->forgets < model->forgets_at_write) return ZANGJULF_STALE;
     if (got == 1) known->is_confirmed = true;
     return got == 1 ? ZANGJULF_WRITE_DONE : ZANGJULF_WRITE_MISSED;
 }

@@ -25,12 +25,13 @@ struct sending {
     uint64_t serial;
     bool is_open;
     uint16_t station, start; /* of a register write */
+    uint64_t forgets;        /* how many slaves were forgotten before */
     uint8_t number, bytes[16];
     size_t count;
     struct head heads[ZANGJULF_OUTCOMES];
 };
 
-/* The last write of a block since its slave was connected. */
+/* The last write of a block since its slave was connected or last forgotten. */
 struct known {
     uint16_t station;
     uint8_t number, size, bytes[16];
@@ -50,6 +51,7 @@ struct model {
     struct history tasks[ZANGJULF_TASKS][ZANGJULF_DATAGRAMS];
     struct known known[MODEL_BLOCKS];
     size_t known_count;
+    uint64_t forgets, forgets_at_write; /* how many slaves were forgotten, and how many before the last write */
 };
 
 /* A line was opened. */
@@ -57,6 +59,9 @@ void model_opened(struct model *model);
 
 /* An edit was accepted: after it the line has other datagrams and blocks, and slaves may have gone. */
 void model_edited(struct model *model, const struct zangjulf *line);
+
+/* A slave was forgotten: its blocks' last writes say nothing any more. A write that is sent then takes the place of all before. */
+void model_forgot(struct model *model, uint16_t station);
 
 /* A frame of tasks, or of a register write, was sent. */
 void model_sent(struct model *model, const struct zangjulf *line, const uint8_t *frame);

@@ -84,6 +84,18 @@ uint8_t __wrap_zangjulf_next_write(struct zangjulf *handle, uint8_t *out, size_t
 }
 #endif
 
+#ifdef WRONG_forget /* nothing is forgotten, or another slave too */
+uint8_t __real_zangjulf_forget(struct zangjulf *handle, uint16_t station);
+uint8_t __wrap_zangjulf_forget(struct zangjulf *handle, uint16_t station) {
+    uint32_t position;
+    unsigned number = zangjulf_position(handle, station, &position);
+#if WRONG_forget == 2
+    for (uint16_t other; !number && !zangjulf_station(handle, position, &other); position++) __real_zangjulf_forget(handle, other);
+#endif
+    return (uint8_t)number;
+}
+#endif
+
 #ifdef WRONG_preview /* a byte behind the slice */
 uint8_t __real_zangjulf_preview(const struct zangjulf *handle, uint8_t task, uint8_t datagram, uint8_t *out, size_t length, size_t *size);
 uint8_t __wrap_zangjulf_preview(const struct zangjulf *handle, uint8_t task, uint8_t datagram, uint8_t *out, size_t length, size_t *size) {

@@ -110,6 +110,7 @@ LINE_CALLS: dict[str, tuple[Any, ...]] = {
     "move": (c_uint16, c_uint8, c_uint8, c_bool, POINTER(Cost)),
     "declare": (*_SLICE, c_bool, POINTER(Cost)),
     "next_write": (*_SLICE, POINTER(Write)),
+    "forget": (c_uint16,),
     "post": (c_uint8, c_uint32, *_SLICE),
     "send": (*_SLICE, *_SLICE, POINTER(Sent)),
     "preview": (c_uint8, c_uint8, *_SLICE, POINTER(c_size_t)),

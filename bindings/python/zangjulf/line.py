@@ -168,6 +168,12 @@ class Line:
         self._done(self._call("next_write", *c.slice_of(self._out), byref(it)), it.size)
         return bytes(self._out[: it.size])
 
+    def forget(self, station: int) -> None:
+        """The slave with a station address may have lost its registers, as one that was switched off and on: each of its register
+        blocks is owed again, and nothing else changes. A write to it that was sent before confirms nothing, and neither does any
+        that was sent before once another one is sent. `UnknownStation`, `Absent`."""
+        self._done(self._call("forget", station))
+
     def post(self, task: int, epoch: int, data: Bytes) -> None:
         """A task posts its outputs, as many bytes as it has, made for an epoch. `NoSuchTask`, `StalePost`, `PostLength`."""
         self._done(self._call("post", task, epoch, *c.slice_of(data)))

@@ -130,6 +130,32 @@ impl Line {
         Ok(Write { frame: &out[..write.size], block: write.block })
     }
 
+    /// The slave with a station address may have lost its registers, as one that was switched off and on: each of its register
+    /// blocks is owed again, and nothing else changes. A write to it that was sent before confirms nothing, and neither does any
+    /// that was sent before once another one is sent. `UnknownStation`, `Absent`; then nothing changed.
+    ///
+    /// ```
+    /// # fn main() -> Result<(), Box<dyn std::error::Error>> {
+    /// # let mut line = zangjulf::Line::open(include_bytes!("../../../examples/tool_changer.toml"))?;
+    /// # let mut slaves = [1001, 1002, 1003, 1004].map(|station| zangjulf::Slave::new(0, station));
+    /// # let mut pass = |frame: &[u8]| {
+    /// #     let mut frame = frame.to_vec();
+    /// #     slaves.iter_mut().for_each(|slave| slave.process(&mut frame));
+    /// #     Some(frame)
+    /// # };
+    /// # line.write_owed(3, &mut pass)?;
+    /// assert_eq!(line.owed(), 0);
+    /// // axis X has an output and an input area, two blocks each
+    /// line.forget(1002)?;
+    /// assert_eq!(line.owed(), 4);
+    /// assert_eq!(line.forget(2001), Err(zangjulf::Fault::Absent));
+    /// # Ok(())
+    /// # }
+    /// ```
+    pub fn forget(&mut self, station: u16) -> Result<(), Fault> {
+        done(unsafe { ffi::zangjulf_forget(&mut self.handle, station) }, 0)
+    }
+
     /// Sends tasks, 1 to 8 and none twice: their frames are at the front of `out`, for which [`crate::FRAMES`] bytes are enough.
     /// `NoSuchTask`, `Unprogrammed` with the number of owed blocks, `SerialsSpent`, `Room` with the bytes needed, `ChangesFull`
     /// where the line keeps changes and has as many as it may, `Misused` of other tasks; then nothing is sent, and nothing

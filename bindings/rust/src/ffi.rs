@@ -137,6 +137,7 @@ extern "C" {
     pub fn zangjulf_declare(handle: *mut Handle, text: *const u8, length: usize, asks: bool, cost: *mut Cost) -> u8;
     pub fn zangjulf_owed_block(handle: *const Handle, index: u32, block: *mut OwedBlock) -> u8;
     pub fn zangjulf_next_write(handle: *mut Handle, out: *mut u8, length: usize, write: *mut Write) -> u8;
+    pub fn zangjulf_forget(handle: *mut Handle, station: u16) -> u8;
     pub fn zangjulf_post(handle: *mut Handle, task: u8, epoch: u32, bytes: *const u8, length: usize) -> u8;
     pub fn zangjulf_send(
         handle: *mut Handle,

@@ -14,6 +14,7 @@ mod counting;
 mod declaring;
 mod editing;
 mod embedded;
+mod forgetting;
 mod handle;
 mod laws;
 mod locating;

@@ -1,0 +1,33 @@
+//! Slaves that may have lost their registers.
+ghost use Rattle.std.specs.Prelude.{◌≡◌, ◌≢◌, ◌∷◌, IfSome, None, Some};
+ghost use Rattle.hc_records.specs.Lists.{lowest};
+ghost use Rattle.hc_events.specs.Entries.{Forgot};
+ghost use Rattle.hc_events.specs.Steps.{forget_faults};
+ghost use Rattle.hc_c.specs.Embedded.{past_of, with_past};
+ghost use Rattle.hc_c.specs.Numbers.{number_of};
+ghost use Rattle.hc_c.specs.declared.numbers.TheConstants.{BUSY, CLOSED};
+
+use crate::handle::Handle;
+use crate::numbers::DONE;
+
+/// The slave with a station address may have lost its registers, as one that was switched off and on: its register blocks
+/// are owed again, and a write to it that was sent before confirms nothing. `DONE`; else the lower of the faults 5 and 6
+/// that holds, `BUSY` or `CLOSED`, and nothing changed. It takes no memory.
+#[unsafe(no_mangle)]
+pub extern "C" fn zangjulf_forget(handle: &mut Handle, station: u16) -> u8
+    ensures told { IfSome handle.old.holding.value (λ old. result ≢ BUSY → result ≡ number_of (lowest (forget_faults (past_of old) station))) }
+    ensures forgotten { result ≡ DONE → IfSome handle.old.holding.value (λ old. handle.new.holding.value ≡ Some (with_past old (Forgot station ∷ past_of old))) }
+    ensures unchanged { result ≢ DONE → handle.new.holding.value ≡ handle.old.holding.value }
+    ensures closed { handle.old.holding.value ≡ None → result ≡ CLOSED }
+{
+    if let Err(number) = handle.begin_change() {
+        return number;
+    }
+    let own = handle.holding.line_mut();
+    let told = match own.core.forget(station) {
+        Ok(()) => DONE,
+        Err(fault) => fault.number(),
+    };
+    own.calls.end_change();
+    told
+}
