@@ -1,6 +1,7 @@
 -- Bits of numbers that shifts, masks and an `or` make, and of the bytes of a word.
 use Rattle.std.proofs.Common.{◌≡◌, ℕ, zero, suc, ◌+◌, ◌-◌, ◌*◌, ◌/◌, ◌%◌, ◌^◌, ◌<◌, ◌≤◌, min, max, bit_and, bit_or, get_or, refl, sym, ◌∙◌, ap, subst, arith, add-zero, lit<}
-use Rattle.std.specs.Int.{bit_at, bit_not, byte_at, bytes_low_first, w8}
+use mir.Val.{bits}
+use Rattle.std.specs.Int.{Width, bit_at, bit_not, byte_at, bytes_low_first}
 use Rattle.std.proofs.lemmas.Nat.{pow_pos, pow-add, shr-shr, shr_split, shl_whole, mod_below, or_lt, shl_below}
 use Rattle.std.proofs.Math.Nat.{pow-suc, pow-le-pow_right, lt_of_lt_of_le}
 use Rattle.std.proofs.lemmas.Nat.Bits.{bit_at_and, bit_at_or, bit_at_not, bit_at_ones, bit_at_ones_above, bit_at_above, bit_at_cat_low, bit_at_cat_high, bit_at-lt, ones_shr}
@@ -41,54 +42,61 @@ ones_is n h = ones_shr 8 (8 - n) (omega arith) ∙ ap (λ k. 2 ^ k - 1) (let e :
 pub part-bit : (byte at n k : ℕ) → k < n → bit_at (bit_and (byte / 2 ^ at) (2 ^ n - 1)) k ≡ bit_at byte (at + k)
 part-bit byte at n k h = bit_at-and_one (byte / 2 ^ at) (2 ^ n - 1) k (bit_at_ones n k h) ∙ bit_at-shr byte at k
 
+-- and those of a word
+pub word_ones : (n : ℕ) → n ≤ 64 → 18446744073709551615 / 2 ^ (64 - n) ≡ 2 ^ n - 1
+word_ones n h = ones_shr 64 (64 - n) (omega arith) ∙ ap (λ k. 2 ^ k - 1) (let e : 64 - (64 - n) ≡ n = omega arith in e)
+
+pub lowest-bit : (word n k : ℕ) → k < n → bit_at (bit_and word (2 ^ n - 1)) k ≡ bit_at word k
+lowest-bit word n k h = bit_at-and_one word (2 ^ n - 1) k (bit_at_ones n k h)
+
 -- n ones from bit `at` on
-mask_whole : (at n : ℕ) → at + n ≤ 8 → (2 ^ n - 1) * 2 ^ at % 2 ^ 8 ≡ (2 ^ n - 1) * 2 ^ at
-mask_whole at n h = shl_whole (2 ^ n - 1) n at 8 (omega (arith, pow_pos n)) (omega arith)
+mask_whole : (w : Width) (at n : ℕ) → at + n ≤ bits w → (2 ^ n - 1) * 2 ^ at % 2 ^ bits w ≡ (2 ^ n - 1) * 2 ^ at
+mask_whole w at n h = shl_whole (2 ^ n - 1) n at (bits w) (omega (arith, pow_pos n)) (omega arith)
 
-mask-lt : (at n : ℕ) → (2 ^ n - 1) * 2 ^ at % 2 ^ 8 < 2 ^ 8
-mask-lt at n = mod_below ((2 ^ n - 1) * 2 ^ at) (2 ^ 8) (pow_pos 8)
+mask-lt : (w : Width) (at n : ℕ) → (2 ^ n - 1) * 2 ^ at % 2 ^ bits w < 2 ^ bits w
+mask-lt w at n = mod_below ((2 ^ n - 1) * 2 ^ at) (2 ^ bits w) (pow_pos (bits w))
 
-mask-inside : (at n k : ℕ) → at + n ≤ 8 → k < n → bit_at ((2 ^ n - 1) * 2 ^ at % 2 ^ 8) (at + k) ≡ 1
-mask-inside at n k h p =
-    ap (λ x. bit_at x (at + k)) (mask_whole at n h) ∙ bit_at-shl_from (2 ^ n - 1) at (at + k) (omega arith)
+mask-inside : (w : Width) (at n k : ℕ) → at + n ≤ bits w → k < n → bit_at ((2 ^ n - 1) * 2 ^ at % 2 ^ bits w) (at + k) ≡ 1
+mask-inside w at n k h p =
+    ap (λ x. bit_at x (at + k)) (mask_whole w at n h) ∙ bit_at-shl_from (2 ^ n - 1) at (at + k) (omega arith)
     ∙ ap (bit_at (2 ^ n - 1)) (let e : at + k - at ≡ k = omega arith in e) ∙ bit_at_ones n k p
 
-mask-before : (at n k : ℕ) → at + n ≤ 8 → k < at → bit_at ((2 ^ n - 1) * 2 ^ at % 2 ^ 8) k ≡ 0
-mask-before at n k h p = ap (λ x. bit_at x k) (mask_whole at n h) ∙ bit_at-shl_below (2 ^ n - 1) at k p
+mask-before : (w : Width) (at n k : ℕ) → at + n ≤ bits w → k < at → bit_at ((2 ^ n - 1) * 2 ^ at % 2 ^ bits w) k ≡ 0
+mask-before w at n k h p = ap (λ x. bit_at x k) (mask_whole w at n h) ∙ bit_at-shl_below (2 ^ n - 1) at k p
 
-mask-after : (at n k : ℕ) → at + n ≤ 8 → at + n ≤ k → bit_at ((2 ^ n - 1) * 2 ^ at % 2 ^ 8) k ≡ 0
-mask-after at n k h p =
-    ap (λ x. bit_at x k) (mask_whole at n h) ∙ bit_at-shl_from (2 ^ n - 1) at k (omega arith) ∙ bit_at_ones_above n (k - at) (omega arith)
+mask-after : (w : Width) (at n k : ℕ) → at + n ≤ bits w → at + n ≤ k → bit_at ((2 ^ n - 1) * 2 ^ at % 2 ^ bits w) k ≡ 0
+mask-after w at n k h p =
+    ap (λ x. bit_at x k) (mask_whole w at n h) ∙ bit_at-shl_from (2 ^ n - 1) at k (omega arith) ∙ bit_at_ones_above n (k - at) (omega arith)
 
--- a byte without the bits of a mask
-masked-kept : (byte mask k : ℕ) → mask < 2 ^ 8 → k < 8 → bit_at mask k ≡ 0 → bit_at (bit_and byte (bit_not w8 mask)) k ≡ bit_at byte k
-masked-kept byte mask k m low z = bit_at-and_one byte (bit_not w8 mask) k (bit_at_not w8 mask k m low ∙ ap (λ x. 1 - x) z)
+-- a number without the bits of a mask
+masked-kept : (w : Width) (byte mask k : ℕ) → mask < 2 ^ bits w → k < bits w → bit_at mask k ≡ 0 → bit_at (bit_and byte (bit_not w mask)) k ≡ bit_at byte k
+masked-kept w byte mask k m low z = bit_at-and_one byte (bit_not w mask) k (bit_at_not w mask k m low ∙ ap (λ x. 1 - x) z)
 
-masked-cleared : (byte mask k : ℕ) → mask < 2 ^ 8 → k < 8 → bit_at mask k ≡ 1 → bit_at (bit_and byte (bit_not w8 mask)) k ≡ 0
-masked-cleared byte mask k m low one = bit_at-and_zero byte (bit_not w8 mask) k (bit_at_not w8 mask k m low ∙ ap (λ x. 1 - x) one)
+masked-cleared : (w : Width) (byte mask k : ℕ) → mask < 2 ^ bits w → k < bits w → bit_at mask k ≡ 1 → bit_at (bit_and byte (bit_not w mask)) k ≡ 0
+masked-cleared w byte mask k m low one = bit_at-and_zero byte (bit_not w mask) k (bit_at_not w mask k m low ∙ ap (λ x. 1 - x) one)
 
--- a byte with n bits from `at` on replaced, as masks compute it
-abbrev pub replaced_in : ℕ → ℕ → ℕ → ℕ → ℕ
-replaced_in byte at n part = bit_or (bit_and byte (bit_not w8 ((2 ^ n - 1) * 2 ^ at % 2 ^ 8))) (part * 2 ^ at % 2 ^ 8)
+-- a number with n bits from `at` on replaced, as masks compute it
+abbrev pub replaced_in : Width → ℕ → ℕ → ℕ → ℕ → ℕ
+replaced_in w byte at n part = bit_or (bit_and byte (bit_not w ((2 ^ n - 1) * 2 ^ at % 2 ^ bits w))) (part * 2 ^ at % 2 ^ bits w)
 
-moved_whole : (at n part : ℕ) → at + n ≤ 8 → part < 2 ^ n → part * 2 ^ at % 2 ^ 8 ≡ part * 2 ^ at
-moved_whole at n part h fits = shl_whole part n at 8 fits (omega arith)
+moved_whole : (w : Width) (at n part : ℕ) → at + n ≤ bits w → part < 2 ^ n → part * 2 ^ at % 2 ^ bits w ≡ part * 2 ^ at
+moved_whole w at n part h fits = shl_whole part n at (bits w) fits (omega arith)
 
-pub replaced_in-inside : (byte at n part k : ℕ) → at + n ≤ 8 → part < 2 ^ n → k < n → bit_at (replaced_in byte at n part) (at + k) ≡ bit_at part k
-replaced_in-inside byte at n part k h fits p = bit_at-or_right _ (part * 2 ^ at % 2 ^ 8) (at + k) (bit_at part k)
-    (masked-cleared byte _ (at + k) (mask-lt at n) (omega arith) (mask-inside at n k h p))
-    (ap (λ x. bit_at x (at + k)) (moved_whole at n part h fits) ∙ bit_at-shl_from part at (at + k) (omega arith)
+pub replaced_in-inside : (w : Width) (byte at n part k : ℕ) → at + n ≤ bits w → part < 2 ^ n → k < n → bit_at (replaced_in w byte at n part) (at + k) ≡ bit_at part k
+replaced_in-inside w byte at n part k h fits p = bit_at-or_right _ (part * 2 ^ at % 2 ^ bits w) (at + k) (bit_at part k)
+    (masked-cleared w byte _ (at + k) (mask-lt w at n) (omega arith) (mask-inside w at n k h p))
+    (ap (λ x. bit_at x (at + k)) (moved_whole w at n part h fits) ∙ bit_at-shl_from part at (at + k) (omega arith)
     ∙ ap (bit_at part) (let e : at + k - at ≡ k = omega arith in e))
 
-pub replaced_in-before : (byte at n part k : ℕ) → at + n ≤ 8 → part < 2 ^ n → k < at → bit_at (replaced_in byte at n part) k ≡ bit_at byte k
-replaced_in-before byte at n part k h fits p = bit_at-or_left _ (part * 2 ^ at % 2 ^ 8) k (bit_at byte k)
-    (masked-kept byte _ k (mask-lt at n) (omega arith) (mask-before at n k h p))
-    (ap (λ x. bit_at x k) (moved_whole at n part h fits) ∙ bit_at-shl_below part at k p)
+pub replaced_in-before : (w : Width) (byte at n part k : ℕ) → at + n ≤ bits w → part < 2 ^ n → k < at → bit_at (replaced_in w byte at n part) k ≡ bit_at byte k
+replaced_in-before w byte at n part k h fits p = bit_at-or_left _ (part * 2 ^ at % 2 ^ bits w) k (bit_at byte k)
+    (masked-kept w byte _ k (mask-lt w at n) (omega arith) (mask-before w at n k h p))
+    (ap (λ x. bit_at x k) (moved_whole w at n part h fits) ∙ bit_at-shl_below part at k p)
 
-pub replaced_in-after : (byte at n part k : ℕ) → at + n ≤ 8 → part < 2 ^ n → at + n ≤ k → k < 8 → bit_at (replaced_in byte at n part) k ≡ bit_at byte k
-replaced_in-after byte at n part k h fits p low = bit_at-or_left _ (part * 2 ^ at % 2 ^ 8) k (bit_at byte k)
-    (masked-kept byte _ k (mask-lt at n) low (mask-after at n k h p))
-    (ap (λ x. bit_at x k) (moved_whole at n part h fits) ∙ bit_at-shl_from part at k (omega arith) ∙ bit_at_above part n (k - at) fits (omega arith))
+pub replaced_in-after : (w : Width) (byte at n part k : ℕ) → at + n ≤ bits w → part < 2 ^ n → at + n ≤ k → k < bits w → bit_at (replaced_in w byte at n part) k ≡ bit_at byte k
+replaced_in-after w byte at n part k h fits p low = bit_at-or_left _ (part * 2 ^ at % 2 ^ bits w) k (bit_at byte k)
+    (masked-kept w byte _ k (mask-lt w at n) low (mask-after w at n k h p))
+    (ap (λ x. bit_at x k) (moved_whole w at n part h fits) ∙ bit_at-shl_from part at k (omega arith) ∙ bit_at_above part n (k - at) fits (omega arith))
 
 -- a part put above the bits that a number has
 pub joined-lt : (low high n m : ℕ) → low < 2 ^ n → high < 2 ^ m → n + m ≤ 64 → bit_or low (high * 2 ^ n % 2 ^ 64) < 2 ^ (n + m)

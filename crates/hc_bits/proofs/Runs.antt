@@ -127,3 +127,25 @@ pub bit_at-from_le_bytes : (xs : List ℕ) (word k : ℕ) → length xs ≡ 8 �
     → bit_at word k ≡ bit_of xs k
 bit_at-from_le_bytes xs word k len small is h =
     sym (bit_of-to_le_bytes word k h) ∙ ap (λ bytes. bit_of bytes k) (le_bytes_8 xs word len small is)
+
+-- a word with a run replaced, written where it stood
+module _ (old new : List ℕ) (first at place n word was : ℕ) (run : ℕ → ℕ) (is : 8 * first + place ≡ at) (room : place + n ≤ 64) (put : ReplacesRun old new (8 * first) 64 (bit_at word))
+    (known : (k : ℕ) → k < 64 → bit_at was k ≡ bit_of old (8 * first + k)) where
+  stays : (k : ℕ) → 8 * first ≤ k → k < 8 * first + 64 → bit_at word (k - 8 * first) ≡ bit_at was (k - 8 * first) → bit_of new k ≡ bit_of old k
+  stays k from to same =
+      let e : k ≡ 8 * first + (k - 8 * first) = omega (arith, from) in
+      ap (bit_of new) e ∙ put.inside (k - 8 * first) (omega (arith, from, to)) ∙ same ∙ known (k - 8 * first) (omega (arith, from, to)) ∙ ap (bit_of old) (sym e)
+
+  pub word-replaced : ((k : ℕ) → k < n → bit_at word (place + k) ≡ run k) → ((k : ℕ) → k < place → bit_at word k ≡ bit_at was k)
+      → ((k : ℕ) → place + n ≤ k → k < 64 → bit_at word k ≡ bit_at was k) → ReplacesRun old new at n run
+  word-replaced inside before after = record {
+    inside = λ k low. ap (bit_of new) (let e : at + k ≡ 8 * first + (place + k) = omega (arith, is) in e) ∙ put.inside (place + k) (omega (arith, low, room)) ∙ inside k low;
+    before = λ k low. elim (cases_lt k (8 * first)) [
+      | inl below ↦ put.before k below
+      | inr above ↦ stays k above (omega (arith, is, low, room)) (before (k - 8 * first) (omega (arith, is, low, above)))
+    ];
+    after = λ k high. elim (cases_lt k (8 * first + 64)) [
+      | inl below ↦ stays k (omega (arith, is, high)) below (after (k - 8 * first) (omega (arith, is, high)) (omega (arith, is, high, below)))
+      | inr above ↦ put.after k above
+    ];
+  }

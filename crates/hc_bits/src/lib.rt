@@ -9,5 +9,6 @@
 mod byte;
 pub mod laws;
 mod run;
+mod word;
 
 pub use run::{copy_bits, get_bits, put_bits};

@@ -6,9 +6,7 @@ ghost use Rattle.std.specs.Int.{bit_at};
 ghost use Rattle.hc_bits.specs.Bits.{bit_of, ReplacesRun};
 
 use crate::byte::{part_of, with_part};
-
-/// The bits of a word.
-const WORD: usize = 64;
+use crate::word::{WORD, lowest, with_run};
 
 /// The `n` bits from bit `at` of byte `first` on.
 fn get_from(bytes: &[u8], first: usize, at: usize, n: usize) -> u64
@@ -49,6 +47,16 @@ fn put_from(bytes: &mut [u8], first: usize, at: usize, n: usize, value: u64)
     }
 }
 
+/// The 64 bits from byte `first` on.
+fn whole_word(bytes: &[u8], first: usize) -> u64
+    requires { first + 8 ≤ length bytes.now }
+    ensures { (k : ℕ) → k < 64 → bit_at result k ≡ bit_of bytes.now (8 * first + k) }
+{
+    let mut word = [0; 8];
+    word.copy_from_slice(&bytes[first..first + 8]);
+    u64::from_le_bytes(word)
+}
+
 /// The 64 bits from bit `at` of byte `first` on, where they do not begin with a byte.
 fn word_at(bytes: &[u8], first: usize, at: usize) -> u64
     requires some { 0 < at }
@@ -56,11 +64,22 @@ fn word_at(bytes: &[u8], first: usize, at: usize) -> u64
     requires within { first + 8 < length bytes.now }
     ensures { (k : ℕ) → k < 64 → bit_at result k ≡ bit_of bytes.now (8 * first + at + k) }
 {
-    let mut low = [0; 8];
-    low.copy_from_slice(&bytes[first..first + 8]);
-    let low = u64::from_le_bytes(low);
+    let low = whole_word(bytes, first);
     let high = u64::from(bytes[first + 8]);
     low >> at | high << (WORD - at)
+}
+
+/// The 64 bits from bit `at` of byte `first` on.
+fn any_word(bytes: &[u8], first: usize, at: usize) -> u64
+    requires in_byte { at < 8 }
+    requires within { first + 8 < length bytes.now }
+    ensures { (k : ℕ) → k < 64 → bit_at result k ≡ bit_of bytes.now (8 * first + at + k) }
+{
+    if at == 0 {
+        whole_word(bytes, first)
+    } else {
+        word_at(bytes, first, at)
+    }
 }
 
 /// Writes a word into the eight bytes from `first` on.
@@ -149,7 +168,12 @@ pub fn get_bits(bytes: &[u8], at: usize, n: usize) -> u64
     ensures fits { result < 2 ^ n }
     ensures bits { (k : ℕ) → k < n → bit_at result k ≡ bit_of bytes.now (at + k) }
 {
-    get_from(bytes, at / 8, at % 8, n)
+    let first = at / 8;
+    let place = at % 8;
+    if 0 < n && first + 8 < bytes.len() {
+        return lowest(any_word(bytes, first, place), n);
+    }
+    get_from(bytes, first, place, n)
 }
 
 /// Replaces the `n` bits of `bytes` from bit `at` on by those of `value`, the least significant first.
@@ -163,7 +187,14 @@ pub fn put_bits(bytes: &mut [u8], at: usize, n: usize, value: u64)
     requires fits { value < 2 ^ n }
     ensures { ReplacesRun bytes.old bytes.new at n (bit_at value) }
 {
-    put_from(bytes, at / 8, at % 8, n, value);
+    let first = at / 8;
+    let place = at % 8;
+    if 0 < n && place + n <= WORD && first + 8 <= bytes.len() {
+        let word = with_run(whole_word(bytes, first), place, n, value);
+        put_word(bytes, first, word);
+    } else {
+        put_from(bytes, first, place, n, value);
+    }
 }
 
 /// Replaces the `n` bits of `to` from bit `at2` on by the `n` bits of `from` from bit `at` on. Every other

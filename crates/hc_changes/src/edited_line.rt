@@ -130,11 +130,7 @@ impl<'a> EditedLine<'a> {
 
     /// What a prepared edit makes of the line of the groups of a project, which it leaves a project's, in memory
     /// that was taken for it.
-    pub fn of(
-        room: EditedLineRoom,
-        groups: &'a Indexed<'a>,
-        change: &'a Prepared,
-    ) -> EditedLine<'a>
+    pub fn of(room: EditedLineRoom, groups: &'a Indexed<'a>, change: &'a Prepared) -> EditedLine<'a>
         requires edited { HasEdit groups.now (changed_groups change.now groups.now) }
         requires was { lowest_fault (groups_of groups.now) ≡ None }
         requires is { lowest_fault (groups_of (changed_groups change.now groups.now)) ≡ None }

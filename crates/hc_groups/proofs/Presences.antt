@@ -29,8 +29,8 @@ any-also test also i x [] single first at = absurd first
 any-also test also zero x (y ∷ ys) single first at =
     let same : y ≡ x = cc in
     let rest = any-none (λ z. test z && also z) ys
-        (All-weaker (λ z. test z ≡ true → test y ≡ false) (λ z. (test z && also z) ≡ false) (λ z other. others-fail (test y) (test z) (also z) first other) ys
-        (AllPairs-head (λ a b. test b ≡ true → test a ≡ false) y ys single)) in
+    (All-weaker (λ z. test z ≡ true → test y ≡ false) (λ z. (test z && also z) ≡ false) (λ z other. others-fail (test y) (test z) (also z) first other) ys
+    (AllPairs-head (λ a b. test b ≡ true → test a ≡ false) y ys single)) in
     rw (first, rest) (by-last (also y) ∙ ap also same)
 any-also test also (suc i) x (y ∷ ys) single first at =
     let other = first.0 in

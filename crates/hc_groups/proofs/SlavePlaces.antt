@@ -37,9 +37,10 @@ first-slave station zero slave (first ∷ slaves) apart at is =
     let same : first ≡ slave = cc in
     eq-eqb first.station station (ap (λ (s : Slave). s.station) same ∙ is)
 first-slave station (suc place) slave (first ∷ slaves) apart at is =
-    let others = AllPairs-head AreApart first slaves apart in
-    (not-same station slave first is (all-get (AreApart first) slaves place slave others at),
-      first-slave station place slave slaves (AllPairs-tail AreApart first slaves apart) at is)
+    let others = AllPairs-head AreApart first slaves apart in (
+      not-same station slave first is (all-get (AreApart first) slaves place slave others at),
+      first-slave station place slave slaves (AllPairs-tail AreApart first slaves apart) at is,
+    )
 
 has-one : (station place : ℕ) (slave : Slave) (slaves : List Slave) → slice_get slaves place ≡ Some slave → slave.station ≡ station → list_any (has_address station) slaves ≡ true
 has-one station place slave slaves at is =
@@ -64,11 +65,12 @@ first-group station zero place declared slave (first ∷ groups) apart here at i
     has-one station place slave first.group.slaves (ap (λ (d : Declared). slice_get d.group.slaves place) same ∙ at) is
 first-group station (suc group) place declared slave (first ∷ groups) apart here at is =
     let slaves = first.group.slaves in
-    let behind = declared_slaves groups in
-    (any-none (has_address station) slaves
-      (All-weaker (λ a. All (AreApart a) behind) (λ a. has_address station a ≡ false)
-      (λ a others. not-same station slave a is (among (AreApart a) groups group place declared slave others here at)) slaves (AllPairs-between AreApart slaves behind apart)),
-      first-group station group place declared slave groups (AllPairs-append_right AreApart slaves behind apart) here at is)
+    let behind = declared_slaves groups in (
+      any-none (has_address station) slaves
+          (All-weaker (λ a. All (AreApart a) behind) (λ a. has_address station a ≡ false)
+          (λ a others. not-same station slave a is (among (AreApart a) groups group place declared slave others here at)) slaves (AllPairs-between AreApart slaves behind apart)),
+      first-group station group place declared slave groups (AllPairs-append_right AreApart slaves behind apart) here at is,
+    )
 
 own-apart : (groups : List Declared) (group : ℕ) (declared : Declared) → AllPairs AreApart (declared_slaves groups) → slice_get groups group ≡ Some declared → AllPairs AreApart declared.group.slaves
 own-apart [] group declared apart here = cc
@@ -115,7 +117,7 @@ place-found groups station rank group place project named it =
     let slaves : slaves_at groups group ≡ it.declared.group.slaves = ap (λ (o : Option Declared). option_map_or (λ (d : Declared). d.group.slaves) o []) it.at in
     let here = position-first (has_slave station) group groups (first-group station group place it.declared own.0 groups apart it.at own.1 is) in
     let at = ap (position (has_address station)) slaves
-        ∙ position-first (has_address station) place it.declared.group.slaves (first-slave station place own.0 it.declared.group.slaves (own-apart groups group it.declared apart it.at) own.1 is) in
+    ∙ position-first (has_address station) place it.declared.group.slaves (first-slave station place own.0 it.declared.group.slaves (own-apart groups group it.declared apart it.at) own.1 is) in
     sym (ap (option_and_then (place_in groups station)) here ∙ ap (option_map (place_at groups group)) at ∙ ap (λ (r : ℕ). Some (record { group = group; slave = place; rank = r })) (sym it.ranked))
 
 -- none is where no slave has the station address

@@ -47,11 +47,7 @@ pub struct AreasChange {
 
 /// What becomes different where the group with an alias comes or goes, none where no group has it. It
 /// takes no memory.
-pub(crate) fn presence_change(
-    groups: &Indexed,
-    alias: u16,
-    present: bool,
-) -> Option<PresenceChange>
+pub(crate) fn presence_change(groups: &Indexed, alias: u16, present: bool) -> Option<PresenceChange>
     requires { IsCounted groups.now }
     ensures { result ≡ presence_change groups.now alias present }
 {

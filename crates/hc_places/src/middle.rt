@@ -48,7 +48,10 @@ fn find_rows(rows: &[Row], changed: &[ChangedRow]) -> (usize, usize)
     let low = count_near(rows, first.variable());
     let behind = &rows[low..];
     let last = last.variable();
-    (low, low + count_with(behind, count_near(behind, last), last))
+    (
+        low,
+        low + count_with(behind, count_near(behind, last), last),
+    )
 }
 
 /// Shifts the rows behind the first `high` up by as many as `more` are, into room that there is.

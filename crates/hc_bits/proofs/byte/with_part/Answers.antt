@@ -1,17 +1,18 @@
+use Rattle.std.specs.Int.{w8}
 use Rattle.hc_bits.proofs.Numbers.{replaced_in-inside, replaced_in-before, replaced_in-after}
 use Rattle.hc_bits.proofs.byte.with_part.Goals as goal
 
 pub returns-clause-inside : goal.returns-clause-inside
 returns-clause-inside c = λ k h.
     let a = c.args in
-    rw c.ones.ensures (replaced_in-inside a.byte a.at a.n a.part k c.requires.within c.requires.fits h)
+    rw c.ones.ensures (replaced_in-inside w8 a.byte a.at a.n a.part k c.requires.within c.requires.fits h)
 
 pub returns-clause-before : goal.returns-clause-before
 returns-clause-before c = λ k h.
     let a = c.args in
-    rw c.ones.ensures (replaced_in-before a.byte a.at a.n a.part k c.requires.within c.requires.fits h)
+    rw c.ones.ensures (replaced_in-before w8 a.byte a.at a.n a.part k c.requires.within c.requires.fits h)
 
 pub returns-clause-after : goal.returns-clause-after
 returns-clause-after c = λ k h low.
     let a = c.args in
-    rw c.ones.ensures (replaced_in-after a.byte a.at a.n a.part k c.requires.within c.requires.fits h low)
+    rw c.ones.ensures (replaced_in-after w8 a.byte a.at a.n a.part k c.requires.within c.requires.fits h low)

@@ -21,7 +21,7 @@ loop-change-preserved c =
     let same = c.as_slice-in-loop-change.ensures.value in
     let bound : front ≤ length rows = subst (λ (l : List Row). front ≤ length l) same c.count_with-front.ensures.bound in
     let low : AllWithin (λ (row : Row). row.0 ≤ change.0) rows 0 front = subst (λ (l : List Row). AllWithin (λ (row : Row). row.0 ≤ change.0) l 0 front) same
-        (subst (λ (v : ℕ). AllWithin (λ (row : Row). row.0 ≤ v) c.as_slice-in-loop-change.result.now 0 front) c.variable.ensures c.count_with-front.ensures.low) in
+    (subst (λ (v : ℕ). AllWithin (λ (row : Row). row.0 ≤ v) c.as_slice-in-loop-change.result.now 0 front) c.variable.ensures c.count_with-front.ensures.low) in
     let size = ap length is ∙ length-map rows (row_with change) in
     record {
       is = overwritten-more changed rows next index change inside c.change-item.is is ∙ c.loop-change.invariant.is;

@@ -48,13 +48,13 @@ add_group-requires-clause-few c =
 pub overflow_cast-first : goal.overflow_cast-first
 overflow_cast-first c =
     let low = group-low c.args.self.now c.loop-i.first c.index-groups-i.result c.requires.known
-        (at c.args.groups.now c.args.self.now.old c.loop-i.first c.loop-i.i c.index-groups-i.result c.requires.groups c.loop-i.invariant.first c.loop-i-test.true c.index-groups-i.is) in
+    (at c.args.groups.now c.args.self.now.old c.loop-i.first c.loop-i.i c.index-groups-i.result c.requires.groups c.loop-i.invariant.first c.loop-i-test.true c.index-groups-i.is) in
     omega (arith, low, c.len.ensures)
 
 pub overflow_add-first : goal.overflow_add-first
 overflow_add-first c =
     let low = group-low c.args.self.now c.loop-i.first c.index-groups-i.result c.requires.known
-        (at c.args.groups.now c.args.self.now.old c.loop-i.first c.loop-i.i c.index-groups-i.result c.requires.groups c.loop-i.invariant.first c.loop-i-test.true c.index-groups-i.is) in
+    (at c.args.groups.now c.args.self.now.old c.loop-i.first c.loop-i.i c.index-groups-i.result c.requires.groups c.loop-i.invariant.first c.loop-i-test.true c.index-groups-i.is) in
     omega (arith, low, c.len.ensures)
 
 pub loop-i-preserved : goal.loop-i-preserved

@@ -38,7 +38,7 @@ recount-requires-clause-low c =
     let declared = c.index-groups-change.result in
     let here = ap Some (sym c.index-groups-change.is) in
     let low = slaves-low c.args.groups.now c.args.change.now.group declared c.args.change.now.present _ c.requires.index.declared.project
-        (slice_get-get_or c.args.groups.now c.args.change.now.group declared c.requires.inside ∙ here) c.requires.index.slaves in
+    (slice_get-get_or c.args.groups.now c.args.change.now.group declared c.requires.inside ∙ here) c.requires.index.slaves in
     rw (c.line_counts-slaves.ensures.slaves) (subst (All (λ sum. sum + length (if c.args.change.now.present then declared.group.slaves else []) < 4294967296)) (sym (c.as_mut_slice.ensures.value ∙ ap (λ (index : Index). index.slaves) c.self.view_is)) low)
 
 pub recount-requires-2-clause-inside : goal.recount-requires-2-clause-inside
@@ -54,7 +54,7 @@ recount-requires-2-clause-low c =
     let declared = c.index-groups-change.result in
     let here = ap Some (sym c.index-groups-change.is) in
     let low = blocks-low c.args.groups.now c.args.change.now.group declared c.args.change.now.present _ c.requires.index.declared.project
-        (slice_get-get_or c.args.groups.now c.args.change.now.group declared c.requires.inside ∙ here) c.requires.index.blocks in
+    (slice_get-get_or c.args.groups.now c.args.change.now.group declared c.requires.inside ∙ here) c.requires.index.blocks in
     rw (c.line_counts-slaves.ensures.blocks) (subst (All (λ sum. sum + block_sum (if c.args.change.now.present then declared.group.slaves else []) < 4294967296)) (sym (c.as_mut_slice-2.ensures.value ∙ ap (λ (index : Index). index.blocks) c.self.view_is)) low)
 
 pub returns : goal.returns
@@ -65,11 +65,11 @@ returns c =
     let here = slice_get-get_or groups change.group declared c.requires.inside ∙ ap Some (sym c.index-groups-change.is) in
     let counted = counted-at change.present groups change.group declared here in
     let slaves = c.recount.ensures
-        ∙ ap (λ (n : ℕ). recounted change.group n c.as_mut_slice.result.now) (c.line_counts-slaves.ensures.slaves ∙ ap length counted)
-        ∙ ap (recounted change.group (length (if change.present then slaves_at groups change.group else []))) (c.as_mut_slice.ensures.value ∙ ap (λ (index : Index). index.slaves) c.self.view_is) in
+    ∙ ap (λ (n : ℕ). recounted change.group n c.as_mut_slice.result.now) (c.line_counts-slaves.ensures.slaves ∙ ap length counted)
+    ∙ ap (recounted change.group (length (if change.present then slaves_at groups change.group else []))) (c.as_mut_slice.ensures.value ∙ ap (λ (index : Index). index.slaves) c.self.view_is) in
     let blocks = c.recount-2.ensures
-        ∙ ap (λ (n : ℕ). recounted change.group n c.as_mut_slice-2.result.now) (c.line_counts-slaves.ensures.blocks ∙ ap block_sum counted)
-        ∙ ap (recounted change.group (block_sum (if change.present then slaves_at groups change.group else []))) (c.as_mut_slice-2.ensures.value ∙ ap (λ (index : Index). index.blocks) c.self.view_is) in
+    ∙ ap (λ (n : ℕ). recounted change.group n c.as_mut_slice-2.result.now) (c.line_counts-slaves.ensures.blocks ∙ ap block_sum counted)
+    ∙ ap (recounted change.group (block_sum (if change.present then slaves_at groups change.group else []))) (c.as_mut_slice-2.ensures.value ∙ ap (λ (index : Index). index.blocks) c.self.view_is) in
     let own = c.self.inside in
     let kept = with_items_is own.slaves c.recount.new.sums (omega (arith, c.recount.auto.sums, own.slaves.ok.0, ap length c.as_mut_slice.ensures.value)) in
     let kept-blocks = with_items_is own.blocks c.recount-2.new.sums (omega (arith, c.recount-2.auto.sums, own.blocks.ok.0, ap length c.as_mut_slice-2.ensures.value)) in
