@@ -153,7 +153,7 @@ static void opening(struct line *line) {
     if (size) moved[size - 1] = '\n';
     end_script(line);
     forget_news(&line->news);
-    line->most_changes = below(3) ? 0 : below(2) ? 1 + (uint32_t)below(20) : UINT32_MAX;
+    line->most_changes = !below(3) ? 0 : below(3) ? 1 + (uint32_t)below(3) : UINT32_MAX;
     unsigned number = zangjulf_open(&line->handle, moved, size, line->most_changes, &task);
     bool is_fault = number == ZANGJULF_TOO_MANY_DATAGRAMS || number == ZANGJULF_MEMORY || (number > 200 && number <= ZANGJULF_PROJECT_AREA_TOO_BIG);
     if (line->handle.is_open != !number || (number && !is_fault)) fail("an opening", number);

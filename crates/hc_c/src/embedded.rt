@@ -55,11 +55,8 @@ impl Embedded {
             return None;
         }
         let most = self.most_changes as usize;
-        let waiting = self.untold.len();
-        Some(
-            most.saturating_sub(waiting)
-                .saturating_sub(self.core.untaken()),
-        )
+        let left = most.saturating_sub(self.untold.len());
+        Some(left.saturating_sub(self.core.untaken()))
     }
 
     /// Whether changes are kept, and no more of them.
