@@ -3,9 +3,7 @@ use Rattle.hc_records.specs.declared.edit.Edit.{Edit}
 use Rattle.hc_records.specs.declared.edit.Edit.TheVariants.{Remap}
 use Rattle.hc_records.specs.declared.records.Declared.{Declared}
 use Rattle.hc_records.specs.Edits.{edited}
-use Rattle.hc_records.specs.Line.{State, groups_of}
-use Rattle.hc_records.specs.Project.{lowest_fault}
-use Rattle.hc_records.proofs.lemmas.Slaves.{project-counted}
+use Rattle.hc_records.specs.Line.{State}
 use Rattle.hc_groups.specs.Edits.{own_fault}
 use Rattle.hc_groups.proofs.lemmas.Refusals.{own-refuses}
 use Rattle.hc_events.specs.Points.{state_of}
@@ -14,15 +12,11 @@ use Rattle.hc_c.specs.Embedded.{past_of}
 use Rattle.hc_c.proofs.Refusals.{not_done, own-found, same_fault}
 use Rattle.hc_c.proofs.editing.serve_remap.Goals as goal
 
-pub remap_fault-requires : goal.remap_fault-requires
-remap_fault-requires c =
-    project-counted c.groups.result.now (ap (λ (groups : List Declared). lowest_fault (groups_of groups)) c.groups.ensures.value ∙ c.groups.ensures.kept)
-
 pub returns-in-Some : goal.returns-in-Some
 returns-in-Some c =
     let state : State = state_of (past_of c.args.own.now) in let fault = c.in-Some.fault in let number = c.refuse.ensures.number in
     let edit : Edit = Remap c.args.station c.args.area c.args.pdos.now in
-    let groups : c.groups.result.now ≡ state.groups = c.groups.ensures.value ∙ ap (λ (it : State). it.groups) c.plan.ensures.state in
+    let groups : c.plan.result.now.groups ≡ state.groups = ap (λ (it : State). it.groups) c.plan.ensures.state in
     let found : own_fault state.groups edit ≡ Some fault = sym (c.in-Some.ensures ∙ ap (λ (it : List Declared). own_fault it edit) groups) in
     let refused : edited state edit ≡ Err fault = own-refuses state edit fault found in
     record {
