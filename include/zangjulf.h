@@ -278,6 +278,12 @@ uint8_t zangjulf_station(const struct zangjulf *handle, uint32_t position, uint1
 /* The position, from 0, of the slave with a station address: ZANGJULF_DONE; 5, 6 or ZANGJULF_CLOSED. */
 uint8_t zangjulf_position(const struct zangjulf *handle, uint16_t station, uint32_t *position);
 
+/* What the slave with a station address adds to the expected working counter of the datagram with a number, from 0, of a task: 2
+ * where the datagram carries outputs of it, and 1 where it carries inputs, so 0 to 3. What all slaves of the line add is the
+ * datagram's expected counter; a counter that came back lower by a slave's share may lack that slave. Nothing where the task has
+ * fewer datagrams, there is no such task, or the line has no such slave. */
+uint8_t zangjulf_share(const struct zangjulf *handle, uint8_t task, uint8_t number, uint16_t station, uint16_t *share);
+
 /* A register block. */
 struct zangjulf_block {
     uint16_t start; /* the register at which it begins */

@@ -42,7 +42,7 @@ compare_drawn() {
         tell $? "drawn calls agree with a program with another $way"
     done
     for name in place read read=2 read=3 connect arrive arrive=2 send open next_change next_write forget forget=2 preview post close \
-        counters owed_block get_value put_bits; do
+        counters share owed_block get_value put_bits; do
         compiled_fuzz tools/embed/wrong.c -DWRONG_$name -Wl,--wrap=zangjulf_${name%=*}
         tell $? "the wrong $name isn't built"
         ! { drawn examples/tool_changer.in 30000 3 && same_inside "$hotline"; }

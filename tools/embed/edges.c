@@ -67,6 +67,7 @@ static void closed(void) {
     EXPECT(zangjulf_part(&line, 0, &part) == ZANGJULF_CLOSED);
     EXPECT(zangjulf_station(&line, 0, &word) == ZANGJULF_CLOSED && word == 7);
     EXPECT(zangjulf_position(&line, 1001, &number) == ZANGJULF_CLOSED && number == 7);
+    EXPECT(zangjulf_share(&line, 0, 0, 1002, &word) == ZANGJULF_CLOSED && word == 7);
     EXPECT(zangjulf_block(&line, 1002, 0, &byte, 1, &block) == ZANGJULF_CLOSED && byte == 7);
     EXPECT(zangjulf_connect(&line, 100, false, &cost) == ZANGJULF_CLOSED);
     EXPECT(zangjulf_disconnect(&line, 100, false, &cost) == ZANGJULF_CLOSED);
@@ -287,6 +288,21 @@ static void bits(void) {
     free(bytes);
 }
 
+/* What a slave adds to an expected counter (ETG.1000.4: 1 that is read, 2 that is written): each axis both, the coupler nothing. */
+static void shares(void) {
+    struct zangjulf line = {0};
+    uint8_t task;
+    uint16_t share = 7;
+    EXPECT(zangjulf_open(&line, text, length, 0, &task) == ZANGJULF_DONE);
+    EXPECT(zangjulf_share(&line, 0, 1, 1002, &share) == ZANGJULF_NOTHING && zangjulf_share(&line, 8, 0, 1002, &share) == ZANGJULF_NOTHING);
+    EXPECT(zangjulf_share(&line, 0, 0, 2001, &share) == ZANGJULF_NOTHING && share == 7);
+    EXPECT(zangjulf_share(&line, 0, 0, 1001, &share) == ZANGJULF_DONE && share == 0);
+    EXPECT(zangjulf_share(&line, 0, 0, 1002, &share) == ZANGJULF_DONE && share == 3);
+    EXPECT(zangjulf_share(&line, 1, 0, 1002, &share) == ZANGJULF_DONE && share == 0);
+    EXPECT(zangjulf_share(&line, 1, 0, 1004, &share) == ZANGJULF_DONE && share == 3);
+    zangjulf_close(&line);
+}
+
 /* Frames beside the line's, and where a text is no project. */
 static void beside(void) {
     struct zangjulf_location location;
@@ -414,6 +430,7 @@ int main(int count, char **words) {
     closed();
     misused();
     bits();
+    shares();
     beside();
     line_of_slaves();
     full();

@@ -371,6 +371,12 @@ static void counting(struct line *line, bool was_open) {
     expect(number, was_open, "\0\x64");
     if (!number && !model_counts(&line->model, task, datagram, &counters)) fail("other counters than the model's", number);
     if (was_open && !model_owes(&line->model, &line->handle)) fail("other owed blocks than the model's", number);
+    uint16_t station = some_station(), share;
+    uint32_t position;
+    number = zangjulf_share(&line->handle, task, datagram, station, &share);
+    expect(number, was_open, "\0\x64");
+    if (!number && zangjulf_position(&line->handle, station, &position)) fail("a share of a slave that isn't in the line", number);
+    if (was_open && !model_shares(&line->handle, task, datagram)) fail("other shares than the model's", number);
 }
 
 /* A number in bits of bytes, one bit after another. */

@@ -204,6 +204,34 @@ bool model_counts(const struct model *model, uint8_t task, uint8_t datagram, con
     return !memcmp(&model->tasks[task][datagram].counters, counters, sizeof *counters);
 }
 
+/* What a slave adds to a datagram's counter: 1 where an active FMMU that reads has logical bytes of it, 2 where one that writes
+ * has (ETG.1000.4). */
+static unsigned share_of(const struct zangjulf *line, uint16_t station, const struct zangjulf_datagram *datagram) {
+    struct zangjulf_block block;
+    uint8_t bytes[16];
+    unsigned share = 0;
+    for (uint8_t number = 0; !zangjulf_block(line, station, number, bytes, sizeof bytes, &block); number++) {
+        uint32_t first = number_at(bytes, 4), count = number_at(bytes + 4, 2);
+        bool is_fmmu = block.size == 16 && bytes[12] & 1;
+        if (is_fmmu && first < datagram->address + datagram->length && datagram->address < first + count) share |= bytes[11] & 3;
+    }
+    return share;
+}
+
+bool model_shares(const struct zangjulf *line, uint8_t task, uint8_t number) {
+    struct zangjulf_datagram datagram;
+    uint16_t station, share = 0;
+    unsigned sum = 0;
+    bool is_there = !zangjulf_datagram(line, task, number, &datagram);
+    for (uint32_t position = 0; !zangjulf_station(line, position, &station); position++) {
+        unsigned answer = zangjulf_share(line, task, number, station, &share);
+        if (answer != (is_there ? ZANGJULF_DONE : ZANGJULF_NOTHING)) return false;
+        if (is_there && share != share_of(line, station, &datagram)) return false;
+        sum += share;
+    }
+    return !is_there || sum == datagram.expected;
+}
+
 bool model_owes(const struct model *model, const struct zangjulf *line) {
     struct zangjulf_owed_block owed;
     struct zangjulf_block block;

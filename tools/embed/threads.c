@@ -50,7 +50,7 @@ struct seen {
 static void look(struct count *count, struct seen *seen) {
     uint32_t epoch = 77, owed = 7777, position = 77;
     uint64_t serial = 77, serials[ZANGJULF_DATAGRAMS];
-    uint16_t station = 77;
+    uint16_t station = 77, share = 77;
     uint8_t out[ZANGJULF_IMAGE], frame[ZANGJULF_FRAME];
     size_t size = 77;
     struct zangjulf_place place;
@@ -88,6 +88,9 @@ static void look(struct count *count, struct seen *seen) {
     answer = zangjulf_position(&line, 1002, &position);
     if (is_answered(count, answer)) EXPECT(answer == ZANGJULF_DONE && position == 1);
     else EXPECT(position == 77);
+    answer = zangjulf_share(&line, 0, 0, 1002, &share);
+    if (is_answered(count, answer)) EXPECT(answer == ZANGJULF_DONE && share == 3);
+    else EXPECT(share == 77);
     answer = zangjulf_block(&line, 1002, 0, frame, sizeof frame, &block);
     if (is_answered(count, answer)) EXPECT(answer == ZANGJULF_DONE && block.start == 0x0810 && block.size == 8);
     answer = zangjulf_preview(&line, 0, 0, frame, sizeof frame, &size);

@@ -103,6 +103,7 @@ LINE_CALLS: dict[str, tuple[Any, ...]] = {
     "part": (c_uint8, POINTER(Part)),
     "station": (c_uint32, POINTER(c_uint16)),
     "position": (c_uint16, POINTER(c_uint32)),
+    "share": (c_uint8, c_uint8, c_uint16, POINTER(c_uint16)),
     "block": (c_uint16, c_uint8, *_SLICE, POINTER(Block)),
     "connect": (c_uint16, c_bool, POINTER(Cost)),
     "disconnect": (c_uint16, c_bool, POINTER(Cost)),

@@ -122,6 +122,13 @@ class Line:
         self._done(self._call("position", station, byref(it)))
         return it.value
 
+    def share(self, task: int, number: int, station: int) -> int | None:
+        """What the slave with a station address adds to the expected working counter of the datagram of a task with a number: 2
+        where the datagram carries outputs of it, and 1 where it carries inputs. None where there is no such datagram, or no such
+        slave in the line."""
+        it = c_uint16()
+        return self._found(lambda: it.value, "share", task, number, station, byref(it))
+
     def block(self, station: int, number: int) -> Block | None:
         """The register block with a number of the slave with a station address, or None."""
         out, it = bytearray(16), c.Block()

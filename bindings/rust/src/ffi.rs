@@ -114,6 +114,7 @@ extern "C" {
     pub fn zangjulf_part(handle: *const Handle, task: u8, part: *mut Part) -> u8;
     pub fn zangjulf_station(handle: *const Handle, position: u32, station: *mut u16) -> u8;
     pub fn zangjulf_position(handle: *const Handle, station: u16, position: *mut u32) -> u8;
+    pub fn zangjulf_share(handle: *const Handle, task: u8, number: u8, station: u16, share: *mut u16) -> u8;
     pub fn zangjulf_block(
         handle: *const Handle,
         station: u16,

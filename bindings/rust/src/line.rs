@@ -241,6 +241,26 @@ impl Line {
         Ok(position)
     }
 
+    /// What the slave with a station address adds to the expected working counter of the datagram of a task with a number: 2
+    /// where the datagram carries outputs of it, and 1 where it carries inputs. None where there is no such datagram, or no such
+    /// slave in the line.
+    ///
+    /// ```
+    /// # fn main() -> Result<(), Box<dyn std::error::Error>> {
+    /// # let line = zangjulf::Line::open(include_bytes!("../../../examples/tool_changer.toml"))?;
+    /// // axis X has outputs and inputs there, and the bus coupler has neither
+    /// assert_eq!(line.share(0, 0, 1002), Some(3));
+    /// assert_eq!(line.share(0, 0, 1001), Some(0));
+    /// assert_eq!(line.share(0, 0, 2001), None);
+    /// # Ok(())
+    /// # }
+    /// ```
+    pub fn share(&self, task: u8, number: u8, station: u16) -> Option<u16> {
+        let mut share = 0;
+        let answer = unsafe { ffi::zangjulf_share(&self.handle, task, number, station, &mut share) };
+        (answer == 0).then_some(share)
+    }
+
     /// The register block with a number of the slave with a station address, its bytes at the front of `out`; 16 bytes are
     /// enough. None where there is no such slave in the line, or it has fewer blocks. `Room`.
     ///

@@ -3,6 +3,7 @@ mod Asked
 mod Boxed
 mod Images
 mod InFrame
+mod Offset
 mod Refusals
 mod Returned
 mod Rooms

@@ -54,7 +54,7 @@ row_of line task d stands =
     slice_get-get_or (map (datagram_of line task) (range_with_len 0 (datagram_count (task_places task line)))) d blank (omega (arith, count, stands))
     ∙ ap (λ (row : Datagram). Some row) (get_or-map-range_with_len (datagram_of line task) 0 (datagram_count (task_places task line)) d d blank stands (omega arith))
 
-row_at : (line : List Member) (task d : ℕ) → task < TASKS → d < datagram_count (task_places task line) → datagram_in (table_of line) task d ≡ Some (datagram_of line task d)
+pub row_at : (line : List Member) (task d : ℕ) → task < TASKS → d < datagram_count (task_places task line) → datagram_in (table_of line) task d ≡ Some (datagram_of line task d)
 row_at line zero d low stands = row_of line 0 d stands
 row_at line (suc zero) d low stands = row_of line 1 d stands
 row_at line (suc (suc zero)) d low stands = row_of line 2 d stands

@@ -19,3 +19,5 @@ pub mod Values
 pub mod Beside
 pub mod Locations
 pub mod Counts
+pub mod Offsets
+pub mod Shares

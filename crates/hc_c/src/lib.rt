@@ -27,6 +27,7 @@ mod previewing;
 mod reading;
 mod runs;
 mod sending;
+mod sharing;
 mod slave;
 mod spare;
 mod telling;

@@ -1,0 +1,49 @@
+//! What a slave adds to an expected working counter, as C is told it.
+ghost use Rattle.std.specs.Prelude.{◌≡◌, ◌≢◌, IfSome, MatchOption, None};
+ghost use Rattle.hc_c.specs.Embedded.{past_of};
+ghost use Rattle.hc_c.specs.Shares.{slave_share};
+ghost use Rattle.hc_c.specs.declared.numbers.TheConstants.{BUSY, CLOSED};
+
+use crate::handle::Handle;
+use crate::numbers::{DONE, NOTHING};
+use hc_core::keeping::Core;
+
+/// What the slave with a station address adds to the working counter of a datagram of the present line.
+fn slave_share(core: &Core, task: u8, datagram: u8, station: u16) -> Option<u16>
+    ensures { result ≡ slave_share core.now.past task datagram station }
+{
+    core.plan().counter_share(task, datagram, station)
+}
+
+/// What the slave with a station address adds to the expected working counter of the datagram of a task, 0 to 7, with a
+/// number from 0: 2 where the datagram carries outputs of it, and 1 where it carries inputs, so 0 to 3 (ETG.1000.4, 5.4).
+/// What all slaves of the line add is the datagram's expected counter. `DONE`; `NOTHING` where the task has no such
+/// datagram, there is no such task, or the line has no such slave; `BUSY` or `CLOSED`. Unless it is done `share` is as it
+/// was. It takes no memory.
+#[unsafe(no_mangle)]
+pub extern "C" fn zangjulf_share(
+    handle: &mut Handle,
+    task: u8,
+    datagram: u8,
+    station: u16,
+    share: &mut u16,
+) -> u8
+    ensures told { IfSome handle.old.holding.value (λ old. result ≢ BUSY → MatchOption (slave_share (past_of old) task datagram station) (result ≡ NOTHING) (λ found. (result ≡ DONE) × (share.new ≡ found))) }
+    ensures kept { handle.new.holding.value ≡ handle.old.holding.value }
+    ensures untouched { result ≢ DONE → share.new ≡ share.old }
+    ensures closed { handle.old.holding.value ≡ None → (result ≡ CLOSED) × (share.new ≡ share.old) }
+{
+    if let Err(number) = handle.begin_look() {
+        return number;
+    }
+    let own = handle.holding.line_mut();
+    let number = match slave_share(&own.core, task, datagram, station) {
+        Some(found) => {
+            *share = found;
+            DONE
+        }
+        None => NOTHING,
+    };
+    own.calls.end_look();
+    number
+}
