@@ -138,13 +138,12 @@ impl Line {
     /// # fn main() -> Result<(), Box<dyn std::error::Error>> {
     /// # let mut line = zangjulf::Line::open(include_bytes!("../../../examples/tool_changer.toml"))?;
     /// # let mut slaves = [1001, 1002, 1003, 1004].map(|station| zangjulf::Slave::new(0, station));
-    /// # let mut pass = |frame: &[u8]| {
-    /// #     let mut frame = frame.to_vec();
-    /// #     slaves.iter_mut().for_each(|slave| slave.process(&mut frame));
-    /// #     Some(frame)
-    /// # };
-    /// # line.write_owed(3, &mut pass)?;
-    /// assert_eq!(line.owed(), 0);
+    /// # let mut out = [0; zangjulf::FRAME];
+    /// while line.owed() > 0 {
+    ///     let mut frame = line.next_write(&mut out)?.frame.to_vec();
+    ///     slaves.iter_mut().for_each(|slave| slave.process(&mut frame));
+    ///     assert!(matches!(line.arrive(&frame)?, zangjulf::Arrival::WriteDone(_)));
+    /// }
     /// // axis X has an output and an input area, two blocks each
     /// line.forget(1002)?;
     /// assert_eq!(line.owed(), 4);
