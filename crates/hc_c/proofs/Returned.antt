@@ -83,7 +83,7 @@ same_expected : (state : State) (named : Named) → lowest_fault (groups_of stat
     → expected_in (table_of (line state)) named ≡ (data_head (line state) named).expected
 same_expected state named project stands =
     let task = standing-task state named.0 named.1 project stands in
-    ap (λ (row : Option Datagram). option_map_or (λ (datagram : Datagram). datagram.expected) row 0) (row_at (line state) named.0 named.1 task stands)
+    ap (λ (found : Option Datagram). option_map_or (λ (datagram : Datagram). datagram.expected) found 0) (row_at (line state) named.0 named.1 task stands)
 
 abbrev built : ℕ → Named → ℕ → ℕ → ℕ → ℕ → Outcome
 built kind named expected got at size = record { kind = kind; task = named.0; datagram = named.1; expected = expected; got = got; at = at; length = size }

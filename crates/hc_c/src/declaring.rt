@@ -27,8 +27,9 @@ fn serve_text(own: &mut Embedded, alloc: Global, text: &[u8], asks: bool, cost: 
 /// The group of a text is declared after the others, and is absent; where `asks`, it is only told whether it
 /// could. The text is a project's with exactly one group and no mandatory slave. `DONE`, and `cost` tells the epoch that
 /// begins with it; else the lowest of the faults 13 and 31 to 35 that holds; or why the text is no group's: the lowest of a
-/// project's faults, 201 to 210, or after these 212 where it is another project's; `MEMORY`, `BUSY` or `CLOSED`. Unless it is
-/// done nothing changed, and `cost` is as it was.
+/// project's faults, 201 to 210, or after these 212 where it is another project's; `MEMORY`, `BUSY` or `CLOSED`; or, where no
+/// fault holds and it isn't only asked for, `CHANGES_FULL` of a line that keeps no more changes. Unless it is done nothing
+/// changed, and `cost` is as it was.
 #[unsafe(no_mangle)]
 pub extern "C" fn zangjulf_declare(
     alloc: Global,

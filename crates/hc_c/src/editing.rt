@@ -214,7 +214,8 @@ fn serve_remap(
 
 /// The group with an alias joins the line; where `asks`, it is only told what that would cost. `DONE`, and `cost` tells
 /// what it does; else the lowest of the faults 1, 2, 12 and 13 that holds, `MEMORY`, but never in the place of 1 or 2,
-/// `BUSY` or `CLOSED`, and nothing changed: of `cost` only `crowded` is told, with 12.
+/// `BUSY` or `CLOSED`; or, where no fault holds and it isn't only asked for, `CHANGES_FULL` of a line that keeps no more changes.
+/// Then nothing changed: of `cost` only `crowded` is told, with 12.
 #[unsafe(no_mangle)]
 pub extern "C" fn zangjulf_connect(
     alloc: Global,
@@ -240,7 +241,8 @@ pub extern "C" fn zangjulf_connect(
 
 /// The group with an alias leaves the line; where `asks`, it is only told what that would cost. `DONE`, and `cost` tells
 /// what it does; else the lowest of the faults 1, 3, 4, 12 and 13 that holds, `MEMORY`, but never in the place of 1, 3 or 4,
-/// `BUSY` or `CLOSED`, and nothing changed: of `cost` only `crowded` is told, with 12.
+/// `BUSY` or `CLOSED`; or, where no fault holds and it isn't only asked for, `CHANGES_FULL` of a line that keeps no more changes.
+/// Then nothing changed: of `cost` only `crowded` is told, with 12.
 #[unsafe(no_mangle)]
 pub extern "C" fn zangjulf_disconnect(
     alloc: Global,
@@ -266,8 +268,9 @@ pub extern "C" fn zangjulf_disconnect(
 
 /// An area, counted from 0, of the present slave with a station address gets the PDOs with these indexes assigned, in this
 /// order; where `asks`, it is only told what that would cost. `DONE`, and `cost` tells what it does; else the lowest of the
-/// faults 5 to 7 and 9 to 13 that holds, `MEMORY`, but never in the place of 5 to 11, `BUSY` or `CLOSED`, and nothing changed: of
-/// `cost` only `crowded` is told, with 12.
+/// faults 5 to 7 and 9 to 13 that holds, `MEMORY`, but never in the place of 5 to 11, `BUSY` or `CLOSED`; or, where no fault
+/// holds and it isn't only asked for, `CHANGES_FULL` of a line that keeps no more changes. Then nothing changed: of `cost` only
+/// `crowded` is told, with 12.
 #[unsafe(no_mangle)]
 pub extern "C" fn zangjulf_remap(
     alloc: Global,
@@ -294,7 +297,8 @@ pub extern "C" fn zangjulf_remap(
 
 /// An area, counted from 0, of the present slave with a station address moves to a task; where `asks`, it is only told what
 /// that would cost. `DONE`, and `cost` tells what it does; else the lowest of the faults 5 to 8, 12 and 13 that holds,
-/// `MEMORY`, but never in the place of 5 to 8, `BUSY` or `CLOSED`, and nothing changed: of `cost` only `crowded` is told, with 12.
+/// `MEMORY`, but never in the place of 5 to 8, `BUSY` or `CLOSED`; or, where no fault holds and it isn't only asked for,
+/// `CHANGES_FULL` of a line that keeps no more changes. Then nothing changed: of `cost` only `crowded` is told, with 12.
 #[unsafe(no_mangle)]
 pub extern "C" fn zangjulf_move(
     alloc: Global,
