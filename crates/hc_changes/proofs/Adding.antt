@@ -1,14 +1,17 @@
 -- What is met, and added, while a list is gone along.
-use Rattle.std.proofs.Common.{◌≡◌, ℕ, ◌+◌, ◌<◌, Bool, true, false, cond, List, [], ◌∷◌, ◌++◌, drop, length, get_or, sym, ap, ◌∙◌, append_assoc, if◌then◌else◌, rules}
+use Rattle.std.proofs.Common.{◌≡◌, ℕ, ◌+◌, ◌<◌, ◌≤◌, Bool, true, false, cond, List, [], ◌∷◌, ◌++◌, None, append-nil, arith, drop, length, get_or, sym, ap, ◌∙◌, append_assoc, if◌then◌else◌, rules}
 use Rattle.std.specs.Prelude.{All, Some, filter, map}
-use Rattle.std.specs.List.{flat_map}
-use Rattle.std.proofs.lemmas.List.{drop_more}
+use Rattle.std.specs.List.{flat_map, zip}
+use Rattle.std.proofs.lemmas.List.{drop_all, drop_more, map-append}
 use Rattle.std.proofs.lemmas.List.Elements.{filter_map-append}
+use Rattle.hc_records.specs.declared.records.Area.{Area}
 use Rattle.hc_records.specs.Area.{Entry}
 use Rattle.hc_records.specs.Packing.{Placed}
 use Rattle.hc_records.specs.Project.{entry_names}
+use Rattle.hc_cuts.specs.LineChange.{LineChange}
+use Rattle.hc_places.specs.Swap.{ChangedRow}
 use Rattle.hc_changes.specs.MovedAreas.{MovedArea}
-use Rattle.hc_changes.specs.Rows.{HoldsArea, StandsInside}
+use Rattle.hc_changes.specs.Rows.{HoldsArea, StandsInside, gone_rows, gone_variables}
 
 -- where each that passes a test adds one element
 
@@ -55,3 +58,29 @@ names-added f xs i d entries had has all within own adds so_far = search (rules,
 pub stands-at : (moved_areas : List MovedArea) (i : ℕ) (moved_area : MovedArea) (placed : Placed) → All (λ m. StandsInside m.found) moved_areas → i < length moved_areas
     → moved_area ≡ get_or moved_areas i moved_area → moved_area.found.place ≡ Some placed → HoldsArea moved_area.found.area placed
 stands-at moved_areas i moved_area placed all within is place = search rules
+
+-- where those that go with one slave more are added
+
+abbrev left_rows : LineChange → ℕ → List ChangedRow
+left_rows change i = gone_rows (record change { areas_before = drop i change.areas_before; areas_after = drop i change.areas_after })
+
+abbrev slave_rows : LineChange → ℕ → List ChangedRow
+slave_rows change i = map (λ variable. (variable, None)) (gone_variables (get_or change.areas_before i [], get_or change.areas_after i []))
+
+left-next : (change : LineChange) (i : ℕ) → i < length change.areas_before → length change.areas_after ≡ length change.areas_before → left_rows change i ≡ slave_rows change i ++ left_rows change (i + 1)
+left-next change i within same =
+    let after : i < length change.areas_after = omega (arith, within, same) in
+    rw (drop_more change.areas_before i [] within, drop_more change.areas_after i [] after)
+    (map-append (λ (variable : ℕ). (variable, None)) (gone_variables (get_or change.areas_before i [], get_or change.areas_after i []))
+    (flat_map gone_variables (zip (drop (i + 1) change.areas_before) (drop (i + 1) change.areas_after))))
+
+pub gone-added : (change : LineChange) (i : ℕ) (had has all : List ChangedRow) → i < length change.areas_before → length change.areas_after ≡ length change.areas_before
+    → has ≡ had ++ slave_rows change i → had ++ left_rows change i ≡ all → has ++ left_rows change (i + 1) ≡ all
+gone-added change i had has all within same adds so_far =
+    ap (λ (list : List ChangedRow). list ++ left_rows change (i + 1)) adds
+    ∙ append_assoc had (slave_rows change i) (left_rows change (i + 1))
+    ∙ ap (λ (list : List ChangedRow). had ++ list) (sym (left-next change i within same))
+    ∙ so_far
+
+pub gone-end : (change : LineChange) (i : ℕ) (had all : List ChangedRow) → length change.areas_before ≤ i → had ++ left_rows change i ≡ all → had ≡ all
+gone-end change i had all past so_far = sym (append-nil had) ∙ ap (λ (before : List (List Area)). had ++ gone_rows (record change { areas_before = before; areas_after = drop i change.areas_after })) (sym (drop_all i change.areas_before past)) ∙ so_far

@@ -6,7 +6,8 @@ use Rattle.hc_records.specs.Packing.{Placed}
 use Rattle.hc_cuts.specs.Place.{place_of}
 use Rattle.hc_cuts.specs.Areas.{areas_at, areas_by_rank, list_by}
 use Rattle.hc_changes.specs.Candidates.{Candidate}
-use Rattle.hc_changes.specs.EditedLine.{EditedLine, candidates_of, changes}
+use Rattle.hc_cuts.specs.LineChange.{changes}
+use Rattle.hc_changes.specs.EditedLine.{EditedLine, candidates_of}
 
 -- the area that a candidate's slave had at its index before the edit, and where that stood
 
@@ -46,7 +47,7 @@ same_spot (Some a) (Some b) = (a.datagram == b.datagram) && (a.bit == b.bit)
 
 -- it moves where its slave is one that the edit concerns, had no such area, or had it elsewhere
 abbrev pub moves : EditedLine → MovedArea → Bool
-moves edited_line moved_area = changes edited_line moved_area.found.rank || option_map_or (λ former. not (same_spot moved_area.found.place former.place)) moved_area.former true
+moves edited_line moved_area = changes edited_line.change moved_area.found.rank || option_map_or (λ former. not (same_spot moved_area.found.place former.place)) moved_area.former true
 
 -- the moved areas of an edit, in line and record order
 abbrev pub moved_areas_of : EditedLine → List MovedArea

@@ -12,6 +12,7 @@ use Rattle.hc_places.specs.Found.{area_rows}
 use Rattle.hc_places.specs.Ranges.{OffersBits}
 use Rattle.hc_places.specs.Swap.{AreOnce, ChangedRow, new_place, same_found}
 use Rattle.hc_places.specs.Table.{Row, Table, place_in}
+use Rattle.hc_cuts.specs.LineChange.{LineChange}
 use Rattle.hc_changes.specs.Candidates.{Candidate}
 use Rattle.hc_changes.specs.MovedAreas.{MovedArea}
 
@@ -44,16 +45,16 @@ abbrev pub gone_variables : List Area × List Area → List ℕ
 gone_variables slave = filter (λ variable. not (is_assigned variable slave.1)) (assigned_variables slave.0)
 
 -- the variables that go with the changed slaves' areas, slave by slave, each without a new place
-abbrev pub gone_rows : List (List Area) → List (List Area) → List ChangedRow
-gone_rows before after = map (λ variable. (variable, None)) (flat_map gone_variables (zip before after))
+abbrev pub gone_rows : LineChange → List ChangedRow
+gone_rows change = map (λ variable. (variable, None)) (flat_map gone_variables (zip change.areas_before change.areas_after))
 
 -- those of the variables of moved areas
 abbrev pub rows_of_moved_areas : List MovedArea → List Row
 rows_of_moved_areas moved_areas = flat_map (λ moved_area. rows_of moved_area.found) moved_areas
 
 -- what an edit changes of an old table: the moved areas' variables that stand elsewhere, then the variables that go with the changed slaves' areas
-abbrev pub changed_rows : Table → List MovedArea → List (List Area) → List (List Area) → List ChangedRow
-changed_rows old moved_areas before after = moved_rows old (rows_of_moved_areas moved_areas) ++ gone_rows before after
+abbrev pub changed_rows : Table → List MovedArea → LineChange → List ChangedRow
+changed_rows old moved_areas change = moved_rows old (rows_of_moved_areas moved_areas) ++ gone_rows change
 
 -- a place lies in one of 16 datagrams of one of the eight tasks, and holds the area, whose entries have 1 to 64 bits
 pub record HoldsArea (area : Area) (placed : Placed) : Type 0 where

@@ -1,3 +1,4 @@
 -- Words that contracts of private functions alone use.
 pub mod Found
+pub mod LineChanges
 pub mod Moved

@@ -9,7 +9,7 @@ ghost use Rattle.hc_cuts.specs.Areas.{areas_by_rank};
 ghost use Rattle.hc_cuts.specs.LineKeeping.{StandsBefore};
 ghost use Rattle.hc_cuts.specs.Kept.{line_kept};
 ghost use Rattle.hc_changes.specs.Candidates.{candidate_of, candidates};
-ghost use Rattle.hc_changes.specs.EditedLine.{changes};
+ghost use Rattle.hc_cuts.specs.LineChange.{changes};
 
 use crate::candidates::Candidate;
 use crate::edited_line::EditedLine;
@@ -195,8 +195,9 @@ impl<'b, 'a> CandidateTest<'b, 'a> {
         requires { IsEditedLine self.now }
         ensures { HoldChanged self.now result.low result.high }
     {
-        let first = self.edited_line.first();
-        let slaves = self.edited_line.before().len();
+        let change = self.edited_line.change();
+        let first = change.first();
+        let slaves = change.slaves();
         Ranks::of(first, first + slaves as u16 - 1)
     }
 
@@ -244,7 +245,7 @@ impl<'b, 'a> CandidateTest<'b, 'a> {
         requires groups { groups.now ≡ self.now.old }
         requires known { IsEditedLine self.now }
         requires ranks { LieWithin self.now ranks.low ranks.high }
-        ensures { IfOk result (λ found. found.items ≡ map (candidate_of (line_from 1 self.now.new)) (candidates (changes self.now) (line_from 1 self.now.old) (line_from 1 self.now.new))) }
+        ensures { IfOk result (λ found. found.items ≡ map (candidate_of (line_from 1 self.now.new)) (candidates (changes self.now.change) (line_from 1 self.now.old) (line_from 1 self.now.new))) }
     {
         let mut places = Finder::of(self.cuts);
         let mut found = Vec::new(alloc);
@@ -273,7 +274,7 @@ pub fn candidates<'a>(
 ) -> Result<Vec<Candidate<'a>>, AllocError>
     requires before { StandsBefore (areas_by_rank edited_line.now.old) (areas_by_rank edited_line.now.new) before.now }
     requires cuts { cuts.now ≡ line_kept (areas_by_rank edited_line.now.new) }
-    ensures { IfOk result (λ found. found.items ≡ map (candidate_of (line_from 1 edited_line.now.new)) (candidates (changes edited_line.now) (line_from 1 edited_line.now.old) (line_from 1 edited_line.now.new))) }
+    ensures { IfOk result (λ found. found.items ≡ map (candidate_of (line_from 1 edited_line.now.new)) (candidates (changes edited_line.now.change) (line_from 1 edited_line.now.old) (line_from 1 edited_line.now.new))) }
 {
     let groups = edited_line.groups();
     let test = CandidateTest {

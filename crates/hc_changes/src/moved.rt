@@ -14,7 +14,7 @@ use crate::moved_areas::{FormerArea, MovedArea};
 use hc_cuts::packing::Placed;
 use hc_records::records::Area;
 use hc_records::task::Task;
-use hc_registers::blocks::Block;
+use hc_registers::blocks::{Block, LineBlock};
 use hc_registers::fmmu::{Mapping, logical_address};
 use hc_registers::ranked::RankedBlock;
 use std::alloc::{AllocError, Global};
@@ -88,9 +88,11 @@ fn ranked(found: &Candidate, number: u8, block: Block) -> RankedBlock
 {
     RankedBlock {
         rank: found.rank,
-        station: found.station,
-        number,
-        block,
+        found: LineBlock {
+            station: found.station,
+            number,
+            block,
+        },
     }
 }
 

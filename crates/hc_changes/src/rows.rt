@@ -5,7 +5,7 @@ ghost use Rattle.hc_records.specs.Project.{entry_names};
 ghost use Rattle.hc_changes.specs.Rows.{StandsInside, area_variables_of, assigned_variables, changed_rows, gone_rows, gone_variables, is_new_row, moved_rows, rows_of_moved_areas};
 
 use crate::moved_areas::MovedArea;
-use hc_cuts::areas::SlaveAreas;
+use hc_cuts::line_change::LineChange;
 use hc_places::swap::ChangedRow;
 use hc_places::table::{Place, Places};
 use hc_places::variables::add_area;
@@ -82,11 +82,11 @@ fn add_area_variables(variables: &mut Vec<VarId>, area: &Area) -> Result<(), All
 }
 
 /// The variables that a slave's areas carry.
-fn slave_variables(alloc: Global, slave: &SlaveAreas) -> Result<Vec<VarId>, AllocError>
-    ensures { IfOk result (λ variables. variables.items ≡ assigned_variables slave.now) }
+fn slave_variables(alloc: Global, areas: &[Area]) -> Result<Vec<VarId>, AllocError>
+    ensures { IfOk result (λ variables. variables.items ≡ assigned_variables areas.now) }
 {
     let mut variables = Vec::new(alloc);
-    for area in slave.as_slice() {
+    for area in areas {
         add_area_variables(&mut variables, area)?;
     }
     Ok(variables)
@@ -99,13 +99,20 @@ fn is_among(variable: VarId, variables: &[VarId]) -> bool
     variables.iter().any(|other| *other == variable)
 }
 
-/// Adds the variables before that aren't among those after.
-fn add_gone(rows: &mut Vec<ChangedRow>, before: &[VarId], after: &[VarId]) -> Result<(), AllocError>
+/// Adds the variables before that aren't among those after, each with the index of its row in a table.
+fn add_gone(
+    rows: &mut Vec<ChangedRow>,
+    old: &Places,
+    before: &[VarId],
+    after: &[VarId],
+) -> Result<(), AllocError>
     ensures { OnOk result (rows.new.items ≡ rows.old.items ++ map (λ variable. (variable, None)) (filter (λ variable. not (list_any (λ other. other == variable) after.now)) before.now)) }
 {
+    let mut near = 0;
     for variable in before {
         if !is_among(*variable, after) {
-            rows.push(ChangedRow::of(*variable, None, 0))?;
+            let _was = old.place_near(&mut near, *variable);
+            rows.push(ChangedRow::of(*variable, None, near))?;
         }
     }
     Ok(())
@@ -115,52 +122,55 @@ fn add_gone(rows: &mut Vec<ChangedRow>, before: &[VarId], after: &[VarId]) -> Re
 fn add_slave(
     alloc: Global,
     rows: &mut Vec<ChangedRow>,
-    before: &SlaveAreas,
-    after: &SlaveAreas,
+    old: &Places,
+    before: &[Area],
+    after: &[Area],
 ) -> Result<(), AllocError>
     ensures { OnOk result (rows.new.items ≡ rows.old.items ++ map (λ variable. (variable, None)) (gone_variables (before.now, after.now))) }
 {
     let carried = slave_variables(alloc, before)?;
     let carries = slave_variables(alloc, after)?;
-    add_gone(rows, &carried, &carries)
+    add_gone(rows, old, &carried, &carries)
 }
 
-/// Adds those of slaves.
+/// Adds those of the slaves that change.
 fn add_slaves(
     alloc: Global,
     rows: &mut Vec<ChangedRow>,
-    before: &[SlaveAreas],
-    after: &[SlaveAreas],
+    old: &Places,
+    change: &LineChange,
 ) -> Result<(), AllocError>
-    requires { length before.now ≡ length after.now }
-    ensures { OnOk result (rows.new.items ≡ rows.old.items ++ gone_rows before.now after.now) }
+    ensures { OnOk result (rows.new.items ≡ rows.old.items ++ gone_rows change.now) }
 {
-    for i in 0..before.len() {
-        add_slave(alloc, rows, &before[i], &after[i])?;
+    for i in 0..change.slaves() {
+        add_slave(
+            alloc,
+            rows,
+            old,
+            change.areas_before(i),
+            change.areas_after(i),
+        )?;
     }
     Ok(())
 }
 
-/// What an edit changes of the places of a line's variables, by the candidates that move, the areas of the
-/// slaves that change before and after it, and the table of the line before it: the moved areas' variables that
-/// stood elsewhere or nowhere, each with its new place, and then the variables that those slaves carried
-/// and don't carry any more, without one. For an edit's own moved areas they are the variables that stand
-/// elsewhere, appear or go with the edit, each once. As many slaves are given before as after. Each moved area's
-/// place lies in one of 16 datagrams. `AllocError` where a growth was refused.
+/// What an edit changes of the places of a line's variables, by the candidates that move, what differs in the line, and
+/// the table of the line before the edit: the moved areas' variables that stood elsewhere or nowhere, each with its new
+/// place, and then the variables that the slaves that change carried and don't carry any more, without one. For an
+/// edit's own moved areas they are the variables that stand elsewhere, appear or go with the edit, each once. Each moved
+/// area's place lies in one of 16 datagrams. `AllocError` where a growth was refused.
 pub fn changed_rows(
     alloc: Global,
     old: &Places,
     moved_areas: &[MovedArea],
-    before: &[SlaveAreas],
-    after: &[SlaveAreas],
+    change: &LineChange,
 ) -> Result<Vec<ChangedRow>, AllocError>
     requires inside { All (λ moved_area. StandsInside moved_area.found) moved_areas.now }
-    requires many { length before.now ≡ length after.now }
-    ensures { IfOk result (λ rows. rows.items ≡ changed_rows old.now moved_areas.now before.now after.now) }
+    ensures { IfOk result (λ rows. rows.items ≡ changed_rows old.now moved_areas.now change.now) }
 {
     let found = moved_area_rows(alloc, moved_areas)?;
     let mut rows = Vec::new(alloc);
     add_moved(&mut rows, old, &found)?;
-    add_slaves(alloc, &mut rows, before, after)?;
+    add_slaves(alloc, &mut rows, old, change)?;
     Ok(rows)
 }

@@ -1,3 +1,4 @@
+pub mod Absences
 pub mod Chain
 pub mod Counted
 pub mod Cursors

@@ -1,5 +1,5 @@
 -- An area stands in the datagram of the span that its key lies in, behind the areas of the span before it.
-use Rattle.std.specs.Prelude.{All, find, filter, Option, Some, None, slice_index_or}
+use Rattle.std.specs.Prelude.{All, find, Option, Some, None, slice_index_or}
 use Rattle.std.proofs.Common.{◌≡◌, ℕ, zero, suc, ◌+◌, ◌<◌, ◌≤◌, ◌==◌, Bool, true, false, List, [], ◌∷◌, ◌++◌, length, refl, sym, ap, subst, ◌∙◌, arith, if◌then◌else◌}
 use Rattle.std.proofs.lemmas.Bool.{cond-true}
 use Rattle.std.proofs.lemmas.Bool.Decides.{nat_tests}

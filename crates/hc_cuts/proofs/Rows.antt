@@ -1,6 +1,6 @@
 -- Two lines that differ in the areas of slaves in a row.
 use Rattle.std.specs.Prelude.{slice_index_or, ◌==◌, ◌&&◌}
-use Rattle.std.proofs.Common.{append_assoc, ◌≡◌, ℕ, ◌+◌, ◌<◌, ◌≤◌, List, ◌++◌, length, subst, arith, length-append}
+use Rattle.std.proofs.Common.{append_assoc, ◌≡◌, ℕ, ◌+◌, ◌<◌, ◌≤◌, List, [], ◌++◌, length, subst, arith, length-append}
 use Rattle.std.proofs.Math.ListN.{get_or-append}
 use Rattle.std.proofs.lemmas.List.{get_or-append-add, get_or-append_right}
 use Rattle.hc_records.specs.declared.records.Area.{Area}
@@ -11,6 +11,7 @@ use Rattle.hc_cuts.specs.Areas.{areas_at}
 use Rattle.hc_cuts.specs.Kept.{IsLine}
 use Rattle.hc_cuts.specs.Turn.{AreLines}
 use Rattle.hc_cuts.specs.Widths.{AreKept, IsSetTo, differs, with_slave}
+use Rattle.hc_cuts.specs.LineChange.{LineChange, back}
 use Rattle.hc_cuts.proofs.Setting.{slaves-go, up_to}
 use Rattle.hc_cuts.proofs.Taking.{areas-of, ranks-go, up_to_rank}
 use Rattle.hc_cuts.proofs.lemmas.Turning.{back-lines}
@@ -26,47 +27,47 @@ row-at front xs behind at low = grind (arith, get_or-append, get_or-append-add)
 
 -- so in two lines
 
-pub lines-front : (first : ℕ) (before after old new : List (List Area)) (lines : AreLines first before after old new) (rank : ℕ) → rank ≤ length lines.front
+pub lines-front : (change : LineChange) (old new : List (List Area)) (lines : AreLines change old new) (rank : ℕ) → rank ≤ length lines.front
     → areas_at old rank ≡ areas_at new rank
-lines-front first before after old new lines rank low = grind (arith, get_or-append)
+lines-front change old new lines rank low = grind (arith, get_or-append)
 
-pub lines-behind : (first : ℕ) (before after old new : List (List Area)) (lines : AreLines first before after old new) (rank : ℕ) → length lines.front + length before < rank
+pub lines-behind : (change : LineChange) (old new : List (List Area)) (lines : AreLines change old new) (rank : ℕ) → length lines.front + length change.areas_before < rank
     → areas_at old rank ≡ areas_at new rank
-lines-behind first before after old new lines rank high = grind (arith, behind-same, lines.was, lines.is, lines.many)
+lines-behind change old new lines rank high = grind (arith, behind-same, lines.was, lines.is, lines.many)
 
-pub old-at : (first : ℕ) (before after old new : List (List Area)) (lines : AreLines first before after old new) (i : ℕ) (areas own : List Area) → areas ≡ own
-    → own ≡ slice_index_or before i own → i < length before → areas ≡ areas_at old (length lines.front + i + 1)
-old-at first before after old new lines i areas own same is within = grind (arith, areas-of, row-at)
+pub old-at : (change : LineChange) (old new : List (List Area)) (lines : AreLines change old new) (i : ℕ) (areas : List Area) → areas ≡ slice_index_or change.areas_before i []
+    → i < length change.areas_before → areas ≡ areas_at old (length lines.front + i + 1)
+old-at change old new lines i areas is within = grind (arith, areas-of, row-at)
 
-pub new-at : (first : ℕ) (before after old new : List (List Area)) (lines : AreLines first before after old new) (i : ℕ) (areas own : List Area) → areas ≡ own
-    → own ≡ slice_index_or after i own → i < length before → areas ≡ areas_at new (length lines.front + i + 1)
-new-at first before after old new lines i areas own same is within =
+pub new-at : (change : LineChange) (old new : List (List Area)) (lines : AreLines change old new) (i : ℕ) (areas : List Area) → areas ≡ slice_index_or change.areas_after i []
+    → i < length change.areas_before → areas ≡ areas_at new (length lines.front + i + 1)
+new-at change old new lines i areas is within =
     let many = lines.many in
-    old-at first after before new old (back-lines first before after old new lines) i areas own same is (omega arith)
+    old-at (back change) new old (back-lines change old new lines) i areas is (omega arith)
 
 -- the row is within the line
-pub row-within : (first : ℕ) (before after old new : List (List Area)) (lines : AreLines first before after old new) → first + length before ≤ length old + 1
-row-within first before after old new lines = grind (arith, length-append)
+pub row-within : (change : LineChange) (old new : List (List Area)) (lines : AreLines change old new) → change.first + length change.areas_before ≤ length old + 1
+row-within change old new lines = grind (arith, length-append)
 
 -- one slave more is set
 
-pub slaves-next : (task first i : ℕ) (before after old new : List (List Area)) (lines : AreLines first before after old new) (areas : List Area) (kept mid last : Kept)
-    → areas ≡ areas_at new (length lines.front + i + 1) → IsSetTo kept mid (up_to task (length lines.front + i) old new)
+pub slaves-next : (task first i : ℕ) (change : LineChange) (old new : List (List Area)) (lines : AreLines change old new) (areas : List Area) (kept mid last : Kept)
+    → first ≡ change.first → areas ≡ areas_at new (length lines.front + i + 1) → IsSetTo kept mid (up_to task (length lines.front + i) old new)
     → IsSetTo mid last (with_slave task (first + i) areas mid) → IsSetTo kept last (up_to task (length lines.front + (i + 1)) old new)
-slaves-next task first i before after old new lines areas kept mid last own so_far set =
+slaves-next task first i change old new lines areas kept mid last same own so_far set =
     let rank = lines.rank in
-    let here : first + i ≡ length lines.front + i + 1 = omega (arith, rank) in
+    let here : first + i ≡ length lines.front + i + 1 = omega (arith, rank, same) in
     let next : length lines.front + i + 1 ≡ length lines.front + (i + 1) = omega arith in
     subst (λ (n : ℕ). IsSetTo kept last (up_to task n old new)) next
     (slaves-go task (length lines.front + i) old new areas kept mid last own so_far
     (subst (λ (n : ℕ). IsSetTo mid last (with_slave task n areas mid)) here set))
 
-pub ranks-next : (task first i : ℕ) (before after old new : List (List Area)) (lines : AreLines first before after old new) (was is : List Area) (mid last : Hulls)
-    → was ≡ areas_at old (length lines.front + i + 1) → is ≡ areas_at new (length lines.front + i + 1) → AreHulls (up_to_rank task (length lines.front + i) old new) mid
+pub ranks-next : (task first i : ℕ) (change : LineChange) (old new : List (List Area)) (lines : AreLines change old new) (was is : List Area) (mid last : Hulls)
+    → first ≡ change.first → was ≡ areas_at old (length lines.front + i + 1) → is ≡ areas_at new (length lines.front + i + 1) → AreHulls (up_to_rank task (length lines.front + i) old new) mid
     → TakeIn mid last (λ key. (first + i == key.rank) && differs task was is key) → AreHulls (up_to_rank task (length lines.front + (i + 1)) old new) last
-ranks-next task first i before after old new lines was is mid last one other so_far taken =
+ranks-next task first i change old new lines was is mid last same one other so_far taken =
     let rank = lines.rank in
-    let here : first + i ≡ length lines.front + i + 1 = omega (arith, rank) in
+    let here : first + i ≡ length lines.front + i + 1 = omega (arith, rank, same) in
     let next : length lines.front + i + 1 ≡ length lines.front + (i + 1) = omega arith in
     subst (λ (n : ℕ). AreHulls (up_to_rank task n old new) last) next
     (ranks-go task (length lines.front + i) old new was is mid last one other so_far

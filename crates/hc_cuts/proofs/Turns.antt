@@ -1,6 +1,6 @@
 -- Tasks in a row that are turned, or put back.
 use Rattle.std.specs.Prelude.{All, None, OnErr, OnOk, Option, Result, Some, drop, replicate, slice_index_or, slice_set, take}
-use Rattle.std.proofs.Common.{◌≡◌, ℕ, suc, ◌+◌, Bool, true, false, if◌then◌else◌, List, [], ◌∷◌, ◌++◌, length, refl, sym, ap, subst, ◌∙◌, arith, length-append}
+use Rattle.std.proofs.Common.{◌≡◌, ℕ, suc, ◌+◌, Bool, true, false, if◌then◌else◌, List, [], ◌∷◌, ◌++◌, length, refl, sym, ap, subst, arith, length-append}
 use Rattle.std.proofs.Math.Seq.{take-append_seam}
 use Rattle.hc_records.specs.declared.keys.Key.{Key}
 use Rattle.hc_records.specs.declared.records.Area.{Area}
@@ -9,18 +9,19 @@ use Rattle.hc_cuts.specs.Kept.{IsCut, IsLine, crowded_from, is_crowded, kept_by,
 use Rattle.hc_cuts.specs.Turn.{AreLines, IsPut, IsTaskTurn, IsTurn}
 use Rattle.hc_cuts.specs.Widths.{IsSetTo}
 use Rattle.hc_cuts.specs.Areas.{width_at}
+use Rattle.hc_cuts.specs.LineChange.{LineChange}
 use Rattle.hc_cuts.proofs.Lines.{absent-fits, absent-line, length-absent, line-is}
 use Rattle.hc_cuts.proofs.Turned.{set-tree}
 use Rattle.hc_cuts.proofs.lemmas.Turning.{whole-turn}
 
-as-long : (first : ℕ) (before after old new : List (List Area)) → AreLines first before after old new → length new ≡ length old
-as-long first before after old new lines = grind (arith, length-append)
+as-long : (change : LineChange) (old new : List (List Area)) → AreLines change old new → length new ≡ length old
+as-long change old new lines = grind (arith, length-append)
 
 -- a task whose widths are set to those of the new line
-pub set-turned : (task first : ℕ) (before after old new : List (List Area)) (kept mid : Kept) → AreLines first before after old new → kept.tree ≡ tree_by task old
-    → ((was is : List (List Area)) → AreLines first before after was is → kept.tree ≡ tree_by task was → IsSetTo kept mid (width_at task is)) → mid.tree ≡ tree_by task new
-set-turned task first before after old new kept mid lines stands set =
-    set-tree task old new kept mid lines.new_line (as-long first before after old new lines) stands (set old new lines stands)
+pub set-turned : (task : ℕ) (change : LineChange) (old new : List (List Area)) (kept mid : Kept) → AreLines change old new → kept.tree ≡ tree_by task old
+    → ((was is : List (List Area)) → AreLines change was is → kept.tree ≡ tree_by task was → IsSetTo kept mid (width_at task is)) → mid.tree ≡ tree_by task new
+set-turned task change old new kept mid lines stands set =
+    set-tree task old new kept mid lines.new_line (as-long change old new lines) stands (set old new lines stands)
 
 -- tasks in a row are the first of them and the rest
 
@@ -44,13 +45,13 @@ tail-of : (a b : Kept) (these those : List Kept) → a ∷ these ≡ b ∷ those
 tail-of a b these those is = ap (λ (xs : List Kept). drop 1 xs) is
 
 -- so a turn of them is one of the first and one of the rest
-first-turn : (count task : ℕ) (kept : Kept) (rest : List Kept) (first : ℕ) (before after old new : List (List Area))
-    → IsTurn (suc count) task (kept ∷ rest) first before after old new → IsTaskTurn task kept first before after old new
-first-turn count task kept rest first before after old new turn = grind (arith, head-of, fits-first)
+first-turn : (count task : ℕ) (kept : Kept) (rest : List Kept) (change : LineChange) (old new : List (List Area))
+    → IsTurn (suc count) task (kept ∷ rest) change old new → IsTaskTurn task kept change old new
+first-turn count task kept rest change old new turn = grind (arith, head-of, fits-first)
 
-rest-turn : (count task : ℕ) (kept : Kept) (rest : List Kept) (first : ℕ) (before after old new : List (List Area))
-    → IsTurn (suc count) task (kept ∷ rest) first before after old new → IsTurn count (task + 1) rest first before after old new
-rest-turn count task kept rest first before after old new turn = grind (arith, tail-of, fits-first)
+rest-turn : (count task : ℕ) (kept : Kept) (rest : List Kept) (change : LineChange) (old new : List (List Area))
+    → IsTurn (suc count) task (kept ∷ rest) change old new → IsTurn count (task + 1) rest change old new
+rest-turn count task kept rest change old new turn = grind (arith, tail-of, fits-first)
 
 pub first-crowded : (count task : ℕ) (new : List (List Area)) → is_crowded task new ≡ true → crowded_from (suc count) task new ≡ Some task
 first-crowded count task new is = rw is refl
@@ -58,25 +59,25 @@ first-crowded count task new is = rw is refl
 pub rest-crowded : (count task : ℕ) (new : List (List Area)) (found : Option ℕ) → is_crowded task new ≡ false → crowded_from count (task + 1) new ≡ found → crowded_from (suc count) task new ≡ found
 rest-crowded count task new found fits is = rw fits is
 
-pub parts : (task first : ℕ) (before after old new : List (List Area)) (all these rest : List Kept) (other : Kept) → all ≡ these ++ rest → length these ≡ 1
-    → IsTurn (length all) task all first before after old new
-    → (IsTaskTurn task (slice_index_or these 0 other) first before after old new) × IsTurn (length rest) (task + 1) rest first before after old new × (length all ≡ suc (length rest))
-parts task first before after old new all these rest other is one turn =
+pub parts : (task : ℕ) (change : LineChange) (old new : List (List Area)) (all these rest : List Kept) (other : Kept) → all ≡ these ++ rest → length these ≡ 1
+    → IsTurn (length all) task all change old new
+    → (IsTaskTurn task (slice_index_or these 0 other) change old new) × IsTurn (length rest) (task + 1) rest change old new × (length all ≡ suc (length rest))
+parts task change old new all these rest other is one turn =
     let whole = split-tasks these rest all other (sym is) one in
-    let own = subst (λ (list : List Kept). IsTurn (length list) task list first before after old new) whole turn in (
-      first-turn (length rest) task (slice_index_or these 0 other) rest first before after old new own,
-      rest-turn (length rest) task (slice_index_or these 0 other) rest first before after old new own,
+    let own = subst (λ (list : List Kept). IsTurn (length list) task list change old new) whole turn in (
+      first-turn (length rest) task (slice_index_or these 0 other) rest change old new own,
+      rest-turn (length rest) task (slice_index_or these 0 other) rest change old new own,
       ap (λ (list : List Kept). length list) whole,
     )
 
 -- and so are those that are put
 
-pub put-parts : (task first : ℕ) (before after : List (List Area)) (starts : List (List Key)) (old new : List (List Area)) (all these rest : List Kept) (other : Kept) → all ≡ these ++ rest
-    → length these ≡ 1 → IsPut (length all) task all first before after starts old new
-    → (slice_index_or these 0 other ≡ kept_by task old) × IsPut (length rest) (task + 1) rest first before after starts old new × (length all ≡ suc (length rest))
-put-parts task first before after starts old new all these rest other is one put =
+pub put-parts : (task : ℕ) (change : LineChange) (starts : List (List Key)) (old new : List (List Area)) (all these rest : List Kept) (other : Kept) → all ≡ these ++ rest
+    → length these ≡ 1 → IsPut (length all) task all change starts old new
+    → (slice_index_or these 0 other ≡ kept_by task old) × IsPut (length rest) (task + 1) rest change starts old new × (length all ≡ suc (length rest))
+put-parts task change starts old new all these rest other is one put =
     let whole = split-tasks these rest all other (sym is) one in
-    let own = subst (λ (list : List Kept). IsPut (length list) task list first before after starts old new) whole put in
+    let own = subst (λ (list : List Kept). IsPut (length list) task list change starts old new) whole put in
     let kept = slice_index_or these 0 other in (
       head-of kept (kept_by task old) rest (kept_from (length rest) (task + 1) old) own.stand,
       record {
@@ -98,15 +99,15 @@ set-again (first ∷ next ∷ these) rest kept last one = absurd (omega arith)
 
 -- the eight tasks of a line, lent as a slice
 
-pub eight-turn : (kept lent : List Kept) (first : ℕ) (before after old new : List (List Area)) → lent ≡ kept → length lent ≡ 8
-    → IsTurn 8 0 kept first before after old new → IsTurn (length lent) 0 lent first before after old new
-eight-turn kept lent first before after old new is eight turn =
-    subst (λ (n : ℕ). IsTurn n 0 lent first before after old new) (sym eight) (subst (λ (ks : List Kept). IsTurn 8 0 ks first before after old new) (sym is) turn)
+pub eight-turn : (kept lent : List Kept) (change : LineChange) (old new : List (List Area)) → lent ≡ kept → length lent ≡ 8
+    → IsTurn 8 0 kept change old new → IsTurn (length lent) 0 lent change old new
+eight-turn kept lent change old new is eight turn =
+    subst (λ (n : ℕ). IsTurn n 0 lent change old new) (sym eight) (subst (λ (ks : List Kept). IsTurn 8 0 ks change old new) (sym is) turn)
 
-pub eight-put : (kept lent : List Kept) (first : ℕ) (before after : List (List Area)) (starts : List (List Key)) (old new : List (List Area)) → lent ≡ kept → length lent ≡ 8
-    → IsPut 8 0 kept first before after starts old new → IsPut (length lent) 0 lent first before after starts old new
-eight-put kept lent first before after starts old new is eight put =
-    subst (λ (n : ℕ). IsPut n 0 lent first before after starts old new) (sym eight) (subst (λ (ks : List Kept). IsPut 8 0 ks first before after starts old new) (sym is) put)
+pub eight-put : (kept lent : List Kept) (change : LineChange) (starts : List (List Key)) (old new : List (List Area)) → lent ≡ kept → length lent ≡ 8
+    → IsPut 8 0 kept change starts old new → IsPut (length lent) 0 lent change starts old new
+eight-put kept lent change starts old new is eight put =
+    subst (λ (n : ℕ). IsPut n 0 lent change starts old new) (sym eight) (subst (λ (ks : List Kept). IsPut 8 0 ks change starts old new) (sym is) put)
 
 are-tasks : (result : Result ℕ ℕ) (lent last : List Kept) (new : List (List Area)) → OnOk result (last ≡ kept_from (length lent) 0 new) → OnErr result (last ≡ lent)
     → (length lent ≡ 8) × All IsCut lent → (length last ≡ 8) × All IsCut last
@@ -129,11 +130,10 @@ pub put-back : (len : ℕ) (kept last : List Kept) (new : List (List Area)) → 
 put-back len kept last new long eight is = back-again len kept last long eight (line-is last new is)
 
 -- those of a line without slaves are turned into those of any line
-pub absent-turn : (count : ℕ) (kept : List Kept) (absent line : List (List Area)) → absent ≡ replicate count [] → kept ≡ line_kept (replicate count []) → length line ≡ count
-    → IsLine line → IsTurn 8 0 kept 1 absent line absent line
-absent-turn count kept absent line none stand many is =
+pub absent-turn : (change : LineChange) (kept : List Kept) (line : List (List Area)) → change ≡ record { first = 1; areas_before = replicate (length line) []; areas_after = line }
+    → kept ≡ line_kept (replicate (length line) []) → IsLine line → IsTurn 8 0 kept change (replicate (length line) []) line
+absent-turn change kept line opens stand is =
     let few = is.few in
-    whole-turn kept absent line (subst (λ (s : List (List Area)). IsLine s) (sym none) (absent-line count (omega (arith, few, many)))) is
-    (many ∙ sym (length-absent count) ∙ ap (λ (s : List (List Area)). length s) (sym none))
-    (stand ∙ ap (λ (s : List (List Area)). line_kept s) (sym none))
-    (subst (λ (s : List (List Area)). crowded_from 8 0 s ≡ None) (sym none) (absent-fits 8 0 count))
+    let absent = replicate (length line) [] in
+    subst (λ (c : LineChange). IsTurn 8 0 kept c absent line) (sym opens)
+    (whole-turn kept absent line (absent-line (length line) (omega (arith, few))) is (sym (length-absent (length line))) stand (absent-fits 8 0 (length line)))

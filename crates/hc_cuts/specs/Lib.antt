@@ -5,6 +5,7 @@ pub mod Inputs
 pub mod Laws
 pub mod Place
 pub mod Keeping
+pub mod LineChange
 pub mod Repair
 pub mod Spans
 pub mod Starts
@@ -17,3 +18,4 @@ pub mod Recut
 pub mod Room
 pub mod Turn
 pub mod Widths
+pub mod inner

@@ -24,21 +24,7 @@ impl<'a> Model for SlaveAreas<'a> {
 }
 
 impl<'a> SlaveAreas<'a> {
-    ghost use Rattle.std.specs.Prelude.{◌≡◌, []};
-
-    /// Those of a slave that is present.
-    pub fn of(areas: &'a [Area]) -> SlaveAreas<'a>
-        ensures { result ≡ areas.now }
-    {
-        SlaveAreas { areas }
-    }
-
-    /// Those of a slave that isn't present.
-    pub fn absent() -> SlaveAreas<'a>
-        ensures { result ≡ [] }
-    {
-        SlaveAreas { areas: &[] }
-    }
+    ghost use Rattle.std.specs.Prelude.{◌≡◌};
 
     /// The areas.
     pub fn as_slice(&self) -> &'a [Area]

@@ -11,6 +11,7 @@ pub mod fold;
 pub mod hulls;
 pub mod keeping;
 pub mod laws;
+pub mod line_change;
 pub mod line_keeping;
 pub mod next;
 pub mod packing;

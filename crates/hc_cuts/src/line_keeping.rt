@@ -8,9 +8,9 @@ ghost use Rattle.hc_cuts.specs.Hulls.{AreHulls, no_hulls};
 ghost use Rattle.hc_cuts.specs.Areas.{list_by};
 ghost use Rattle.hc_cuts.specs.Turn.{AreLines, HasLines};
 
-use crate::areas::SlaveAreas;
 use crate::hulls::Hulls;
 use crate::keeping::{is_kept, kept_until};
+use crate::line_change::LineChange;
 use crate::starts::LineStarts;
 use crate::tasks::LineCuts;
 use crate::touched::touched_hulls;
@@ -19,8 +19,8 @@ use hc_records::limits::TASKS;
 use hc_records::task::Task;
 use std::marker::Model;
 
-/// The boundaries of the eight tasks of a line as they were, and the hulls of the keys whose widths differ
-/// where slaves in a row get other areas.
+/// The boundaries of the eight tasks of a line as they were, and the hulls of the keys whose widths a change makes
+/// differ.
 #[derive(Drop)]
 pub struct Before {
     starts: LineStarts,
@@ -35,15 +35,14 @@ impl Model for Before {
     ghost view = { λ before. record { starts = before.starts; hulls = before.hulls } };
 }
 
-/// The hulls of the keys of the eight tasks whose widths differ, where the slaves of a line from a rank on had
-/// some areas and have others.
-fn all_hulls(first: u16, before: &[SlaveAreas], after: &[SlaveAreas]) -> [Hulls; 8]
-    requires { HasLines first before.now after.now }
-    ensures { (old new : List (List Area)) → AreLines first before.now after.now old new → (task : ℕ) → task < TASKS → AreHulls (is_touched (list_by task old) (list_by task new)) (slice_index_or result task no_hulls) }
+/// The hulls of the keys of the eight tasks whose widths a change makes differ.
+fn all_hulls(change: &LineChange) -> [Hulls; 8]
+    requires { HasLines change.now }
+    ensures { (old new : List (List Area)) → AreLines change.now old new → (task : ℕ) → task < TASKS → AreHulls (is_touched (list_by task old) (list_by task new)) (slice_index_or result task no_hulls) }
 {
     let mut hulls = [Hulls::none(); 8];
     for task in 0..TASKS {
-        hulls[usize::from(task)] = touched_hulls(task, first, before, after);
+        hulls[usize::from(task)] = touched_hulls(task, change);
     }
     hulls
 }
@@ -61,16 +60,15 @@ impl Before {
     ghost use Rattle.hc_cuts.specs.Recut.{is_touched_by};
     ghost use Rattle.hc_cuts.specs.Turn.{AreLines, HasLines};
 
-    /// What is known of the tasks of a line before they are turned into those of another one, which differs in
-    /// the areas of slaves in a row: `first` is the rank of the first of them, at least 1, and each of them
-    /// has the areas of `before` in the old line and those of `after` in the new one. It takes no memory.
-    pub fn of(cuts: &LineCuts, first: u16, before: &[SlaveAreas], after: &[SlaveAreas]) -> Before
-        requires { HasLines first before.now after.now }
-        ensures { (old new : List (List Area)) → AreLines first before.now after.now old new → cuts.now ≡ line_kept old → StandsBefore old new result }
+    /// What is known of the tasks of a line before they are turned into those of the line that a change leads to. It takes
+    /// no memory.
+    pub fn of(cuts: &LineCuts, change: &LineChange) -> Before
+        requires { HasLines change.now }
+        ensures { (old new : List (List Area)) → AreLines change.now old new → cuts.now ≡ line_kept old → StandsBefore old new result }
     {
         Before {
             starts: cuts.copied_starts(),
-            hulls: all_hulls(first, before, after),
+            hulls: all_hulls(change),
         }
     }
 

@@ -4,6 +4,7 @@ ghost use Rattle.std.specs.Prelude.{◌≡◌, [], IfOk, replicate};
 use crate::areas::SlaveAreas;
 use crate::cursor::Cursor;
 use crate::cuts::Cuts;
+use crate::line_change::LineChange;
 use crate::packing::Placed;
 use crate::starts::LineStarts;
 use crate::turning::{put_tasks, turn_tasks};
@@ -42,17 +43,6 @@ impl Model for LineCuts {
     ghost invariant = { λ line. (length line.tasks.items ≡ 8) × All IsCut line.tasks.items };
 }
 
-/// The areas of so many slaves none of which is present.
-fn absent_slaves<'a>(alloc: Global, slaves: usize) -> Result<Vec<SlaveAreas<'a>>, AllocError>
-    ensures { IfOk result (λ absent. absent.items ≡ replicate slaves []) }
-{
-    let mut absent = Vec::with_capacity(alloc, slaves)?;
-    for _ in 0..slaves {
-        absent.push(SlaveAreas::absent())?;
-    }
-    Ok(absent)
-}
-
 impl LineCuts {
     ghost use Rattle.hc_records.specs.declared.records.Area.{Area};
     ghost use Rattle.std.specs.Prelude.{◌≡◌, ◌≢◌, ◌↔◌, ℕ, ◌+◌, ◌*◌, ◌≤◌, List, [], IfErr, IfOk, IsTrue, None, OnErr, OnOk, Some, length, map, option_map, replicate};
@@ -84,49 +74,40 @@ impl LineCuts {
         Ok(LineCuts { tasks })
     }
 
-    /// Turns the tasks of a line into those of another one, which differs in the areas of slaves in a row:
-    /// `first` is the rank of the first of them, at least 1, and each of them has the areas of `before` in
-    /// the old line and those of `after` in the new one. None of the old line's tasks needs more than 16
-    /// datagrams, so a turn back, with `before` and `after` swapped, is never refused. The areas and
+    /// Turns the tasks of a line into those of the line that a change leads to. None of the old line's tasks needs
+    /// more than 16 datagrams, so a turn back, by the change that leads back, is never refused. The areas and
     /// boundaries are then those of the new line, and the answer is how many spans of touched tasks aren't
     /// settled. Otherwise the lowest task of the new line that needs more than 16 datagrams, and all is as
     /// it was. Each span that isn't settled takes 1 to 104 steps, and nothing else takes any; a turn that is
     /// refused takes at most 16 times 104 for each task in which a width differs. It takes no memory.
-    pub fn turn<L: Ledger>(
-        &mut self,
-        first: u16,
-        before: &[SlaveAreas],
-        after: &[SlaveAreas],
-        steps: &mut Steps<L>,
-    ) -> Result<u32, u8>
-        requires { HasTurn 8 0 self.old first before.now after.now }
-        ensures turned { (old new : List (List Area)) → IsTurn 8 0 self.old first before.now after.now old new → OnOk result (self.new ≡ line_kept new) }
-        ensures accepted { (old new : List (List Area)) → IsTurn 8 0 self.old first before.now after.now old new → OnOk result (crowded_from 8 0 new ≡ None) }
-        ensures refused { (old new : List (List Area)) → IsTurn 8 0 self.old first before.now after.now old new → IfErr result (λ task. crowded_from 8 0 new ≡ Some task) }
+    pub fn turn<L: Ledger>(&mut self, change: &LineChange, steps: &mut Steps<L>) -> Result<u32, u8>
+        requires { HasTurn 8 0 self.old change.now }
+        ensures turned { (old new : List (List Area)) → IsTurn 8 0 self.old change.now old new → OnOk result (self.new ≡ line_kept new) }
+        ensures accepted { (old new : List (List Area)) → IsTurn 8 0 self.old change.now old new → OnOk result (crowded_from 8 0 new ≡ None) }
+        ensures refused { (old new : List (List Area)) → IsTurn 8 0 self.old change.now old new → IfErr result (λ task. crowded_from 8 0 new ≡ Some task) }
         ensures unchanged { OnErr result (self.new ≡ self.old) }
-        ensures recut { (old new : List (List Area)) → IsTurn 8 0 self.old first before.now after.now old new → IfOk result (λ recut. recut ≡ recut_from 8 0 old new) }
-        ensures steps { (old new : List (List Area)) → IsTurn 8 0 self.old first before.now after.now old new → steps.new ≤ steps.old + most_read * MOST_DATAGRAMS * touched_from 8 0 old new }
+        ensures recut { (old new : List (List Area)) → IsTurn 8 0 self.old change.now old new → IfOk result (λ recut. recut ≡ recut_from 8 0 old new) }
+        ensures steps { (old new : List (List Area)) → IsTurn 8 0 self.old change.now old new → steps.new ≤ steps.old + most_read * MOST_DATAGRAMS * touched_from 8 0 old new }
         ensures least { IfOk result (λ recut. steps.old + recut ≤ steps.new) }
         ensures most { IfOk result (λ recut. steps.new ≤ steps.old + most_read * recut) }
     {
-        turn_tasks(self.tasks.as_mut_slice(), 0, first, before, after, steps)
+        turn_tasks(self.tasks.as_mut_slice(), 0, change, steps)
     }
 
-    /// Turns the tasks of a line into those of another one, whose boundaries are known, as those of a line
-    /// are to which the tasks are turned back. Ranks and areas are as `turn` takes them. No boundary is
-    /// searched, so it takes no steps and nothing is refused. It takes no memory.
-    pub fn put(&mut self, first: u16, from: &[SlaveAreas], to: &[SlaveAreas], starts: &LineStarts)
-        requires { HasPut 8 0 self.old first from.now to.now starts.now }
-        ensures { (old new : List (List Area)) → IsPut 8 0 self.old first from.now to.now starts.now old new → self.new ≡ line_kept new }
+    /// Turns the tasks of a line into those of the line that a change leads to, whose boundaries are known, as those
+    /// of a line are to which the tasks are turned back. No boundary is searched, so it takes no steps and nothing is refused. It takes no memory.
+    pub fn put(&mut self, change: &LineChange, starts: &LineStarts)
+        requires { HasPut 8 0 self.old change.now starts.now }
+        ensures { (old new : List (List Area)) → IsPut 8 0 self.old change.now starts.now old new → self.new ≡ line_kept new }
     {
-        put_tasks(self.tasks.as_mut_slice(), 0, first, from, to, starts);
+        put_tasks(self.tasks.as_mut_slice(), 0, change, starts);
     }
 
     /// The tasks of a line, from nothing. `TooManyDatagrams` with the lowest task that needs more than
     /// 16, or `Memory` where a growth was refused.
-    pub fn open<L: Ledger>(
+    pub fn open<'a, L: Ledger>(
         alloc: Global,
-        line: &[SlaveAreas],
+        line: &'a [SlaveAreas<'a>],
         steps: &mut Steps<L>,
     ) -> Result<LineCuts, EditFault>
         requires { IsLine line.now }
@@ -134,9 +115,9 @@ impl LineCuts {
         ensures accepted { OnOk result (crowded_from 8 0 line.now ≡ None) }
         ensures refused { IfErr result (λ fault. fault ≢ Memory → option_map TooManyDatagrams (crowded_from 8 0 line.now) ≡ Some fault) }
     {
-        let absent = absent_slaves(alloc, line.len())?;
         let mut cuts = LineCuts::new(alloc, line.len() as u16)?;
-        match cuts.turn(1, absent.as_slice(), line, steps) {
+        let opening = LineChange::opening(line);
+        match cuts.turn(&opening, steps) {
             Ok(_) => Ok(cuts),
             Err(task) => Err(EditFault::TooManyDatagrams(task)),
         }

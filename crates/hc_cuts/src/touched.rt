@@ -8,8 +8,8 @@ ghost use Rattle.hc_cuts.specs.Areas.{list_by};
 ghost use Rattle.hc_cuts.specs.Turn.{AreLines, HasLines};
 ghost use Rattle.hc_cuts.specs.Widths.{AreKept, differs};
 
-use crate::areas::SlaveAreas;
 use crate::hulls::Hulls;
+use crate::line_change::LineChange;
 use crate::widths::slave_width;
 use hc_records::keys::Key;
 use hc_records::records::{Area, Dir};
@@ -58,22 +58,21 @@ fn touch_slave(hulls: &mut Hulls, task: u8, rank: u16, old: &[Area], new: &[Area
     }
 }
 
-/// The hulls of the touched keys of a task, 0 to 7, where the slaves of a line from a rank on had some areas
-/// and have others: the intervals from the least to the greatest output and input whose width differs. None
+/// The hulls of the keys of a task, 0 to 7, that a change touches: the intervals from the least to the greatest output and input whose width differs. None
 /// where no width does. It takes no memory.
-pub fn touched_hulls(task: u8, first: u16, before: &[SlaveAreas], after: &[SlaveAreas]) -> Hulls
-    requires { HasLines first before.now after.now }
-    ensures { (old new : List (List Area)) → AreLines first before.now after.now old new → AreHulls (is_touched (list_by task old) (list_by task new)) result }
+pub fn touched_hulls(task: u8, change: &LineChange) -> Hulls
+    requires { HasLines change.now }
+    ensures { (old new : List (List Area)) → AreLines change.now old new → AreHulls (is_touched (list_by task old) (list_by task new)) result }
 {
     let mut hulls = Hulls::none();
-    for i in 0..before.len() {
-        let rank = first + i as u16;
+    for i in 0..change.slaves() {
+        let rank = change.first() + i as u16;
         touch_slave(
             &mut hulls,
             task,
             rank,
-            before[i].as_slice(),
-            after[i].as_slice(),
+            change.areas_before(i),
+            change.areas_after(i),
         );
     }
     hulls

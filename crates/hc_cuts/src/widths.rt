@@ -11,8 +11,8 @@ ghost use Rattle.hc_cuts.specs.Kept.{tree_by};
 ghost use Rattle.hc_cuts.specs.Turn.{AreLines, HasTree};
 ghost use Rattle.hc_cuts.specs.Widths.{AreKept, IsSetTo, with_slave};
 
-use crate::areas::SlaveAreas;
 use crate::cuts::Cuts;
+use crate::line_change::LineChange;
 use hc_records::keys::Key;
 use hc_records::records::{Area, Dir};
 
@@ -85,20 +85,19 @@ fn set_slave(cuts: &mut Cuts, task: u8, rank: u16, old: &[Area], new: &[Area])
     }
 }
 
-/// Sets the widths of a task of a line whose slaves from a rank on had some areas and have others, where
-/// they differ. It takes no memory.
-pub(crate) fn set_widths(
-    cuts: &mut Cuts,
-    task: u8,
-    first: u16,
-    before: &[SlaveAreas],
-    after: &[SlaveAreas],
-)
-    requires { HasTree task cuts.old.tree first before.now after.now }
-    ensures { (old new : List (List Area)) → AreLines first before.now after.now old new → cuts.old.tree ≡ tree_by task old → IsSetTo cuts.old cuts.new (width_at task new) }
+/// Sets the widths of a task of a line to those that a change leads to, where they differ. It takes no memory.
+pub(crate) fn set_widths(cuts: &mut Cuts, task: u8, change: &LineChange)
+    requires { HasTree task cuts.old.tree change.now }
+    ensures { (old new : List (List Area)) → AreLines change.now old new → cuts.old.tree ≡ tree_by task old → IsSetTo cuts.old cuts.new (width_at task new) }
 {
-    for i in 0..before.len() {
-        let rank = first + i as u16;
-        set_slave(cuts, task, rank, before[i].as_slice(), after[i].as_slice());
+    for i in 0..change.slaves() {
+        let rank = change.first() + i as u16;
+        set_slave(
+            cuts,
+            task,
+            rank,
+            change.areas_before(i),
+            change.areas_after(i),
+        );
     }
 }

@@ -1,5 +1,5 @@
 -- A search by halves among numbers that don't fall.
-use Rattle.std.proofs.Common.{◌≡◌, ℕ, ◌+◌, ◌-◌, ◌<◌, ◌≤◌, List, length, if◌then◌else◌}
+use Rattle.std.proofs.Common.{ℕ, ◌+◌, ◌<◌, ◌≤◌, List, length}
 use Rattle.std.specs.List.{AllWithin}
 
 -- those in front are no greater than a number, and those behind are greater; between them some are left

@@ -15,10 +15,3 @@ pub changed-set : {X : Type 0} (i : ℕ) (change : X → X) (xs : List X) (x y :
 changed-set i change [] x y within at is = absurd (omega arith)
 changed-set zero change (first ∷ xs) x y within at is = ap (λ z. z ∷ xs) (is ∙ ap change at)
 changed-set (suc i) change (first ∷ xs) x y within at is = ap (λ rest. first ∷ rest) (changed-set i change xs x y (omega arith) at is)
-
--- and what leads back from what was written leads back
-pub set-back : {X : Type 0} (i : ℕ) (back : X → X) (xs : List X) (x y : X) → i < length xs → x ≡ slice_index_or xs i x → back y ≡ x →
-    changed_at i back (slice_set xs i y) ≡ xs
-set-back i back [] x y within at is = absurd (omega arith)
-set-back zero back (first ∷ xs) x y within at is = ap (λ z. z ∷ xs) (is ∙ at)
-set-back (suc i) back (first ∷ xs) x y within at is = ap (λ rest. first ∷ rest) (set-back i back xs x y (omega arith) at is)

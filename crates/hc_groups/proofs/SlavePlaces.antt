@@ -1,6 +1,6 @@
 -- Where the slave with a station address is declared, by an index.
-use Rattle.std.proofs.Common.{◌≡◌, ◌≢◌, ℕ, zero, suc, ◌+◌, ◌<◌, ◌≤◌, Bool, true, false, List, [], ◌∷◌, ◌++◌, length, get_or, take, Option, Some, None, refl, sym, ap, subst, ◌∙◌, arith, rules}
-use Rattle.std.specs.Prelude.{All, AllPairs, ◌==◌, Contains, map, option_and_then, option_map, position, slice_get, sum_by}
+use Rattle.std.proofs.Common.{◌≡◌, ◌≢◌, ℕ, zero, suc, ◌+◌, ◌<◌, true, false, List, [], ◌∷◌, get_or, take, Option, Some, None, refl, sym, ap, subst, ◌∙◌, arith, rules}
+use Rattle.std.specs.Prelude.{All, AllPairs, Contains, option_and_then, option_map, position, slice_get, sum_by}
 use Rattle.std.specs.Option.{option_map_or}
 use Rattle.std.specs.List.{list_any}
 use Rattle.std.proofs.lemmas.Bool.{eq-eqb}
@@ -16,7 +16,7 @@ use Rattle.hc_records.proofs.lemmas.Lines.{declared_slaves}
 use Rattle.hc_records.proofs.lemmas.Lists.{All-append_left, All-append_right, All-from_none, AllPairs-append_left, AllPairs-append_right, AllPairs-between, AllPairs-head, AllPairs-tail}
 use Rattle.hc_groups.specs.declared.addresses.Address.{Address}
 use Rattle.hc_groups.specs.Changes.{has_slave, place_at, place_in, slave_place, slaves_at}
-use Rattle.hc_groups.specs.Index.{Index, IsDeclaredAt, IsIndexOf, address_of, addresses, all_present, declared_count, present_count, rank_in}
+use Rattle.hc_groups.specs.Index.{Index, IsDeclaredAt, IsIndexOf, address_of, addresses, all_present, declared_count, present_count}
 use Rattle.hc_groups.proofs.Found.{IsFirstAt, position-first}
 use Rattle.hc_groups.proofs.IndexFound.{any-none, any-some, contains-map, differs, only-one, position-none}
 use Rattle.hc_groups.proofs.Indexes.{declared-is, ranked-apart}

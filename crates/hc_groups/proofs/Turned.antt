@@ -12,7 +12,7 @@ use Rattle.hc_records.specs.declared.edit.Edit.TheVariants.{Connect, Disconnect,
 use Rattle.hc_records.specs.declared.records.Declared.{Declared}
 use Rattle.hc_records.specs.declared.records.Slave.{Slave}
 use Rattle.hc_records.specs.Edits.{declares, groups_after}
-use Rattle.hc_records.specs.Line.{groups_of, line_from}
+use Rattle.hc_records.specs.Line.{groups_of}
 use Rattle.hc_records.specs.Lists.{changed_at}
 use Rattle.hc_records.specs.Project.{lowest_fault}
 use Rattle.hc_records.proofs.lemmas.Finds.{mapped-some}

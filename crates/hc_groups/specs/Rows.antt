@@ -27,10 +27,6 @@ by_rank groups = flat_map (λ declared. ranked declared.present declared.group.s
 abbrev pub areas_in_line : Ranked → List Area
 areas_in_line slave = if slave.present then slave.slave.areas else []
 
--- those of the slave at an index among some; none where there is no such slave
-abbrev pub nth_areas : List Ranked → ℕ → List Area
-nth_areas slaves index = option_map_or areas_in_line (slice_get slaves index) []
-
 -- The slaves that a change concerns: those of the group that comes or goes, or the one that gets other areas.
 
 -- the rank of the first
@@ -71,9 +67,3 @@ pub record ChangesRow (change : Prepared) (groups : List Declared) : Type 0 wher
   pub many_after : length (row change (changed_groups change groups)) ≡ count_of change
   pub before : by_rank groups ≡ front ++ (row change groups ++ behind)
   pub after : by_rank (changed_groups change groups) ≡ front ++ (row change (changed_groups change groups) ++ behind)
-
--- two changes concern the same slaves
-pub record SameRow (one other : Prepared) : Type 0 where
-  pub first : first_of one ≡ first_of other
-  pub count : count_of one ≡ count_of other
-  pub row : (groups : List Declared) → row one groups ≡ row other groups

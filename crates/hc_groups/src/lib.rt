@@ -15,6 +15,5 @@ mod lists;
 mod owning;
 pub mod prepared;
 pub mod room;
-mod rows;
 mod sums;
 mod variables;

@@ -85,7 +85,7 @@ impl Prepared {
     ghost use Rattle.hc_records.specs.Project.{lowest_fault};
     ghost use Rattle.hc_groups.specs.Edits.{own_fault};
     ghost use Rattle.hc_groups.specs.Changes.{change_by, changed_groups};
-    ghost use Rattle.hc_groups.specs.Rows.{ChangesRow, SameRow};
+    ghost use Rattle.hc_groups.specs.Rows.{ChangesRow};
 
     /// What an edit that declares no group changes of the groups of a project: carried out, it leaves the groups that the edit
     /// leaves, again a project's. The slaves that it concerns have ranks that follow one another, and each
@@ -111,17 +111,14 @@ impl Prepared {
         Ok(change)
     }
 
-    /// Carries the change out in the groups that it was made of, where they stand, and gives the change
-    /// that leads back, which concerns the same slaves. It takes no memory, and nothing can refuse it. In
-    /// other groups it changes the one at its place, if there is one.
-    pub fn carry_out(self, groups: &mut Items<Declared>) -> Prepared
-        ensures groups { groups.new ≡ changed_groups self groups.old }
-        ensures back { changed_groups result groups.new ≡ groups.old }
-        ensures row { SameRow result self }
+    /// Carries the change out in the groups that it was made of, where they stand. It takes no memory, and nothing can
+    /// refuse it. In other groups it changes the one at its place, if there is one.
+    pub fn carry_out(self, groups: &mut Items<Declared>)
+        ensures { groups.new ≡ changed_groups self groups.old }
     {
         match self {
-            Prepared::Presence(change) => Prepared::Presence(turn(change, groups)),
-            Prepared::Areas(change) => Prepared::Areas(reassign(change, groups)),
+            Prepared::Presence(change) => turn(change, groups),
+            Prepared::Areas(change) => reassign(change, groups),
         }
     }
 }

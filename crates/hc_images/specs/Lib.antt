@@ -3,3 +3,4 @@ pub mod Moves
 pub mod Packed
 pub mod Pieces
 pub mod Values
+pub mod inner

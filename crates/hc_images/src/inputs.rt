@@ -1,11 +1,41 @@
 //! The data of all datagrams that a line can have.
+ghost use Rattle.std.specs.Prelude.{◌≡◌, ◌+◌, ◌<◌, ◌≤◌, ℕ, None, length, slice_index_or};
+ghost use Rattle.hc_images.specs.Image.{IsWhole};
+ghost use Rattle.hc_images.specs.inner.Used.{NoneAfter};
 
 use crate::slot::Slot;
 use hc_records::items::Items;
+use hc_records::limits::{MOST_DATAGRAMS, TASKS};
 use hc_records::slots::{SLOTS, slot_number};
 use hc_records::task::Task;
 use std::alloc::{AllocError, Global};
 use std::marker::Model;
+
+/// So many slots in a row have no data from now on.
+fn clear_slots(slots: &mut [Slot], from: usize, count: usize)
+    requires { from + count ≤ length slots.old }
+    ensures size { length slots.new ≡ length slots.old }
+    ensures cleared { (n : ℕ) → from ≤ n → n < from + count → slice_index_or slots.new n None ≡ None }
+    ensures others { (n : ℕ) → slice_index_or slots.old n None ≡ None → slice_index_or slots.new n None ≡ None }
+{
+    for i in from..from + count {
+        slots[i].clear();
+    }
+}
+
+/// No slot has data from now on. Of each task the first datagrams alone may have data, as many as are told.
+fn clear_used(slots: &mut [Slot], used: &mut [u8; 8])
+    requires whole { IsWhole slots.old }
+    requires used { NoneAfter used.old slots.old }
+    ensures size { IsWhole slots.new }
+    ensures none { (n : ℕ) → slice_index_or slots.new n None ≡ None }
+{
+    for task in 0..usize::from(TASKS) {
+        let count = usize::from(used[task]).min(MOST_DATAGRAMS);
+        clear_slots(slots, MOST_DATAGRAMS * task, count);
+        used[task] = 0;
+    }
+}
 
 /// For each datagram that a line can have the data of its last good answer in the present epoch, or none.
 /// It has room for the longest data of each, about 190,000 bytes, from the start: so no later epoch and no
@@ -13,23 +43,26 @@ use std::marker::Model;
 #[derive(Debug)]
 pub struct Inputs {
     slots: Vec<Slot>,
+    // how many of the first datagrams of each task may have data
+    used: [u8; 8],
 }
 
 impl Drop for Inputs {
     fn drop(self) {
-        let Inputs { slots: _ } = self;
+        let Inputs { slots: _, used: _ } = self;
     }
 }
 
 impl Model for Inputs {
     ghost use Rattle.std.specs.Prelude.{◌≡◌, length};
     ghost use Rattle.hc_images.specs.Image.{Image, IsWhole};
+    ghost use Rattle.hc_images.specs.inner.Used.{NoneAfter};
 
     ghost Value = { Image };
 
     ghost view = { λ inputs. inputs.slots.items };
 
-    ghost invariant = { λ inputs. IsWhole inputs.slots.items };
+    ghost invariant = { λ inputs. IsWhole inputs.slots.items × NoneAfter inputs.used inputs.slots.items };
 }
 
 impl Inputs {
@@ -47,16 +80,18 @@ impl Inputs {
         for _ in 0..SLOTS {
             slots.push(Slot::new())?;
         }
-        Ok(Inputs { slots })
+        Ok(Inputs {
+            slots,
+            used: [0; 8],
+        })
     }
 
-    /// A new epoch begins: no datagram has data. It takes no memory.
+    /// A new epoch begins: no datagram has data. It takes no memory, and of each task it goes no further than the last
+    /// datagram that had data.
     pub fn clear(&mut self)
         ensures { HasNone self.new }
     {
-        for slot in self.slots.iter_mut() {
-            slot.clear();
-        }
+        clear_used(self.slots.as_mut_slice(), &mut self.used);
     }
 
     /// A datagram has these data from now on, those of a good answer: at most 1,486 bytes. Its number in the
@@ -67,6 +102,8 @@ impl Inputs {
         ensures { Renews self.old self.new task number bytes.now }
     {
         self.slots[slot_number(task.number(), number)].put(bytes);
+        let used = &mut self.used[task.as_index()];
+        *used = (*used).max(number + 1);
     }
 
     /// The data of a datagram, lent: those that were put last in this epoch, or none. Its number in the task is

@@ -1,10 +1,11 @@
 -- How many rows have lower numbers than a variable: counted among some of the rows, and the row behind them.
 use Rattle.std.proofs.Common.{◌≡◌, ◌∙◌, ap, ℕ, zero, suc, ◌+◌, ◌<◌, ◌≤◌, Bool, true, false, cond, List, [], ◌∷◌, drop, get_or, length, map, set, take, refl, sym, subst, arith}
-use Rattle.std.specs.Prelude.{Option, Some, None, ◌-◌, nat_lt, unwrap_or, ◌==◌, ◌≢◌}
+use Rattle.std.specs.Prelude.{Option, Some, None, ◌-◌, nat_lt, slice_get, unwrap_or, ◌==◌, ◌≢◌}
 use Rattle.std.specs.List.{AllWithin}
 use Rattle.std.specs.List.Sorted.{IsNonDecreasingBy}
 use Rattle.std.proofs.lemmas.Bool.{cond-true, eq-eqb, ltb-false, lt-ltb, le-ltb}
 use Rattle.std.proofs.lemmas.Bool.Decides.{nat_tests}
+use Rattle.std.proofs.lemmas.Option.{get_or_from_slice_get, slice_get_within}
 use Rattle.std.proofs.lemmas.List.{get_or_default, get_or-drop, get_or-map, get_or-take, length-drop, length-take}
 use Rattle.hc_records.specs.Image.{VariablePlace}
 use Rattle.hc_places.specs.inner.Overwritten.{AreBelow, EndsLower, GoesOn, row_with}
@@ -44,6 +45,25 @@ below-told rows variable count ascends front behind bound = (
       let first = behind d (omega (arith, low, high)) in
       le-ltb (get_or rows k d).0 variable (omega (arith, up, first))),
 )
+
+-- a variable's own row tells it too
+
+ascends-lower : (rows : List Row) → RowsAscend rows → (i j : ℕ) (d : Row) → i < j → j < length rows → (get_or rows i d).0 < (get_or rows j d).0
+ascends-lower [] ascends i j d low within = absurd (omega arith)
+ascends-lower (row ∷ rows) ascends i zero d low within = absurd (omega arith)
+ascends-lower (row ∷ rows) ascends zero (suc j) d low within = ascends-above row rows ascends j d (omega arith)
+ascends-lower (row ∷ rows) ascends (suc i) (suc j) d low within = ascends-lower rows (ascends-rest row rows ascends) i j d (omega arith) (omega arith)
+
+pub own-told : (rows : List Row) (variable index : ℕ) (row : Row) → RowsAscend rows → slice_get rows index ≡ Some row → row.0 ≡ variable → (index ≤ length rows) × AreBelow rows variable index
+own-told rows variable index row ascends is own =
+    let within = slice_get_within rows index row is in
+    let here : (d : Row) → (get_or rows index d).0 ≡ variable = λ d. ap (λ (r : Row). r.0) (get_or_from_slice_get rows index row d is) ∙ own in (
+      omega (arith, within),
+      below-told rows variable index ascends
+          (λ d some. let less = ascends-lower rows ascends (index - 1) index d (omega (arith, some)) within in let same = here d in omega (arith, less, same))
+          (λ d low. let same = here d in omega (arith, same))
+          (omega (arith, within)),
+    )
 
 -- those among the first rows are those of all, where none behind these is lower
 pub below-reached : (rows : List Row) (variable reach count : ℕ) → count ≤ length (take reach rows) → AreBelow (take reach rows) variable count

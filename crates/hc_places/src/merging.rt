@@ -128,8 +128,20 @@ fn is_count_below(rows: &[Row], count: usize, variable: VarId) -> bool
     !goes_on_lower(rows, count, variable)
 }
 
+/// Whether the row with an index is a variable's.
+fn is_row_of(rows: &[Row], index: usize, variable: VarId) -> bool
+    requires { RowsAscend rows.now }
+    ensures { result ≡ true → (index ≤ length rows.now) × AreBelow rows.now variable index }
+{
+    match rows.get(index) {
+        Some(row) => row.0 == variable,
+        None => false,
+    }
+}
+
 /// How many rows have a lower number than a changed variable, where so many are known to have: as the change tells,
 /// or else by a search.
+#[inline(always)]
 pub(crate) fn find_row(rows: &[Row], front: usize, changed: &ChangedRow) -> usize
     requires ascends { RowsAscend rows.now }
     requires front { front ≤ length rows.now }
@@ -138,10 +150,11 @@ pub(crate) fn find_row(rows: &[Row], front: usize, changed: &ChangedRow) -> usiz
     ensures below { AreBelow rows.now changed.now.0 result }
 {
     let told = changed.row();
-    if is_count_below(rows, told, changed.variable()) {
+    let variable = changed.variable();
+    if is_row_of(rows, told, variable) || is_count_below(rows, told, variable) {
         told
     } else {
-        count_from(rows, front, changed.variable())
+        count_from(rows, front, variable)
     }
 }
 
@@ -174,6 +187,7 @@ pub(crate) fn keeps_row(rows: &[Row], at: usize, changed: &ChangedRow) -> bool
 }
 
 /// Whether each changed variable keeps its row.
+#[inline(always)]
 pub(crate) fn keep_rows(rows: &[Row], changed: &[ChangedRow]) -> bool
     requires ascends { RowsAscend rows.now }
     requires changes { ChangesAscend changed.now }
@@ -206,6 +220,7 @@ fn overwrite_row(rows: &mut Vec<Row>, at: usize, changed: &ChangedRow)
 }
 
 /// Puts the new places of changed variables into their rows; no row comes or goes.
+#[inline(always)]
 pub(crate) fn overwrite(rows: &mut Vec<Row>, changed: &[ChangedRow])
     requires ascends { RowsAscend rows.old.items }
     requires changes { ChangesAscend changed.now }

@@ -43,6 +43,7 @@ fn replace_tasks(tasks: &mut Items<TaskTable>, changed: &[ChangedTask])
 
 /// Makes a table's rows those with changes: where they stand, if no memory is given, else with the help of
 /// memory that has room for all.
+#[inline(always)]
 fn change_rows(rows: &mut Vec<Row>, changed: &[ChangedRow], room: Option<Vec<Row>>)
     requires ascends { RowsAscend rows.old.items }
     requires changes { ChangesAscend changed.now }
@@ -77,6 +78,7 @@ impl Places {
 
     /// The memory that `carry_out` needs for a swap of this table: none where no variable appears or goes,
     /// else that of as many rows as the table will have, or more. `AllocError` where a growth was refused.
+    #[inline(always)]
     pub fn room_for(&self, alloc: Global, swap: &Swap) -> Result<Room, AllocError>
         ensures room { IfOk result (IsRoomFor swap.now.change self.now) }
         ensures without { KeepRows self.now.variables swap.now.change.rows → result ≡ Ok None }
@@ -94,6 +96,7 @@ impl Places {
     /// and behind the last, they are overwritten where they stand; those between are merged in the room and
     /// put back, and the rows behind are shifted once. Where the table's memory may have no room for them, all
     /// rows are merged in the room, which is the table's from then on. Either way no row is merged twice.
+    #[inline(always)]
     pub fn carry_out(&mut self, swap: &Swap, room: Room)
         requires { IsRoomFor swap.now.change self.old room }
         ensures { self.new ≡ swapped swap.now.change self.old }

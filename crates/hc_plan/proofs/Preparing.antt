@@ -22,7 +22,7 @@ use Rattle.hc_groups.specs.Edits.{own_fault}
 use Rattle.hc_groups.specs.Rows.{ChangesRow}
 use Rattle.hc_places.specs.Room.{IsRoomFor}
 use Rattle.hc_places.specs.Table.{Table, table_of}
-use Rattle.hc_changes.specs.EditedLine.{EditedLine, IsEditedLine, IsRoomFor as HasRoomFor, edited_line_of}
+use Rattle.hc_changes.specs.EditedLine.{EditedLine, IsEditedLine, edited_line_of}
 use Rattle.hc_plan.specs.declared.report.Report.{Report}
 use Rattle.hc_plan.specs.Gone.{gone_of}
 use Rattle.hc_plan.specs.inner.Applied.{Makes}
@@ -72,10 +72,10 @@ is-prepared old work it edit report blocks project fits changes same =
 pub is-ready : (old : State) (work : LineWork) (it : EditedLine) (edit : Edit) (report : Report) (table : Table)
     → report.swap.edit ≡ edit → declares edit ≡ false → change_by old.groups edit ≡ Some work.change → changed_groups work.change old.groups ≡ groups_after old.groups edit → lowest_fault (groups_of (changed_groups work.change old.groups)) ≡ None
     → ChangesRow work.change old.groups
-    → it ≡ edited_line_of work.change old.groups → AreStartsOf (areas_by_rank it.new) work.starts → HasRoomFor work.change work.slaves
+    → it ≡ edited_line_of work.change old.groups → AreStartsOf (areas_by_rank it.new) work.starts
     → table ≡ table_of (line old) → IsRoomFor report.swap.change table work.rows
     → IsReady old report (NewLine work)
-is-ready old work it edit report table named changes made leads project row same known room stands space = search rules
+is-ready old work it edit report table named changes made leads project row same known stands space = search rules
 
 -- a declared group changes no block of the line
 pub declared-prepared : (old : State) (edit : Edit) (declaration : Declaration) (report : Report) → lowest_fault (groups_of old.groups) ≡ None → crowded_task (line old) ≡ None

@@ -11,6 +11,7 @@ use Rattle.hc_records.specs.Project.{lowest_fault}
 use Rattle.hc_registers.specs.Blocks.{moved_blocks}
 use Rattle.hc_registers.specs.Ranked.{RankedBlock, moved_ranked}
 use Rattle.hc_registers.proofs.lemmas.RanksMoved.{ranked-are-moved}
+use Rattle.hc_cuts.specs.LineChange.{LineChange}
 use Rattle.hc_places.specs.Layout.{layout_of}
 use Rattle.hc_places.specs.Swap.{AreOnce, ChangedRow, ChangedTask, Leads, LeadsAsSaid, Swap}
 use Rattle.hc_places.specs.Table.{IsTable, Table, table_of}
@@ -35,17 +36,17 @@ pub all-stand : (it : EditedLine) (moved_areas read : List MovedArea) → IsEdit
 all-stand it moved_areas read is fits all same = subst (λ (ms : List MovedArea). All (λ moved_area. StandsInside moved_area.found) ms) (sym (same ∙ all)) (moved_areas-stand it is fits)
 
 -- the rows that were told, by what was read
-pub told-rows : (it : EditedLine) (table : Table) (moved_areas read : List MovedArea) (before after : List (List Area)) (rows : List ChangedRow) → table ≡ table_of (line_from 1 it.old)
-    → moved_areas ≡ moved_areas_of it → read ≡ moved_areas → before ≡ it.before → after ≡ it.after → rows ≡ changed_rows table read before after
-    → rows ≡ changed_rows (table_of (line_from 1 it.old)) (moved_areas_of it) it.before it.after
-told-rows it table moved_areas read before after rows stands all same was is told = search rules
+pub told-rows : (it : EditedLine) (table : Table) (moved_areas read : List MovedArea) (change : LineChange) (rows : List ChangedRow) → table ≡ table_of (line_from 1 it.old)
+    → moved_areas ≡ moved_areas_of it → read ≡ moved_areas → change ≡ it.change → rows ≡ changed_rows table read change
+    → rows ≡ changed_rows (table_of (line_from 1 it.old)) (moved_areas_of it) it.change
+told-rows it table moved_areas read change rows stands all same is told = search rules
 
 pub told-once : (it : EditedLine) (found : List Candidate) (tasks : List ChangedTask) (rows : List ChangedRow) → IsEditedLine it → AreSeen it found tasks
-    → rows ≡ changed_rows (table_of (line_from 1 it.old)) (moved_areas_of it) it.before it.after → AreOnce rows
+    → rows ≡ changed_rows (table_of (line_from 1 it.old)) (moved_areas_of it) it.change → AreOnce rows
 told-once it found tasks rows is seen told = (swap-says it is (table_of (line_from 1 it.old)) refl tasks rows (moved_areas_of it) refl told seen.differ).1
 
 pub told-leads : (it : EditedLine) (found : List Candidate) (tasks : List ChangedTask) (rows : List ChangedRow) (swap : Swap) → IsEditedLine it → AreSeen it found tasks
-    → rows ≡ changed_rows (table_of (line_from 1 it.old)) (moved_areas_of it) it.before it.after → LeadsAsSaid (record { tasks = tasks; rows = rows }) swap
+    → rows ≡ changed_rows (table_of (line_from 1 it.old)) (moved_areas_of it) it.change → LeadsAsSaid (record { tasks = tasks; rows = rows }) swap
     → Leads (table_of (line_from 1 it.old)) (table_of (line_from 1 it.new)) swap
 told-leads it found tasks rows swap is seen told leads =
     leads (table_of (line_from 1 it.old)) (table_of (line_from 1 it.new)) (is-table it.old is.was_project) (is-table it.new is.is_project)

@@ -9,8 +9,10 @@ use Rattle.hc_records.specs.Line.{line_from}
 use Rattle.hc_cuts.specs.Starts.{Kept}
 use Rattle.hc_cuts.specs.Areas.{areas_by_rank}
 use Rattle.hc_cuts.specs.Kept.{crowded_from, line_kept}
+use Rattle.hc_cuts.specs.LineChange.{LineChange, back}
 use Rattle.hc_cuts.specs.Turn.{AreLines, AreStartsOf, IsPut, IsTurn}
 use Rattle.hc_cuts.proofs.lemmas.Projects.{line-crowded}
+use Rattle.hc_cuts.proofs.lemmas.Turning.{told-back}
 use Rattle.hc_changes.specs.EditedLine.{EditedLine, IsEditedLine}
 
 -- what is crowded, by the line and by the areas of its slaves
@@ -20,25 +22,22 @@ crowded-line groups crowded is = line-crowded groups ∙ is
 line-areas : (groups : List Declared) (crowded : Option ℕ) → crowded_task (line_from 1 groups) ≡ crowded → crowded_from 8 0 (areas_by_rank groups) ≡ crowded
 line-areas groups crowded is = sym (line-crowded groups) ∙ is
 
-pub edited_line-lines : (it : EditedLine) (first : ℕ) (before after : List (List Area)) → IsEditedLine it → first ≡ it.first → before ≡ it.before → after ≡ it.after
-    → AreLines first before after (areas_by_rank it.old) (areas_by_rank it.new)
-edited_line-lines it first before after is same second third = search rules
+pub edited_line-lines : (it : EditedLine) (change : LineChange) → IsEditedLine it → change ≡ it.change → AreLines change (areas_by_rank it.old) (areas_by_rank it.new)
+edited_line-lines it change is same = search rules
 
 -- the trees of the line before an edit are turned to those of the line after it
 
-pub edited_line-turn : (it : EditedLine) (kept : List Kept) (first : ℕ) (before after : List (List Area)) → IsEditedLine it → kept ≡ line_kept (areas_by_rank it.old)
-    → crowded_task (line_from 1 it.old) ≡ None → first ≡ it.first → before ≡ it.before → after ≡ it.after
-    → IsTurn 8 0 kept first before after (areas_by_rank it.old) (areas_by_rank it.new)
-edited_line-turn it kept first before after is trees fits same second third = search (rules, edited_line-lines, line-areas)
+pub edited_line-turn : (it : EditedLine) (kept : List Kept) (change : LineChange) → IsEditedLine it → kept ≡ line_kept (areas_by_rank it.old)
+    → crowded_task (line_from 1 it.old) ≡ None → change ≡ it.change → IsTurn 8 0 kept change (areas_by_rank it.old) (areas_by_rank it.new)
+edited_line-turn it kept change is trees fits same = search (rules, edited_line-lines, line-areas)
 
 -- and by boundaries that are known
 
-pub edited_line-put : (it : EditedLine) (kept : List Kept) (first : ℕ) (before after : List (List Area)) (starts : List (List Key)) → IsEditedLine it → kept ≡ line_kept (areas_by_rank it.old)
-    → AreStartsOf (areas_by_rank it.new) starts → first ≡ it.first → before ≡ it.before → after ≡ it.after
-    → IsPut 8 0 kept first before after starts (areas_by_rank it.old) (areas_by_rank it.new)
-edited_line-put it kept first before after starts is trees known same second third = search rules
+pub edited_line-put : (it : EditedLine) (kept : List Kept) (change : LineChange) (starts : List (List Key)) → IsEditedLine it → kept ≡ line_kept (areas_by_rank it.old)
+    → AreStartsOf (areas_by_rank it.new) starts → change ≡ it.change → IsPut 8 0 kept change starts (areas_by_rank it.old) (areas_by_rank it.new)
+edited_line-put it kept change starts is trees known same = search (rules, edited_line-lines)
 
-pub edited_line-back : (it : EditedLine) (kept : List Kept) (first : ℕ) (before after : List (List Area)) (starts : List (List Key)) → IsEditedLine it → kept ≡ line_kept (areas_by_rank it.new)
-    → AreStartsOf (areas_by_rank it.old) starts → first ≡ it.first → before ≡ it.before → after ≡ it.after
-    → IsPut 8 0 kept first after before starts (areas_by_rank it.new) (areas_by_rank it.old)
-edited_line-back it kept first before after starts is trees known same second third = search rules
+pub edited_line-back : (it : EditedLine) (kept : List Kept) (change other : LineChange) (starts : List (List Key)) → IsEditedLine it → kept ≡ line_kept (areas_by_rank it.new)
+    → AreStartsOf (areas_by_rank it.old) starts → change ≡ it.change → other ≡ back change → IsPut 8 0 kept other starts (areas_by_rank it.new) (areas_by_rank it.old)
+edited_line-back it kept change other starts is trees known same turned =
+    record { lines = told-back change other (areas_by_rank it.old) (areas_by_rank it.new) turned (edited_line-lines it change is same); stand = trees; known = known }

@@ -93,7 +93,7 @@ fn names_of(alloc: Global, blocks: &[RankedBlock]) -> Result<Vec<(u16, u8)>, All
 {
     let mut names = Vec::with_capacity(alloc, blocks.len())?;
     for block in blocks {
-        names.push((block.station, block.number))?;
+        names.push((block.found.station, block.found.number))?;
     }
     Ok(names)
 }
@@ -123,13 +123,7 @@ fn tell(
     let moving = moved_areas.as_slice();
     let blocks = moved_blocks(alloc, edited_line, moving)?;
     let names = names_of(alloc, blocks.as_slice())?;
-    let rows = changed_rows(
-        alloc,
-        places,
-        moving,
-        edited_line.before(),
-        edited_line.after(),
-    )?;
+    let rows = changed_rows(alloc, places, moving, edited_line.change())?;
     let swap = Swap::of(alloc, edit, tasks, rows)?;
     let room = places.room_for(alloc, &swap)?;
     Ok(Told {
@@ -166,12 +160,7 @@ pub(crate) fn work_out<L: Ledger>(
     ensures unchanged { cuts.new ≡ cuts.old }
 {
     let mut steps: Steps<L> = Steps::start(blank);
-    let known = Before::of(
-        cuts,
-        edited_line.first(),
-        edited_line.before(),
-        edited_line.after(),
-    );
+    let known = Before::of(cuts, edited_line.change());
     let unsettled = match turn_line(cuts, edited_line, &mut steps) {
         Ok(unsettled) => unsettled,
         Err(task) => return Err(EditFault::TooManyDatagrams(task)),

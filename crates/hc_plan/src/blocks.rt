@@ -12,26 +12,8 @@ use hc_records::keys::Key;
 use hc_records::records::{Area, Slave};
 use hc_records::task::Task;
 use hc_registers::blocks::Block;
-use std::marker::Model;
 
-/// A block of the line that a slave is configured with.
-#[derive(Debug, Drop)]
-pub struct LineBlock {
-    /// The station address of its slave.
-    pub station: u16,
-    /// Its number in the slave's order, from 0.
-    pub number: u8,
-    /// Its register and its bytes.
-    pub block: Block,
-}
-
-impl Model for LineBlock {
-    ghost use Rattle.hc_registers.specs.Blocks.{LineBlock};
-
-    ghost Value = { LineBlock };
-
-    ghost view = { λ found. record { station = found.station; number = found.number; block = found.block } };
-}
+pub use hc_registers::blocks::LineBlock;
 
 /// One of the two blocks of the area at an index of a slave with a rank: the sync manager block for an
 /// even number, the FMMU block for an odd one. The layout tells the area's width, so no PDO is read.

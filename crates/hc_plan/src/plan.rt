@@ -13,7 +13,7 @@ use crate::report::Report;
 use crate::shares::share_of;
 use crate::turning::turn_on;
 use crate::work::{LineWork, Work};
-use hc_changes::edited_line::{EditedLine, EditedLineRoom};
+use hc_changes::edited_line::EditedLine;
 use hc_cuts::tasks::LineCuts;
 use hc_groups::faults::remap_fault;
 use hc_groups::index::{Index, Indexed};
@@ -337,9 +337,7 @@ impl Plan {
     {
         let groups = self.index.of(self.groups.as_slice());
         let change = Prepared::of(alloc, &groups, edit)?;
-        let slaves = EditedLineRoom::of(alloc, &change)?;
-        let room = EditedLineRoom::of(alloc, &change)?;
-        let edited_line = EditedLine::of(room, &groups, &change);
+        let edited_line = EditedLine::of(&groups, &change);
         let worked = work_out::<Brand>(
             alloc,
             edit,
@@ -358,7 +356,6 @@ impl Plan {
             work: Work::NewLine(LineWork {
                 change,
                 starts: worked.starts,
-                slaves,
                 rows: worked.room,
             }),
         })
@@ -403,11 +400,10 @@ impl Plan {
         let LineWork {
             change,
             starts,
-            slaves,
             rows,
         } = work;
         let groups = self.index.of(self.groups.as_slice());
-        let edited_line = EditedLine::of(slaves, &groups, &change);
+        let edited_line = EditedLine::of(&groups, &change);
         turn_on(&mut self.cuts, &edited_line, &starts);
         drop(edited_line);
         drop(groups);

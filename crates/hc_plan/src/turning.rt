@@ -33,7 +33,7 @@ pub(crate) fn turn_line<L: Ledger>(
     ensures refused { IfErr result (λ task. crowded_task (line_from 1 edited.now.new) ≡ Some task) }
     ensures unchanged { OnErr result (cuts.new ≡ cuts.old) }
 {
-    cuts.turn(edited.first(), edited.before(), edited.after(), steps)
+    cuts.turn(edited.change(), steps)
 }
 
 /// Turns the trees of what an edit makes of a line back to those of the line before it, by what was known
@@ -44,12 +44,8 @@ pub(crate) fn turn_back(cuts: &mut LineCuts, edited: &EditedLine<'_>, known: &Be
     requires known { StandsBefore (areas_by_rank edited.now.old) (areas_by_rank edited.now.new) known.now }
     ensures { cuts.new ≡ line_kept (areas_by_rank edited.now.old) }
 {
-    cuts.put(
-        edited.first(),
-        edited.after(),
-        edited.before(),
-        known.starts(),
-    );
+    let back = edited.change().back();
+    cuts.put(&back, known.starts());
 }
 
 /// Turns the trees of a line's tasks to what an edit makes of it again, by the boundaries that they have there.
@@ -60,5 +56,5 @@ pub(crate) fn turn_on(cuts: &mut LineCuts, edited: &EditedLine<'_>, starts: &Lin
     requires starts { AreStartsOf (areas_by_rank edited.now.new) starts.now }
     ensures { cuts.new ≡ line_kept (areas_by_rank edited.now.new) }
 {
-    cuts.put(edited.first(), edited.before(), edited.after(), starts);
+    cuts.put(edited.change(), starts);
 }

@@ -1,7 +1,6 @@
 //! What is worked out of an edit before anything changes, so that carrying it out takes no memory and can't be
 //! refused.
 use crate::declaring::Declaration;
-use hc_changes::edited_line::EditedLineRoom;
 use hc_cuts::starts::LineStarts;
 use hc_groups::prepared::Prepared;
 use hc_places::room::Room;
@@ -12,8 +11,6 @@ pub(crate) struct LineWork {
     pub(crate) change: Prepared,
     // the boundaries of the new line's tasks
     pub(crate) starts: LineStarts,
-    // for the areas of the slaves that the edit concerns
-    pub(crate) slaves: EditedLineRoom,
     // for the new table's rows
     pub(crate) rows: Room,
 }

@@ -29,6 +29,25 @@ impl Model for Block {
     ghost view = { λ block. record { register = block.register; bytes = block.bytes.items } };
 }
 
+/// A block of the line that a slave is configured with.
+#[derive(Debug, Drop)]
+pub struct LineBlock {
+    /// The station address of its slave.
+    pub station: u16,
+    /// Its number in the slave's order, from 0.
+    pub number: u8,
+    /// Its register and its bytes.
+    pub block: Block,
+}
+
+impl Model for LineBlock {
+    ghost use Rattle.hc_registers.specs.Blocks.{LineBlock};
+
+    ghost Value = { LineBlock };
+
+    ghost view = { λ found. record { station = found.station; number = found.number; block = found.block } };
+}
+
 /// The FMMU block of these bytes for the area at an index of its slave's record.
 fn fmmu_of(index: u8, bytes: [u8; 16]) -> Block
     requires { index < MOST_AREAS }

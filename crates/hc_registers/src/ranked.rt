@@ -2,7 +2,7 @@
 ghost use Rattle.std.specs.Prelude.{◌≡◌, ◌≤◌};
 ghost use Rattle.hc_registers.specs.RankPlaces.{place};
 
-use crate::blocks::Block;
+use crate::blocks::LineBlock;
 use std::marker::Model;
 
 /// The place of the block with a number of the slave with a rank.
@@ -18,12 +18,8 @@ fn place(rank: u16, number: u8) -> usize
 pub struct RankedBlock {
     /// The rank of its slave: declared slaves are counted from 1, present or not.
     pub rank: u16,
-    /// The station address of its slave.
-    pub station: u16,
-    /// Its number in the slave's order, from 0.
-    pub number: u8,
-    /// Its register and its bytes.
-    pub block: Block,
+    /// The block.
+    pub found: LineBlock,
 }
 
 impl Model for RankedBlock {
@@ -31,7 +27,7 @@ impl Model for RankedBlock {
 
     ghost Value = { RankedBlock };
 
-    ghost view = { λ it. record { rank = it.rank; found = record { station = it.station; number = it.number; block = it.block } } };
+    ghost view = { λ it. record { rank = it.rank; found = it.found } };
 }
 
 /// The slaves that leave a line with an edit: so many, from a rank on.
@@ -52,7 +48,7 @@ impl RankedBlock {
         requires { 1 ≤ self.now.rank }
         ensures { result ≡ block_place self.now }
     {
-        place(self.rank, self.number)
+        place(self.rank, self.found.number)
     }
 }
 

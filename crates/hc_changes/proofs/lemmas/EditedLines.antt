@@ -1,6 +1,6 @@
 -- The slaves that a change concerns are those in which the lines before it and after it differ.
-use Rattle.std.proofs.Common.{◌≡◌, ℕ, zero, suc, ◌+◌, ◌<◌, ◌≤◌, Bool, true, false, not, List, [], ◌∷◌, ◌++◌, Option, None, length, take, refl, sym, ap, ◌∙◌, arith, if◌then◌else◌, rules}
-use Rattle.std.specs.Prelude.{◌&&◌, map, slice_index_or}
+use Rattle.std.proofs.Common.{◌≡◌, ℕ, zero, suc, ◌+◌, ◌<◌, ◌≤◌, Bool, true, false, not, List, [], ◌∷◌, ◌++◌, Option, None, length, refl, sym, ap, ◌∙◌, arith, if◌then◌else◌, rules}
+use Rattle.std.specs.Prelude.{◌&&◌, IfNone, IfSome, Some, is_some, map, slice_index_or}
 use Rattle.std.proofs.lemmas.Bool.{le-ltb, lt-ltb}
 use Rattle.std.proofs.lemmas.List.{length-map, map-append}
 use Rattle.std.proofs.lemmas.Grind.{common_steps}
@@ -11,19 +11,20 @@ use Rattle.hc_records.specs.Line.{groups_of, line_from}
 use Rattle.hc_records.specs.Project.{lowest_fault}
 use Rattle.hc_groups.specs.declared.prepared.Prepared.{Prepared}
 use Rattle.hc_groups.specs.Changes.{changed_groups}
-use Rattle.hc_groups.specs.Rows.{ChangesRow, Ranked, areas_in_line, by_rank, first_of, nth_areas, ranked, row}
+use Rattle.hc_groups.specs.Rows.{ChangesRow, Ranked, areas_in_line, by_rank, ranked, row}
 use Rattle.hc_cuts.specs.Areas.{areas_at, areas_by_rank}
 use Rattle.hc_cuts.specs.Turn.{AreLines}
 use Rattle.hc_cuts.proofs.lemmas.Projects.{project-line}
 use Rattle.hc_changes.specs.Candidates.{DifferAt, slave_of}
 use Rattle.hc_changes.specs.Edited.{HasEdit}
-use Rattle.hc_changes.specs.EditedLine.{EditedLine, IsEditedLine, changes, edited_line_of}
+use Rattle.hc_cuts.specs.LineChange.{LineChange, changes}
+use Rattle.hc_changes.specs.EditedLine.{EditedLine, IsEditedLine, edited_line_of, line_change_of}
 use Rattle.hc_changes.proofs.lemmas.InARow.{index-front}
 use Rattle.hc_changes.proofs.lemmas.Ranks.{line-slots, none-below, slot, slots}
 
 -- what is told of each declared slave by rank, and of those of one group
 
-told-of : {X : Type 0} (tell : Ranked → X) (own : Bool → Slave → X) → ((present : Bool) (slave : Slave) → own present slave ≡ tell (record { present = present; slave = slave }))
+pub told-of : {X : Type 0} (tell : Ranked → X) (own : Bool → Slave → X) → ((present : Bool) (slave : Slave) → own present slave ≡ tell (record { present = present; slave = slave }))
     → (present : Bool) (slaves : List Slave) → map (own present) slaves ≡ map tell (ranked present slaves)
 told-of tell own same present [] = refl
 told-of tell own same present (slave ∷ slaves) = search (rules, told-of tell own same present slaves)
@@ -53,7 +54,7 @@ around tell all front row behind is = search (rules, map-append)
 
 -- the lines differ in the areas of these slaves alone
 change-lines : (groups : List Declared) (change : Prepared) → lowest_fault (groups_of groups) ≡ None → lowest_fault (groups_of (changed_groups change groups)) ≡ None → ChangesRow change groups →
-    AreLines (first_of change) (map areas_in_line (row change groups)) (map areas_in_line (row change (changed_groups change groups))) (areas_by_rank groups) (areas_by_rank (changed_groups change groups))
+    AreLines (line_change_of change groups) (areas_by_rank groups) (areas_by_rank (changed_groups change groups))
 change-lines groups change was is it =
     let front_many = length-map {B = List Area} it.front areas_in_line in
     record {
@@ -76,7 +77,7 @@ inside-by : (low high : Bool) → low ≡ false → high ≡ true → (not low &
 inside-by low high below above = search rules
 
 -- a slave that isn't among them stands in both lines with the same record, or in neither
-change-differs : (groups : List Declared) (change : Prepared) → ChangesRow change groups → DifferAt (changes (edited_line_of change groups)) (line_from 1 groups) (line_from 1 (changed_groups change groups))
+change-differs : (groups : List Declared) (change : Prepared) → ChangesRow change groups → DifferAt (changes (line_change_of change groups)) (line_from 1 groups) (line_from 1 (changed_groups change groups))
 change-differs groups change it zero unchanged = none-below 1 groups 0 (omega arith) ∙ sym (none-below 1 (changed_groups change groups) 0 (omega arith))
 change-differs groups change it (suc i) unchanged =
     let after = changed_groups change groups in
@@ -105,23 +106,22 @@ among-at : (slaves front own behind : List (List Area)) (first i : ℕ) → slav
     areas_at slaves (first + i) ≡ slice_index_or own i []
 among-at slaves front own behind first i is begins within = search (rules, index-front)
 
-pub before-at : (it : EditedLine) → IsEditedLine it → (rank i : ℕ) → rank ≡ it.first + i → i < length it.before → areas_at (areas_by_rank it.old) rank ≡ slice_index_or it.before i []
+pub before-at : (it : EditedLine) → IsEditedLine it → (rank i : ℕ) → rank ≡ it.change.first + i → i < length it.change.areas_before → areas_at (areas_by_rank it.old) rank ≡ slice_index_or it.change.areas_before i []
 before-at it is rank i at within = search (rules, among-at)
 
-pub after-at : (it : EditedLine) → IsEditedLine it → (rank i : ℕ) → rank ≡ it.first + i → i < length it.before → areas_at (areas_by_rank it.new) rank ≡ slice_index_or it.after i []
+pub after-at : (it : EditedLine) → IsEditedLine it → (rank i : ℕ) → rank ≡ it.change.first + i → i < length it.change.areas_before → areas_at (areas_by_rank it.new) rank ≡ slice_index_or it.change.areas_after i []
 after-at it is rank i at within =
     ap (areas_at (areas_by_rank it.new)) at
-    ∙ among-at (areas_by_rank it.new) is.lines.front it.after is.lines.behind it.first i is.lines.is is.lines.rank (omega (arith, within, is.lines.many))
+    ∙ among-at (areas_by_rank it.new) is.lines.front it.change.areas_after is.lines.behind it.change.first i is.lines.is is.lines.rank (omega (arith, within, is.lines.many))
 
-pub other-at : (it : EditedLine) → IsEditedLine it → (rank : ℕ) → changes it rank ≡ false → areas_at (areas_by_rank it.old) rank ≡ areas_at (areas_by_rank it.new) rank
+pub other-at : (it : EditedLine) → IsEditedLine it → (rank : ℕ) → changes it.change rank ≡ false → areas_at (areas_by_rank it.old) rank ≡ areas_at (areas_by_rank it.new) rank
 other-at it is rank unchanged = search (rules, inside-by, le-ltb, lt-ltb, outside)
 
--- the areas of these slaves read one by one
-
-next-read : (slaves : List Ranked) (i : ℕ) → i < length slaves → take (suc i) (map areas_in_line slaves) ≡ take i (map areas_in_line slaves) ++ nth_areas slaves i ∷ []
-next-read [] i within = absurd (omega arith)
-next-read (slave ∷ slaves) zero within = refl
-next-read (slave ∷ slaves) (suc i) within = ap (λ (rest : List (List Area)). areas_in_line slave ∷ rest) (next-read slaves i (omega arith))
-
-pub read-next : (slaves : List Ranked) (i : ℕ) → i < length slaves → take (i + 1) (map areas_in_line slaves) ≡ take i (map areas_in_line slaves) ++ nth_areas slaves i ∷ []
-read-next slaves i within = search (rules, next-read)
+-- the slave with a rank is one of those that change, or isn't, as its index is told
+pub index-told : (change : LineChange) (rank : ℕ) (found : Option ℕ) → IfSome found (λ index. (rank ≡ change.first + index) × (index < length change.areas_before))
+    → IfNone found (changes change rank ≡ false) → is_some found ≡ changes change rank
+index-told change rank None some none = sym none
+index-told change rank (Some index) some none =
+    let low : change.first ≤ rank = omega (arith, some.0) in
+    let high : rank < change.first + length change.areas_before = omega (arith, some.0, some.1) in
+    sym (search (rules, inside-by, le-ltb, lt-ltb))

@@ -24,7 +24,8 @@ use Rattle.hc_cuts.specs.Recut.{is_touched_by}
 use Rattle.hc_cuts.proofs.lemmas.Told.{place-told, task-listed}
 use Rattle.hc_changes.specs.Candidates.{LineArea, candidate_of, is_candidate, is_recut, key_of, place_of}
 use Rattle.hc_changes.specs.inner.Found.{IsCandidateTest, area_by, area_found, found_among}
-use Rattle.hc_changes.specs.EditedLine.{EditedLine, changes}
+use Rattle.hc_cuts.specs.LineChange.{changes}
+use Rattle.hc_changes.specs.EditedLine.{EditedLine}
 use Rattle.hc_changes.proofs.lemmas.Lists.{found-among}
 use Rattle.hc_changes.proofs.lemmas.Recut.{untouched-areas}
 use Rattle.hc_changes.proofs.lemmas.Standing.{placed-below}
@@ -33,7 +34,7 @@ use Rattle.hc_changes.proofs.lemmas.Tables.{touched-told, state_of}
 -- one area that is a candidate, and one that is none
 
 abbrev judged : EditedLine → LineArea → Bool
-judged it found = is_candidate (changes it) (line_from 1 it.old) (line_from 1 it.new) found
+judged it found = is_candidate (changes it.change) (line_from 1 it.old) (line_from 1 it.new) found
 
 found-yes : (it : EditedLine) (found : LineArea) → judged it found ≡ true → found_among it (found ∷ []) ≡ candidate_of (line_from 1 it.new) found ∷ []
 unfolding found_among
@@ -82,11 +83,11 @@ pub untouched-kept : (it : EditedLine) (before : Before) (cuts : List Kept) → 
 untouched-kept it before cuts test found some none tells =
     untouched-areas (state_of it.old) (state_of it.new) found test.is.was_project test.is.is_project (sym (touched-is it before cuts test found.area.task some tells) ∙ none)
 
-pub unrecut-none : (it : EditedLine) (station rank index : ℕ) (area : Area) → changes it rank ≡ false → is_recut (line_from 1 it.old) (line_from 1 it.new) (area_by station rank index area) ≡ false
+pub unrecut-none : (it : EditedLine) (station rank index : ℕ) (area : Area) → changes it.change rank ≡ false → is_recut (line_from 1 it.old) (line_from 1 it.new) (area_by station rank index area) ≡ false
     → area_found it station rank index area ≡ []
 unrecut-none it station rank index area unchanged kept = search (rules, found-no, other-one)
 
-pub untouched-area : (it : EditedLine) (before : Before) (cuts : List Kept) → IsCandidateTest it before cuts → (station rank index : ℕ) (area : Area) → changes it rank ≡ false
+pub untouched-area : (it : EditedLine) (before : Before) (cuts : List Kept) → IsCandidateTest it before cuts → (station rank index : ℕ) (area : Area) → changes it.change rank ≡ false
     → (some : Bool) → some ≡ false → ((old new : List (List Area)) → StandsBefore old new before → some ≡ is_touched_by area.task old new)
     → area_found it station rank index area ≡ []
 untouched-area it before cuts test station rank index area unchanged some none tells = search (rules, unrecut-none, untouched-kept)
@@ -96,15 +97,15 @@ recut_by it task place =
     option_map_or (λ (placed : Placed). not (is_kept_up_to (task_list task (line_from 1 it.old)) (task_list task (line_from 1 it.new)) placed.datagram placed.key)) place false
 
 pub kept-area : (it : EditedLine) (station rank index : ℕ) (area : Area) (place : Option Placed) → place ≡ place_of (line_from 1 it.new) (area_by station rank index area)
-    → changes it rank ≡ false → recut_by it area.task place ≡ false → area_found it station rank index area ≡ []
+    → changes it.change rank ≡ false → recut_by it area.task place ≡ false → area_found it station rank index area ≡ []
 kept-area it station rank index area place is unchanged kept = search (rules, found-no, other-one)
 
 pub recut-area : (it : EditedLine) (station rank index : ℕ) (area : Area) (place : Option Placed) → place ≡ place_of (line_from 1 it.new) (area_by station rank index area)
-    → changes it rank ≡ false → recut_by it area.task place ≡ true
+    → changes it.change rank ≡ false → recut_by it area.task place ≡ true
     → area_found it station rank index area ≡ record { station = station; rank = rank; index = index; area = area; place = place } ∷ []
 recut-area it station rank index area place is unchanged recut = search (rules, found-yes, other-one)
 
 pub changed-area : (it : EditedLine) (station rank index : ℕ) (area : Area) (place : Option Placed) → place ≡ place_of (line_from 1 it.new) (area_by station rank index area)
-    → changes it rank ≡ true
+    → changes it.change rank ≡ true
     → area_found it station rank index area ≡ record { station = station; rank = rank; index = index; area = area; place = place } ∷ []
 changed-area it station rank index area place is changed = search (rules, found-yes, or_left)

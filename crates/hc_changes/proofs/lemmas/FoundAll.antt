@@ -16,7 +16,8 @@ use Rattle.hc_cuts.proofs.lemmas.Told.{length-present}
 use Rattle.hc_changes.specs.Candidates.{Candidate, LineArea, areas_of, candidate_of, candidates, line_areas}
 use Rattle.hc_changes.specs.Edited.{HasEdit}
 use Rattle.hc_changes.specs.inner.Found.{area_found, areas_found, found_among, found_below, rank_found, stations}
-use Rattle.hc_changes.specs.EditedLine.{EditedLine, IsEditedLine, changes}
+use Rattle.hc_cuts.specs.LineChange.{changes}
+use Rattle.hc_changes.specs.EditedLine.{EditedLine, IsEditedLine}
 use Rattle.hc_changes.proofs.lemmas.Bare.{bare_slave, edit-keeps}
 use Rattle.hc_changes.proofs.lemmas.FoundRanks.{many-stations}
 
@@ -149,7 +150,7 @@ same-stations old new edited = search (rules, stations-bare, edit-keeps)
 -- so all candidates are found
 
 pub found-all : (it : EditedLine) (end : ℕ) → IsEditedLine it → end ≡ length (areas_by_rank it.old) + 1
-    → found_below it end ≡ map (candidate_of (line_from 1 it.new)) (candidates (changes it) (line_from 1 it.old) (line_from 1 it.new))
+    → found_below it end ≡ map (candidate_of (line_from 1 it.new)) (candidates (changes it.change) (line_from 1 it.old) (line_from 1 it.new))
 unfolding found_among
 found-all it end is all =
     let same = same-stations it.old it.new is.edited in

@@ -1,5 +1,5 @@
 -- All candidates stand between the ranks of the slaves that change and of those between the boundaries of datagrams behind what is kept of them.
-use Rattle.std.proofs.Common.{◌≡◌, ℕ, suc, ◌+◌, ◌<◌, ◌≤◌, Bool, true, false, List, [], ◌∷◌, Contains, length, refl, sym, ap, subst, ◌∙◌, ⊎_elim, arith, rules}
+use Rattle.std.proofs.Common.{◌≡◌, ℕ, ◌+◌, ◌<◌, ◌≤◌, Bool, true, false, List, [], ◌∷◌, Contains, length, refl, sym, ap, subst, ◌∙◌, ⊎_elim, arith, rules}
 use Rattle.std.specs.Prelude.{All, slice_index_or}
 use Rattle.std.proofs.Math.Nat.{eq-or-lt_of_le}
 use Rattle.std.proofs.lemmas.Bool.{cases_lt, or_parts, false_from_ne_true}
@@ -31,7 +31,8 @@ use Rattle.hc_cuts.specs.Recut.{is_touched_by}
 use Rattle.hc_cuts.proofs.lemmas.Told.{task-listed}
 use Rattle.hc_changes.specs.Candidates.{is_recut}
 use Rattle.hc_changes.specs.inner.Found.{HoldChanged, HoldRanks, HoldRecut, IsCandidateTest, LieWithin, area_by, areas_found, rank_found, station_at}
-use Rattle.hc_changes.specs.EditedLine.{EditedLine, IsEditedLine, changes}
+use Rattle.hc_cuts.specs.LineChange.{changes}
+use Rattle.hc_changes.specs.EditedLine.{EditedLine, IsEditedLine}
 use Rattle.hc_changes.proofs.lemmas.Finding.{unrecut-none, untouched-kept}
 use Rattle.hc_changes.proofs.lemmas.FoundRanks.{above-none, task-below}
 use Rattle.hc_changes.proofs.lemmas.Recut.{recut-unkept}
@@ -149,7 +150,7 @@ changed-wider it low high wide_low wide_high wider hold rank changed = search ru
 
 -- so all candidates stand between the ranks that hold those of all tasks
 
-none-found : (it : EditedLine) (station rank index : ℕ) (areas : List Area) → changes it rank ≡ false
+none-found : (it : EditedLine) (station rank index : ℕ) (areas : List Area) → changes it.change rank ≡ false
     → ((i : ℕ) (area : Area) → Contains areas area → is_recut (line_from 1 it.old) (line_from 1 it.new) (area_by station rank i area) ≡ false) → areas_found it station rank index areas ≡ []
 unfolding areas_found
 none-found it station rank index [] unchanged kept = refl
@@ -162,7 +163,7 @@ unfolding rank_found
 rank-none it rank low high is changed recut out narrow =
     let areas = areas_at (areas_by_rank it.new) rank in
     let station = station_at it.old rank in
-    none-found it station rank 0 areas (false_from_ne_true (changes it rank) (λ among. let own = changed rank among in out own.0 own.1))
+    none-found it station rank 0 areas (false_from_ne_true (changes it.change rank) (λ among. let own = changed rank among in out own.0 own.1))
     (λ i area (k, within, at).
     let task : area.task < TASKS = task-below it.new rank k areas area is.is_project refl within (sym at) in
     false_from_ne_true (is_recut (line_from 1 it.old) (line_from 1 it.new) (area_by station rank i area))

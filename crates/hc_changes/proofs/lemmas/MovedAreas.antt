@@ -25,7 +25,8 @@ use Rattle.hc_changes.specs.Candidates.{Candidate, LineArea, candidate_of, candi
 use Rattle.hc_changes.specs.Moved.{bits_of}
 use Rattle.hc_changes.specs.inner.Moved.{IsComparable, IsWritable, blocks_if, blocks_moved, differ_from, moved_by, two_blocks}
 use Rattle.hc_changes.specs.MovedAreas.{FormerArea, MovedArea, area_before, former_area_of, moved_area_of, moved_areas_of, moves, place_before, same_spot}
-use Rattle.hc_changes.specs.EditedLine.{EditedLine, IsEditedLine, candidates_of, changes}
+use Rattle.hc_cuts.specs.LineChange.{changes}
+use Rattle.hc_changes.specs.EditedLine.{EditedLine, IsEditedLine, candidates_of}
 use Rattle.hc_changes.specs.Rows.{StandsInside, is_new_row, moved_rows, rows_of, rows_of_moved_areas}
 use Rattle.hc_changes.proofs.lemmas.ByRank.{area-named}
 use Rattle.hc_changes.proofs.lemmas.Inside.{candidates-inside}
@@ -57,11 +58,11 @@ module _ (it : EditedLine) (is : IsEditedLine it) where
   -- what holds of each area of the new line, as a moved area, holds of the candidates
   each-moved_area : (P : MovedArea → Type 0) → ((found : LineArea) → IsAreaOf new found → P (moved_area_of it (own found))) → All P (map (moved_area_of it) (candidates_of it))
   each-moved_area P each =
-      let all = candidates (changes it) old new in
+      let all = candidates (changes it.change) old new in
       All-map P (moved_area_of it) (candidates_of it)
       (All-map (λ c. P (moved_area_of it c)) (candidate_of new) all
       (All-weaker (Contains all) (λ found. P (moved_area_of it (own found)))
-      (λ found at. each found (line-area new found (contains-unfiltered (is_candidate (changes it) old new) (line_areas new) found at))) all (All-contains_itself all)))
+      (λ found at. each found (line-area new found (contains-unfiltered (is_candidate (changes it.change) old new) (line_areas new) found at))) all (All-contains_itself all)))
 
   -- an area of one record stands at one spot of both lines at one place
 
@@ -91,8 +92,8 @@ module _ (it : EditedLine) (is : IsEditedLine it) where
       let candidate = own found in
       let elsewhere : Option FormerArea → Bool = λ former. option_map_or (λ (f : FormerArea). not (same_spot candidate.place f.place)) former true in
       let make : Area → FormerArea = λ area. record { area = area; place = place_before it candidate area } in
-      let parts = or_parts (changes it found.member.rank) (elsewhere (former_area_of it candidate)) still in
-      let was = line-area old found (others-stand (changes it) old new (line-ascends 1 it.new) is.slaves found (area-stands new found of) parts.0) in
+      let parts = or_parts (changes it.change found.member.rank) (elsewhere (former_area_of it candidate)) still in
+      let was = line-area old found (others-stand (changes it.change) old new (line-ascends 1 it.new) is.slaves found (area-stands new found of) parts.0) in
       let area : area_before it candidate ≡ Some found.area = search (rules, other-at, area-named) in
       let stood : place_before it candidate found.area ≡ place_of old found = sym (place-by it.old found found refl refl) in
       let spot : same_spot candidate.place (place_of old found) ≡ true = search (rules, not-false) in

@@ -33,7 +33,8 @@ use Rattle.hc_changes.specs.Candidates.{Candidate, LineArea, blocks_of, candidat
 use Rattle.hc_changes.specs.Compared.{counterpart, differing_of, unlike}
 use Rattle.hc_changes.specs.inner.Moved.{IsOfLine, IsWritable, blocks_if, blocks_moved, differ_from, mapping_by, two_blocks}
 use Rattle.hc_changes.specs.MovedAreas.{FormerArea, area_before, moved_area_of, place_before}
-use Rattle.hc_changes.specs.EditedLine.{EditedLine, IsEditedLine, changes}
+use Rattle.hc_cuts.specs.LineChange.{changes}
+use Rattle.hc_changes.specs.EditedLine.{EditedLine, IsEditedLine}
 use Rattle.hc_changes.proofs.lemmas.Blocks.{ranked_by}
 use Rattle.hc_changes.proofs.lemmas.ByRank.{area-named, areas-of-rank}
 use Rattle.hc_changes.proofs.lemmas.Compared.{StoodAt, all-compared, area-stood, flat_map-among}
@@ -166,27 +167,27 @@ pub edited-one-project : (it : EditedLine) → IsEditedLine it → AreOfOneProje
 edited-one-project it is = search (rules, edit-one-project)
 
 edited-compared : (it : EditedLine) → IsEditedLine it → moved_ranked (line_from 1 it.old) (line_from 1 it.new)
-    ≡ flat_map (ranked_by (differing_of (line_from 1 it.old) (line_from 1 it.new))) (candidates (changes it) (line_from 1 it.old) (line_from 1 it.new))
+    ≡ flat_map (ranked_by (differing_of (line_from 1 it.old) (line_from 1 it.new))) (candidates (changes it.change) (line_from 1 it.old) (line_from 1 it.new))
 edited-compared it is = search (rules, all-compared)
 
 pub moved-told : (it : EditedLine) → IsEditedLine it
-    → flat_map (blocks_by it) (map (candidate_of (line_from 1 it.new)) (candidates (changes it) (line_from 1 it.old) (line_from 1 it.new)))
+    → flat_map (blocks_by it) (map (candidate_of (line_from 1 it.new)) (candidates (changes it.change) (line_from 1 it.old) (line_from 1 it.new)))
     ≡ moved_ranked (line_from 1 it.old) (line_from 1 it.new)
-moved-told it is = all-blocks it (edited-one-project it is) (changes it) (edited-compared it is)
+moved-told it is = all-blocks it (edited-one-project it is) (changes it.change) (edited-compared it is)
 
 -- each candidate is an area of the new line
 
 pub candidate-stands : (it : EditedLine) (found : List Candidate) (i : ℕ) (candidate : Candidate)
-    → found ≡ map (candidate_of (line_from 1 it.new)) (candidates (changes it) (line_from 1 it.old) (line_from 1 it.new)) → i < length found → candidate ≡ get_or found i candidate
+    → found ≡ map (candidate_of (line_from 1 it.new)) (candidates (changes it.change) (line_from 1 it.old) (line_from 1 it.new)) → i < length found → candidate ≡ get_or found i candidate
     → IsOfLine (line_from 1 it.new) candidate
 candidate-stands it found i candidate is within met =
     let new = line_from 1 it.new in
-    let all = candidates (changes it) (line_from 1 it.old) new in
+    let all = candidates (changes it.change) (line_from 1 it.old) new in
     let each : All (IsOfLine new) found =
     subst (λ (own : List Candidate). All (IsOfLine new) own) (sym is)
     (All-map (IsOfLine new) (candidate_of new) all
     (All-weaker (Contains all) (λ f. IsOfLine new (candidate_of new f))
-    (λ f at. record { found = f; stands = contains-unfiltered (is_candidate (changes it) (line_from 1 it.old) new) (line_areas new) f at; is = refl })
+    (λ f at. record { found = f; stands = contains-unfiltered (is_candidate (changes it.change) (line_from 1 it.old) new) (line_areas new) f at; is = refl })
     all (All-contains_itself all))) in
     subst (IsOfLine new) (sym met) (each i candidate within)
 

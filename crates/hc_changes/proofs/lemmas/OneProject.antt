@@ -1,5 +1,5 @@
 -- The lines before and after an edit are of one project: a slave keeps its rank, and the areas of its record what no edit changes.
-use Rattle.std.proofs.Common.{◌≡◌, ℕ, ◌+◌, ◌-◌, ◌<◌, zero, suc, Bool, false, List, [], ◌∷◌, length, Contains, Some, None, sym, ap, subst, ◌∙◌, ⊎_elim, inl, inr, arith, refl, if◌then◌else◌, rules}
+use Rattle.std.proofs.Common.{◌≡◌, ℕ, ◌+◌, ◌-◌, ◌<◌, zero, suc, Bool, List, [], ◌∷◌, length, Contains, Some, None, sym, ap, subst, ◌∙◌, ⊎_elim, inl, inr, arith, refl, if◌then◌else◌, rules}
 use Rattle.std.specs.Prelude.{◌≢◌, AllPairs, map, option_map, slice_get}
 use Rattle.std.specs.List.{enumerate_from}
 use Rattle.std.proofs.lemmas.Bool.{cases_order}
@@ -10,7 +10,7 @@ use Rattle.hc_records.specs.declared.edit.Edit.TheVariants.{Connect, Disconnect,
 use Rattle.hc_records.specs.declared.records.Area.{Area}
 use Rattle.hc_records.specs.declared.records.Declared.{Declared}
 use Rattle.hc_records.specs.declared.records.Slave.{Slave}
-use Rattle.hc_records.specs.Edits.{declares, groups_after}
+use Rattle.hc_records.specs.Edits.{groups_after}
 use Rattle.hc_records.specs.Line.{Member, groups_of, line_from, members_from}
 use Rattle.hc_records.specs.Project.{lowest_fault}
 use Rattle.hc_records.proofs.lemmas.Declaring.{line-absent}

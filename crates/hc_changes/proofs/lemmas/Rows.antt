@@ -13,6 +13,7 @@ use Rattle.hc_records.proofs.lemmas.Finds.{found-none}
 use Rattle.hc_records.proofs.lemmas.Lines.{line-ascends}
 use Rattle.hc_records.proofs.lemmas.TaskLists.{project-list}
 use Rattle.hc_cuts.specs.Areas.{areas_at, areas_by_rank}
+use Rattle.hc_cuts.specs.LineChange.{LineChange}
 use Rattle.hc_cuts.specs.Turn.{AreLines}
 use Rattle.hc_places.specs.Swap.{ChangedRow, new_place, same_found}
 use Rattle.hc_places.specs.Table.{Row, Table, place_in, table_of}
@@ -31,13 +32,13 @@ use Rattle.hc_changes.proofs.lemmas.Others.{IsAreaOf, area-stands, contains-mapp
 use Rattle.hc_changes.proofs.lemmas.Places.{StandsIn, area-stands-at, carried-stands, stands-in}
 
 -- two states of one project, between which slaves in a row change
-pub record IsChange (changed : ℕ → Bool) (first : ℕ) (before after : List (List Area)) (old new : State) : Type 0 where
+pub record IsChange (changed : ℕ → Bool) (it : LineChange) (old new : State) : Type 0 where
   pub was_project : lowest_fault (groups_of old.groups) ≡ None
   pub is_project : lowest_fault (groups_of new.groups) ≡ None
   pub variables : variables_by_rank new.groups ≡ variables_by_rank old.groups
   pub slaves : DifferAt changed (line old) (line new)
-  pub areas : AreLines first before after (areas_by_rank old.groups) (areas_by_rank new.groups)
-  pub ranks : (rank : ℕ) → changed rank ≡ true → (first ≤ rank) × (rank < first + length before)
+  pub areas : AreLines it (areas_by_rank old.groups) (areas_by_rank new.groups)
+  pub ranks : (rank : ℕ) → changed rank ≡ true → (it.first ≤ rank) × (rank < it.first + length it.areas_before)
 
 abbrev gone_row : ℕ → ChangedRow
 gone_row variable = (variable, None)
@@ -138,11 +139,11 @@ is-carried state none variable place is =
       ranked = contains-flat_map area_variables_of (areas_at (areas_by_rank state.groups) found.member.rank) found.area variable ranked own;
     }
 
-gone-by : (changed : ℕ → Bool) (first : ℕ) (before after : List (List Area)) (old new : State) → IsChange changed first before after old new → (rank variable : ℕ)
+gone-by : (changed : ℕ → Bool) (it : LineChange) (old new : State) → IsChange changed it old new → (rank variable : ℕ)
     → Contains (assigned_variables (areas_at (areas_by_rank old.groups) rank)) variable → is_assigned variable (areas_at (areas_by_rank new.groups) rank) ≡ false
     → (place : Option VariablePlace) → place_in (table new) variable ≡ place → place ≡ None
-gone-by changed first before after old new change rank variable carried gone None is = refl
-gone-by changed first before after old new change rank variable carried gone (Some place) is =
+gone-by changed it old new change rank variable carried gone None is = refl
+gone-by changed it old new change rank variable carried gone (Some place) is =
     let was = carried-at old change.was_project rank variable carried in
     let now : IsCarried new variable place = is-carried new change.is_project variable place is in
     let rank' = now.found.member.rank in
@@ -155,18 +156,18 @@ gone-by changed first before after old new change rank variable carried gone (So
     (subst (λ (r : ℕ). Contains (assigned_variables (areas_at (areas_by_rank new.groups) r)) variable) same now.ranked) in
     cc
 
-gone-right : (changed : ℕ → Bool) (first : ℕ) (before after : List (List Area)) (old new : State) → IsChange changed first before after old new
-    → (variable : ℕ) → Contains (flat_map gone_variables (zip before after)) variable → IsRight (table old) (table new) (variable, None)
-gone-right changed first before after old new change variable at =
+gone-right : (changed : ℕ → Bool) (it : LineChange) (old new : State) → IsChange changed it old new
+    → (variable : ℕ) → Contains (flat_map gone_variables (zip it.areas_before it.areas_after)) variable → IsRight (table old) (table new) (variable, None)
+gone-right changed it old new change variable at =
     let areas = change.areas in
-    let piece = flat_map-piece gone_variables (zip before after) variable at in
+    let piece = flat_map-piece gone_variables (zip it.areas_before it.areas_after) variable at in
     let pair = piece.element in
-    let index = zip-piece [] before after pair piece.among in
+    let index = zip-piece [] it.areas_before it.areas_after pair piece.among in
     let rank = suc (length areas.front + index.at) in
     let low = index.within in
     let many = areas.many in
-    let was : areas_at (areas_by_rank old.groups) rank ≡ pair.0 = areas-in-row (areas_by_rank old.groups) areas.front before areas.behind index.at areas.was index.within ∙ index.first in
-    let is : areas_at (areas_by_rank new.groups) rank ≡ pair.1 = areas-in-row (areas_by_rank new.groups) areas.front after areas.behind index.at areas.is (omega arith) ∙ index.second in
+    let was : areas_at (areas_by_rank old.groups) rank ≡ pair.0 = areas-in-row (areas_by_rank old.groups) areas.front it.areas_before areas.behind index.at areas.was index.within ∙ index.first in
+    let is : areas_at (areas_by_rank new.groups) rank ≡ pair.1 = areas-in-row (areas_by_rank new.groups) areas.front it.areas_after areas.behind index.at areas.is (omega arith) ∙ index.second in
     let test : ℕ → Bool = λ v. not (is_assigned v pair.1) in
     let among = contains-unfiltered test (assigned_variables pair.0) variable piece.own in
     let left : is_assigned variable pair.1 ≡ false =
@@ -176,29 +177,29 @@ gone-right changed first before after old new change variable at =
     let gone : is_assigned variable (areas_at (areas_by_rank new.groups) rank) ≡ false = ap (is_assigned variable) is ∙ left in
     let stood = carried-at old change.was_project rank variable carried in
     record {
-      new = gone-by changed first before after old new change rank variable carried gone (place_in (table new) variable) refl;
+      new = gone-by changed it old new change rank variable carried gone (place_in (table new) variable) refl;
       other = ap (λ (place : Option VariablePlace). same_found place None) stood.stands;
     }
 
 -- so each row that is told is right
-rows-right : (changed : ℕ → Bool) (first : ℕ) (before after : List (List Area)) (old new : State) → IsChange changed first before after old new
-    → All (IsRight (table old) (table new)) (moved_rows (table old) (found_rows changed old new) ++ gone_rows before after)
-rows-right changed first before after old new change =
-    let gone = flat_map gone_variables (zip before after) in
-    All-append (IsRight (table old) (table new)) (moved_rows (table old) (found_rows changed old new)) (gone_rows before after)
+rows-right : (changed : ℕ → Bool) (it : LineChange) (old new : State) → IsChange changed it old new
+    → All (IsRight (table old) (table new)) (moved_rows (table old) (found_rows changed old new) ++ gone_rows it)
+rows-right changed it old new change =
+    let gone = flat_map gone_variables (zip it.areas_before it.areas_after) in
+    All-append (IsRight (table old) (table new)) (moved_rows (table old) (found_rows changed old new)) (gone_rows it)
     (moved-right changed old new change.is_project)
     (All-map (IsRight (table old) (table new)) gone_row gone
-    (All-weaker (Contains gone) (λ variable. IsRight (table old) (table new) (variable, None)) (λ variable at. gone-right changed first before after old new change variable at) gone (All-contains_itself gone)))
+    (All-weaker (Contains gone) (λ variable. IsRight (table old) (table new) (variable, None)) (λ variable at. gone-right changed it old new change variable at) gone (All-contains_itself gone)))
 
 -- and each variable whose place differs is told
 
 abbrev IsTold : ℕ → List ChangedRow → Type 0
 IsTold variable rows = (place : Option VariablePlace) × Contains rows (variable, place)
 
-appears-by : (changed : ℕ → Bool) (first : ℕ) (before after : List (List Area)) (old new : State) → IsChange changed first before after old new → (variable : ℕ) (place : VariablePlace)
+appears-by : (changed : ℕ → Bool) (it : LineChange) (old new : State) → IsChange changed it old new → (variable : ℕ) (place : VariablePlace)
     → (now : IsCarried new variable place) → same_found (place_in (table old) variable) (Some place) ≡ false
     → (candidate : Bool) → is_candidate changed (line old) (line new) now.found ≡ candidate → IsTold variable (moved_rows (table old) (found_rows changed old new))
-appears-by changed first before after old new change variable place now differs true is =
+appears-by changed it old new change variable place now differs true is =
     let row : Row = (variable, place) in
     let all = candidates changed (line old) (line new) in
     let found = contains-filtered (is_candidate changed (line old) (line new)) (line_areas (line new)) now.found (area-stands (line new) now.found now.of) is in
@@ -206,7 +207,7 @@ appears-by changed first before after old new change variable place now differs 
     let rows = contains-flat_map rows_of (map (candidate_of (line new)) all) (candidate_of (line new) now.found) row made now.row in
     let kept = contains-filtered (is_new_row (table old)) (found_rows changed old new) row rows (ap not differs) in
     (Some place, contains-mapped moved_row (filter (is_new_row (table old)) (found_rows changed old new)) row kept)
-appears-by changed first before after old new change variable place now differs false is =
+appears-by changed it old new change variable place now differs false is =
     let found = now.found in
     let parts = or_parts (changed found.member.rank) (is_recut (line old) (line new) found) is in
     let stood = others-stand changed (line old) (line new) (line-ascends 1 new.groups) change.slaves found (area-stands (line new) found now.of) parts.0 in
@@ -222,53 +223,53 @@ appears-by changed first before after old new change variable place now differs 
 swapped-sides : (changed : ℕ → Bool) (old new : List Member) → DifferAt changed old new → DifferAt changed new old
 swapped-sides changed old new differ rank unchanged = sym (differ rank unchanged)
 
-unchanged-stands : (changed : ℕ → Bool) (first : ℕ) (before after : List (List Area)) (old new : State) → IsChange changed first before after old new → (variable : ℕ) (place : VariablePlace)
+unchanged-stands : (changed : ℕ → Bool) (it : LineChange) (old new : State) → IsChange changed it old new → (variable : ℕ) (place : VariablePlace)
     → (was : IsCarried old variable place) → changed was.found.member.rank ≡ false → (now : VariablePlace) × (place_in (table new) variable ≡ Some now)
-unchanged-stands changed first before after old new change variable place was unchanged =
+unchanged-stands changed it old new change variable place was unchanged =
     let stays = others-stand changed (line new) (line old) (line-ascends 1 old.groups) (swapped-sides changed (line old) (line new) change.slaves) was.found
     (area-stands (line old) was.found was.of) unchanged in
     carried-stands new change.is_project was.found (line-area (line new) was.found stays) variable was.own
 
-gone-told : (changed : ℕ → Bool) (first : ℕ) (before after : List (List Area)) (old new : State) → IsChange changed first before after old new → (i variable : ℕ) → i < length before
-    → Contains (assigned_variables (slice_index_or before i [])) variable → is_assigned variable (slice_index_or after i []) ≡ false → IsTold variable (gone_rows before after)
-gone-told changed first before after old new change i variable within carried gone =
-    let pair : List Area × List Area = (slice_index_or before i [], slice_index_or after i []) in
-    let own = contains-filtered (λ v. not (is_assigned v (slice_index_or after i []))) (assigned_variables (slice_index_or before i [])) variable carried (ap not gone) in (
+gone-told : (changed : ℕ → Bool) (it : LineChange) (old new : State) → IsChange changed it old new → (i variable : ℕ) → i < length it.areas_before
+    → Contains (assigned_variables (slice_index_or it.areas_before i [])) variable → is_assigned variable (slice_index_or it.areas_after i []) ≡ false → IsTold variable (gone_rows it)
+gone-told changed it old new change i variable within carried gone =
+    let pair : List Area × List Area = (slice_index_or it.areas_before i [], slice_index_or it.areas_after i []) in
+    let own = contains-filtered (λ v. not (is_assigned v (slice_index_or it.areas_after i []))) (assigned_variables (slice_index_or it.areas_before i [])) variable carried (ap not gone) in (
       None,
-      contains-mapped gone_row (flat_map gone_variables (zip before after)) variable
-          (contains-flat_map gone_variables (zip before after) pair variable (contains-pair [] before after i change.areas.many within) own),
+      contains-mapped gone_row (flat_map gone_variables (zip it.areas_before it.areas_after)) variable
+          (contains-flat_map gone_variables (zip it.areas_before it.areas_after) pair variable (contains-pair [] it.areas_before it.areas_after i change.areas.many within) own),
     )
 
-goes-by : (changed : ℕ → Bool) (first : ℕ) (before after : List (List Area)) (old new : State) → IsChange changed first before after old new → (i variable : ℕ) → i < length before
-    → place_in (table new) variable ≡ None → Contains (assigned_variables (slice_index_or before i [])) variable
-    → (still : Bool) → is_assigned variable (slice_index_or after i []) ≡ still → IsTold variable (gone_rows before after)
-goes-by changed first before after old new change i variable within none carried false is = gone-told changed first before after old new change i variable within carried is
-goes-by changed first before after old new change i variable within none carried true is =
+goes-by : (changed : ℕ → Bool) (it : LineChange) (old new : State) → IsChange changed it old new → (i variable : ℕ) → i < length it.areas_before
+    → place_in (table new) variable ≡ None → Contains (assigned_variables (slice_index_or it.areas_before i [])) variable
+    → (still : Bool) → is_assigned variable (slice_index_or it.areas_after i []) ≡ still → IsTold variable (gone_rows it)
+goes-by changed it old new change i variable within none carried false is = gone-told changed it old new change i variable within carried is
+goes-by changed it old new change i variable within none carried true is =
     let areas = change.areas in
     let rank = suc (length areas.front + i) in
     let many = areas.many in
-    let now : areas_at (areas_by_rank new.groups) rank ≡ slice_index_or after i [] = areas-in-row (areas_by_rank new.groups) areas.front after areas.behind i areas.is (omega arith) in
+    let now : areas_at (areas_by_rank new.groups) rank ≡ slice_index_or it.areas_after i [] = areas-in-row (areas_by_rank new.groups) areas.front it.areas_after areas.behind i areas.is (omega arith) in
     let at : Contains (assigned_variables (areas_at (areas_by_rank new.groups) rank)) variable =
-    subst (λ (own : List Area). Contains (assigned_variables own) variable) (sym now) (assigned-at variable (slice_index_or after i []) is) in
+    subst (λ (own : List Area). Contains (assigned_variables own) variable) (sym now) (assigned-at variable (slice_index_or it.areas_after i []) is) in
     let stands = (carried-at new change.is_project rank variable at).stands in
     cc
 
-goes-from : (changed : ℕ → Bool) (first : ℕ) (before after : List (List Area)) (old new : State) → IsChange changed first before after old new → (variable : ℕ) (place : VariablePlace)
-    → place_in (table new) variable ≡ None → (was : IsCarried old variable place) → (changes : Bool) → changed was.found.member.rank ≡ changes → IsTold variable (gone_rows before after)
-goes-from changed first before after old new change variable place none was false is =
-    let stands = (unchanged-stands changed first before after old new change variable place was is).1 in
+goes-from : (changed : ℕ → Bool) (it : LineChange) (old new : State) → IsChange changed it old new → (variable : ℕ) (place : VariablePlace)
+    → place_in (table new) variable ≡ None → (was : IsCarried old variable place) → (changes : Bool) → changed was.found.member.rank ≡ changes → IsTold variable (gone_rows it)
+goes-from changed it old new change variable place none was false is =
+    let stands = (unchanged-stands changed it old new change variable place was is).1 in
     cc
-goes-from changed first before after old new change variable place none was true is =
+goes-from changed it old new change variable place none was true is =
     let areas = change.areas in
     let rank = was.found.member.rank in
     let range = change.ranks rank is in
     let begins = areas.rank in
-    let index = rank-index (length areas.front) (length before) rank (omega (arith, begins, range.0)) (omega (arith, begins, range.1)) in
+    let index = rank-index (length areas.front) (length it.areas_before) rank (omega (arith, begins, range.0)) (omega (arith, begins, range.1)) in
     let i = rank - suc (length areas.front) in
-    let own : areas_at (areas_by_rank old.groups) rank ≡ slice_index_or before i [] =
-    ap (areas_at (areas_by_rank old.groups)) index.0 ∙ areas-in-row (areas_by_rank old.groups) areas.front before areas.behind i areas.was index.1 in
-    let carried : Contains (assigned_variables (slice_index_or before i [])) variable = subst (λ (own : List Area). Contains (assigned_variables own) variable) own was.ranked in
-    goes-by changed first before after old new change i variable index.1 none carried (is_assigned variable (slice_index_or after i [])) refl
+    let own : areas_at (areas_by_rank old.groups) rank ≡ slice_index_or it.areas_before i [] =
+    ap (areas_at (areas_by_rank old.groups)) index.0 ∙ areas-in-row (areas_by_rank old.groups) areas.front it.areas_before areas.behind i areas.was index.1 in
+    let carried : Contains (assigned_variables (slice_index_or it.areas_before i [])) variable = subst (λ (own : List Area). Contains (assigned_variables own) variable) own was.ranked in
+    goes-by changed it old new change i variable index.1 none carried (is_assigned variable (slice_index_or it.areas_after i [])) refl
 
 told-left : (variable : ℕ) (rows others : List ChangedRow) → IsTold variable rows → IsTold variable (rows ++ others)
 told-left variable rows others told = (told.0, Contains-append_left rows others (variable, told.0) told.1)
@@ -276,19 +277,19 @@ told-left variable rows others told = (told.0, Contains-append_left rows others 
 told-right : (variable : ℕ) (rows others : List ChangedRow) → IsTold variable others → IsTold variable (rows ++ others)
 told-right variable rows others told = (told.0, Contains-append_right rows others (variable, told.0) told.1)
 
-told-by : (changed : ℕ → Bool) (first : ℕ) (before after : List (List Area)) (old new : State) → IsChange changed first before after old new → (variable : ℕ) (was is : Option VariablePlace)
+told-by : (changed : ℕ → Bool) (it : LineChange) (old new : State) → IsChange changed it old new → (variable : ℕ) (was is : Option VariablePlace)
     → place_in (table old) variable ≡ was → place_in (table new) variable ≡ is → same_found was is ≡ false
-    → IsTold variable (moved_rows (table old) (found_rows changed old new) ++ gone_rows before after)
-told-by changed first before after old new change variable was (Some place) stood stands differs =
+    → IsTold variable (moved_rows (table old) (found_rows changed old new) ++ gone_rows it)
+told-by changed it old new change variable was (Some place) stood stands differs =
     let now = is-carried new change.is_project variable place stands in
-    told-left variable (moved_rows (table old) (found_rows changed old new)) (gone_rows before after)
-    (appears-by changed first before after old new change variable place now (ap (λ (p : Option VariablePlace). same_found p (Some place)) stood ∙ differs)
+    told-left variable (moved_rows (table old) (found_rows changed old new)) (gone_rows it)
+    (appears-by changed it old new change variable place now (ap (λ (p : Option VariablePlace). same_found p (Some place)) stood ∙ differs)
     (is_candidate changed (line old) (line new) now.found) refl)
-told-by changed first before after old new change variable (Some place) None stood stands differs =
+told-by changed it old new change variable (Some place) None stood stands differs =
     let was = is-carried old change.was_project variable place stood in
-    told-right variable (moved_rows (table old) (found_rows changed old new)) (gone_rows before after)
-    (goes-from changed first before after old new change variable place stands was (changed was.found.member.rank) refl)
-told-by changed first before after old new change variable None None stood stands differs = cc
+    told-right variable (moved_rows (table old) (found_rows changed old new)) (gone_rows it)
+    (goes-from changed it old new change variable place stands was (changed was.found.member.rank) refl)
+told-by changed it old new change variable None None stood stands differs = cc
 
 -- what is said of a variable
 
@@ -335,29 +336,29 @@ moved-few changed old new none variable =
     let one = candidates-once new.groups none variable (is_candidate changed (line old) (line new)) in
     omega arith
 
-gone-few : (changed : ℕ → Bool) (first : ℕ) (before after : List (List Area)) (old new : State) → IsChange changed first before after old new → (variable : ℕ)
-    → total (of_change variable) (gone_rows before after) ≤ 1
-gone-few changed first before after old new change variable =
+gone-few : (changed : ℕ → Bool) (it : LineChange) (old new : State) → IsChange changed it old new → (variable : ℕ)
+    → total (of_change variable) (gone_rows it) ≤ 1
+gone-few changed it old new change variable =
     let areas = change.areas in
     let count : List Area → ℕ = λ carried. total (own variable) (assigned_variables carried) in
-    let mapped = total-map (of_change variable) gone_row (flat_map gone_variables (zip before after)) in
-    let flat = total-flat_map (own variable) gone_variables (zip before after) in
+    let mapped = total-map (of_change variable) gone_row (flat_map gone_variables (zip it.areas_before it.areas_after)) in
+    let flat = total-flat_map (own variable) gone_variables (zip it.areas_before it.areas_after) in
     let less = total-less (λ (pair : List Area × List Area). total (own variable) (gone_variables pair)) (λ pair. count pair.0)
-    (λ pair. filtered-less (own variable) (λ v. not (is_assigned v pair.1)) (assigned_variables pair.0)) (zip before after) in
-    let firsts = total-zip count before after in
-    let front = total-append count areas.front (before ++ areas.behind) in
-    let behind = total-append count before areas.behind in
-    let was : total count (areas_by_rank old.groups) ≡ total count (areas.front ++ (before ++ areas.behind)) = ap (total count) areas.was in
+    (λ pair. filtered-less (own variable) (λ v. not (is_assigned v pair.1)) (assigned_variables pair.0)) (zip it.areas_before it.areas_after) in
+    let firsts = total-zip count it.areas_before it.areas_after in
+    let front = total-append count areas.front (it.areas_before ++ areas.behind) in
+    let behind = total-append count it.areas_before areas.behind in
+    let was : total count (areas_by_rank old.groups) ≡ total count (areas.front ++ (it.areas_before ++ areas.behind)) = ap (total count) areas.was in
     let one = ranks-once old.groups change.was_project variable in
     omega arith
 
 some-none : {X : Type 0} (x : X) (found : Option X) → found ≡ Some x → found ≡ None → ⊥
 some-none x found is is' = cc
 
-few-by : (changed : ℕ → Bool) (first : ℕ) (before after : List (List Area)) (old new : State) → IsChange changed first before after old new → (variable : ℕ) (place : Option VariablePlace)
+few-by : (changed : ℕ → Bool) (it : LineChange) (old new : State) → IsChange changed it old new → (variable : ℕ) (place : Option VariablePlace)
     → place_in (table new) variable ≡ place
-    → total (of_change variable) (moved_rows (table old) (found_rows changed old new)) + total (of_change variable) (gone_rows before after) ≤ 1
-few-by changed first before after old new change variable None is =
+    → total (of_change variable) (moved_rows (table old) (found_rows changed old new)) + total (of_change variable) (gone_rows it) ≤ 1
+few-by changed it old new change variable None is =
     let rows = found_rows changed old new in
     let kept = filter (is_new_row (table old)) rows in
     let mapped = total-map (of_change variable) moved_row kept in
@@ -366,31 +367,31 @@ few-by changed first before after old new change variable None is =
     (λ row at same. some-none row.1 (place_in (table new) variable)
     (ap (place_in (table new)) (eqb-true variable row.0 same) ∙ found-stands changed old new change.is_project row (contains-unfiltered (is_new_row (table old)) rows row at)) is)
     kept (All-contains_itself kept)) in
-    let one = gone-few changed first before after old new change variable in
+    let one = gone-few changed it old new change variable in
     omega arith
-few-by changed first before after old new change variable (Some place) is =
-    let gone = flat_map gone_variables (zip before after) in
+few-by changed it old new change variable (Some place) is =
+    let gone = flat_map gone_variables (zip it.areas_before it.areas_after) in
     let mapped = total-map (of_change variable) gone_row gone in
     let zero = counted-none (λ (v : ℕ). v) variable gone
     (All-weaker (Contains gone) (λ v. (variable == v) ≡ true → ⊥)
     (λ v at same. some-none place (place_in (table new) variable) is
-    (ap (place_in (table new)) (eqb-true variable v same) ∙ (gone-right changed first before after old new change v at).new)) gone (All-contains_itself gone)) in
+    (ap (place_in (table new)) (eqb-true variable v same) ∙ (gone-right changed it old new change v at).new)) gone (All-contains_itself gone)) in
     let one = moved-few changed old new change.is_project variable in
     omega arith
 
-pub rows-told : (changed : ℕ → Bool) (first : ℕ) (before after : List (List Area)) (old new : State) → IsChange changed first before after old new
+pub rows-told : (changed : ℕ → Bool) (it : LineChange) (old new : State) → IsChange changed it old new
     → TellPlaces (table_of (line old)) (table_of (line new))
-    (moved_rows (table_of (line old)) (flat_map rows_of (map (candidate_of (line new)) (candidates changed (line old) (line new)))) ++ gone_rows before after)
-rows-told changed first before after old new change =
+    (moved_rows (table_of (line old)) (flat_map rows_of (map (candidate_of (line new)) (candidates changed (line old) (line new)))) ++ gone_rows it)
+rows-told changed it old new change =
     let moved = moved_rows (table old) (found_rows changed old new) in
-    let gone = gone_rows before after in
+    let gone = gone_rows it in
     record {
       once = λ variable.
           let same = counted variable (moved ++ gone) in
           let both = total-append (of_change variable) moved gone in
-          let few = few-by changed first before after old new change variable (place_in (table new) variable) refl in
+          let few = few-by changed it old new change variable (place_in (table new) variable) refl in
           omega arith;
-      says = λ variable. said-by (table old) (table new) (moved ++ gone) variable (rows-right changed first before after old new change)
-          (λ differs. told-by changed first before after old new change variable (place_in (table old) variable) (place_in (table new) variable) refl refl differs)
+      says = λ variable. said-by (table old) (table new) (moved ++ gone) variable (rows-right changed it old new change)
+          (λ differs. told-by changed it old new change variable (place_in (table old) variable) (place_in (table new) variable) refl refl differs)
           (find (λ c. c.0 == variable) (moved ++ gone)) refl;
     }

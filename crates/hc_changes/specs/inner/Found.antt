@@ -9,7 +9,8 @@ use Rattle.hc_cuts.specs.Areas.{areas_at, areas_by_rank}
 use Rattle.hc_cuts.specs.LineKeeping.{Before, StandsBefore}
 use Rattle.hc_cuts.specs.Kept.{line_kept}
 use Rattle.hc_changes.specs.Candidates.{Candidate, LineArea, candidate_of, is_candidate, is_recut}
-use Rattle.hc_changes.specs.EditedLine.{EditedLine, IsEditedLine, changes}
+use Rattle.hc_cuts.specs.LineChange.{changes}
+use Rattle.hc_changes.specs.EditedLine.{EditedLine, IsEditedLine}
 
 -- what is known of a line's tasks before they are turned, and the turned tasks
 pub record IsCandidateTest (edited_line : EditedLine) (before : Before) (cuts : List Kept) : Type 0 where
@@ -21,7 +22,7 @@ pub record IsCandidateTest (edited_line : EditedLine) (before : Before) (cuts : 
 unfoldable pub found_among : EditedLine → List LineArea → List Candidate
 found_among edited_line areas =
     map (candidate_of (line_from 1 edited_line.new))
-    (filter (is_candidate (changes edited_line) (line_from 1 edited_line.old) (line_from 1 edited_line.new)) areas)
+    (filter (is_candidate (changes edited_line.change) (line_from 1 edited_line.old) (line_from 1 edited_line.new)) areas)
 
 -- an area by the station address and the rank of its slave, and by its index there; whether it is a candidate doesn't depend on the slave's other areas
 abbrev pub area_by : ℕ → ℕ → ℕ → Area → LineArea
@@ -75,7 +76,7 @@ HoldRanks low high own_low own_high = (low ≤ own_low) × (own_high ≤ high)
 
 -- ranks from one up to another, with those of the slaves that the edit concerns
 abbrev pub HoldChanged : EditedLine → ℕ → ℕ → Type 0
-HoldChanged edited_line low high = (rank : ℕ) → changes edited_line rank ≡ true → (low ≤ rank) × (rank ≤ high)
+HoldChanged edited_line low high = (rank : ℕ) → changes edited_line.change rank ≡ true → (low ≤ rank) × (rank ≤ high)
 
 -- ranks from one up to another, with those of the slaves that have areas of a task in datagrams which weren't kept up to them
 abbrev pub HoldRecut : EditedLine → ℕ → ℕ → ℕ → Type 0

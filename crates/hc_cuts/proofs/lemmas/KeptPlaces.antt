@@ -1,6 +1,6 @@
 -- An area stands where it stood, where its datagram is kept up to its key.
 use Rattle.std.proofs.Common.{◌≡◌, ℕ, zero, suc, ◌+◌, ◌<◌, Bool, true, false, List, [], ◌∷◌, ◌++◌, length, Option, Some, None, refl, sym, ap, subst, ◌∙◌, arith, if◌then◌else◌}
-use Rattle.std.specs.Prelude.{All, IsTrue, filter, find, slice_get, slice_index_or, ◌&&◌, ◌||◌, not}
+use Rattle.std.specs.Prelude.{All, IsTrue, filter, find, slice_get, slice_index_or, ◌&&◌, not}
 use Rattle.std.specs.Option.{option_map_or}
 use Rattle.std.specs.List.{list_any}
 use Rattle.std.proofs.lemmas.Bool.{and_parts, not-true}
@@ -8,7 +8,6 @@ use Rattle.std.proofs.lemmas.List.Elements.{All-cons, All-filter, All-weaker}
 use Rattle.std.proofs.lemmas.List.Kept.{AllPairs-filter}
 use Rattle.hc_records.specs.declared.keys.Key.{Key}
 use Rattle.hc_records.specs.declared.keys.TheConstants.Key.{START, END}
-use Rattle.hc_records.specs.declared.records.Dir.TheVariants.{In}
 use Rattle.hc_records.specs.Boundaries.{Interval, boundaries, is_settled, later_keys, spans, width_in}
 use Rattle.hc_records.specs.Keys.{is_before, is_within, same_key}
 use Rattle.hc_records.specs.Laws.{IsPackable}

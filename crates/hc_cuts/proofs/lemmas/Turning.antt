@@ -1,13 +1,14 @@
 -- Turns to other lines, and back.
 use Rattle.std.specs.Prelude.{None}
-use Rattle.std.proofs.Common.{◌≡◌, ℕ, List, [], length, refl, sym, append-nil}
+use Rattle.std.proofs.Common.{◌≡◌, List, [], length, refl, subst, sym, append-nil}
 use Rattle.hc_records.specs.declared.records.Area.{Area}
 use Rattle.hc_cuts.specs.Starts.{Kept}
 use Rattle.hc_cuts.specs.Kept.{IsLine, crowded_from, line_kept}
 use Rattle.hc_cuts.specs.Turn.{AreLines, IsTurn}
+use Rattle.hc_cuts.specs.LineChange.{LineChange, back}
 
 -- two lines that may differ in the areas of all their slaves
-whole-lines : (old new : List (List Area)) → IsLine old → IsLine new → length new ≡ length old → AreLines 1 old new old new
+whole-lines : (old new : List (List Area)) → IsLine old → IsLine new → length new ≡ length old → AreLines (record { first = 1; areas_before = old; areas_after = new }) old new
 whole-lines old new first second many = record {
   front = [];
   behind = [];
@@ -21,12 +22,12 @@ whole-lines old new first second many = record {
 
 -- the tasks of the one are turned into those of the other by all ranks
 pub whole-turn : (kept : List Kept) (old new : List (List Area)) → IsLine old → IsLine new → length new ≡ length old → kept ≡ line_kept old → crowded_from 8 0 old ≡ None
-    → IsTurn 8 0 kept 1 old new old new
+    → IsTurn 8 0 kept (record { first = 1; areas_before = old; areas_after = new }) old new
 whole-turn kept old new first second many stand fits = record { lines = whole-lines old new first second many; stand = stand; fits = fits }
 
 -- two lines the other way round
-abbrev pub back-lines : (first : ℕ) (before after old new : List (List Area)) → AreLines first before after old new → AreLines first after before new old
-back-lines first before after old new lines = record {
+abbrev pub back-lines : (change : LineChange) (old new : List (List Area)) → AreLines change old new → AreLines (back change) new old
+back-lines change old new lines = record {
   front = lines.front;
   behind = lines.behind;
   rank = lines.rank;
@@ -36,3 +37,7 @@ back-lines first before after old new lines = record {
   old_line = lines.new_line;
   new_line = lines.old_line;
 }
+
+-- so by a change that is the one that leads back
+pub told-back : (change other : LineChange) (old new : List (List Area)) → other ≡ back change → AreLines change old new → AreLines other new old
+told-back change other old new is lines = subst (λ (c : LineChange). AreLines c new old) (sym is) (back-lines change old new lines)

@@ -12,7 +12,6 @@ use Rattle.hc_groups.specs.Changes.{change_by, changed_groups}
 use Rattle.hc_groups.specs.Rows.{ChangesRow}
 use Rattle.hc_places.specs.Room.{IsRoomFor}
 use Rattle.hc_places.specs.Table.{table_of}
-use Rattle.hc_changes.specs.EditedLine.{IsRoomFor as HasRoomFor}
 use Rattle.hc_plan.specs.declared.report.Report.{Report}
 use Rattle.hc_plan.specs.declared.work.LineWork.{LineWork}
 use Rattle.hc_plan.specs.declared.work.Work.{Work}
@@ -41,7 +40,7 @@ prepared_of old work report blocks = record {
   blocks = blocks;
 }
 
--- the edit makes the change, which leads from a project's groups to those of a project again, the boundaries are those of its line's tasks, and there is memory for the areas of the change's slaves and for the new table's rows
+-- the edit makes the change, which leads from a project's groups to those of a project again, the boundaries are those of its line's tasks, and there is memory for the new table's rows
 pub record IsLineReady (old : State) (report : Report) (work : LineWork) : Type 0 where
   pub made : change_by old.groups report.swap.edit ≡ Some work.change
   pub changes : declares report.swap.edit ≡ false
@@ -49,7 +48,6 @@ pub record IsLineReady (old : State) (report : Report) (work : LineWork) : Type 
   pub project : lowest_fault (groups_of (changed_groups work.change old.groups)) ≡ None
   pub row : ChangesRow work.change old.groups
   pub starts : AreStartsOf (areas_by_rank (changed_groups work.change old.groups)) work.starts
-  pub slaves : HasRoomFor work.change work.slaves
   pub rows : IsRoomFor report.swap.change (table_of (line old)) work.rows
 
 -- what was worked out can be carried out in the state that it was worked out in

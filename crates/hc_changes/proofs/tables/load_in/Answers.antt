@@ -1,4 +1,4 @@
-use Rattle.std.proofs.Common.{◌∙◌, ℕ, ap, ap₂, List, subst, sym, rules}
+use Rattle.std.proofs.Common.{◌∙◌, ℕ, ap₂, List, subst, sym, rules}
 use Rattle.std.specs.Prelude.{All, ◌<◌}
 use Rattle.hc_records.specs.Laws.{LiesInside}
 use Rattle.hc_records.specs.Packing.{Placed}

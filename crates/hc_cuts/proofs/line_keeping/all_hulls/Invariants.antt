@@ -12,6 +12,6 @@ abbrev pub invariant-loop-task : goal.invariant-loop-task
 invariant-loop-task l = record {
   eight : length l.hulls ≡ 8;
   so_far :
-      (old new : List (List Area)) → AreLines l.first l.before l.after old new → (task : ℕ) → task < l.task
+      (old new : List (List Area)) → AreLines l.change old new → (task : ℕ) → task < l.task
       → AreHulls (is_touched (list_by task old) (list_by task new)) (slice_index_or l.hulls task no_hulls);
 }

@@ -8,4 +8,4 @@ use Rattle.hc_cuts.proofs.touched.touched_hulls.Given as goal
 -- the touched keys of the slaves so far are taken in
 abbrev pub invariant-loop-i : goal.invariant-loop-i
 invariant-loop-i l =
-    (old new : List (List Area)) (lines : AreLines l.first l.before l.after old new) → AreHulls (up_to_rank l.task (length lines.front + l.i) old new) l.hulls
+    (old new : List (List Area)) (lines : AreLines l.change old new) → AreHulls (up_to_rank l.task (length lines.front + l.i) old new) l.hulls

@@ -9,7 +9,7 @@ pub returns : goal.returns
 returns t c = λ old new put.
     let s = c.split_at_mut-these in
     let p =
-    put-parts c.args.task c.args.first c.args.from.now c.args.to.now c.args.starts.now old new c.args.tasks.now s.result.0.now s.result.1.now c.index-these-0.result s.ensures.value s.ensures.front_len put in
+    put-parts c.args.task c.args.change.now c.args.starts.now old new c.args.tasks.now s.result.0.now s.result.1.now c.index-these-0.result s.ensures.value s.ensures.front_len put in
     let low : c.args.task < TASKS = let numbers = c.requires.numbers in let many = p.2 in omega (arith, numbers, many) in
     let own = c.put_task.ensures old new put.lines (ap (λ (k : Kept). k.tree) p.0) (c.copied.ensures ∙ put.known c.args.task low) in
     set-first s.result.0.now c.put_tasks.new.tasks c.put_task.new.cuts s.ensures.front_len

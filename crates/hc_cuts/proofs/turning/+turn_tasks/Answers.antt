@@ -4,7 +4,7 @@ use Rattle.hc_cuts.specs.Starts.{Kept}
 use Rattle.hc_cuts.specs.Kept.{crowded_from, kept_by, kept_from}
 use Rattle.hc_cuts.specs.Recut.{recut_from, touched_by, touched_from}
 use Rattle.hc_cuts.proofs.Turns.{first-crowded, parts, rest-crowded, set-again, set-at, set-first, split-tasks}
-use Rattle.hc_cuts.proofs.lemmas.Turning.{back-lines}
+use Rattle.hc_cuts.proofs.lemmas.Turning.{told-back}
 use Rattle.hc_cuts.proofs.turning.+turn_tasks.Goals as goal
 
 -- the steps of the first task and those of the rest
@@ -15,7 +15,7 @@ more count task start mid last old new first rest = omega arith
 pub returns-in_default-clause-refused : goal.returns-in_default-clause-refused
 returns-in_default-clause-refused g t c = λ old new turn.
     let s = c.split_at_mut-these in
-    let p = parts c.args.task c.args.first c.args.before.now c.args.after.now old new c.args.tasks.now s.result.0.now s.result.1.now c.index-these-0-2.result s.ensures.value s.ensures.front_len turn in
+    let p = parts c.args.task c.args.change.now old new c.args.tasks.now s.result.0.now s.result.1.now c.index-these-0-2.result s.ensures.value s.ensures.front_len turn in
     subst (λ (n : ℕ). crowded_from n c.args.task new ≡ Some c.args.task) (sym p.2)
     (first-crowded (length s.result.1.now) c.args.task new (c.in_default.ensures.refused old new p.0))
 
@@ -23,11 +23,11 @@ pub put_task-requires : goal.put_task-requires
 put_task-requires g t c =
     let s = c.split_at_mut-these in
     let r = c.requires.lines in
-    let p = parts c.args.task c.args.first c.args.before.now c.args.after.now r.old r.new c.args.tasks.now s.result.0.now s.result.1.now c.index-these-0-2.result s.ensures.value s.ensures.front_len r.turn in
+    let p = parts c.args.task c.args.change.now r.old r.new c.args.tasks.now s.result.0.now s.result.1.now c.index-these-0-2.result s.ensures.value s.ensures.front_len r.turn in
     record {
       old = r.new;
       new = r.old;
-      lines = back-lines c.args.first c.args.before.now c.args.after.now r.old r.new r.turn.lines;
+      lines = told-back c.args.change.now c.back-back.result r.old r.new c.back-back.ensures r.turn.lines;
       holds =
           ap (λ (k : Kept). k.tree)
           (set-at s.result.0.now c.turn_task.new.cuts c.index-these-0-in-Err.result s.ensures.front_len ∙ c.in-Ok.ensures.turned r.old r.new p.0);
@@ -36,7 +36,7 @@ put_task-requires g t c =
 pub returns-in-Ok-turn_tasks-clause-turned : goal.returns-in-Ok-turn_tasks-clause-turned
 returns-in-Ok-turn_tasks-clause-turned g t c = λ old new turn.
     let s = c.split_at_mut-these in
-    let p = parts c.args.task c.args.first c.args.before.now c.args.after.now old new c.args.tasks.now s.result.0.now s.result.1.now c.index-these-0-2.result s.ensures.value s.ensures.front_len turn in
+    let p = parts c.args.task c.args.change.now old new c.args.tasks.now s.result.0.now s.result.1.now c.index-these-0-2.result s.ensures.value s.ensures.front_len turn in
     set-first s.result.0.now c.turn_tasks.new.tasks c.turn_task.new.cuts s.ensures.front_len
     ∙ ap (λ (k : Kept). k ∷ c.turn_tasks.new.tasks) (c.in-Ok.ensures.turned old new p.0)
     ∙ ap (λ (ks : List Kept). kept_by c.args.task new ∷ ks) (c.in-Ok-turn_tasks.ensures.turned old new p.1)
@@ -45,14 +45,14 @@ returns-in-Ok-turn_tasks-clause-turned g t c = λ old new turn.
 pub returns-in-Ok-turn_tasks-clause-accepted : goal.returns-in-Ok-turn_tasks-clause-accepted
 returns-in-Ok-turn_tasks-clause-accepted g t c = λ old new turn.
     let s = c.split_at_mut-these in
-    let p = parts c.args.task c.args.first c.args.before.now c.args.after.now old new c.args.tasks.now s.result.0.now s.result.1.now c.index-these-0-2.result s.ensures.value s.ensures.front_len turn in
+    let p = parts c.args.task c.args.change.now old new c.args.tasks.now s.result.0.now s.result.1.now c.index-these-0-2.result s.ensures.value s.ensures.front_len turn in
     subst (λ (n : ℕ). crowded_from n c.args.task new ≡ None) (sym p.2)
     (rest-crowded (length s.result.1.now) c.args.task new None (c.in-Ok.ensures.fits old new p.0) (c.in-Ok-turn_tasks.ensures.accepted old new p.1))
 
 pub returns-in-Err-clause-refused : goal.returns-in-Err-clause-refused
 returns-in-Err-clause-refused g t c = λ old new turn.
     let s = c.split_at_mut-these in
-    let p = parts c.args.task c.args.first c.args.before.now c.args.after.now old new c.args.tasks.now s.result.0.now s.result.1.now c.index-these-0-2.result s.ensures.value s.ensures.front_len turn in
+    let p = parts c.args.task c.args.change.now old new c.args.tasks.now s.result.0.now s.result.1.now c.index-these-0-2.result s.ensures.value s.ensures.front_len turn in
     subst (λ (n : ℕ). crowded_from n c.args.task new ≡ Some c.in-Err.crowded) (sym p.2)
     (rest-crowded (length s.result.1.now) c.args.task new (Some c.in-Err.crowded) (c.in-Ok.ensures.fits old new p.0) (c.in-Err.ensures.refused old new p.1))
 
@@ -60,12 +60,12 @@ pub returns-in-Err-clause-unchanged : goal.returns-in-Err-clause-unchanged
 returns-in-Err-clause-unchanged g t c =
     let s = c.split_at_mut-these in
     let r = c.requires.lines in
-    let p = parts c.args.task c.args.first c.args.before.now c.args.after.now r.old r.new c.args.tasks.now s.result.0.now s.result.1.now c.index-these-0-2.result s.ensures.value s.ensures.front_len r.turn in
-    let q = parts c.args.task c.args.first c.args.before.now c.args.after.now r.old r.new c.args.tasks.now s.result.0.now s.result.1.now c.index-these-0.result s.ensures.value s.ensures.front_len r.turn in
+    let p = parts c.args.task c.args.change.now r.old r.new c.args.tasks.now s.result.0.now s.result.1.now c.index-these-0-2.result s.ensures.value s.ensures.front_len r.turn in
+    let q = parts c.args.task c.args.change.now r.old r.new c.args.tasks.now s.result.0.now s.result.1.now c.index-these-0.result s.ensures.value s.ensures.front_len r.turn in
     let holds =
     ap (λ (k : Kept). k.tree)
     (set-at s.result.0.now c.turn_task.new.cuts c.index-these-0-in-Err.result s.ensures.front_len ∙ c.in-Ok.ensures.turned r.old r.new p.0) in
-    let put = c.put_task.ensures r.new r.old (back-lines c.args.first c.args.before.now c.args.after.now r.old r.new r.turn.lines) holds (c.copied_starts-starts.ensures ∙ ap (λ (k : Kept). k.starts) q.0.stands) in
+    let put = c.put_task.ensures r.new r.old (told-back c.args.change.now c.back-back.result r.old r.new c.back-back.ensures r.turn.lines) holds (c.copied_starts-starts.ensures ∙ ap (λ (k : Kept). k.starts) q.0.stands) in
     set-again s.result.0.now c.turn_tasks.new.tasks c.turn_task.new.cuts c.put_task.new.cuts s.ensures.front_len
     ∙ ap (λ (k : Kept). k ∷ c.turn_tasks.new.tasks) (put ∙ sym q.0.stands)
     ∙ ap (λ (ks : List Kept). slice_index_or s.result.0.now 0 c.index-these-0.result ∷ ks) c.in-Err.ensures.unchanged
@@ -74,28 +74,28 @@ returns-in-Err-clause-unchanged g t c =
 pub returns-in-Ok-turn_tasks-clause-recut : goal.returns-in-Ok-turn_tasks-clause-recut
 returns-in-Ok-turn_tasks-clause-recut g t c = λ old new turn.
     let s = c.split_at_mut-these in
-    let p = parts c.args.task c.args.first c.args.before.now c.args.after.now old new c.args.tasks.now s.result.0.now s.result.1.now c.index-these-0-2.result s.ensures.value s.ensures.front_len turn in
+    let p = parts c.args.task c.args.change.now old new c.args.tasks.now s.result.0.now s.result.1.now c.index-these-0-2.result s.ensures.value s.ensures.front_len turn in
     subst (λ (n : ℕ). c.in-Ok.recut + c.in-Ok-turn_tasks.behind ≡ recut_from n c.args.task old new) (sym p.2)
     (omega (arith, c.in-Ok.ensures.recut old new p.0, c.in-Ok-turn_tasks.ensures.recut old new p.1))
 
 pub returns-in-Ok-turn_tasks-clause-steps : goal.returns-in-Ok-turn_tasks-clause-steps
 returns-in-Ok-turn_tasks-clause-steps g t c = λ old new turn.
     let s = c.split_at_mut-these in
-    let p = parts c.args.task c.args.first c.args.before.now c.args.after.now old new c.args.tasks.now s.result.0.now s.result.1.now c.index-these-0-2.result s.ensures.value s.ensures.front_len turn in
+    let p = parts c.args.task c.args.change.now old new c.args.tasks.now s.result.0.now s.result.1.now c.index-these-0-2.result s.ensures.value s.ensures.front_len turn in
     subst (λ (n : ℕ). c.turn_tasks.new.steps ≤ c.args.steps.now + 1664 * touched_from n c.args.task old new) (sym p.2)
     (more (length s.result.1.now) c.args.task c.args.steps.now c.turn_task.new.steps c.turn_tasks.new.steps old new (c.in-Ok.ensures.steps old new p.0) (c.in-Ok-turn_tasks.ensures.steps old new p.1))
 
 pub returns-in-Err-clause-steps : goal.returns-in-Err-clause-steps
 returns-in-Err-clause-steps g t c = λ old new turn.
     let s = c.split_at_mut-these in
-    let p = parts c.args.task c.args.first c.args.before.now c.args.after.now old new c.args.tasks.now s.result.0.now s.result.1.now c.index-these-0-2.result s.ensures.value s.ensures.front_len turn in
+    let p = parts c.args.task c.args.change.now old new c.args.tasks.now s.result.0.now s.result.1.now c.index-these-0-2.result s.ensures.value s.ensures.front_len turn in
     subst (λ (n : ℕ). c.turn_tasks.new.steps ≤ c.args.steps.now + 1664 * touched_from n c.args.task old new) (sym p.2)
     (more (length s.result.1.now) c.args.task c.args.steps.now c.turn_task.new.steps c.turn_tasks.new.steps old new (c.in-Ok.ensures.steps old new p.0) (c.in-Err.ensures.steps old new p.1))
 
 pub returns-in_default-clause-steps : goal.returns-in_default-clause-steps
 returns-in_default-clause-steps g t c = λ old new turn.
     let s = c.split_at_mut-these in
-    let p = parts c.args.task c.args.first c.args.before.now c.args.after.now old new c.args.tasks.now s.result.0.now s.result.1.now c.index-these-0-2.result s.ensures.value s.ensures.front_len turn in
+    let p = parts c.args.task c.args.change.now old new c.args.tasks.now s.result.0.now s.result.1.now c.index-these-0-2.result s.ensures.value s.ensures.front_len turn in
     subst (λ (n : ℕ). c.turn_task.new.steps ≤ c.args.steps.now + 1664 * touched_from n c.args.task old new) (sym p.2)
     (more (length s.result.1.now) c.args.task c.args.steps.now c.turn_task.new.steps c.turn_task.new.steps old new (c.in_default.ensures.steps old new p.0) (omega arith))
 
@@ -114,7 +114,7 @@ pub turn_task-requires : goal.turn_task-requires
 turn_task-requires g t c =
     let s = c.split_at_mut-these in
     let r = c.requires.lines in
-    let p = parts c.args.task c.args.first c.args.before.now c.args.after.now r.old r.new c.args.tasks.now s.result.0.now s.result.1.now c.index-these-0-2.result s.ensures.value s.ensures.front_len r.turn in
+    let p = parts c.args.task c.args.change.now r.old r.new c.args.tasks.now s.result.0.now s.result.1.now c.index-these-0-2.result s.ensures.value s.ensures.front_len r.turn in
     record { old = r.old; new = r.new; turn = p.0 }
 
 pub overflow_add-task : goal.overflow_add-task

@@ -8,5 +8,5 @@ pub returns : goal.returns
 returns c = λ old new lines stands starts.
     kept-is c.put_starts.new.self (tree_by c.args.task new) (starts_by c.args.task new)
     (c.put_starts.ensures.areas
-    ∙ set-turned c.args.task c.args.first c.args.from.now c.args.to.now old new c.args.cuts.now c.set_widths.new.cuts lines stands c.set_widths.ensures)
+    ∙ set-turned c.args.task c.args.change.now old new c.args.cuts.now c.set_widths.new.cuts lines stands c.set_widths.ensures)
     (c.put_starts.ensures.starts ∙ starts)

@@ -1,4 +1,4 @@
-use Rattle.std.proofs.Common.{◌+◌, ◌-◌, ◌<◌, arith, get_or, length, sym}
+use Rattle.std.proofs.Common.{◌+◌, ◌-◌, arith, get_or}
 use Rattle.std.proofs.lemmas.List.{get_or_default}
 use Rattle.std.proofs.lemmas.List.Edits.{map_over_more}
 use Rattle.hc_groups.proofs.sums.shift.Goals as goal

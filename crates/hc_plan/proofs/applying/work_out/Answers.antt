@@ -11,13 +11,13 @@ use Rattle.hc_plan.proofs.applying.work_out.Goals as goal
 pub see_new_line-seen-requires-clause-known : goal.see_new_line-seen-requires-clause-known
 see_new_line-seen-requires-clause-known g c =
     let it = c.args.edited_line.now in
-    c.of-known.ensures (areas_by_rank it.old) (areas_by_rank it.new) (edited_line-lines it c.first.result c.before-2.result.now c.after.result.now c.requires.edit.is c.first.ensures c.before-2.ensures c.after.ensures)
+    c.of-known.ensures (areas_by_rank it.old) (areas_by_rank it.new) (edited_line-lines it c.change.result.now c.requires.edit.is c.change.ensures)
     c.requires.trees
 
 pub turn_back-requires-clause-known : goal.turn_back-requires-clause-known
 turn_back-requires-clause-known g c =
     let it = c.args.edited_line.now in
-    c.of-known.ensures (areas_by_rank it.old) (areas_by_rank it.new) (edited_line-lines it c.first.result c.before-2.result.now c.after.result.now c.requires.edit.is c.first.ensures c.before-2.ensures c.after.ensures)
+    c.of-known.ensures (areas_by_rank it.old) (areas_by_rank it.new) (edited_line-lines it c.change.result.now c.requires.edit.is c.change.ensures)
     c.requires.trees
 
 pub returns-in-Err-clause-refused : goal.returns-in-Err-clause-refused

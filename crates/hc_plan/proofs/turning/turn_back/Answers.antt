@@ -10,7 +10,7 @@ returns c =
     let it = c.args.edited.now in
     let known = subst (λ (starts : List (List Key)). AreStartsOf (areas_by_rank it.old) starts) (sym c.starts.ensures) c.requires.known.starts in
     c.put.ensures (areas_by_rank it.new) (areas_by_rank it.old)
-    (edited_line-back it c.args.cuts.now c.first.result c.before-2.result.now c.after.result.now c.starts.result.now c.requires.edited c.requires.trees known c.first.ensures c.before-2.ensures c.after.ensures)
+    (edited_line-back it c.args.cuts.now c.change.result.now c.back-back.result c.starts.result.now c.requires.edited c.requires.trees known c.change.ensures c.back-back.ensures)
 
 pub put-requires : goal.put-requires
 put-requires c =
@@ -19,5 +19,5 @@ put-requires c =
     record {
       old = areas_by_rank it.new;
       new = areas_by_rank it.old;
-      put = edited_line-back it c.args.cuts.now c.first.result c.before-2.result.now c.after.result.now c.starts.result.now c.requires.edited c.requires.trees known c.first.ensures c.before-2.ensures c.after.ensures;
+      put = edited_line-back it c.args.cuts.now c.change.result.now c.back-back.result c.starts.result.now c.requires.edited c.requires.trees known c.change.ensures c.back-back.ensures;
     }

@@ -11,29 +11,29 @@ turn-requires g c =
     record {
       old = areas_by_rank it.old;
       new = areas_by_rank it.new;
-      turn = edited_line-turn it c.args.cuts.now c.first.result c.before-2.result.now c.after.result.now c.requires.edited c.requires.trees c.requires.fits c.first.ensures c.before-2.ensures c.after.ensures;
+      turn = edited_line-turn it c.args.cuts.now c.change.result.now c.requires.edited c.requires.trees c.requires.fits c.change.ensures;
     }
 
 pub returns-clause-turned : goal.returns-clause-turned
 returns-clause-turned g c =
     let it = c.args.edited.now in
-    let turn = edited_line-turn it c.args.cuts.now c.first.result c.before-2.result.now c.after.result.now c.requires.edited c.requires.trees c.requires.fits c.first.ensures c.before-2.ensures c.after.ensures in
+    let turn = edited_line-turn it c.args.cuts.now c.change.result.now c.requires.edited c.requires.trees c.requires.fits c.change.ensures in
     c.turn.ensures.turned (areas_by_rank it.old) (areas_by_rank it.new) turn
 
 pub returns-clause-accepted : goal.returns-clause-accepted
 returns-clause-accepted g c =
     let it = c.args.edited.now in
-    let turn = edited_line-turn it c.args.cuts.now c.first.result c.before-2.result.now c.after.result.now c.requires.edited c.requires.trees c.requires.fits c.first.ensures c.before-2.ensures c.after.ensures in
+    let turn = edited_line-turn it c.args.cuts.now c.change.result.now c.requires.edited c.requires.trees c.requires.fits c.change.ensures in
     on_ok_weaker c.turn.result (crowded-line it.new None) (c.turn.ensures.accepted (areas_by_rank it.old) (areas_by_rank it.new) turn)
 
 pub returns-clause-recut : goal.returns-clause-recut
 returns-clause-recut g c =
     let it = c.args.edited.now in
-    let turn = edited_line-turn it c.args.cuts.now c.first.result c.before-2.result.now c.after.result.now c.requires.edited c.requires.trees c.requires.fits c.first.ensures c.before-2.ensures c.after.ensures in
+    let turn = edited_line-turn it c.args.cuts.now c.change.result.now c.requires.edited c.requires.trees c.requires.fits c.change.ensures in
     IfOk-weaker c.turn.result _ _ (λ unsettled is. is ∙ sym (line-recut it.old it.new)) (c.turn.ensures.recut (areas_by_rank it.old) (areas_by_rank it.new) turn)
 
 pub returns-clause-refused : goal.returns-clause-refused
 returns-clause-refused g c =
     let it = c.args.edited.now in
-    let turn = edited_line-turn it c.args.cuts.now c.first.result c.before-2.result.now c.after.result.now c.requires.edited c.requires.trees c.requires.fits c.first.ensures c.before-2.ensures c.after.ensures in
+    let turn = edited_line-turn it c.args.cuts.now c.change.result.now c.requires.edited c.requires.trees c.requires.fits c.change.ensures in
     IfErr-weaker c.turn.result _ _ (λ task is. crowded-line it.new (Some task) is) (c.turn.ensures.refused (areas_by_rank it.old) (areas_by_rank it.new) turn)

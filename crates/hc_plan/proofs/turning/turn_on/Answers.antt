@@ -6,4 +6,4 @@ pub returns : goal.returns
 returns c =
     let it = c.args.edited.now in
     c.put.ensures (areas_by_rank it.old) (areas_by_rank it.new)
-    (edited_line-put it c.args.cuts.now c.first.result c.before-2.result.now c.after.result.now c.args.starts.now c.requires.edited c.requires.trees c.requires.starts c.first.ensures c.before-2.ensures c.after.ensures)
+    (edited_line-put it c.args.cuts.now c.change.result.now c.args.starts.now c.requires.edited c.requires.trees c.requires.starts c.change.ensures)

@@ -10,7 +10,7 @@ invariant_of-self c =
     let r = c.requires in
     let s = c.as_mut_slice in
     let eight = ap length s.ensures.value ∙ c.self.invariant.0 in
-    let own = eight-put c.args.self.now s.result.now c.args.first c.args.from.now c.args.to.now c.args.starts.now r.old r.new (s.ensures.value ∙ c.self.view_is) eight r.put in
+    let own = eight-put c.args.self.now s.result.now c.args.change.now c.args.starts.now r.old r.new (s.ensures.value ∙ c.self.view_is) eight r.put in
     let is = c.put_tasks.ensures r.old r.new own ∙ ap (λ (n : ℕ). kept_from n 0 r.new) eight in
     let p = put-back c.self.inside.tasks.len c.self.inside.tasks.items c.put_tasks.new.tasks r.new c.self.inside.tasks.ok.0 c.self.invariant.0 is in
     subst (λ (ks : List Kept). (length ks ≡ 8) × All IsCut ks) (sym p.0) (p.1, p.2)
@@ -19,7 +19,7 @@ pub returns : goal.returns
 returns c = λ old new put.
     let s = c.as_mut_slice in
     let eight = ap length s.ensures.value ∙ c.self.invariant.0 in
-    let own = eight-put c.args.self.now s.result.now c.args.first c.args.from.now c.args.to.now c.args.starts.now old new (s.ensures.value ∙ c.self.view_is) eight put in
+    let own = eight-put c.args.self.now s.result.now c.args.change.now c.args.starts.now old new (s.ensures.value ∙ c.self.view_is) eight put in
     let is = c.put_tasks.ensures old new own ∙ ap (λ (n : ℕ). kept_from n 0 new) eight in
     let p = put-back c.self.inside.tasks.len c.self.inside.tasks.items c.put_tasks.new.tasks new c.self.inside.tasks.ok.0 c.self.invariant.0 is in
     p.0 ∙ is

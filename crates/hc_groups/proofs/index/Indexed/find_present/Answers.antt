@@ -1,4 +1,4 @@
-use Rattle.std.proofs.Common.{◌≡◌, ◌∙◌, ◌<◌, List, ap, get_or, sym, true, false, arith}
+use Rattle.std.proofs.Common.{◌∙◌, List, ap, get_or, sym, true, false, arith}
 use Rattle.std.specs.Prelude.{length}
 use Rattle.std.proofs.lemmas.Option.{slice_get_within}
 use Rattle.hc_records.specs.declared.records.Declared.{Declared}

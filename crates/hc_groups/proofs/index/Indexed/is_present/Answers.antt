@@ -1,4 +1,4 @@
-use Rattle.std.proofs.Common.{◌∙◌, ◌<◌, List, ap, get_or, arith}
+use Rattle.std.proofs.Common.{◌∙◌, List, ap, get_or, arith}
 use Rattle.std.specs.Prelude.{length}
 use Rattle.hc_records.specs.declared.records.Declared.{Declared}
 use Rattle.hc_groups.proofs.Indexes.{seen}

@@ -1,4 +1,4 @@
-use Rattle.std.proofs.Common.{◌∙◌, sym, refl}
+use Rattle.std.proofs.Common.{sym}
 use Rattle.hc_groups.proofs.Found.{none-found}
 use Rattle.hc_groups.proofs.Presences.{declared-some, presence-none}
 use Rattle.hc_groups.specs.Changes.{has_alias}

@@ -51,7 +51,7 @@ follow-requires-clause-project c =
 pub invariant_of-self : goal.invariant_of-self
 invariant_of-self c =
     let change = c.args.work.change in
-    let made = c.carry_out.ensures.groups in
+    let made = c.carry_out.ensures in
     let same = made ∙ ap (λ (s : State). changed_groups change s.groups) c.self.view_is in
     let new = ap (λ (it : EditedLine). it.new) c.of-edited_line.ensures ∙ ap (changed_groups change) (c.of-groups.ensures ∙ c.as_slice.ensures) ∙ sym made in (
       subst (λ (g : List Declared). lowest_fault (groups_of g) ≡ None) (sym same) c.requires.ready.project,
@@ -68,7 +68,7 @@ pub returns : goal.returns
 returns c =
     let change = c.args.work.change in
     let state : List Declared → State = λ groups. record { groups = groups; epoch = c.self.inside.epoch } in
-    ap state c.carry_out.ensures.groups ∙ ap (λ (s : State). record s { groups = changed_groups change s.groups }) c.self.view_is
+    ap state c.carry_out.ensures ∙ ap (λ (s : State). record s { groups = changed_groups change s.groups }) c.self.view_is
 
 pub of-edited_line-requires-clause-edited : goal.of-edited_line-requires-clause-edited
 of-edited_line-requires-clause-edited c =

@@ -13,6 +13,7 @@ use Rattle.hc_groups.specs.Edits.{own_fault}
 use Rattle.hc_groups.specs.Rows.{ChangesRow}
 use Rattle.hc_groups.proofs.lemmas.Refusals.{own-refuses}
 use Rattle.hc_changes.specs.EditedLine.{IsEditedLine, edited_line_of}
+use Rattle.hc_changes.proofs.lemmas.EditedLines.{change-edited_line}
 use Rattle.hc_plan.specs.declared.work.LineWork.{LineWork}
 use Rattle.hc_plan.specs.declared.work.Work.TheVariants.{NewLine}
 use Rattle.hc_plan.specs.inner.Prepared.{IsReady, prepared_of}
@@ -59,7 +60,8 @@ work_out-requires-clause-edit c =
     let edit = c.args.edit.now in
     let change = c.in_ok-change.change in
     makes c.of-edited_line.result change edit c.self.inside.places c.self.inside.groups c.requires
-    (subst IsEditedLine c.edited_line.view_is c.edited_line.invariant)
+    (subst IsEditedLine (sym c.of-edited_line.ensures) (change-edited_line c.of-groups.result change (record { edit = edit; changes = c.requires; leads = c.in_ok-change.ensures.groups })
+    (subst (λ (g : List Declared). lowest_fault (groups_of g) ≡ None) (sym (c.of-groups.ensures ∙ c.as_slice.ensures)) c.self.invariant.0) c.in_ok-change.ensures.kept c.in_ok-change.ensures.row))
     (c.of-edited_line.ensures ∙ ap (edited_line_of change) (c.of-groups.ensures ∙ c.as_slice.ensures))
     (subst (λ (g : List Declared). own_fault g edit ≡ None) (c.of-groups.ensures ∙ c.as_slice.ensures) c.in_ok-change.ensures.accepted)
     (subst (λ (g : List Declared). changed_groups change g ≡ groups_after g edit) (c.of-groups.ensures ∙ c.as_slice.ensures) c.in_ok-change.ensures.groups)
@@ -72,12 +74,12 @@ invariant_of-result c =
     let change = c.in_ok-change.change in
     let worked = c.in_ok-worked.worked in
     let told = c.in_ok-worked.ensures in
-    let work : LineWork = record { change = change; starts = worked.starts; slaves = c.in_ok-slaves.slaves; rows = worked.room } in
+    let work : LineWork = record { change = change; starts = worked.starts; rows = worked.room } in
     let edited_line = c.of-edited_line.ensures ∙ ap (edited_line_of change) (c.of-groups.ensures ∙ c.as_slice.ensures) in
     let slice = (c.of-groups.ensures ∙ c.as_slice.ensures) in
     subst
     (λ (s : State). IsPrepared (prepared_of s (NewLine work) worked.report worked.blocks.items) × IsReady s worked.report (NewLine work))
-    (sym c.of-4.ensures) (
+    (sym c.of-2.ensures) (
       is-prepared old work c.of-edited_line.result edit worked.report worked.blocks.items c.self.invariant.0 c.self.invariant.1
           (subst (λ (g : List Declared). change_by g edit ≡ Some change) slice c.in_ok-change.ensures.change) edited_line told.report told.accepted told.fits told.blocks,
       is-ready old work c.of-edited_line.result edit worked.report c.self.inside.places told.report.named c.requires
@@ -85,7 +87,7 @@ invariant_of-result c =
           (subst (λ (g : List Declared). changed_groups change g ≡ groups_after g edit) slice c.in_ok-change.ensures.groups)
           (subst (λ (g : List Declared). lowest_fault (groups_of (changed_groups change g)) ≡ None) slice c.in_ok-change.ensures.kept)
           (subst (ChangesRow change) slice c.in_ok-change.ensures.row)
-          edited_line told.starts c.in_ok-slaves.ensures c.self.invariant.2 told.room,
+          edited_line told.starts c.self.invariant.2 told.room,
     )
 
 pub returns-clause-prepared : goal.returns-clause-prepared
@@ -122,25 +124,3 @@ returns-in_err-worked-clause-unchanged c = c.self.view_is
 
 pub returns-clause-unchanged : goal.returns-clause-unchanged
 returns-clause-unchanged c = c.self.view_is
-
-pub returns-in_err-slaves-clause-own : goal.returns-in_err-slaves-clause-own
-returns-in_err-slaves-clause-own c =
-    let edit = c.args.edit.now in
-    let none = judged c.of-groups.result c.self.inside.groups edit None (c.of-groups.ensures ∙ c.as_slice.ensures) (sym c.in_ok-change.ensures.accepted) in
-    MatchOption-from_none (own_fault c.args.self.now.groups edit) _ (ap (λ (s : State). own_fault s.groups edit) (sym c.self.view_is) ∙ none)
-
-pub returns-in_err-slaves-clause-refused : goal.returns-in_err-slaves-clause-refused
-returns-in_err-slaves-clause-refused c =
-    let p = err_from_is_err_and c.from_residual-in_err-slaves.result c.from_residual-in_err-slaves.ensures.1 in
-    rw (p.1, p.2) (λ other. absurd (other refl))
-
-pub returns-in_err-room-clause-own : goal.returns-in_err-room-clause-own
-returns-in_err-room-clause-own c =
-    let edit = c.args.edit.now in
-    let none = judged c.of-groups.result c.self.inside.groups edit None (c.of-groups.ensures ∙ c.as_slice.ensures) (sym c.in_ok-change.ensures.accepted) in
-    MatchOption-from_none (own_fault c.args.self.now.groups edit) _ (ap (λ (s : State). own_fault s.groups edit) (sym c.self.view_is) ∙ none)
-
-pub returns-in_err-room-clause-refused : goal.returns-in_err-room-clause-refused
-returns-in_err-room-clause-refused c =
-    let p = err_from_is_err_and c.from_residual-in_err-room.result c.from_residual-in_err-room.ensures.1 in
-    rw (p.1, p.2) (λ other. absurd (other refl))

@@ -1,0 +1,2 @@
+-- Words that contracts of private functions alone use.
+pub mod Used
