@@ -27,7 +27,7 @@
  * A fault that is judged before memory is taken is answered whatever memory does: of an edit 1 to 11, of `zangjulf_send` 8
  * and 17, of `zangjulf_arrive` 20 to 27.
  *
- * Refusals. ZANGJULF_DONE, and of `zangjulf_arrive` 101 to 103 too, answer a call that is done; with any other answer all
+ * Refusals. ZANGJULF_DONE, and of `zangjulf_arrive` 101 to 104 too, answer a call that is done; with any other answer all
  * that is handed in to be written is as it was, slices and structs and single numbers, but for what a call tells by it:
  *
  *   zangjulf_open                           12: `*task`
@@ -35,6 +35,7 @@
  *   zangjulf_connect, _disconnect, _remap,
  *   _move                                   12: `cost->crowded`
  *   zangjulf_next_write                     29: `write->size`
+ *   zangjulf_next_writes                    29: `writes->size`
  *   zangjulf_preview                        29: `*size`
  *   zangjulf_send                           29: `sent->size`; 17: `sent->owed`
  *   zangjulf_next_change                    29: `*change`
@@ -100,6 +101,7 @@ extern "C" {
     ANSWER(WRITE_DONE, 101, "an arrival answered a register write: the block is known") \
     ANSWER(WRITE_MISSED, 102, "an arrival answered a register write that no slave took: the block stays owed") \
     ANSWER(STALE, 103, "an arrival answered nothing that is awaited") \
+    ANSWER(WRITTEN, 104, "an arrival answered a frame of several register writes") \
     ANSWER(IS_INPUT, 105, "the variable is an input: no value is put into it") \
     ANSWER(TOO_WIDE, 106, "the value needs more bits than there are") \
     ANSWER(PROJECT_NOT_TOML, 201, "the text is no TOML document in UTF-8") \
@@ -144,6 +146,7 @@ static inline const char *zangjulf_text(uint8_t answer) {
 #define ZANGJULF_FRAMES 193792      /* bytes in which any sending of tasks has room: 128 frames */
 #define ZANGJULF_IMAGE 23776        /* bytes in which any task's image has room, outputs and inputs */
 #define ZANGJULF_OUTCOMES 115       /* the most datagrams of a frame */
+#define ZANGJULF_BLOCKS 74          /* the most register blocks of a frame */
 #define ZANGJULF_SLAVE_MEMORY 12288 /* the bytes of a simulated slave's memory */
 
 /* A line, or none. Its fields are the library's own. */
@@ -360,6 +363,19 @@ struct zangjulf_write {
  * `zangjulf_arrive`; a write that is lost is sent again by the next call. Takes no memory. */
 uint8_t zangjulf_next_write(struct zangjulf *handle, uint8_t *out, size_t length, struct zangjulf_write *write);
 
+/* Register writes that were sent in one frame. */
+struct zangjulf_writes {
+    size_t size;   /* the bytes of the frame, 60 to 1,514 */
+    size_t blocks; /* how many register blocks it writes, 1 to 74 */
+};
+
+/* The first owed register blocks are sent in one frame, in the order in which they are owed: as many as the frame holds, whatever
+ * `length` is. The frame stands at the front of `out`. ZANGJULF_DONE; 18, 19, or 29 with the bytes needed in `writes->size`; or
+ * ZANGJULF_CLOSED. Unless it is done nothing changed, `out` neither. What returns is handed to `zangjulf_arrive`; a frame that is
+ * lost is sent again by the next call. One block has the frame of `zangjulf_next_write`, and is answered as that is. Takes no
+ * memory. */
+uint8_t zangjulf_next_writes(struct zangjulf *handle, uint8_t *out, size_t length, struct zangjulf_writes *writes);
+
 /* The slave with a station address may have lost its registers, as one that was switched off and on: each of its register blocks
  * is owed again. Nothing else changes: not the epoch, what tasks posted and what they read, nor what arrives of frames that are
  * under way. A write to it that was sent before confirms nothing: its arrival is ZANGJULF_STALE; and so is, once a write was sent
@@ -402,36 +418,41 @@ static inline size_t zangjulf_frame_size(const uint8_t *frame) {
  * memory. */
 uint8_t zangjulf_preview(const struct zangjulf *handle, uint8_t task, uint8_t datagram, uint8_t *out, size_t length, size_t *size);
 
-/* What an arrival is for a datagram of a task. */
+/* What an arrival is for a datagram of a task, or for a register block of a frame of several. */
 enum {
-    ZANGJULF_INPUTS = 1,      /* its data are what its task reads now */
-    ZANGJULF_WRONG_COUNT = 2, /* it came back with another working counter, and what its task reads is as it was */
-    ZANGJULF_SENT_AGAIN = 3   /* it was sent again since, and what its task reads is as it was */
+    ZANGJULF_INPUTS = 1,        /* its data are what its task reads now */
+    ZANGJULF_WRONG_COUNT = 2,   /* it came back with another working counter, and what its task reads is as it was */
+    ZANGJULF_SENT_AGAIN = 3,    /* it was sent again since, or the block's slave was forgotten, and nothing changed by it */
+    ZANGJULF_BLOCK_WRITTEN = 4, /* the register block is known */
+    ZANGJULF_BLOCK_MISSED = 5   /* no slave took the register block: it stays owed */
 };
 struct zangjulf_outcome {
     uint8_t kind;
-    uint8_t task;      /* 0 to 7 */
-    uint8_t datagram;  /* its number in the task, 0 to 15 */
-    uint16_t expected; /* the expected working counter */
+    uint8_t task;      /* 0 to 7; of a register block 0 */
+    uint8_t datagram;  /* its number in the task, 0 to 15; of a register block 0 */
+    uint16_t expected; /* the expected working counter; of a register block 1 */
     uint16_t got;      /* the one that it came back with */
     uint16_t at;       /* the byte of the frame at which its data begin, so that those of a wrong count can be had */
     uint16_t length;   /* the bytes of its data */
+    uint16_t station;  /* of a register block the slave's station address; else 0 */
+    uint16_t start;    /* of a register block the register at which it begins; else 0 */
 };
 
 /* What an arrival answers. */
 struct zangjulf_arrival {
     uint64_t serial;  /* the serial that the frame bears: of the sending that it answers, unless it is stale */
-    size_t datagrams; /* where it answers frames of tasks, how many datagrams it has; else 0 */
-    uint16_t station; /* where it answers a register write, the slave's station address; else 0 */
-    uint16_t start;   /* where it answers a register write, the register at which its block begins; else 0 */
+    size_t datagrams; /* where it answers frames of tasks or several register writes, how many datagrams it has; else 0 */
+    uint16_t station; /* where it answers a write of one block, the slave's station address; else 0 */
+    uint16_t start;   /* where it answers a write of one block, the register at which that begins; else 0 */
 };
 
 /* A frame arrives: any bytes, without the check sequence. ZANGJULF_DONE where they answer frames of tasks, whatever their
  * counters are, and the outcomes of the first datagrams stand in `outcomes`, as many as there is room for: look at each
- * `kind`. ZANGJULF_WRITE_DONE or ZANGJULF_WRITE_MISSED of a register write, and `*arrival` names it. ZANGJULF_STALE, and
+ * `kind`. ZANGJULF_WRITTEN where they answer a frame of several register writes, with an outcome of each block in the same way.
+ * ZANGJULF_WRITE_DONE or ZANGJULF_WRITE_MISSED of a write of one block, and `*arrival` names it. ZANGJULF_STALE, and
  * `*arrival` tells its serial. Or nothing changed: 20 to 27 where they can't be read, ZANGJULF_CHANGES_FULL where the line
  * keeps changes and has no room for those of all the good answers, ZANGJULF_MEMORY, ZANGJULF_BUSY or ZANGJULF_CLOSED; then
- * `*arrival` is as it was. Only with ZANGJULF_DONE `outcomes` is written. In a line that keeps no changes it takes no memory,
+ * `*arrival` is as it was. Only with ZANGJULF_DONE and ZANGJULF_WRITTEN `outcomes` is written. In a line that keeps no changes it takes no memory,
  * and is never answered ZANGJULF_MEMORY; in another one it takes memory for the data of good answers, and where the list of
  * changes grows. */
 uint8_t zangjulf_arrive(struct zangjulf *handle, const uint8_t *bytes, size_t length, struct zangjulf_outcome *outcomes,

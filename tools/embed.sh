@@ -29,13 +29,22 @@ if [ "${1:-}" = --short ]; then
 fi
 hotline=${1:-crates/hotline/out/hotline}
 
-# read_capture: tshark reads the frames of the capture, as many as there are, and marks none malformed; one that is it marks
+# captured FILTER CAPTURE: how many frames of a capture tshark finds by a filter
+captured() {
+    tshark -r "$scratch/$2.pcap" -Y "$1" 2>"$scratch/tshark" | wc -l
+}
+
+# read_capture NAME: tshark reads the frames of a capture, those of 5,000 cycles as they are sent and as they return, and marks
+# none malformed
 read_capture() {
-    tshark -r "$scratch/master.pcap" -Y ecat >"$scratch/frames" 2>"$scratch/tshark"
-    [ "$(wc -l <"$scratch/frames")" -ge 10000 ]
-    tell $? "tshark reads fewer than 10,000 frames of the capture"
-    tshark -r "$scratch/master.pcap" -Y _ws.malformed >"$scratch/frames" 2>"$scratch/tshark" && [ ! -s "$scratch/frames" ]
-    tell $? "tshark reads a malformed frame in the capture"
+    [ "$(captured 'ecat.cmd == 12' "$1")" -eq 10000 ]
+    tell $? "tshark doesn't read the frames of 5,000 cycles in the capture of $1"
+    [ "$(captured _ws.malformed "$1")" -eq 0 ]
+    tell $? "tshark reads a malformed frame in the capture of $1"
+}
+
+# read_malformed: tshark marks a frame that is malformed
+read_malformed() {
     # a datagram of 16 bytes in a frame that ends after four of them
     echo "000000 ff ff ff ff ff ff 02 00 00 00 00 00 88 a4 1c 10 0c 00 00 00 00 01 10 00 00 00 01 02 03 04" |
         text2pcap -q - "$scratch/malformed.pcap" 2>"$scratch/tshark"
@@ -43,13 +52,16 @@ read_capture() {
     tell $? "tshark marks no malformed frame"
 }
 
-# masters: a master and its slaves, two processes, for five seconds; then the same in Python
+# masters: a master and its slaves, two processes, for five seconds; one that changes its tool with one frame of register
+# writes; then the first in Python
 masters() {
     timeout 60 "$scratch/master" examples/tool_changer.toml 5 1000 "$scratch/master.pcap"
     status=$?
     [ $status -ne 77 ] || return
     tell $status "the master"
-    ! { has tshark && has text2pcap; } || read_capture
+    timeout 60 "$scratch/docking" examples/own_tasks.toml 5 1000 "$scratch/docking.pcap"
+    tell $? "a tool that is changed with one frame"
+    ! { has tshark && has text2pcap; } || { read_capture master; read_capture docking; read_malformed; }
     timeout 60 unshare -n python3 examples/master/master.py examples/tool_changer.toml 5
     tell $? "the master in Python"
 }

@@ -28,7 +28,7 @@ def faults_are_those_of_the_header():
     header = Path(__file__).resolve().parents[2] / "include/zangjulf.h"
     listed = re.findall(r'ANSWER\((\w+), (\d+), "(.*)"\)', header.read_text(encoding="utf-8"))
     answers = {int(number): (name, text) for name, number, text in listed}
-    for done in (0, 101, 102, 103):
+    for done in (0, 101, 102, 103, 104):
         del answers[done]
     assert set(answers) == set(zangjulf.FAULTS)
     for number, fault in zangjulf.FAULTS.items():

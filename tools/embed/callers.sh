@@ -59,8 +59,10 @@ callers_in_c() {
     threads "threads that meet at one handle, under the address sanitizer" -fsanitize=address,undefined
     compiled_fuzz && timeout 900 "$scratch/fuzz" examples/tool_changer.toml "$1" 1 >"$scratch/printed"
     tell_said $? "$1 drawn calls from C"
-    gcc -std=c11 -O2 $warnings -Iinclude examples/master/master.c build/libzangjulf.a -o "$scratch/master"
+    gcc -std=c11 -O2 $warnings -Iinclude examples/master/master.c examples/master/wire.c build/libzangjulf.a -o "$scratch/master"
     tell $? "the master isn't built"
+    gcc -std=c11 -O2 $warnings -Iinclude examples/master/docking.c examples/master/wire.c build/libzangjulf.a -o "$scratch/docking"
+    tell $? "the master that changes its tool with one frame isn't built"
     gcc -std=c11 -g -O1 $warnings -fsanitize=address,undefined -Iinclude examples/cycle/cycle.c build/libzangjulf.a -o "$scratch/cycle" &&
         timeout 60 "$scratch/cycle" examples/tool_changer.toml >"$scratch/printed" && diff examples/cycle/cycle.out "$scratch/printed"
     tell_said $? "the cycle of docs/use/EMBEDDING.md: < is written, > is printed"

@@ -48,4 +48,11 @@ compare_drawn() {
         ! { drawn examples/tool_changer.in 30000 3 && same_inside "$hotline"; }
         tell $? "drawn calls don't find the wrong $name"
     done
+    # what the program has no command for is found by the model alone
+    for name in next_writes next_writes=2 next_writes=3 arrive=3; do
+        compiled_fuzz tools/embed/wrong.c -DWRONG_$name -Wl,--wrap=zangjulf_${name%=*}
+        tell $? "the wrong $name isn't built"
+        ! (timeout 300 "$scratch/fuzz" examples/tool_changer.in 30000 3 >"$scratch/printed") 2>/dev/null
+        tell $? "drawn calls don't find the wrong $name"
+    done
 }

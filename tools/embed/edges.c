@@ -38,6 +38,7 @@ static void closed(void) {
     size_t size = 7;
     struct zangjulf_sent sent;
     struct zangjulf_write write = {7, {7, 7, 7}};
+    struct zangjulf_writes writes = {7, 7};
     struct zangjulf_owed_block owed = {7, 7, 7};
     struct zangjulf_counters counters = {7, 7, 7, 7};
     struct zangjulf_outcome outcomes[1];
@@ -54,6 +55,7 @@ static void closed(void) {
     EXPECT(zangjulf_owed(&line, &number) == ZANGJULF_CLOSED && number == 7);
     EXPECT(zangjulf_post(&line, 0, 0, &byte, 1) == ZANGJULF_CLOSED);
     EXPECT(zangjulf_next_write(&line, &byte, 1, &write) == ZANGJULF_CLOSED && byte == 7 && write.size == 7);
+    EXPECT(zangjulf_next_writes(&line, &byte, 1, &writes) == ZANGJULF_CLOSED && byte == 7 && writes.size == 7 && writes.blocks == 7);
     EXPECT(zangjulf_owed_block(&line, 0, &owed) == ZANGJULF_CLOSED && owed.size == 7);
     EXPECT(zangjulf_forget(&line, 1002) == ZANGJULF_CLOSED);
     EXPECT(zangjulf_counters(&line, 0, 0, &counters) == ZANGJULF_CLOSED && counters.sent == 7);
@@ -85,6 +87,7 @@ static void misused(void) {
     uint8_t task = 0, twice[2] = {1, 1}, nine[9] = {0, 1, 2, 3, 4, 5, 6, 7, 8}, *out = slice(59);
     struct zangjulf_sent sent = {0, 0, 0};
     struct zangjulf_write write = {0, {0, 0, 0}};
+    struct zangjulf_writes writes = {7, 7};
     struct zangjulf_owed_block block;
     struct zangjulf_outcome outcome;
     struct zangjulf_arrival arrival = {7, 7, 7, 7};
@@ -103,6 +106,8 @@ static void misused(void) {
     EXPECT(zangjulf_owed_block(&line, 11, &block) == ZANGJULF_DONE && block.size == 16);
     EXPECT(zangjulf_owed_block(&line, 12, &block) == ZANGJULF_NOTHING);
     EXPECT(zangjulf_next_write(&line, out, 59, &write) == ZANGJULF_ROOM && write.size == 60 && out[0] == 0xaa);
+    /* six blocks of 8 bytes and six of 16 in one frame: 16 + 12 * 12 + 6 * 24 */
+    EXPECT(zangjulf_next_writes(&line, out, 59, &writes) == ZANGJULF_ROOM && writes.size == 304 && writes.blocks == 7 && out[0] == 0xaa);
     EXPECT(zangjulf_arrive(&line, out, 27, &outcome, 0, &arrival) == ZANGJULF_SHORT && arrival.serial == 7);
     /* a slice without elements may be NULL */
     EXPECT(zangjulf_post(&line, 0, 0, NULL, 0) == ZANGJULF_POST_LENGTH && zangjulf_post(&line, 7, 0, NULL, 0) == ZANGJULF_DONE);
@@ -151,6 +156,38 @@ static void write_all(struct zangjulf *line) {
     number = zangjulf_next_write(line, frame, 60, &write);
     EXPECT(number == ZANGJULF_NOTHING_OWED);
     free(frame);
+}
+
+/* All blocks of a slave that was forgotten go out in one frame: each is answered by its own counter, and those that no slave took
+ * are sent again. A frame of one block is answered as a single write is. */
+static void write_at_once(struct zangjulf *line) {
+    uint8_t *frame = slice(ZANGJULF_FRAME), *single = slice(60);
+    struct zangjulf_outcome outcomes[4];
+    struct zangjulf_writes writes = {7, 7};
+    struct zangjulf_write write;
+    struct zangjulf_arrival arrival;
+    uint32_t owed = 7;
+    EXPECT(zangjulf_next_writes(line, frame, ZANGJULF_FRAME, &writes) == ZANGJULF_NOTHING_OWED && writes.size == 7);
+    EXPECT(zangjulf_forget(line, 1002) == ZANGJULF_DONE);
+    EXPECT(zangjulf_next_writes(line, frame, ZANGJULF_FRAME, &writes) == ZANGJULF_DONE && writes.blocks == 4 && writes.size == 112);
+    pass(frame, writes.size);
+    /* the second block was taken by none; the third one's data begin after three heads and two blocks: 26 + 20 + 28 */
+    frame[26 + 20 + 16] = 0;
+    EXPECT(zangjulf_arrive(line, frame, writes.size, outcomes, 4, &arrival) == ZANGJULF_WRITTEN && arrival.datagrams == 4 && !arrival.station);
+    EXPECT(outcomes[0].kind == ZANGJULF_BLOCK_WRITTEN && outcomes[0].station == 1002 && outcomes[0].start == 0x0810 && outcomes[0].at == 26);
+    EXPECT(outcomes[1].kind == ZANGJULF_BLOCK_MISSED && outcomes[1].expected == 1 && !outcomes[1].got && outcomes[1].start == 0x0600);
+    EXPECT(outcomes[2].kind == ZANGJULF_BLOCK_WRITTEN && outcomes[2].at == 26 + 20 + 28 && outcomes[2].length == 8);
+    EXPECT(zangjulf_owed(line, &owed) == ZANGJULF_DONE && owed == 1);
+    EXPECT(zangjulf_arrive(line, frame, writes.size, outcomes, 4, &arrival) == ZANGJULF_STALE);
+    /* one block has the frame of a single write, and a later write of it takes its place */
+    EXPECT(zangjulf_next_writes(line, frame, 60, &writes) == ZANGJULF_DONE && writes.blocks == 1 && writes.size == 60);
+    EXPECT(zangjulf_next_write(line, single, 60, &write) == ZANGJULF_DONE && !memcmp(frame + 16, single + 16, 1) && !memcmp(frame + 18, single + 18, 42));
+    pass(frame, 60), pass(single, 60);
+    EXPECT(zangjulf_arrive(line, frame, 60, outcomes, 4, &arrival) == ZANGJULF_STALE);
+    EXPECT(zangjulf_arrive(line, single, 60, outcomes, 4, &arrival) == ZANGJULF_WRITE_DONE && arrival.station == 1002);
+    EXPECT(zangjulf_owed(line, &owed) == ZANGJULF_DONE && !owed);
+    free(frame);
+    free(single);
 }
 
 /* Outputs reach the slaves, inputs the tasks, and each is told as a change, in order. */
@@ -331,6 +368,7 @@ static void line_of_slaves(void) {
     write_all(&line);
     exchange(&line);
     forget(&line);
+    write_at_once(&line);
     edit(&line);
     declare(&line);
     /* opened anew in its place, and closed twice */

@@ -1,9 +1,9 @@
 /* Draws calls of the C library: any order, any numbers, any bytes, handles that are open and closed, slices of any length,
  * each of which ends where a page that can't be touched begins, growths that are refused. It ends with status 1 at an answer
- * that include/zangjulf.h doesn't allow, at a slice that was written though the call was refused, at an outcome, an age, a counter
- * or an owed block that isn't the plain model's (model.h), at bits that aren't those taken one by one, at a change that isn't the
- * next of what happened, at a line that is full of changes and isn't answered so, or the other way round, and where memory is live
- * once all handles are closed.
+ * that include/zangjulf.h doesn't allow, at a slice that was written though the call was refused, at an outcome, an age, a
+ * counter, an owed block or a frame of register writes that isn't the plain model's (model.h), at bits that aren't those taken
+ * one by one, at a change that isn't the next of what happened, at a line that is full of changes and isn't answered so, or the
+ * other way round, and where memory is live once all handles are closed.
  *
  *     fuzz PROJECT CALLS SEED [FOLDER [declare]]
  *
@@ -214,6 +214,27 @@ static void writing(struct line *line, bool was_open) {
     tell_write(line->told, number, serial, out, write.size);
 }
 
+/* There is no command for it: what is written of the line ends with a frame of register writes. */
+static void writing_all(struct line *line, bool was_open) {
+    static uint8_t wanted[ZANGJULF_FRAME];
+    size_t room = below(3) ? ZANGJULF_FRAME : some_length(ZANGJULF_FRAME), size = 0, blocks = 0;
+    struct zangjulf_writes writes = {0, 0};
+    uint64_t serial = 0;
+    uint8_t *out = fresh(room);
+    zangjulf_next_serial(&line->handle, &serial);
+    if (was_open) size = model_writes(&line->model, &line->handle, serial, wanted, &blocks);
+    unsigned number = zangjulf_next_writes(&line->handle, out, room, &writes);
+    expect(number, was_open, "\0\x12\x13\x1d");
+    if (number) expect_untouched(out, room, number);
+    if (number == ZANGJULF_ROOM && (writes.size != size || room >= size || writes.blocks)) fail("the room of register writes", number);
+    if (was_open && (number == ZANGJULF_NOTHING_OWED) != !size) fail("register writes of nothing", number);
+    if (number) return;
+    if (writes.size != size || writes.blocks != blocks || memcmp(out, wanted, size)) fail("another frame of register writes than the model's", number);
+    expect_untouched(out + size, room - size, number);
+    memcpy(wanted, out, size);
+    model_sent(&line->model, &line->handle, wanted), keep(line, wanted, size), end_script(line);
+}
+
 /* There is no command for it: what is written of the line ends with a slave that is forgotten. */
 static void forgetting(struct line *line, bool was_open) {
     uint32_t position, epoch = 0, after = 0;
@@ -276,8 +297,8 @@ static void arriving(struct line *line, bool was_open) {
     struct zangjulf_outcome *outcomes = (void *)last(&words, room * sizeof *outcomes);
     struct zangjulf_arrival arrival = {0, 0, 0, 0};
     unsigned number = zangjulf_arrive(&line->handle, in, size, outcomes, room, &arrival);
-    expect(number, was_open, "\0\x14\x15\x16\x17\x18\x19\x1a\x1b\x1c\x65\x66\x67\xfc");
-    bool is_judged = !number || (number >= ZANGJULF_WRITE_DONE && number <= ZANGJULF_STALE);
+    expect(number, was_open, "\0\x14\x15\x16\x17\x18\x19\x1a\x1b\x1c\x65\x66\x67\x68\xfc");
+    bool is_judged = !number || (number >= ZANGJULF_WRITE_DONE && number <= ZANGJULF_WRITTEN);
     bool is_full = number == ZANGJULF_CHANGES_FULL;
     if (number == ZANGJULF_MEMORY && !line->most_changes) fail("memory where no change is kept", number);
     if (is_judged || is_full) expect_full(line, was_open, number, model_adds(&line->model, in));
@@ -493,7 +514,10 @@ static void call_once(struct line *line) {
         else call = "forget", forgetting(line, was_open);
         break;
     case 1: call = "post"; posting(line, was_open); break;
-    case 2: case 3: call = "next_write"; writing(line, was_open); break;
+    case 2: case 3:
+        if (below(folder ? 1500 : 3)) call = "next_write", writing(line, was_open);
+        else call = "next_writes", writing_all(line, was_open);
+        break;
     case 4: call = "send"; sending(line, was_open); break;
     case 5: case 6: call = "arrive"; arriving(line, was_open); break;
     case 7: call = "read"; reading(line, was_open); break;

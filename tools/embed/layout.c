@@ -24,9 +24,11 @@ static void of_the_line(void) {
 
 static void of_frames(void) {
     STRUCT(zangjulf_write), FIELD(zangjulf_write, size), FIELD(zangjulf_write, block);
+    STRUCT(zangjulf_writes), FIELD(zangjulf_writes, size), FIELD(zangjulf_writes, blocks);
     STRUCT(zangjulf_sent), FIELD(zangjulf_sent, size), FIELD(zangjulf_sent, frames), FIELD(zangjulf_sent, owed);
     STRUCT(zangjulf_outcome), FIELD(zangjulf_outcome, kind), FIELD(zangjulf_outcome, task), FIELD(zangjulf_outcome, datagram);
     FIELD(zangjulf_outcome, expected), FIELD(zangjulf_outcome, got), FIELD(zangjulf_outcome, at), FIELD(zangjulf_outcome, length);
+    FIELD(zangjulf_outcome, station), FIELD(zangjulf_outcome, start);
     STRUCT(zangjulf_arrival), FIELD(zangjulf_arrival, serial), FIELD(zangjulf_arrival, datagrams);
     FIELD(zangjulf_arrival, station), FIELD(zangjulf_arrival, start);
     STRUCT(zangjulf_image), FIELD(zangjulf_image, epoch), FIELD(zangjulf_image, datagrams), FIELD(zangjulf_image, size);

@@ -19,7 +19,7 @@ static size_t heads_of(const uint8_t *frame, struct head *heads, size_t *places)
     size_t count = 0, at = 16;
     for (bool more = true; more && count < ZANGJULF_OUTCOMES; count++) {
         uint16_t field = (uint16_t)number_at(frame + at + 6, 2);
-        heads[count] = (struct head){frame[at], number_at(frame + at + 2, 4), field & 0x7ff, 0};
+        heads[count] = (struct head){.command = frame[at], .address = number_at(frame + at + 2, 4), .length = field & 0x7ff};
         places[count] = at + 10;
         more = field & 0x8000;
         at += 12u + heads[count].length;
@@ -45,12 +45,12 @@ void model_edited(struct model *model, const struct zangjulf *line) {
     model->known_count = left;
 }
 
-/* The block of a slave that begins at a register; its bytes and its number. */
-static bool block_at(const struct zangjulf *line, struct sending *sending) {
+/* The number of the block of a slave that begins at a register, and its bytes. */
+static uint8_t number_of(const struct zangjulf *line, const struct head *head, uint8_t *bytes) {
     struct zangjulf_block block;
-    for (sending->number = 0; !zangjulf_block(line, sending->station, sending->number, sending->bytes, 16, &block); sending->number++)
-        if (block.start == sending->start) return true;
-    return false;
+    uint8_t number = 0;
+    while (!zangjulf_block(line, head->station, number, bytes, 16, &block) && block.start != head->start) number++;
+    return number;
 }
 
 static struct known *known_of(struct model *model, uint16_t station, uint8_t number) {
@@ -67,17 +67,20 @@ void model_forgot(struct model *model, uint16_t station) {
     model->forgets++;
 }
 
+/* Register blocks are sent in one frame: of each this is the last write. */
 static void wrote(struct model *model, const struct zangjulf *line, struct sending *sending) {
-    struct head *head = &sending->heads[0];
+    uint8_t bytes[16];
     sending->forgets = model->forgets_at_write = model->forgets;
-    sending->station = (uint16_t)head->address, sending->start = (uint16_t)(head->address >> 16);
-    head->expected = 1;
-    block_at(line, sending);
-    struct known *known = known_of(model, sending->station, sending->number);
-    if (!known && model->known_count < MODEL_BLOCKS) known = &model->known[model->known_count++];
-    if (!known) return;
-    *known = (struct known){.station = sending->station, .number = sending->number, .size = (uint8_t)head->length, .serial = sending->serial};
-    memcpy(known->bytes, sending->bytes, head->length);
+    for (size_t i = 0; i < sending->count; i++) {
+        struct head *head = &sending->heads[i];
+        head->station = (uint16_t)head->address, head->start = (uint16_t)(head->address >> 16), head->expected = 1;
+        head->number = number_of(line, head, bytes);
+        struct known *known = known_of(model, head->station, head->number);
+        if (!known && model->known_count < MODEL_BLOCKS) known = &model->known[model->known_count++];
+        if (!known) return;
+        *known = (struct known){.station = head->station, .number = head->number, .size = (uint8_t)head->length, .serial = sending->serial};
+        memcpy(known->bytes, bytes, head->length);
+    }
 }
 
 void model_sent(struct model *model, const struct zangjulf *line, const uint8_t *frame) {
@@ -119,12 +122,30 @@ static struct sending *answered_by(struct model *model, const uint8_t *frame, co
     return &model->sendings[place];
 }
 
-/* The answer to a register write that came back with a working counter. */
+/* The last write of a block, where that is the one of this sending and no later write took the place of all before; else NULL. */
+static struct known *awaited_block(const struct model *model, const struct sending *sending, size_t i) {
+    struct known *known = known_of((struct model *)model, sending->heads[i].station, sending->heads[i].number);
+    return !known || known->serial != sending->serial || sending->forgets < model->forgets_at_write ? NULL : known;
+}
+
+/* The answer to the write of one register block that came back with a working counter. */
 static unsigned write_answer(struct model *model, const struct sending *sending, uint16_t got) {
-    struct known *known = known_of(model, sending->station, sending->number);
-    if (!known || known->serial != sending->serial || sending->forgets < model->forgets_at_write) return ZANGJULF_STALE;
+    struct known *known = awaited_block(model, sending, 0);
+    if (!known) return ZANGJULF_STALE;
     if (got == 1) known->is_confirmed = true;
     return got == 1 ? ZANGJULF_WRITE_DONE : ZANGJULF_WRITE_MISSED;
+}
+
+/* What an arrival is for a block of several that came back with a working counter. */
+static struct zangjulf_outcome block_outcome(const struct model *model, const struct sending *sending, size_t i, size_t place, uint16_t got) {
+    const struct head *head = &sending->heads[i];
+    struct zangjulf_outcome outcome;
+    memset(&outcome, 0, sizeof outcome);
+    outcome.kind = !awaited_block(model, sending, i) ? ZANGJULF_SENT_AGAIN : got == 1 ? ZANGJULF_BLOCK_WRITTEN : ZANGJULF_BLOCK_MISSED;
+    outcome.expected = 1, outcome.got = got;
+    outcome.at = (uint16_t)place, outcome.length = head->length;
+    outcome.station = head->station, outcome.start = head->start;
+    return outcome;
 }
 
 /* What a datagram's outcome is; it is counted by `judged`. */
@@ -150,7 +171,7 @@ static void judged(struct model *model, const struct zangjulf_outcome *outcome, 
 
 static bool is_same(const struct zangjulf_outcome *a, const struct zangjulf_outcome *b) {
     return a->kind == b->kind && a->task == b->task && a->datagram == b->datagram && a->expected == b->expected && a->got == b->got &&
-           a->at == b->at && a->length == b->length;
+           a->at == b->at && a->length == b->length && a->station == b->station && a->start == b->start;
 }
 
 bool model_arrived(struct model *model, const uint8_t *frame, unsigned number, const struct zangjulf_arrival *arrival,
@@ -160,20 +181,24 @@ bool model_arrived(struct model *model, const uint8_t *frame, unsigned number, c
     size_t places[ZANGJULF_OUTCOMES], count = heads_of(frame, came, places);
     const struct sending *sending = answered_by(model, frame, came, count);
     if (!sending) return number == ZANGJULF_STALE;
-    if (came[0].command == 5) {
+    bool is_write = came[0].command == 5, is_news = false;
+    if (is_write && count == 1) {
         unsigned wanted = write_answer(model, sending, (uint16_t)number_at(frame + places[0] + came[0].length, 2));
+        const struct head *head = &sending->heads[0];
         if (number != wanted) return false;
-        return number == ZANGJULF_STALE || (arrival->station == sending->station && arrival->start == sending->start && arrival->serial == sending->serial);
+        return number == ZANGJULF_STALE || (arrival->station == head->station && arrival->start == head->start && arrival->serial == sending->serial);
     }
-    bool is_news = false;
     for (size_t i = 0; i < count; i++) {
-        expected[i] = outcome_of(model, sending, i, places[i], (uint16_t)number_at(frame + places[i] + came[i].length, 2));
+        uint16_t got = (uint16_t)number_at(frame + places[i] + came[i].length, 2);
+        expected[i] = is_write ? block_outcome(model, sending, i, places[i], got) : outcome_of(model, sending, i, places[i], got);
         is_news |= expected[i].kind != ZANGJULF_SENT_AGAIN;
     }
     if (!is_news) return number == ZANGJULF_STALE;
-    if (number || arrival->datagrams != count || arrival->serial != sending->serial) return false;
+    if (number != (is_write ? ZANGJULF_WRITTEN : ZANGJULF_DONE) || arrival->datagrams != count || arrival->serial != sending->serial) return false;
+    if (arrival->station || arrival->start) return false;
     for (size_t i = 0; i < count; i++) {
-        judged(model, &expected[i], sending->serial);
+        if (!is_write) judged(model, &expected[i], sending->serial);
+        else if (expected[i].kind == ZANGJULF_BLOCK_WRITTEN) awaited_block(model, sending, i)->is_confirmed = true;
         if (i < room && !is_same(&outcomes[i], &expected[i])) return false;
     }
     return true;
@@ -232,6 +257,12 @@ bool model_shares(const struct zangjulf *line, uint8_t task, uint8_t number) {
     return !is_there || sum == datagram.expected;
 }
 
+/* Whether a block of the line is owed: its slave isn't known to have these bytes. */
+static bool is_owed(const struct model *model, uint16_t station, uint8_t number, const struct zangjulf_block *block, const uint8_t *bytes) {
+    const struct known *known = known_of((struct model *)model, station, number);
+    return !known || !known->is_confirmed || known->size != block->size || memcmp(known->bytes, bytes, block->size);
+}
+
 bool model_owes(const struct model *model, const struct zangjulf *line) {
     struct zangjulf_owed_block owed;
     struct zangjulf_block block;
@@ -240,10 +271,49 @@ bool model_owes(const struct model *model, const struct zangjulf *line) {
     uint8_t bytes[16];
     for (uint32_t position = 0; !zangjulf_station(line, position, &station); position++)
         for (uint8_t number = 0; !zangjulf_block(line, station, number, bytes, sizeof bytes, &block); number++) {
-            const struct known *known = known_of((struct model *)model, station, number);
-            if (known && known->is_confirmed && known->size == block.size && !memcmp(known->bytes, bytes, block.size)) continue;
+            if (!is_owed(model, station, number, &block, bytes)) continue;
             if (zangjulf_owed_block(line, index++, &owed)) return false;
             if (owed.station != station || owed.start != block.start || owed.size != block.size) return false;
         }
     return zangjulf_owed_block(line, index, &owed) == ZANGJULF_NOTHING;
+}
+
+static void put_number(uint8_t *bytes, uint32_t value, int count) {
+    for (int i = 0; i < count; i++) bytes[i] = (uint8_t)(value >> 8 * i);
+}
+
+/* A register write among others: the datagram's bytes, by ETG.1000.4, 5.4. The one before it is followed by more. */
+static size_t put_write(uint8_t *at, uint64_t serial, uint16_t station, const struct zangjulf_block *block, const uint8_t *bytes, uint8_t *before) {
+    if (before) before[7] |= 0x80;
+    at[0] = 5, at[1] = (uint8_t)serial;
+    put_number(at + 2, station, 2), put_number(at + 4, block->start, 2);
+    put_number(at + 6, (uint32_t)block->size, 2), put_number(at + 8, 0, 2);
+    memcpy(at + 10, bytes, block->size);
+    put_number(at + 10 + block->size, 0, 2);
+    return 12 + block->size;
+}
+
+size_t model_writes(const struct model *model, const struct zangjulf *line, uint64_t serial, uint8_t *frame, size_t *blocks) {
+    struct zangjulf_block block;
+    uint16_t station;
+    uint8_t bytes[16], *before = NULL;
+    size_t size = 0;
+    bool is_full = false;
+    *blocks = 0;
+    for (uint32_t position = 0; !is_full && !zangjulf_station(line, position, &station); position++)
+        for (uint8_t number = 0; !is_full && !zangjulf_block(line, station, number, bytes, sizeof bytes, &block); number++) {
+            if (!is_owed(model, station, number, &block, bytes)) continue;
+            is_full = 2 + size + 12 + block.size > 1500;
+            if (is_full) continue;
+            uint8_t *at = frame + 16 + size;
+            size += put_write(at, serial, station, &block, bytes, before);
+            before = at, ++*blocks;
+        }
+    if (!size) return 0;
+    memset(frame, 255, 6), frame[6] = 2, frame[12] = 0x88, frame[13] = 0xa4;
+    for (int i = 0; i < 5; i++) frame[7 + i] = (uint8_t)(serial >> 8 * (4 - i));
+    put_number(frame + 14, (uint32_t)size + 4096, 2);
+    size_t whole = 16 + size < 60 ? 60 : 16 + size;
+    memset(frame + 16 + size, 0, whole - 16 - size);
+    return whole;
 }

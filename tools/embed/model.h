@@ -15,18 +15,17 @@
 
 /* A datagram of a frame that was sent. */
 struct head {
-    uint8_t command;
+    uint8_t command, number; /* of a register block its number in the slave's order */
     uint32_t address;
     uint16_t length, expected;
+    uint16_t station, start; /* of a register block */
 };
 
 /* A sending: no arrival answers it once one has fitted it, or an edit was accepted. */
 struct sending {
     uint64_t serial;
     bool is_open;
-    uint16_t station, start; /* of a register write */
-    uint64_t forgets;        /* how many slaves were forgotten before */
-    uint8_t number, bytes[16];
+    uint64_t forgets; /* of register writes how many slaves were forgotten before */
     size_t count;
     struct head heads[ZANGJULF_OUTCOMES];
 };
@@ -63,7 +62,11 @@ void model_edited(struct model *model, const struct zangjulf *line);
 /* A slave was forgotten: its blocks' last writes say nothing any more. A write that is sent then takes the place of all before. */
 void model_forgot(struct model *model, uint16_t station);
 
-/* A frame of tasks, or of a register write, was sent. */
+/* The frame that writes the first owed blocks, as many as it holds, with a serial: it is put into `frame`, which has room for any
+ * frame. Its bytes, and how many blocks it writes; 0 where nothing is owed. */
+size_t model_writes(const struct model *model, const struct zangjulf *line, uint64_t serial, uint8_t *frame, size_t *blocks);
+
+/* A frame of tasks, or of register writes, was sent. */
 void model_sent(struct model *model, const struct zangjulf *line, const uint8_t *frame);
 
 /* Whether an arrival is answered as the model says: with this number, and with these outcomes, as many as there was room for. */

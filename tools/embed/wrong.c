@@ -38,12 +38,17 @@ uint8_t __wrap_zangjulf_connect(struct zangjulf *handle, uint16_t alias, bool as
 }
 #endif
 
-#ifdef WRONG_arrive /* a register write that no slave took is told as done; an outcome of another datagram */
+/* a register write that no slave took is told as done; an outcome of another datagram; a block among several that no slave took is
+ * told as written */
+#ifdef WRONG_arrive
 uint8_t __real_zangjulf_arrive(struct zangjulf *handle, const uint8_t *bytes, size_t length, struct zangjulf_outcome *outcomes, size_t room, struct zangjulf_arrival *arrival);
 uint8_t __wrap_zangjulf_arrive(struct zangjulf *handle, const uint8_t *bytes, size_t length, struct zangjulf_outcome *outcomes, size_t room, struct zangjulf_arrival *arrival) {
     unsigned number = __real_zangjulf_arrive(handle, bytes, length, outcomes, room, arrival);
 #if WRONG_arrive == 2
     if (!number && room && outcomes->kind != ZANGJULF_INPUTS) outcomes->datagram ^= 1;
+    return (uint8_t)number;
+#elif WRONG_arrive == 3
+    if (number == ZANGJULF_WRITTEN && room && outcomes->kind == ZANGJULF_BLOCK_MISSED) outcomes->kind = ZANGJULF_BLOCK_WRITTEN;
     return (uint8_t)number;
 #else
     return number == ZANGJULF_WRITE_MISSED ? ZANGJULF_WRITE_DONE : (uint8_t)number;
@@ -80,6 +85,27 @@ uint8_t __real_zangjulf_next_write(struct zangjulf *handle, uint8_t *out, size_t
 uint8_t __wrap_zangjulf_next_write(struct zangjulf *handle, uint8_t *out, size_t length, struct zangjulf_write *write) {
     unsigned number = __real_zangjulf_next_write(handle, out, length, write);
     if (number == ZANGJULF_ROOM && length) out[length - 1] = 0;
+    return (uint8_t)number;
+}
+#endif
+
+#ifdef WRONG_next_writes /* one block alone; a frame that is sent though it has no room; another number of blocks */
+uint8_t __real_zangjulf_next_writes(struct zangjulf *handle, uint8_t *out, size_t length, struct zangjulf_writes *writes);
+uint8_t __wrap_zangjulf_next_writes(struct zangjulf *handle, uint8_t *out, size_t length, struct zangjulf_writes *writes) {
+#if WRONG_next_writes == 2
+    uint8_t frame[ZANGJULF_FRAME];
+    unsigned number = __real_zangjulf_next_writes(handle, out, length, writes);
+    struct zangjulf_writes sent;
+    if (number == ZANGJULF_ROOM) __real_zangjulf_next_writes(handle, frame, sizeof frame, &sent);
+#elif WRONG_next_writes == 3
+    unsigned number = __real_zangjulf_next_writes(handle, out, length, writes);
+    if (!number) writes->blocks++;
+#else
+    struct zangjulf_write write = {0, {0, 0, 0}};
+    unsigned number = zangjulf_next_write(handle, out, length, &write);
+    if (!number || number == ZANGJULF_ROOM) writes->size = write.size;
+    if (!number) writes->blocks = 1;
+#endif
     return (uint8_t)number;
 }
 #endif

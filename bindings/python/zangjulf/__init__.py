@@ -11,8 +11,8 @@ are handed in as `bytes`, `bytearray` or `memoryview`, without a copy where they
 """
 
 from .answers import (
-    Arrival, Arrived, Block, Cost, Counters, Datagram, Good, Image, Location, Outcome, OutcomeKind, OwedBlock, Part,
-    Place, Spot, Swapped,
+    Arrival, Arrived, Block, BlockOutcome, BlockOutcomeKind, Cost, Counters, Datagram, Good, Image, Location, Outcome,
+    OutcomeKind, OwedBlock, Part, Place, Spot, Swapped,
 )
 from .faults import (
     FAULTS, Fault, FrameFault, ProjectFault,
@@ -32,7 +32,8 @@ from .version import VERSION as __version__
 
 __all__ = [
     "Absent", "AliasTaken", "AlreadyPresent", "AreaTooBig", "Arrival", "Arrived", "BadLength", "BadType", "Block",
-    "Busy", "ChangesFull", "Circulating", "Closed", "Cost", "Counters", "Datagram", "EpochsSpent", "FAULTS", "FRAMES",
+    "BlockOutcome", "BlockOutcomeKind", "Busy", "ChangesFull", "Circulating", "Closed", "Cost", "Counters", "Datagram",
+    "EpochsSpent", "FAULTS", "FRAMES",
     "Fault", "FrameFault", "Good", "IMAGE", "Image", "IndexMismatch", "IsInput", "Line", "Location", "Mandatory",
     "Memory", "Misused", "MoreFollows", "NoSuchArea", "NoSuchTask", "NotEtherCat", "NotPresent", "Nothing",
     "NothingOwed", "OTHER_SOURCE", "Outcome", "OutcomeKind", "OwedBlock", "Part", "Place", "PostLength",

@@ -62,12 +62,14 @@ class Cost(NamedTuple):
 
 
 class Arrived(Enum):
-    """What an arrival answers: frames of tasks; a register write, taken or not; nothing that is awaited."""
+    """What an arrival answers: frames of tasks; a write of one register block, taken or not; nothing that is awaited; a frame of
+    several register writes."""
 
     TASKS = 0
     WRITE_DONE = 101
     WRITE_MISSED = 102
     STALE = 103
+    WRITTEN = 104
 
 
 class OutcomeKind(Enum):
@@ -91,15 +93,35 @@ class Outcome(NamedTuple):
     data: bytes
 
 
+class BlockOutcomeKind(Enum):
+    """What an arrival is for a register block of a frame of several: the block is known; no slave took it, and it stays owed; it was
+    sent again since, or its slave was forgotten, and nothing changed by it."""
+
+    WRITTEN = 4
+    MISSED = 5
+    SENT_AGAIN = 3
+
+
+class BlockOutcome(NamedTuple):
+    """A register block of a frame of several that arrived: what the arrival is for it, the slave's station address, the register at
+    which it begins, and the working counter that it came back with, 1 if a slave took it."""
+
+    kind: BlockOutcomeKind
+    station: int
+    start: int
+    got: int
+
+
 class Arrival(NamedTuple):
-    """What an arrival answers, the serial that the frame bears, its datagrams, and of a register write the slave's station address
-    and the register."""
+    """What an arrival answers, the serial that the frame bears, its datagrams, of a write of one register block the slave's station
+    address and the register, and the blocks of a frame of several."""
 
     answers: Arrived
     serial: int
     outcomes: list[Outcome]
     station: int | None
     start: int | None
+    blocks: tuple[BlockOutcome, ...] = ()
 
 
 class Image(NamedTuple):

@@ -45,6 +45,10 @@ class Write(ctypes.Structure):
     _fields_ = [("size", c_size_t), ("block", OwedBlock)]
 
 
+class Writes(ctypes.Structure):
+    _fields_ = [("size", c_size_t), ("blocks", c_size_t)]
+
+
 class Cost(ctypes.Structure):
     _fields_ = [("epoch", c_uint32), ("recut", c_uint32), ("moved", c_uint32), ("places", c_uint32), ("crowded", c_uint8)]
 
@@ -57,6 +61,7 @@ class Outcome(ctypes.Structure):
     _fields_ = [
         ("kind", c_uint8), ("task", c_uint8), ("datagram", c_uint8),
         ("expected", c_uint16), ("got", c_uint16), ("at", c_uint16), ("length", c_uint16),
+        ("station", c_uint16), ("start", c_uint16),
     ]
 
 
@@ -111,6 +116,7 @@ LINE_CALLS: dict[str, tuple[Any, ...]] = {
     "move": (c_uint16, c_uint8, c_uint8, c_bool, POINTER(Cost)),
     "declare": (*_SLICE, c_bool, POINTER(Cost)),
     "next_write": (*_SLICE, POINTER(Write)),
+    "next_writes": (*_SLICE, POINTER(Writes)),
     "forget": (c_uint16,),
     "post": (c_uint8, c_uint32, *_SLICE),
     "send": (*_SLICE, *_SLICE, POINTER(Sent)),

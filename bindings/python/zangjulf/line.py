@@ -8,7 +8,8 @@ from typing import Any, TypeVar, Union
 
 from . import library as c
 from .answers import (
-    Arrival, Arrived, Block, Cost, Counters, Datagram, Good, Image, Outcome, OutcomeKind, OwedBlock, Part, Place, Swapped,
+    Arrival, Arrived, Block, BlockOutcome, BlockOutcomeKind, Cost, Counters, Datagram, Good, Image, Outcome, OutcomeKind, OwedBlock,
+    Part, Place, Swapped,
 )
 from .faults import FAULTS
 
@@ -175,6 +176,13 @@ class Line:
         self._done(self._call("next_write", *c.slice_of(self._out), byref(it)), it.size)
         return bytes(self._out[: it.size])
 
+    def next_writes(self) -> bytes:
+        """Sends the first owed register blocks in one frame, as many as it holds: its frame. One that is lost is sent again by the
+        next call. One block has the frame of `next_write`, and is answered as that is. `NothingOwed`, `SerialsSpent`."""
+        it = c.Writes()
+        self._done(self._call("next_writes", *c.slice_of(self._out), byref(it)), it.size)
+        return bytes(self._out[: it.size])
+
     def forget(self, station: int) -> None:
         """The slave with a station address may have lost its registers, as one that was switched off and on: each of its register
         blocks is owed again, and nothing else changes. A write to it that was sent before confirms nothing, and neither does any
@@ -213,6 +221,8 @@ class Line:
             return Arrival(Arrived(number), it.serial, [], it.station, it.start)
         if number == 103:
             return Arrival(Arrived.STALE, it.serial, [], None, None)
+        if number == 104:
+            return Arrival(Arrived.WRITTEN, it.serial, [], None, None, tuple(map(_block, self._outcomes[: it.datagrams])))
         self._done(number)
         return Arrival(Arrived.TASKS, it.serial, [_outcome(one, data) for one in self._outcomes[: it.datagrams]], None, None)
 
@@ -266,3 +276,7 @@ class Line:
 def _outcome(it: c.Outcome, frame: Bytes) -> Outcome:
     data = bytes(frame[it.at : it.at + it.length])
     return Outcome(OutcomeKind(it.kind), it.task, it.datagram, it.expected, it.got, data)
+
+
+def _block(it: c.Outcome) -> BlockOutcome:
+    return BlockOutcome(BlockOutcomeKind(it.kind), it.station, it.start, it.got)

@@ -89,6 +89,8 @@ fn arrive(line: &mut Line, bytes: &[u8], out: &mut impl Write) -> Told {
         Arrival::WriteMissed(_) => writeln!(out, "write missed")?,
         Arrival::Stale { .. } => writeln!(out, "stale")?,
         Arrival::Answered { mut outcomes, .. } => outcomes.try_for_each(|it| outcome(it, out))?,
+        // no command sends one
+        Arrival::Writes { .. } => {}
     }
     Ok(())
 }

@@ -81,6 +81,15 @@ pub struct Write<'a> {
     pub block: OwedBlock,
 }
 
+/// Register writes that were sent in one frame.
+#[derive(Clone, Copy, Debug, PartialEq, Eq)]
+pub struct Writes<'a> {
+    /// Their frame.
+    pub frame: &'a [u8],
+    /// How many register blocks it writes, 1 to 74.
+    pub blocks: usize,
+}
+
 /// What an edit does.
 #[repr(C)]
 #[derive(Clone, Copy, Debug, Default, PartialEq, Eq)]
@@ -162,6 +171,30 @@ impl Outcome {
         let at = usize::from(self.at);
         frame.get(at..at + usize::from(self.length))
     }
+}
+
+/// What an arrival is for a register block of a frame of several.
+#[derive(Clone, Copy, Debug, PartialEq, Eq)]
+pub enum BlockOutcomeKind {
+    /// The block is known.
+    Written,
+    /// No slave took it: it stays owed.
+    Missed,
+    /// It was sent again since, or its slave was forgotten, and nothing changed by it.
+    SentAgain,
+}
+
+/// A register block of a frame of several that arrived.
+#[derive(Clone, Copy, Debug, PartialEq, Eq)]
+pub struct BlockOutcome {
+    /// What the arrival is for it.
+    pub kind: BlockOutcomeKind,
+    /// The slave's station address.
+    pub station: u16,
+    /// The register at which it begins.
+    pub start: u16,
+    /// The working counter that it came back with; 1 is expected.
+    pub got: u16,
 }
 
 /// What a task reads.

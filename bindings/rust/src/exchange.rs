@@ -3,7 +3,7 @@
 use crate::faults::Fault;
 use crate::ffi;
 use crate::line::{done, Line};
-use crate::answers::{Change, Image, Outcome, OutcomeKind, Write};
+use crate::answers::{BlockOutcome, BlockOutcomeKind, Change, Image, Outcome, OutcomeKind, Write, Writes};
 
 /// What an arrival is.
 #[derive(Clone, Debug)]
@@ -15,10 +15,17 @@ pub enum Arrival<'a> {
         /// What it is for each datagram, in the frame's order.
         outcomes: Outcomes<'a>,
     },
-    /// It answers a register write: the block is known.
+    /// It answers a write of one register block: the block is known.
     WriteDone(Written),
-    /// It answers a register write that no slave took: the block stays owed.
+    /// It answers a write of one register block that no slave took: the block stays owed.
     WriteMissed(Written),
+    /// It answers a frame of several register writes.
+    Writes {
+        /// The serial of the sending that it answers.
+        serial: u64,
+        /// What it is for each block, in the frame's order.
+        blocks: BlockOutcomes<'a>,
+    },
     /// It answers nothing that is awaited.
     Stale {
         /// The serial that the frame bears.
@@ -69,6 +76,36 @@ impl Iterator for Outcomes<'_> {
 }
 
 impl ExactSizeIterator for Outcomes<'_> {}
+
+/// What an arrival is for each register block.
+#[derive(Clone, Debug)]
+pub struct BlockOutcomes<'a> {
+    left: std::slice::Iter<'a, ffi::Outcome>,
+}
+
+impl Iterator for BlockOutcomes<'_> {
+    type Item = BlockOutcome;
+
+    fn next(&mut self) -> Option<BlockOutcome> {
+        let it = self.left.next()?;
+        Some(BlockOutcome {
+            kind: match it.kind {
+                4 => BlockOutcomeKind::Written,
+                5 => BlockOutcomeKind::Missed,
+                _ => BlockOutcomeKind::SentAgain,
+            },
+            station: it.station,
+            start: it.start,
+            got: it.got,
+        })
+    }
+
+    fn size_hint(&self) -> (usize, Option<usize>) {
+        self.left.size_hint()
+    }
+}
+
+impl ExactSizeIterator for BlockOutcomes<'_> {}
 
 /// Frames one after another, each of its own size.
 #[derive(Clone, Debug)]
@@ -128,6 +165,34 @@ impl Line {
         let number = unsafe { ffi::zangjulf_next_write(&mut self.handle, out.as_mut_ptr(), out.len(), &mut write) };
         done(number, write.size)?;
         Ok(Write { frame: &out[..write.size], block: write.block })
+    }
+
+    /// Sends the first owed register blocks in one frame, as many as it holds: the frame is at the front of `out`, for which
+    /// [`crate::FRAME`] bytes are enough. A frame that is lost is sent again by the next call. One block has the frame of
+    /// [`Line::next_write`], and is answered as that is. `NothingOwed`, `SerialsSpent`, `Room` with the bytes needed; then nothing
+    /// changed, `out` neither.
+    ///
+    /// ```
+    /// # fn main() -> Result<(), Box<dyn std::error::Error>> {
+    /// # let mut line = zangjulf::Line::open(include_bytes!("../../../examples/tool_changer.toml"))?;
+    /// # let mut slaves = [1001, 1002, 1003, 1004].map(|station| zangjulf::Slave::new(0, station));
+    /// use zangjulf::{Arrival, BlockOutcomeKind};
+    /// let mut out = [0; zangjulf::FRAME];
+    /// let writes = line.next_writes(&mut out)?;
+    /// assert_eq!(writes.blocks, 12);
+    /// let mut frame = writes.frame.to_vec();
+    /// slaves.iter_mut().for_each(|slave| slave.process(&mut frame));
+    /// let Arrival::Writes { serial: 0, mut blocks } = line.arrive(&frame)? else { panic!("several writes") };
+    /// assert!(blocks.all(|block| block.kind == BlockOutcomeKind::Written));
+    /// assert_eq!(line.owed(), 0);
+    /// # Ok(())
+    /// # }
+    /// ```
+    pub fn next_writes<'a>(&mut self, out: &'a mut [u8]) -> Result<Writes<'a>, Fault> {
+        let mut writes = ffi::Writes::default();
+        let number = unsafe { ffi::zangjulf_next_writes(&mut self.handle, out.as_mut_ptr(), out.len(), &mut writes) };
+        done(number, writes.size)?;
+        Ok(Writes { frame: &out[..writes.size], blocks: writes.blocks })
     }
 
     /// The slave with a station address may have lost its registers, as one that was switched off and on: each of its register
@@ -250,6 +315,10 @@ impl Line {
             101 => Ok(Arrival::WriteDone(written)),
             102 => Ok(Arrival::WriteMissed(written)),
             103 => Ok(Arrival::Stale { serial: it.serial }),
+            104 => {
+                let blocks = self.outcomes[..it.datagrams].iter();
+                Ok(Arrival::Writes { serial: it.serial, blocks: BlockOutcomes { left: blocks } })
+            }
             fault => Err(Fault::of(fault, 0)),
         }
     }

@@ -142,8 +142,8 @@ mod tests {
             answers.iter().any(|answer| answer.starts_with(&line))
         };
         assert_eq!(ALL.iter().find(|fault| !is_listed(fault)), None);
-        // what isn't a fault: done, and three answers of an arrival
-        assert_eq!(answers.len(), ALL.len() + 4);
+        // what isn't a fault: done, and four answers of an arrival
+        assert_eq!(answers.len(), ALL.len() + 5);
         assert!(ALL.iter().all(|fault| Fault::of(fault.number(), 0) == *fault));
     }
 }

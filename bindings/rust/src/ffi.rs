@@ -33,6 +33,13 @@ pub struct Write {
 
 #[repr(C)]
 #[derive(Default)]
+pub struct Writes {
+    pub size: usize,
+    pub blocks: usize,
+}
+
+#[repr(C)]
+#[derive(Default)]
 pub struct Sent {
     pub size: usize,
     pub frames: usize,
@@ -49,6 +56,8 @@ pub struct Outcome {
     pub got: u16,
     pub at: u16,
     pub length: u16,
+    pub station: u16,
+    pub start: u16,
 }
 
 #[repr(C)]
@@ -138,6 +147,7 @@ extern "C" {
     pub fn zangjulf_declare(handle: *mut Handle, text: *const u8, length: usize, asks: bool, cost: *mut Cost) -> u8;
     pub fn zangjulf_owed_block(handle: *const Handle, index: u32, block: *mut OwedBlock) -> u8;
     pub fn zangjulf_next_write(handle: *mut Handle, out: *mut u8, length: usize, write: *mut Write) -> u8;
+    pub fn zangjulf_next_writes(handle: *mut Handle, out: *mut u8, length: usize, writes: *mut Writes) -> u8;
     pub fn zangjulf_forget(handle: *mut Handle, station: u16) -> u8;
     pub fn zangjulf_post(handle: *mut Handle, task: u8, epoch: u32, bytes: *const u8, length: usize) -> u8;
     pub fn zangjulf_send(

@@ -17,9 +17,10 @@ mod slave;
 mod values;
 
 pub use answers::{
-    Block, Change, Cost, Counters, Datagram, Dir, Edit, Image, Outcome, OutcomeKind, OwedBlock, Part, Place, Write,
+    Block, BlockOutcome, BlockOutcomeKind, Change, Cost, Counters, Datagram, Dir, Edit, Image, Outcome, OutcomeKind, OwedBlock,
+    Part, Place, Write, Writes,
 };
-pub use exchange::{Arrival, Frames, Outcomes, Written};
+pub use exchange::{Arrival, BlockOutcomes, Frames, Outcomes, Written};
 pub use faults::Fault;
 pub use line::Line;
 pub use locating::{locate, Key, Location, Spot};

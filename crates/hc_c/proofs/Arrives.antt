@@ -25,13 +25,13 @@ use Rattle.hc_events.specs.Points.{state_of}
 use Rattle.hc_events.specs.Steps.{Arrives, answer_to, entries_after, told_of, told_of_arrival, with_arrival}
 use Rattle.hc_core.specs.Early.{TellsEarly}
 use Rattle.hc_core.proofs.lemmas.Arriving.{stale-leaves}
-use Rattle.hc_c.specs.Arrivals.{Tells, arrival_of, judged_in, number_of, outcomes_from, outcomes_in, serial_in, written_in}
+use Rattle.hc_c.specs.Arrivals.{Tells, arrival_of, judged_in, number_of, outcomes_from, counted_in, outcomes_in, serial_in, written_in}
 use Rattle.hc_c.specs.declared.arriving.Arrival.{Arrival}
 use Rattle.hc_c.specs.declared.arriving.Outcome.{Outcome}
 use Rattle.hc_c.specs.Counts.{Counts, all_judged}
 use Rattle.hc_c.specs.Lists.{put}
-use Rattle.hc_c.specs.Returned.{arrived_number, first_written, told_arrival, told_parts}
-use Rattle.hc_c.proofs.Returned.{outcomes-told, written-told}
+use Rattle.hc_c.specs.Returned.{arrived_number, first_written, told_arrival, told_as, counted_as}
+use Rattle.hc_c.proofs.Returned.{blocks-told, outcomes-told, written-told}
 
 -- nothing is put
 
@@ -91,7 +91,6 @@ pub record IsDone (old new : Record) (bytes : List ℕ) (which : Arrived) (list 
   pub none : fault_in bytes ≡ None
   pub told : told_with which list ≡ answer_to old (Arrives bytes)
   pub entries : new ≡ entries_after old (Arrives bytes)
-  pub empty : which ≢ arrived.Answered → list ≡ []
   pub reachable : IsReachable new
   pub state_is : state ≡ state_of new
   pub project : lowest_fault (groups_of state.groups) ≡ None
@@ -113,16 +112,23 @@ state_before : (old new : Record) (bytes : List ℕ) → fault_in bytes ≡ None
 state_before old new bytes none grown = ap state_of (grown ∙ ap (with_arrival old) (read_ok bytes none))
 
 outcomes_are : (old new : Record) (bytes : List ℕ) (which : Arrived) (list : List core.Outcome) (state : State) → IsDone old new bytes which list state
-    → told_parts (table_of (line state)) list (placed_from 16 (reading_of bytes).parts) ≡ outcomes_in (told_with which list) (judged_by old (reading_of bytes))
+    → told_as which (table_of (line state)) list (placed_from 16 (reading_of bytes).parts) ≡ outcomes_in (told_with which list) (judged_by old (reading_of bytes))
 outcomes_are old new bytes arrived.Answered list state done =
     outcomes-told old state (reading_of bytes) list (reachable_before old new bytes done.none done.entries done.reachable) (done.state_is ∙ state_before old new bytes done.none done.entries) done.project done.uncrowded
     (told_read old bytes (answer.Answered list) done.none done.told)
-outcomes_are old new bytes arrived.WriteDone list state done =
-    ap (λ (one : List core.Outcome). told_parts (table_of (line state)) one (placed_from 16 (reading_of bytes).parts)) (done.empty (λ e. cc))
-outcomes_are old new bytes arrived.WriteMissed list state done =
-    ap (λ (one : List core.Outcome). told_parts (table_of (line state)) one (placed_from 16 (reading_of bytes).parts)) (done.empty (λ e. cc))
-outcomes_are old new bytes arrived.Stale list state done =
-    ap (λ (one : List core.Outcome). told_parts (table_of (line state)) one (placed_from 16 (reading_of bytes).parts)) (done.empty (λ e. cc))
+outcomes_are old new bytes arrived.Written list state done = blocks-told old (reading_of bytes) list (told_read old bytes (answer.Written list) done.none done.told)
+outcomes_are old new bytes arrived.WriteDone list state done = refl
+outcomes_are old new bytes arrived.WriteMissed list state done = refl
+outcomes_are old new bytes arrived.Stale list state done = refl
+
+-- those of tasks are counted
+counted_are : (old new : Record) (bytes : List ℕ) (which : Arrived) (list : List core.Outcome) (state : State) → IsDone old new bytes which list state
+    → counted_as which (table_of (line state)) list (placed_from 16 (reading_of bytes).parts) ≡ counted_in (told_with which list) (judged_by old (reading_of bytes))
+counted_are old new bytes arrived.Answered list state done = outcomes_are old new bytes arrived.Answered list state done
+counted_are old new bytes arrived.Written list state done = refl
+counted_are old new bytes arrived.WriteDone list state done = refl
+counted_are old new bytes arrived.WriteMissed list state done = refl
+counted_are old new bytes arrived.Stale list state done = refl
 
 -- its serial and its register write
 
@@ -137,6 +143,7 @@ whole_is : (old new : Record) (bytes : List ℕ) (which : Arrived) (list : List 
     → told_arrival which (length list) (reading_of bytes) ≡ arrival_of (told_with which list) (reading_of bytes).serial (judged_by old (reading_of bytes)) whole
 whole_is old new bytes arrived.Answered list state whole done = refl
 whole_is old new bytes arrived.Stale list state whole done = refl
+whole_is old new bytes arrived.Written list state whole done = refl
 whole_is old new bytes arrived.WriteDone list state whole done =
     whole_write (reading_of bytes).serial (first_written (reading_of bytes).parts) (written_in (judged_by old (reading_of bytes)))
     (written-told old (reading_of bytes) (no_stale (told_of (judged_by old (reading_of bytes))) answer.WriteDone (told_read old bytes answer.WriteDone done.none done.told) (λ e. cc)))
@@ -149,14 +156,16 @@ numbered_by arrived.Answered list = refl
 numbered_by arrived.WriteDone list = refl
 numbered_by arrived.WriteMissed list = refl
 numbered_by arrived.Stale list = refl
+numbered_by arrived.Written list = refl
 
 pub done-told : (old new : Record) (bytes : List ℕ) (which : Arrived) (list : List core.Outcome) (state : State) (number : ℕ) (before after : List Outcome) (whole whole' : Arrival) (counts counts' : Counts) → IsDone old new bytes which list state
-    → number ≡ arrived_number which → after ≡ put (told_parts (table_of (line state)) list (placed_from 16 (reading_of bytes).parts)) before → whole' ≡ told_arrival which (length list) (reading_of bytes)
-    → counts' ≡ all_judged counts (told_parts (table_of (line state)) list (placed_from 16 (reading_of bytes).parts))
+    → number ≡ arrived_number which → after ≡ put (told_as which (table_of (line state)) list (placed_from 16 (reading_of bytes).parts)) before → whole' ≡ told_arrival which (length list) (reading_of bytes)
+    → counts' ≡ all_judged counts (counted_as which (table_of (line state)) list (placed_from 16 (reading_of bytes).parts))
     → Tells old new bytes number before after whole whole' counts counts'
 done-told old new bytes which list state number before after whole whole' counts counts' done numbered puts writes counts_all =
     let told = told_with which list in
     let are = outcomes_are old new bytes which list state done in
+    let counted = counted_are old new bytes which list state done in
     let read = read_ok bytes done.none in
     let may : MayAnswer old (Arrives bytes) told new = inl (record { answer = done.told; entries = done.entries }) in
     record {
@@ -169,6 +178,6 @@ done-told old new bytes which list state number before after whole whole' counts
           ∙ ap (λ (one : Result frame.Arrival FrameFault). put (outcomes_in told (judged_in old one)) before) (sym read);
       arrival_is = writes ∙ whole_is old new bytes which list state whole done
           ∙ ap (λ (one : Result frame.Arrival FrameFault). arrival_of told (serial_in one) (judged_in old one) whole) (sym read);
-      counted = counts_all ∙ ap (all_judged counts) are
-          ∙ ap (λ (one : Result frame.Arrival FrameFault). all_judged counts (outcomes_in told (judged_in old one))) (sym read);
+      counted = counts_all ∙ ap (all_judged counts) counted
+          ∙ ap (λ (one : Result frame.Arrival FrameFault). all_judged counts (counted_in told (judged_in old one))) (sym read);
     }

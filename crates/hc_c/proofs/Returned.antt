@@ -13,6 +13,9 @@ use Rattle.hc_records.specs.Image.{datagram_count, task_places}
 use Rattle.hc_records.specs.Line.{Member, State, groups_of, line}
 use Rattle.hc_records.specs.Project.{lowest_fault}
 use Rattle.hc_records.proofs.lemmas.Addresses.{uncrowded-few}
+use Rattle.hc_records.proofs.lemmas.Choices.{by_bool}
+use Rattle.hc_registers.specs.Blocks.{LineBlock}
+use Rattle.hc_registers.specs.declared.counters.TheConstants.{WRITE_COUNT}
 use Rattle.hc_frames.specs.Commands.{code_of}
 use Rattle.hc_frames.specs.Arrived.{Placed, placed_from}
 use Rattle.hc_places.specs.declared.table.Datagram.{Datagram}
@@ -23,24 +26,26 @@ use Rattle.hc_events.specs.declared.answer.Arrived.{Arrived}
 use Rattle.hc_events.specs.declared.answer.Arrived.TheVariants as arrived
 use Rattle.hc_events.specs.declared.answer.Outcome as core
 use Rattle.hc_events.specs.Accepted.{IsReachable, StandsIn}
-use Rattle.hc_events.specs.Answering.{Judged, Sending, Verdict, Good, Wrong, Stale, answered_by, has_head, has_heads, is_news, judge, judged, judged_by}
+use Rattle.hc_events.specs.Answering.{Judged, Sending, Verdict, Good, Wrong, Stale, answered_by, has_head, has_heads, is_answer, is_news, judge, judged, judged_by, sending_of}
 use Rattle.hc_events.specs.Arrivals as frame
 use Rattle.hc_events.specs.Arrivals.{Part}
 use Rattle.hc_events.specs.Entries.{Entry, Record}
-use Rattle.hc_events.specs.Heads.{Head, data_head, is_block}
+use Rattle.hc_events.specs.Heads.{Head, data_head, is_block, write_head, write_heads}
 use Rattle.hc_events.specs.Names.{HasFewDatagrams, IsNamed, named_at, written_at}
 use Rattle.hc_events.specs.Outcomes.{told_with}
 use Rattle.hc_events.specs.Points.{line_of, state_of}
 use Rattle.hc_events.specs.Sendings.{Named}
-use Rattle.hc_events.specs.Steps.{outcome_for, outcome_of, told_of, told_of_block}
+use Rattle.hc_events.specs.Steps.{outcome_for, outcome_of, told_of, told_of_block, told_of_blocks}
 use Rattle.hc_events.proofs.lemmas.Answers.{answers-first}
 use Rattle.hc_events.proofs.lemmas.Names.{answered-named}
+use Rattle.hc_events.proofs.lemmas.Once.{only-if_some}
+use Rattle.hc_events.proofs.lemmas.TwoWrites.{wrote-at}
 use Rattle.hc_sendings.proofs.lemmas.Listed.{standing-task}
 use Rattle.hc_c.specs.Arrivals as told
-use Rattle.hc_c.specs.Arrivals.{kind_of, outcomes_from, written_in}
+use Rattle.hc_c.specs.Arrivals.{block_kind, kind_in, outcomes_from, place_of, written_in}
 use Rattle.hc_c.specs.declared.arriving.Arrival.{Arrival}
 use Rattle.hc_c.specs.declared.arriving.Outcome.{Outcome}
-use Rattle.hc_c.specs.Returned.{expected_in, first_written, kind_by, told_arrival, told_part, told_parts}
+use Rattle.hc_c.specs.Returned.{expected_in, first_written, kind_by, told_arrival, told_block, told_blocks, told_part, told_parts}
 
 -- the row of a datagram in the table of its line
 
@@ -74,10 +79,10 @@ few-datagrams state project uncrowded named stands =
 
 -- one datagram
 
-same_kind : (members : List Member) (named : Named) (head : Head) (part : Part) (verdict : Verdict) → head ≡ data_head members named → kind_by (outcome_of head part verdict) ≡ kind_of verdict
-same_kind members named head part Good is = ap (λ (one : Head). kind_by (outcome_of one part Good)) is
-same_kind members named head part Wrong is = refl
-same_kind members named head part Stale is = refl
+same_kind : (members : List Member) (named : Named) (head : Head) (part : Part) (verdict : Verdict) → head ≡ data_head members named → kind_by (outcome_of head part verdict) ≡ kind_in head.item verdict
+same_kind members named head part Good is = ap (λ (one : Head). kind_by (outcome_of one part Good)) is ∙ sym (ap (λ (one : Head). kind_in one.item Good) is)
+same_kind members named head part Wrong is = ap (λ (one : Head). kind_by (outcome_of one part Wrong)) is ∙ sym (ap (λ (one : Head). kind_in one.item Wrong) is)
+same_kind members named head part Stale is = sym (ap (λ (one : Head). kind_in one.item Stale) is)
 
 same_expected : (state : State) (named : Named) → lowest_fault (groups_of state.groups) ≡ None → StandsIn (line state) named
     → expected_in (table_of (line state)) named ≡ (data_head (line state) named).expected
@@ -85,8 +90,9 @@ same_expected state named project stands =
     let task = standing-task state named.0 named.1 project stands in
     ap (λ (found : Option Datagram). option_map_or (λ (datagram : Datagram). datagram.expected) found 0) (row_at (line state) named.0 named.1 task stands)
 
-abbrev built : ℕ → Named → ℕ → ℕ → ℕ → ℕ → Outcome
-built kind named expected got at size = record { kind = kind; task = named.0; datagram = named.1; expected = expected; got = got; at = at; length = size }
+abbrev built : ℕ → Named → ℕ → ℕ → ℕ → ℕ → ℕ × ℕ → Outcome
+built kind named expected got at size place =
+    record { kind = kind; task = named.0; datagram = named.1; expected = expected; got = got; at = at; length = size; station = place.0; start = place.1 }
 
 part_told : (state : State) (start at : ℕ) (datagram : Judged) → lowest_fault (groups_of state.groups) ≡ None → IsNamed (line state) datagram → at ≡ start + 10
     → told_part (table_of (line state)) (outcome_for datagram) (record { start = start; carried = datagram.part }) ≡ told.outcome_of at datagram
@@ -95,13 +101,16 @@ part_told state start at datagram project is from =
     let named = named_at datagram.part.address in
     let got = datagram.part.counter in
     let size = length datagram.part.bytes in
+    let kind = kind_in datagram.head.item datagram.verdict in
     let item : told.name_of datagram.head.item ≡ is.named = ap (λ (head : Head). told.name_of head.item) is.head in
+    let place : place_of datagram.head.item datagram.head.address ≡ (0, 0) = ap (λ (head : Head). place_of head.item head.address) is.head in
     let expected : expected_in table named ≡ datagram.head.expected =
     ap (expected_in table) is.names ∙ same_expected state is.named project is.stands ∙ sym (ap (λ (head : Head). head.expected) is.head) in
-    ap (λ (kind : ℕ). built kind named (expected_in table named) got (start + 10) size) (same_kind (line state) is.named datagram.head datagram.part datagram.verdict is.head)
-    ∙ ap (λ (one : ℕ). built (kind_of datagram.verdict) named one got (start + 10) size) expected
-    ∙ ap (λ (one : Named). built (kind_of datagram.verdict) one datagram.head.expected got (start + 10) size) (is.names ∙ sym item)
-    ∙ ap (λ (one : ℕ). built (kind_of datagram.verdict) (told.name_of datagram.head.item) datagram.head.expected got one size) (sym from)
+    ap (λ (one : ℕ). built one named (expected_in table named) got (start + 10) size (0, 0)) (same_kind (line state) is.named datagram.head datagram.part datagram.verdict is.head)
+    ∙ ap (λ (one : ℕ). built kind named one got (start + 10) size (0, 0)) expected
+    ∙ ap (λ (one : Named). built kind one datagram.head.expected got (start + 10) size (0, 0)) (is.names ∙ sym item)
+    ∙ ap (λ (one : ℕ). built kind (told.name_of datagram.head.item) datagram.head.expected got one size (0, 0)) (sym from)
+    ∙ ap (λ (one : ℕ × ℕ). built kind (told.name_of datagram.head.item) datagram.head.expected got at size one) (sym place)
 
 -- all of them, one after another
 
@@ -142,17 +151,17 @@ answered_parts past arrival outcomes (Some sending) is told = parts_back sending
 same_list : (one other : List core.Outcome) → answer.Answered one ≡ answer.Answered other → one ≡ other
 same_list one other e = cc
 
-list_by : (datagrams : List Judged) (outcomes : List core.Outcome) (block news : Bool) (verdict : Verdict) → block ≡ false
-    → cond block (told_of_block verdict) (cond news (answer.Answered (map outcome_for datagrams)) answer.Stale) ≡ answer.Answered outcomes → outcomes ≡ map outcome_for datagrams
-list_by datagrams outcomes true news verdict plain e = cc
-list_by datagrams outcomes false true verdict plain e = sym (same_list (map outcome_for datagrams) outcomes e)
-list_by datagrams outcomes false false verdict plain e = cc
+list_by : (datagrams : List Judged) (outcomes : List core.Outcome) (block news : Bool) (blocks : Answer) → block ≡ false
+    → cond block blocks (cond news (answer.Answered (map outcome_for datagrams)) answer.Stale) ≡ answer.Answered outcomes → outcomes ≡ map outcome_for datagrams
+list_by datagrams outcomes true news blocks plain e = cc
+list_by datagrams outcomes false true blocks plain e = sym (same_list (map outcome_for datagrams) outcomes e)
+list_by datagrams outcomes false false blocks plain e = cc
 
 list_is : (members : List Member) (datagrams : List Judged) (outcomes : List core.Outcome) → All (IsNamed members) datagrams → told_of datagrams ≡ answer.Answered outcomes → outcomes ≡ map outcome_for datagrams
 list_is members [] outcomes all e = cc
 list_is members (datagram ∷ datagrams) outcomes all e =
     let first = All-head (IsNamed members) datagram datagrams all in
-    list_by (datagram ∷ datagrams) outcomes (is_block datagram.head.item) (list_any is_news (datagram ∷ datagrams)) datagram.verdict (ap (λ (head : Head). is_block head.item) first.head) e
+    list_by (datagram ∷ datagrams) outcomes (is_block datagram.head.item) (list_any is_news (datagram ∷ datagrams)) (told_of_blocks (datagram ∷ datagrams)) (ap (λ (head : Head). is_block head.item) first.head) e
 
 -- so of a frame of tasks each outcome is told as it is
 pub outcomes-told : (past : Record) (state : State) (arrival : frame.Arrival) (outcomes : List core.Outcome) → IsReachable past → state ≡ state_of past → lowest_fault (groups_of state.groups) ≡ None → crowded_task (line state) ≡ None
@@ -175,3 +184,97 @@ written_by_answer past arrival (Some sending) is news = first_alike sending.sinc
 
 pub written-told : (past : Record) (arrival : frame.Arrival) → told_of (judged_by past arrival) ≢ answer.Stale → first_written arrival.parts ≡ written_in (judged_by past arrival)
 written-told past arrival news = written_by_answer past arrival (answered_by past arrival) refl news
+
+-- so is each block of a frame of several register writes
+
+block_kind_by : (block : LineBlock) (part : Part) (verdict : Verdict) → kind_by (outcome_of (write_head block) part verdict) ≡ block_kind verdict
+block_kind_by block part Good = refl
+block_kind_by block part Wrong = refl
+block_kind_by block part Stale = refl
+
+same_address : (head : Head) (part : Part) → has_head head part ≡ true → head.address ≡ part.address
+same_address head part fit =
+    let same = and_parts ((code_of head.command == code_of part.command) && (head.address == part.address)) (head.length == length part.bytes) fit in
+    eqb-true head.address part.address (and_parts (code_of head.command == code_of part.command) (head.address == part.address) same.0).1
+
+block_told : (since : List Entry) (block : LineBlock) (part : Part) (start at : ℕ) → has_head (write_head block) part ≡ true → at ≡ start + 10
+    → told_block (outcome_for (judge since (write_head block, part))) (record { start = start; carried = part }) ≡ told.outcome_of at (judge since (write_head block, part))
+block_told since block part start at fit from =
+    let datagram = judge since (write_head block, part) in
+    let got = part.counter in
+    let size = length part.bytes in
+    let kind = block_kind datagram.verdict in
+    ap (λ (one : ℕ). built one (0, 0) WRITE_COUNT got (start + 10) size (written_at part.address)) (block_kind_by block part datagram.verdict)
+    ∙ ap (λ (one : ℕ). built kind (0, 0) WRITE_COUNT got one size (written_at part.address)) (sym from)
+    ∙ ap (λ (one : ℕ). built kind (0, 0) WRITE_COUNT got at size (written_at one)) (sym (same_address (write_head block) part fit))
+
+blocks_told : (since : List Entry) (blocks : List LineBlock) (parts : List Part) (start at : ℕ) → has_heads (write_heads blocks) parts ≡ true → at ≡ start + 10
+    → told_blocks (map outcome_for (map (judge since) (zip (write_heads blocks) parts))) (placed_from start parts) ≡ outcomes_from at (map (judge since) (zip (write_heads blocks) parts))
+blocks_told since [] parts start at fit from = refl
+blocks_told since (block ∷ blocks) [] start at fit from = cc
+blocks_told since (block ∷ blocks) (part ∷ parts) start at fit from =
+    let both = and_parts (has_head (write_head block) part) (has_heads (write_heads blocks) parts) fit in
+    let rest = map (judge since) (zip (write_heads blocks) parts) in
+    ap (λ (one : Outcome). one ∷ told_blocks (map outcome_for rest) (placed_from (start + (12 + length part.bytes)) parts)) (block_told since block part start at both.0 from)
+    ∙ ap (λ (all : List Outcome). told.outcome_of at (judge since (write_head block, part)) ∷ all)
+    (blocks_told since blocks parts (start + (12 + length part.bytes)) (at + (12 + length part.bytes)) both.1 (next_at start at (length part.bytes) from))
+
+-- the list of the answer is that of the blocks, of which the first one is a block
+
+same_written : (one other : List core.Outcome) → answer.Written one ≡ answer.Written other → one ≡ other
+same_written one other e = cc
+
+block_unwritten : (verdict : Verdict) (outcomes : List core.Outcome) → told_of_block verdict ≢ answer.Written outcomes
+block_unwritten Good outcomes e = cc
+block_unwritten Wrong outcomes e = cc
+block_unwritten Stale outcomes e = cc
+
+written_if : (news : Bool) (all outcomes : List core.Outcome) → cond news (answer.Written all) answer.Stale ≡ answer.Written outcomes → outcomes ≡ all
+written_if true all outcomes e = sym (same_written all outcomes e)
+written_if false all outcomes e = cc
+
+written_list : (datagrams : List Judged) (outcomes : List core.Outcome) → told_of_blocks datagrams ≡ answer.Written outcomes → outcomes ≡ map outcome_for datagrams
+written_list [] outcomes e = cc
+written_list (datagram ∷ []) outcomes e = absurd (block_unwritten datagram.verdict outcomes e)
+written_list (datagram ∷ next ∷ datagrams) outcomes e =
+    written_if (list_any is_news (datagram ∷ next ∷ datagrams)) (map outcome_for (datagram ∷ next ∷ datagrams)) outcomes e
+
+data_unwritten : (news : Bool) (all outcomes : List core.Outcome) → cond news (answer.Answered all) answer.Stale ≢ answer.Written outcomes
+data_unwritten true all outcomes e = cc
+data_unwritten false all outcomes e = cc
+
+first_block : (datagram : Judged) (datagrams : List Judged) (outcomes : List core.Outcome) → told_of (datagram ∷ datagrams) ≡ answer.Written outcomes
+    → (is_block datagram.head.item ≡ true) × (outcomes ≡ map outcome_for (datagram ∷ datagrams))
+first_block datagram datagrams outcomes e =
+    let news = list_any is_news (datagram ∷ datagrams) in
+    let tasks = cond news (answer.Answered (map outcome_for (datagram ∷ datagrams))) answer.Stale in
+    by_bool (is_block datagram.head.item)
+    (λ t. (t, written_list (datagram ∷ datagrams) outcomes (sym (ap (λ b. cond b (told_of_blocks (datagram ∷ datagrams)) tasks) t) ∙ e)))
+    (λ t. absurd (data_unwritten news (map outcome_for (datagram ∷ datagrams)) outcomes (sym (ap (λ b. cond b (told_of_blocks (datagram ∷ datagrams)) tasks) t) ∙ e)))
+
+answered_write : (since : List Entry) (heads : List Head) (parts : List Part) (outcomes : List core.Outcome) → told_of (map (judge since) (zip heads parts)) ≡ answer.Written outcomes
+    → (list_any (λ (head : Head). is_block head.item) heads ≡ true) × (outcomes ≡ map outcome_for (map (judge since) (zip heads parts)))
+answered_write since [] parts outcomes e = cc
+answered_write since (head ∷ heads) [] outcomes e = cc
+answered_write since (head ∷ heads) (part ∷ parts) outcomes e =
+    let one = first_block (judge since (head, part)) (map (judge since) (zip heads parts)) outcomes e in
+    (ap (λ b. b || list_any (λ (other : Head). is_block other.item) heads) one.0, one.1)
+
+blocks_by : (past : Record) (arrival : frame.Arrival) (outcomes : List core.Outcome) (found : Option Sending) → answered_by past arrival ≡ found
+    → told_of (option_map_or (judged arrival) found []) ≡ answer.Written outcomes
+    → told_blocks outcomes (placed_from 16 arrival.parts) ≡ outcomes_from 26 (option_map_or (judged arrival) found [])
+blocks_by past arrival outcomes None is e = cc
+blocks_by past arrival outcomes (Some sending) is e =
+    let write = answered_write sending.since sending.heads arrival.parts outcomes e in
+    let there = (only-if_some (sending_of past arrival.serial) (is_answer arrival) sending is).0 in
+    let made = wrote-at past arrival.serial sending there write.0 in
+    let fit : has_heads (write_heads made.blocks) arrival.parts ≡ true =
+    sym (ap (λ (heads : List Head). has_heads heads arrival.parts) made.heads) ∙ ((answers-first past arrival sending).0 is).fits in
+    ap (λ (list : List core.Outcome). told_blocks list (placed_from 16 arrival.parts)) write.1
+    ∙ ap (λ (heads : List Head). told_blocks (map outcome_for (map (judge sending.since) (zip heads arrival.parts))) (placed_from 16 arrival.parts)) made.heads
+    ∙ blocks_told sending.since made.blocks arrival.parts 16 26 fit refl
+    ∙ sym (ap (λ (heads : List Head). outcomes_from 26 (map (judge sending.since) (zip heads arrival.parts))) made.heads)
+
+pub blocks-told : (past : Record) (arrival : frame.Arrival) (outcomes : List core.Outcome) → told_of (judged_by past arrival) ≡ answer.Written outcomes
+    → told_blocks outcomes (placed_from 16 arrival.parts) ≡ outcomes_from 26 (judged_by past arrival)
+blocks-told past arrival outcomes e = blocks_by past arrival outcomes (answered_by past arrival) refl e

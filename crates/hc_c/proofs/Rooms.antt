@@ -5,11 +5,12 @@ use Rattle.std.proofs.lemmas.Bool.{eq-eqb}
 use Rattle.hc_records.specs.Lists.{lowest}
 use Rattle.hc_events.specs.declared.faults.CoreFault.{CoreFault}
 use Rattle.hc_events.specs.declared.faults.CoreFault.TheVariants.{UnknownAlias, AlreadyPresent, NotPresent, Mandatory, UnknownStation, Absent, NoSuchArea, NoSuchTask, UnknownPdo, RepeatedPdo, AreaTooBig, TooManyDatagrams, EpochsSpent, StalePost, PostLength, Unprogrammed, NothingOwed, SerialsSpent, Short, NotEtherCat, BadType, BadLength, Circulating, MoreFollows, UnknownCommand, IndexMismatch, Memory, Room, BadGroup, AliasTaken, StationTaken, VariableTaken, TooManyGroups, TooManySlaves}
-use Rattle.hc_events.specs.Calls.{frames_size, room_faults, send_into_faults, write_into_faults, write_size}
+use Rattle.hc_events.specs.Calls.{frames_size, room_faults, send_into_faults, write_all_into_faults, write_into_faults, write_size}
 use Rattle.hc_events.specs.Entries.{Record}
 use Rattle.hc_events.specs.Faults.{core_fault_number}
 use Rattle.hc_events.specs.Owed.{owed_blocks}
 use Rattle.hc_events.specs.Steps.{task_faults, write_faults}
+use Rattle.hc_events.specs.WriteFrames.{frame_blocks, writes_size}
 
 -- its number is that of no other fault
 numbered_room : (fault : CoreFault) → (core_fault_number fault == 29) ≡ true → (needed : ℕ) × (fault ≡ Room needed)
@@ -79,6 +80,12 @@ pub write_needs : (past : Record) (bytes needed : ℕ) → lowest (write_into_fa
 write_needs past bytes needed is =
     let apart : AreOther (write_faults past (owed_blocks past)) = (λ one e. cc, (λ one e. cc, tt)) in
     needed_behind (write_faults past (owed_blocks past)) (write_size (owed_blocks past)) bytes needed apart is
+
+-- those of a frame of register writes
+pub writes_need : (past : Record) (bytes needed : ℕ) → lowest (write_all_into_faults past bytes) ≡ Some (Room needed) → needed ≡ writes_size (frame_blocks (owed_blocks past))
+writes_need past bytes needed is =
+    let apart : AreOther (write_faults past (owed_blocks past)) = (λ one e. cc, (λ one e. cc, tt)) in
+    needed_behind (write_faults past (owed_blocks past)) (writes_size (frame_blocks (owed_blocks past))) bytes needed apart is
 
 -- those of tasks that are sent
 pub frames_need : (past : Record) (tasks : List ℕ) (bytes needed : ℕ) → lowest (send_into_faults past tasks bytes) ≡ Some (Room needed) → needed ≡ frames_size past tasks

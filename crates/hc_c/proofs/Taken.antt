@@ -44,12 +44,14 @@ taken-number arrived.Answered = refl
 taken-number arrived.WriteDone = refl
 taken-number arrived.WriteMissed = refl
 taken-number arrived.Stale = refl
+taken-number arrived.Written = refl
 
 pub taken-other : (which : Arrived) → (arrived_number which ≢ 28) × (arrived_number which ≢ 253)
 taken-other arrived.Answered = (λ e. omega (arith, e), λ e. omega (arith, e))
 taken-other arrived.WriteDone = (λ e. omega (arith, e), λ e. omega (arith, e))
 taken-other arrived.WriteMissed = (λ e. omega (arith, e), λ e. omega (arith, e))
 taken-other arrived.Stale = (λ e. omega (arith, e), λ e. omega (arith, e))
+taken-other arrived.Written = (λ e. omega (arith, e), λ e. omega (arith, e))
 
 -- that of bytes which can't be read
 

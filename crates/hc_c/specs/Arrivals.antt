@@ -19,34 +19,52 @@ use Rattle.hc_core.specs.LastData.{StaleLeavesNothing}
 use Rattle.hc_core.specs.State.{CoreState}
 use Rattle.hc_c.specs.declared.arriving.Arrival.{Arrival}
 use Rattle.hc_c.specs.declared.arriving.Outcome.{Outcome}
-use Rattle.hc_c.specs.declared.arriving.TheConstants.{INPUTS, SENT_AGAIN, WRONG_COUNT}
+use Rattle.hc_c.specs.declared.arriving.TheConstants.{BLOCK_MISSED, BLOCK_WRITTEN, INPUTS, SENT_AGAIN, WRONG_COUNT}
 use Rattle.hc_c.specs.declared.embedded.Embedded.{Embedded}
-use Rattle.hc_c.specs.declared.numbers.TheConstants.{CHANGES_FULL, DONE, MEMORY, STALE, WRITE_DONE, WRITE_MISSED}
+use Rattle.hc_c.specs.declared.numbers.TheConstants.{CHANGES_FULL, DONE, MEMORY, STALE, WRITE_DONE, WRITE_MISSED, WRITTEN}
 use Rattle.hc_c.specs.Counts.{Counts, all_judged}
 use Rattle.hc_c.specs.Embedded.{are_too_many, changes_room, keeps_changes, past_of, settled, with_counts, with_past}
 use Rattle.hc_c.specs.Lists.{put}
 
--- the kind of a datagram that came back, by what that is for its task
+-- the kind of a task's datagram that came back, by what that is for its task
 abbrev pub kind_of : Verdict → ℕ
 kind_of Good = INPUTS
 kind_of Wrong = WRONG_COUNT
 kind_of Stale = SENT_AGAIN
+
+-- that of a register block
+abbrev pub block_kind : Verdict → ℕ
+block_kind Good = BLOCK_WRITTEN
+block_kind Wrong = BLOCK_MISSED
+block_kind Stale = SENT_AGAIN
+
+-- that of a datagram, by what it carries
+abbrev pub kind_in : Item → Verdict → ℕ
+kind_in (Datagram task d) verdict = kind_of verdict
+kind_in (Block station number) verdict = block_kind verdict
 
 -- the task of a task's datagram, and its number in the task; 0 and 0 of a register block
 abbrev pub name_of : Item → Named
 name_of (Datagram task d) = (task, d)
 name_of (Block station number) = (0, 0)
 
+-- the station address and the register to which a register block was sent; 0 and 0 of a task's datagram
+abbrev pub place_of : Item → ℕ → ℕ × ℕ
+place_of (Datagram task d) address = (0, 0)
+place_of (Block station number) address = written_at address
+
 -- what C is told of a datagram that came back, whose data begin at a byte of the frame
 abbrev pub outcome_of : ℕ → Judged → Outcome
 outcome_of at datagram = record {
-  kind = kind_of datagram.verdict;
+  kind = kind_in datagram.head.item datagram.verdict;
   task = (name_of datagram.head.item).0;
   datagram = (name_of datagram.head.item).1;
   expected = datagram.head.expected;
   got = datagram.part.counter;
   at = at;
   length = length datagram.part.bytes;
+  station = (place_of datagram.head.item datagram.head.address).0;
+  start = (place_of datagram.head.item datagram.head.address).1;
 }
 
 -- the same of datagrams one after another: between the data of two lie 12 bytes, the first one's working counter and the next one's header
@@ -54,17 +72,24 @@ abbrev pub outcomes_from : ℕ → List Judged → List Outcome
 outcomes_from at [] = []
 outcomes_from at (datagram ∷ datagrams) = outcome_of at datagram ∷ outcomes_from (at + (12 + length datagram.part.bytes)) datagrams
 
--- what C is told of the datagrams of frames of tasks, the first one's data begin at byte 26 (ETG.1000.4, 5.3 and 5.4); nothing of another answer
+-- what C is told of the datagrams of frames of tasks, or of a frame of several register writes: the first one's data begin at byte 26 (ETG.1000.4, 5.3 and 5.4); nothing of another answer
 abbrev pub outcomes_in : Answer → List Judged → List Outcome
 outcomes_in (answer.Answered outcomes) datagrams = outcomes_from 26 datagrams
+outcomes_in (answer.Written outcomes) datagrams = outcomes_from 26 datagrams
 outcomes_in _ datagrams = []
 
--- a refusal by its fault's number, what answers a register write or nothing by a number of its own, and 0 for frames of tasks
+-- those of frames of tasks alone are counted
+abbrev pub counted_in : Answer → List Judged → List Outcome
+counted_in (answer.Answered outcomes) datagrams = outcomes_from 26 datagrams
+counted_in _ datagrams = []
+
+-- a refusal by its fault's number, what answers register writes or nothing by a number of its own, and 0 for frames of tasks
 abbrev pub number_of : Answer → ℕ
 number_of (answer.Refused fault) = core_fault_number fault
 number_of answer.WriteDone = WRITE_DONE
 number_of answer.WriteMissed = WRITE_MISSED
 number_of answer.Stale = STALE
+number_of (answer.Written outcomes) = WRITTEN
 number_of _ = DONE
 
 -- the datagrams of the sending that bytes answer, each with what came back of it; none where they can't be read
@@ -82,15 +107,16 @@ abbrev pub written_in : List Judged → ℕ × ℕ
 written_in [] = (0, 0)
 written_in (datagram ∷ datagrams) = written_at datagram.head.address
 
--- what C is told of a frame that arrived, in place of what stood there: its serial; how many datagrams it has where it answers frames of tasks, and the station address and the register where it answers a register write, else 0; nothing of a refusal
+-- what C is told of a frame that arrived, in place of what stood there: its serial; how many datagrams it has where it answers frames of tasks or several register writes, and the station address and the register where it answers a write of one block, else 0; nothing of a refusal
 abbrev pub arrival_of : Answer → ℕ → List Judged → Arrival → Arrival
 arrival_of (answer.Answered outcomes) serial datagrams before = record { serial = serial; datagrams = length outcomes; station = 0; start = 0 }
+arrival_of (answer.Written outcomes) serial datagrams before = record { serial = serial; datagrams = length outcomes; station = 0; start = 0 }
 arrival_of answer.WriteDone serial datagrams before = record { serial = serial; datagrams = 0; station = (written_in datagrams).0; start = (written_in datagrams).1 }
 arrival_of answer.WriteMissed serial datagrams before = record { serial = serial; datagrams = 0; station = (written_in datagrams).0; start = (written_in datagrams).1 }
 arrival_of answer.Stale serial datagrams before = record { serial = serial; datagrams = 0; station = 0; start = 0 }
 arrival_of _ serial datagrams before = before
 
--- C is told an answer that the arrival may have, a fault of its bytes whatever memory does, and by its number; the record `new` is the one that this answer leaves; what the sending's datagrams are is told of as many as there is room for, and counted of all
+-- C is told an answer that the arrival may have, a fault of its bytes whatever memory does, and by its number; the record `new` is the one that this answer leaves; what the sending's datagrams are is told of as many as there is room for, and counted of all that are of tasks
 pub record Tells (old new : Record) (bytes : List ℕ) (number : ℕ) (before after : List Outcome) (arrival arrival' : Arrival) (counts counts' : Counts) : Type 0 where
   pub told : Answer
   pub may : MayAnswer old (ArrivesStep bytes) told new
@@ -99,11 +125,11 @@ pub record Tells (old new : Record) (bytes : List ℕ) (number : ℕ) (before af
   pub numbered : number ≡ number_of told
   pub outcomes : after ≡ put (outcomes_in told (judged_in old (arrival_in bytes))) before
   pub arrival_is : arrival' ≡ arrival_of told (serial_in (arrival_in bytes)) (judged_in old (arrival_in bytes)) arrival
-  pub counted : counts' ≡ all_judged counts (outcomes_in told (judged_in old (arrival_in bytes)))
+  pub counted : counts' ≡ all_judged counts (counted_in told (judged_in old (arrival_in bytes)))
 
 -- such a number is that of an arrival which is recorded, and no refusal
 abbrev pub is_taken : ℕ → Bool
-is_taken number = (number == DONE) || ((number == WRITE_DONE) || ((number == WRITE_MISSED) || (number == STALE)))
+is_taken number = (number == DONE) || ((number == WRITE_DONE) || ((number == WRITE_MISSED) || ((number == STALE) || (number == WRITTEN))))
 
 -- so it is with a handle's line, of which nothing else changes; one that keeps no changes lets those that came go, and never wants memory
 pub record Arrives (old new : Embedded) (bytes : List ℕ) (number : ℕ) (before after : List Outcome) (arrival arrival' : Arrival) : Type 0 where

@@ -4,6 +4,7 @@ use Rattle.std.specs.Option.{option_map_or}
 use Rattle.hc_frames.specs.Arrived.{Placed, Reading}
 use Rattle.hc_frames.specs.FrameText.{Carried}
 use Rattle.hc_places.specs.Table.{Table, datagram_in}
+use Rattle.hc_registers.specs.declared.counters.TheConstants.{WRITE_COUNT}
 use Rattle.hc_events.specs.declared.answer.Arrived.{Arrived}
 use Rattle.hc_events.specs.declared.answer.Arrived.TheVariants as arrived
 use Rattle.hc_events.specs.declared.answer.Outcome as core
@@ -12,14 +13,16 @@ use Rattle.hc_events.specs.Names.{named_at, written_at}
 use Rattle.hc_events.specs.Sendings.{Named}
 use Rattle.hc_c.specs.declared.arriving.Arrival.{Arrival}
 use Rattle.hc_c.specs.declared.arriving.Outcome.{Outcome}
-use Rattle.hc_c.specs.declared.arriving.TheConstants.{INPUTS, SENT_AGAIN, WRONG_COUNT}
-use Rattle.hc_c.specs.declared.numbers.TheConstants.{DONE, STALE, WRITE_DONE, WRITE_MISSED}
+use Rattle.hc_c.specs.declared.arriving.TheConstants.{BLOCK_MISSED, BLOCK_WRITTEN, INPUTS, SENT_AGAIN, WRONG_COUNT}
+use Rattle.hc_c.specs.declared.numbers.TheConstants.{DONE, STALE, WRITE_DONE, WRITE_MISSED, WRITTEN}
 
 -- the kind that an outcome tells
 abbrev pub kind_by : core.Outcome → ℕ
 kind_by (outcome.Inputs task d) = INPUTS
 kind_by (outcome.WrongCount expected got) = WRONG_COUNT
 kind_by outcome.Stale = SENT_AGAIN
+kind_by outcome.Done = BLOCK_WRITTEN
+kind_by outcome.Missed = BLOCK_MISSED
 
 -- the expected working counter of a task's datagram in a table; 0 where it has none
 abbrev pub expected_in : Table → Named → ℕ
@@ -35,6 +38,8 @@ told_part table one placed = record {
   got = placed.carried.counter;
   at = placed.start + 10;
   length = length placed.carried.bytes;
+  station = 0;
+  start = 0;
 }
 
 -- outcome beside part, in order
@@ -42,6 +47,37 @@ abbrev pub told_parts : Table → List core.Outcome → List Placed → List Out
 told_parts table [] placed = []
 told_parts table (one ∷ outcomes) [] = []
 told_parts table (one ∷ outcomes) (part ∷ placed) = told_part table one part ∷ told_parts table outcomes placed
+
+-- what is told of a register block by its outcome and what came back of it
+abbrev pub told_block : core.Outcome → Placed → Outcome
+told_block one placed = record {
+  kind = kind_by one;
+  task = 0;
+  datagram = 0;
+  expected = WRITE_COUNT;
+  got = placed.carried.counter;
+  at = placed.start + 10;
+  length = length placed.carried.bytes;
+  station = (written_at placed.carried.address).0;
+  start = (written_at placed.carried.address).1;
+}
+
+-- outcome beside part, in order
+abbrev pub told_blocks : List core.Outcome → List Placed → List Outcome
+told_blocks [] placed = []
+told_blocks (one ∷ outcomes) [] = []
+told_blocks (one ∷ outcomes) (part ∷ placed) = told_block one part ∷ told_blocks outcomes placed
+
+-- what is told of datagrams, by what the arrival is as a whole
+abbrev pub told_as : Arrived → Table → List core.Outcome → List Placed → List Outcome
+told_as arrived.Answered table outcomes placed = told_parts table outcomes placed
+told_as arrived.Written table outcomes placed = told_blocks outcomes placed
+told_as _ table outcomes placed = []
+
+-- and what is counted of it
+abbrev pub counted_as : Arrived → Table → List core.Outcome → List Placed → List Outcome
+counted_as arrived.Answered table outcomes placed = told_parts table outcomes placed
+counted_as _ table outcomes placed = []
 
 -- the datagram ends within the first 2,064 bytes of its frame
 abbrev pub IsInFrame : Placed → Type 0
@@ -58,10 +94,12 @@ arrived_number arrived.Answered = DONE
 arrived_number arrived.WriteDone = WRITE_DONE
 arrived_number arrived.WriteMissed = WRITE_MISSED
 arrived_number arrived.Stale = STALE
+arrived_number arrived.Written = WRITTEN
 
 -- what is told of it as a whole, with so many outcomes
 abbrev pub told_arrival : Arrived → ℕ → Reading → Arrival
 told_arrival arrived.Answered count frame = record { serial = frame.serial; datagrams = count; station = 0; start = 0 }
+told_arrival arrived.Written count frame = record { serial = frame.serial; datagrams = count; station = 0; start = 0 }
 told_arrival arrived.WriteDone count frame = record { serial = frame.serial; datagrams = 0; station = (first_written frame.parts).0; start = (first_written frame.parts).1 }
 told_arrival arrived.WriteMissed count frame = record { serial = frame.serial; datagrams = 0; station = (first_written frame.parts).0; start = (first_written frame.parts).1 }
 told_arrival arrived.Stale count frame = record { serial = frame.serial; datagrams = 0; station = 0; start = 0 }

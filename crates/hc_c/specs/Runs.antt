@@ -10,7 +10,7 @@ is_run bytes bit bits = nat_le 1 bits && (nat_le bits 64 && nat_le (bit + bits) 
 abbrev pub is_too_wide : ℕ → ℕ → Bool
 is_too_wide value bits = nat_le (2 ^ bits) value
 
--- the number of putting a value into so many bytes: 254 where the bits are no run of theirs, else 111 where the value is too wide, else 0
+-- the number of putting a value into so many bytes: 254 where the bits are no run of theirs, else 106 where the value is too wide, else 0
 abbrev pub put_number : ℕ → ℕ → ℕ → ℕ → ℕ
 put_number bytes bit bits value =
     if is_run bytes bit bits then (if is_too_wide value bits then TOO_WIDE else DONE) else MISUSED

@@ -1,6 +1,6 @@
 //! Frames arrive.
 ghost use Rattle.std.specs.Prelude.{◌≡◌, ◌≢◌, ◌≤◌, All, IfErr, IfOk, IfSome, None, OnErr, OnOk, [], false, is_some, true, vec_capacity};
-ghost use Rattle.hc_events.specs.declared.answer.Arrived.TheVariants.{Answered};
+ghost use Rattle.hc_events.specs.declared.answer.Arrived.TheVariants.{Answered, Written};
 ghost use Rattle.hc_events.specs.Arrivals.{arrival_in};
 ghost use Rattle.hc_events.specs.Outcomes.{told_with};
 ghost use Rattle.hc_events.specs.Steps.{Arrives as ArrivesStep, answer_to, entries_after};
@@ -9,13 +9,13 @@ ghost use Rattle.hc_c.specs.Arrivals.{Arrives, added_by, overflows, refused_numb
 ghost use Rattle.hc_c.specs.Counts.{all_judged};
 ghost use Rattle.hc_c.specs.Embedded.{are_too_many};
 ghost use Rattle.hc_c.specs.Lists.{put};
-ghost use Rattle.hc_c.specs.Returned.{IsInFrame, arrived_number, expected_in, first_written, kind_by, told_arrival, told_part, told_parts};
+ghost use Rattle.hc_c.specs.Returned.{IsInFrame, arrived_number, counted_as, expected_in, first_written, kind_by, told_arrival, told_as, told_block, told_blocks, told_part, told_parts};
 ghost use Rattle.hc_c.specs.declared.numbers.TheConstants.{BUSY, CLOSED};
 
 use crate::counting::Counts;
 use crate::embedded::Embedded;
 use crate::handle::Handle;
-use crate::numbers::{CHANGES_FULL, DONE, MEMORY, STALE, WRITE_DONE, WRITE_MISSED};
+use crate::numbers::{CHANGES_FULL, DONE, MEMORY, STALE, WRITE_DONE, WRITE_MISSED, WRITTEN};
 use hc_core::keeping::Core;
 use hc_core::naming::{named_by, written_by};
 use hc_events::answer::{Arrived, Outcome as CoreOutcome};
@@ -23,6 +23,7 @@ use hc_events::faults::CoreFault;
 use hc_frames::limits::DATAGRAM_HEAD_BYTES;
 use hc_frames::reading::{Part, Parts, Returned, read_frame};
 use hc_places::table::Places;
+use hc_registers::counters::WRITE_COUNT;
 use std::alloc::Global;
 
 /// The datagram's data are what its task reads now.
@@ -31,18 +32,24 @@ pub const INPUTS: u8 = 1;
 /// It came back with another working counter, and what its task reads is as it was.
 pub const WRONG_COUNT: u8 = 2;
 
-/// It was sent again since, and what its task reads is as it was.
+/// It was sent again since, and what its task reads is as it was; a register block also where its slave was forgotten since.
 pub const SENT_AGAIN: u8 = 3;
 
-/// What an arrival is for a datagram of a task, as C is told it.
+/// The register block was written: it is known.
+pub const BLOCK_WRITTEN: u8 = 4;
+
+/// No slave took the register block: it stays owed.
+pub const BLOCK_MISSED: u8 = 5;
+
+/// What an arrival is for a datagram of a task, or for a register block among several, as C is told it.
 #[repr(C)]
 #[derive(Clone, Copy)]
 pub struct Outcome {
-    /// `INPUTS`, `WRONG_COUNT` or `SENT_AGAIN`.
+    /// `INPUTS`, `WRONG_COUNT` or `SENT_AGAIN`; of a register block `BLOCK_WRITTEN`, `BLOCK_MISSED` or `SENT_AGAIN`.
     kind: u8,
-    /// The task, 0 to 7.
+    /// The task, 0 to 7; of a register block 0.
     task: u8,
-    /// The datagram's number in the task, 0 to 15.
+    /// The datagram's number in the task, 0 to 15; of a register block 0.
     datagram: u8,
     /// The expected working counter.
     expected: u16,
@@ -52,6 +59,10 @@ pub struct Outcome {
     at: u16,
     /// The bytes of its data, 1 to 1,486.
     length: u16,
+    /// Of a register block the slave's station address; else 0.
+    station: u16,
+    /// Of a register block the register at which it begins; else 0.
+    start: u16,
 }
 
 /// What an arrival is as a whole, as C is told it.
@@ -60,11 +71,11 @@ pub struct Outcome {
 pub struct Arrival {
     /// The serial that the frame bears: of the sending that it answers, where it is no stale one.
     serial: u64,
-    /// How many datagrams the frame has, where it answers frames of tasks; else 0.
+    /// How many datagrams the frame has, where it answers frames of tasks or several register writes; else 0.
     datagrams: usize,
-    /// Of a register write that it answers the slave's station address; else 0.
+    /// Of a register write of one block that it answers the slave's station address; else 0.
     station: u16,
-    /// Of a register write that it answers the register at which its block begins; else 0.
+    /// Of a register write of one block that it answers the register at which its block begins; else 0.
     start: u16,
 }
 
@@ -82,6 +93,8 @@ fn kind_by(outcome: &CoreOutcome) -> u8
             got: _,
         } => WRONG_COUNT,
         CoreOutcome::Stale => SENT_AGAIN,
+        CoreOutcome::Done => BLOCK_WRITTEN,
+        CoreOutcome::Missed => BLOCK_MISSED,
     }
 }
 
@@ -109,7 +122,47 @@ fn told_part(places: &Places, outcome: &CoreOutcome, part: &Part<'_>) -> Outcome
         got: part.counter,
         at: (part.start + DATAGRAM_HEAD_BYTES) as u16,
         length: part.bytes.len() as u16,
+        station: 0,
+        start: 0,
     }
+}
+
+/// What C is told of a register block, by its outcome and what came back of it.
+fn told_block(outcome: &CoreOutcome, part: &Part<'_>) -> Outcome
+    requires { IsInFrame part.now }
+    ensures { result ≡ told_block outcome.now part.now }
+{
+    let (station, start) = written_by(part);
+    Outcome {
+        kind: kind_by(outcome),
+        task: 0,
+        datagram: 0,
+        expected: WRITE_COUNT,
+        got: part.counter,
+        at: (part.start + DATAGRAM_HEAD_BYTES) as u16,
+        length: part.bytes.len() as u16,
+        station,
+        start,
+    }
+}
+
+/// Answers what became of register blocks, of as many as there is room for. A frame has 74 at most, so deep is this recursion.
+fn put_blocks(outcomes: &[CoreOutcome], parts: Parts<'_>, out: &mut [Outcome])
+    requires { All IsInFrame parts }
+    ensures { out.new ≡ put (told_blocks outcomes.now parts.entry) out.old }
+{
+    let Some((outcome, rest)) = outcomes.split_first() else {
+        return;
+    };
+    let mut left = parts;
+    let Some(part) = left.next() else {
+        return;
+    };
+    let Some((first, others)) = out.split_first_mut() else {
+        return;
+    };
+    *first = told_block(outcome, &part);
+    put_blocks(rest, left, others);
 }
 
 /// Counts outcomes one after another, and answers as many of them as there is room for. A frame has 115 at most, so deep is
@@ -142,6 +195,28 @@ fn put_outcomes(
     put_outcomes(counts, places, rest, left, others);
 }
 
+/// Answers what an arrival is for each datagram, of as many as there is room for, and counts it of datagrams of tasks.
+fn put_arrived(
+    counts: &mut Counts,
+    places: &Places,
+    arrived: Arrived,
+    outcomes: &[CoreOutcome],
+    parts: Parts<'_>,
+    out: &mut [Outcome],
+)
+    requires { All IsInFrame parts }
+    ensures put { out.new ≡ put (told_as arrived places.now outcomes.now parts.entry) out.old }
+    ensures counted { counts.new ≡ all_judged counts.old (counted_as arrived places.now outcomes.now parts.entry) }
+{
+    match arrived {
+        Arrived::Answered => put_outcomes(counts, places, outcomes, parts, out),
+        Arrived::Written => put_blocks(outcomes, parts, out),
+        Arrived::WriteDone => {}
+        Arrived::WriteMissed => {}
+        Arrived::Stale => {}
+    }
+}
+
 /// The station address and the register that a frame's first datagram addresses.
 fn first_written(frame: &Returned<'_>) -> (u16, u16)
     ensures { result ≡ first_written frame.now.parts }
@@ -159,6 +234,7 @@ fn told_arrival(arrived: Arrived, count: usize, frame: &Returned<'_>) -> Arrival
     let serial = frame.serial();
     let (datagrams, (station, start)) = match arrived {
         Arrived::Answered => (count, (0, 0)),
+        Arrived::Written => (count, (0, 0)),
         Arrived::WriteDone => (0, first_written(frame)),
         Arrived::WriteMissed => (0, first_written(frame)),
         Arrived::Stale => (0, (0, 0)),
@@ -180,6 +256,7 @@ fn arrived_number(arrived: Arrived) -> u8
         Arrived::WriteDone => WRITE_DONE,
         Arrived::WriteMissed => WRITE_MISSED,
         Arrived::Stale => STALE,
+        Arrived::Written => WRITTEN,
     }
 }
 
@@ -196,7 +273,7 @@ fn take(
     requires read { arrival_in bytes.now ≡ Ok frame.now }
     requires enough { FRAME_DATAGRAMS ≤ vec_capacity list.old }
     ensures answer { IfOk result (λ arrived. told_with arrived list.new.items ≡ answer_to core.old.past (ArrivesStep bytes.now)) }
-    ensures none { IfOk result (λ arrived. arrived ≢ Answered → list.new.items ≡ []) }
+    ensures none { IfOk result (λ arrived. arrived ≢ Answered → arrived ≢ Written → list.new.items ≡ []) }
     ensures entries { OnOk result (core.new ≡ with_arrived room core.old (entries_after core.old.past (ArrivesStep bytes.now))) }
     ensures fits { OnOk result (are_too_many room (added_by core.old.past bytes.now) ≡ false) }
     ensures refused { IfErr result (λ number. number ≡ refused_number room (added_by core.old.past bytes.now)) }
@@ -248,16 +325,24 @@ fn arrive(
     let told = list.as_slice();
     let places = own.core.plan().places();
     *arrival = told_arrival(arrived, told.len(), &frame);
-    put_outcomes(&mut own.counts, places, told, frame.parts(), outcomes);
+    put_arrived(
+        &mut own.counts,
+        places,
+        arrived,
+        told,
+        frame.parts(),
+        outcomes,
+    );
     arrived_number(arrived)
 }
 
-/// Bytes arrive, any, without the check sequence. `DONE` where they answer frames of tasks: `outcomes` has of each
-/// datagram, in the frame's order, what it is, as many as there is room for; a frame has at most 115. `WRITE_DONE`,
-/// `WRITE_MISSED` or `STALE`; with these four `arrival` is written, and with `DONE` alone `outcomes`, and each datagram is
-/// counted. Else a fault, 20 to 27, with which the bytes can't be read; `CHANGES_FULL` where the line keeps changes, and this
-/// arrival's good answers are more than it has room for; `MEMORY`, but never of a line that keeps no changes; `BUSY` or
-/// `CLOSED`; then nothing changed and nothing is written. Where the line keeps no changes, none is made. The answers are this
+/// Bytes arrive, any, without the check sequence. `DONE` where they answer frames of tasks, and `WRITTEN` where they
+/// answer a frame of several register writes: `outcomes` has of each datagram, in the frame's order, what it is, as
+/// many as there is room for; a frame has at most 115. `WRITE_DONE`, `WRITE_MISSED` or `STALE`; with these five
+/// `arrival` is written, with `DONE` and `WRITTEN` alone `outcomes`, and with `DONE` each datagram is counted. Else a
+/// fault, 20 to 27, with which the bytes can't be read; `CHANGES_FULL` where the line keeps changes, and this arrival's
+/// good answers are more than it has room for; `MEMORY`, but never of a line that keeps no changes; `BUSY` or `CLOSED`;
+/// then nothing changed and nothing is written. Where the line keeps no changes, none is made. The answers are this
 /// project's profile over frames of ETG.1000.4, 5.3 and 5.4.
 #[unsafe(no_mangle)]
 pub extern "C" fn zangjulf_arrive(

@@ -26,6 +26,9 @@ pub const WRITE_MISSED: u8 = 102;
 /// An arrival answered nothing that is awaited.
 pub const STALE: u8 = 103;
 
+/// An arrival answered a frame of several register writes.
+pub const WRITTEN: u8 = 104;
+
 /// The variable is an input: no value is put into it.
 pub const IS_INPUT: u8 = 105;
 

@@ -1,10 +1,11 @@
 //! Register writes.
 ghost use Rattle.std.specs.Prelude.{◌≡◌, ◌≢◌, IfSome, None, Some, length};
 ghost use Rattle.hc_records.specs.Lists.{lowest};
-ghost use Rattle.hc_core.specs.Written.{HoldsWrite};
-ghost use Rattle.hc_events.specs.Calls.{write_into_faults, write_size};
+ghost use Rattle.hc_core.specs.Written.{HoldsWrite, HoldsWrites};
+ghost use Rattle.hc_events.specs.Calls.{write_all_into_faults, write_into_faults, write_size};
 ghost use Rattle.hc_events.specs.Owed.{owed_blocks};
-ghost use Rattle.hc_events.specs.Steps.{SendsWrite, entries_after};
+ghost use Rattle.hc_events.specs.Steps.{SendsWrite, SendsWrites, entries_after};
+ghost use Rattle.hc_events.specs.WriteFrames.{frame_blocks, writes_size};
 ghost use Rattle.hc_c.specs.Embedded.{past_of, with_past};
 ghost use Rattle.hc_c.specs.Numbers.{number_of};
 ghost use Rattle.hc_c.specs.Owings.{first_told};
@@ -52,6 +53,55 @@ pub extern "C" fn zangjulf_next_write(handle: &mut Handle, out: &mut [u8], write
             DONE
         }
         Err(fault) => refuse(fault, &mut write.size),
+    };
+    own.calls.end_change();
+    told
+}
+
+/// Register writes that were sent in one frame, as C is told them.
+#[repr(C)]
+#[derive(Clone, Copy)]
+pub struct Writes {
+    /// The bytes of the frame, 60 to 1,514.
+    size: usize,
+    /// How many register blocks it writes, 1 to 74.
+    blocks: usize,
+}
+
+/// The first owed register blocks are sent in one frame, with the next serial and in the order in which they are owed: as many
+/// as the frame holds, whatever the length of `out`. The frame is put at the front of `out`, and `writes` tells its bytes and
+/// its blocks. `DONE`; else the first of the faults 18, 19 and 29 that holds, `BUSY` or `CLOSED`, and nothing changed, `out`
+/// neither. With 29 `writes.size` is the bytes that are needed, and `writes.blocks` is as it was. One block has the frame of
+/// `zangjulf_next_write`. It takes no memory (ETG.1000.4, 5.3 and 5.4; this project's profile).
+#[tactic(auto, using(crate::proofs::Rooms::writes_need))]
+#[unsafe(no_mangle)]
+pub extern "C" fn zangjulf_next_writes(
+    handle: &mut Handle,
+    out: &mut [u8],
+    writes: &mut Writes,
+) -> u8
+    ensures told { IfSome handle.old.holding.value (λ old. result ≢ BUSY → result ≡ number_of (lowest (write_all_into_faults (past_of old) (length out.old)))) }
+    ensures written { result ≡ DONE → IfSome handle.old.holding.value (λ old. HoldsWrites (past_of old) out.old out.new (record { size = writes.new.size; blocks = writes.new.blocks })) }
+    ensures entries { result ≡ DONE → IfSome handle.old.holding.value (λ old. handle.new.holding.value ≡ Some (with_past old (entries_after (past_of old) SendsWrites))) }
+    ensures needed { result ≡ ROOM → IfSome handle.old.holding.value (λ old. writes.new ≡ record writes.old { size = writes_size (frame_blocks (owed_blocks (past_of old))) }) }
+    ensures unwritten { result ≢ DONE → result ≢ ROOM → writes.new ≡ writes.old }
+    ensures unchanged { result ≢ DONE → handle.new.holding.value ≡ handle.old.holding.value }
+    ensures untouched { result ≢ DONE → out.new ≡ out.old }
+    ensures closed { handle.old.holding.value ≡ None → (result ≡ CLOSED) × (writes.new ≡ writes.old) }
+{
+    if let Err(number) = handle.begin_change() {
+        return number;
+    }
+    let own = handle.holding.line_mut();
+    let told = match own.core.write_all_into(out) {
+        Ok(sent) => {
+            *writes = Writes {
+                size: sent.size,
+                blocks: sent.blocks,
+            };
+            DONE
+        }
+        Err(fault) => refuse(fault, &mut writes.size),
     };
     own.calls.end_change();
     told

@@ -2,19 +2,20 @@
 ghost use Rattle.std.specs.Prelude.{◌≡◌, ◌≢◌, [], ◌∷◌, Err, IfErr, IfOk, IfSome, None, Ok, OnErr, OnOk, Some, length, option_map};
 ghost use Rattle.hc_records.specs.Lists.{lowest};
 ghost use Rattle.hc_frames.specs.Arrived.{fault_in};
-ghost use Rattle.hc_events.specs.declared.answer.Arrived.TheVariants.{Answered};
+ghost use Rattle.hc_events.specs.declared.answer.Arrived.TheVariants.{Answered, Written};
 ghost use Rattle.hc_events.specs.declared.faults.CoreFault.TheVariants.{Memory};
-ghost use Rattle.hc_events.specs.Calls.{MayAnswer, write_into_faults};
+ghost use Rattle.hc_events.specs.Calls.{MayAnswer, write_all_into_faults, write_into_faults};
 ghost use Rattle.hc_events.specs.Entries.{Forgot};
 ghost use Rattle.hc_events.specs.Faults.{frame_refusal};
 ghost use Rattle.hc_events.specs.Outcomes.{told_with};
-ghost use Rattle.hc_events.specs.Steps.{Arrives, Edits, SendsWrite, answer_to, entries_after, forget_faults, step_of};
+ghost use Rattle.hc_events.specs.Steps.{Arrives, Edits, SendsWrite, SendsWrites, answer_to, entries_after, forget_faults, step_of};
 ghost use Rattle.hc_core.specs.Early.{TellsEarly};
 ghost use Rattle.hc_core.specs.Serving.{IsAsked};
-ghost use Rattle.hc_core.specs.Written.{HoldsWrite};
+ghost use Rattle.hc_core.specs.Written.{HoldsWrite, HoldsWrites};
 ghost use Rattle.hc_conductor.specs.Conducting.{SameLists, past_of};
 
 use crate::conductor::Conductor;
+use hc_core::writing::SentWrites;
 use hc_events::answer::{Answer, Arrived, Outcome};
 use hc_events::event::Event;
 use hc_events::faults::CoreFault;
@@ -52,9 +53,9 @@ impl Conductor {
         self.step(alloc, Event::Arrive(bytes))
     }
 
-    /// A frame arrived, as `arrive` takes it, with a list that is used again (the core's `arrive_into`): what it is for each
-    /// datagram stands there, and it is empty where the frame answers none of tasks. The data of good answers go into the
-    /// memory of answers that the views have done with, as long as there is some.
+    /// A frame arrived, as `arrive` takes it, with a list that is used again (the core's `arrive_into`): what it is for
+    /// each datagram stands there, and it is empty where the frame answers none of tasks and none of several writes.
+    /// The data of good answers go into the memory of answers that the views have done with, as long as there is some.
     pub fn arrive_into(
         &mut self,
         alloc: Global,
@@ -65,7 +66,7 @@ impl Conductor {
         ensures entries { OnOk result (past_of self.new ≡ entries_after (past_of self.old) (Arrives bytes.now)) }
         ensures refused { IfErr result (λ fault. fault ≢ Memory → option_map frame_refusal (fault_in bytes.now) ≡ Some fault) }
         ensures early { IfSome (fault_in bytes.now) (λ fault. result ≡ Err (frame_refusal fault)) }
-        ensures none { result ≢ Ok Answered → outcomes.new.items ≡ [] }
+        ensures none { result ≢ Ok Answered → result ≢ Ok Written → outcomes.new.items ≡ [] }
         ensures lists { SameLists self.old self.new }
         ensures unchanged { OnErr result (self.new ≡ self.old) }
     {
@@ -86,6 +87,23 @@ impl Conductor {
         ensures untouched { OnErr result (out.new ≡ out.old) }
     {
         self.core.write_into(out)
+    }
+
+    /// The first owed register blocks are sent in one frame, in the order in which they are owed: as many as the frame holds,
+    /// whatever the length of `out`. The frame is put at the front of `out`; its size and the number of its blocks, at most
+    /// 74, are answered. `NothingOwed` where no block is owed; `SerialsSpent` where no serial is left; `Room` with the size
+    /// needed where `out` is shorter; and of several the first of these. Then nothing changed, and no event is recorded. One
+    /// block has the frame that `next_write` sends. It takes no memory (ETG.1000.4, 5.3 and 5.4; this project's profile).
+    pub fn next_writes(&mut self, out: &mut [u8]) -> Result<SentWrites, CoreFault>
+        ensures written { IfOk result (HoldsWrites (past_of self.old) out.old out.new) }
+        ensures accepted { OnOk result (lowest (write_all_into_faults (past_of self.old) (length out.old)) ≡ None) }
+        ensures entries { OnOk result (past_of self.new ≡ entries_after (past_of self.old) SendsWrites) }
+        ensures lists { SameLists self.old self.new }
+        ensures refused { IfErr result (λ fault. lowest (write_all_into_faults (past_of self.old) (length out.old)) ≡ Some fault) }
+        ensures unchanged { OnErr result (self.new ≡ self.old) }
+        ensures untouched { OnErr result (out.new ≡ out.old) }
+    {
+        self.core.write_all_into(out)
     }
 
     /// The slave with this station address may have lost its registers: all its blocks are owed, as the core's

@@ -21,7 +21,7 @@ use Rattle.hc_events.specs.Steps.{proposal, task_faults, with_sent}
 use Rattle.hc_events.proofs.lemmas.Accepted.{passed, proposal-stands, none_owed}
 use Rattle.hc_events.proofs.lemmas.Frames.{proposals-numbered}
 use Rattle.hc_events.proofs.lemmas.Answers.{twice}
-use Rattle.hc_events.proofs.lemmas.OneWrite.{at_least}
+use Rattle.hc_events.proofs.lemmas.Live.{at_least}
 use Rattle.hc_sendings.proofs.lemmas.Listed.{standing-task}
 use Rattle.hc_sendings.specs.Waiting.{AwaitedFrame, ComeBehind, IsNamed, all_sent}
 use Rattle.hc_core.proofs.Sendings.{agree-sent}

@@ -1,8 +1,8 @@
--- The first owed block, by what is kept of the line's blocks.
-use Rattle.std.proofs.Common.{◌≡◌, ℕ, zero, suc, ◌<◌, true, List, [], ◌∷◌, length, subst, Some, None, rules}
+-- Owed blocks, by what is kept of the line's blocks.
+use Rattle.std.proofs.Common.{◌≡◌, ℕ, zero, suc, ◌<◌, List, [], ◌∷◌, length, subst, Some, None, rules}
 use Rattle.std.specs.Prelude.{All, Contains, slice_get}
 use Rattle.std.proofs.lemmas.List.{length-map}
-use Rattle.std.proofs.lemmas.List.Elements.{All-contains_itself, All-head, All-tail, filter_passes}
+use Rattle.std.proofs.lemmas.List.Elements.{All-contains_itself, All-head, All-tail}
 use Rattle.std.proofs.lemmas.Option.{same_Some, slice_get_within}
 use Rattle.hc_records.specs.Line.{groups_of}
 use Rattle.hc_records.specs.Project.{lowest_fault}
@@ -15,22 +15,8 @@ use Rattle.hc_plan.specs.Configuration.{block_at}
 use Rattle.hc_events.specs.Entries.{Record}
 use Rattle.hc_events.specs.Points.{line_of, state_of}
 use Rattle.hc_events.specs.Owed.{is_owed, known_bytes, owed_blocks}
-use Rattle.hc_events.proofs.lemmas.Answers.{owed-in_line}
-use Rattle.hc_owed.specs.Board.{lacks}
 use Rattle.hc_owed.specs.Laws as owed
 use Rattle.hc_core.specs.Agreement.{Agree, CoreParts}
-use Rattle.hc_core.specs.Firsts.{IsFirstOwed}
-
--- the line configures its slave with it
-pub first-configured : (past : Record) (block : LineBlock) (rest : List LineBlock) → lowest_fault (groups_of (state_of past).groups) ≡ None → owed_blocks past ≡ block ∷ rest
-    → block_at (line_of past) block.station block.number ≡ Some block.block
-first-configured past block rest project first = search (rules, configured-block, project-distinct, owed-in_line)
-
--- its slave lacks it
-pub first-lacks : (past : Record) (block : LineBlock) (rest : List LineBlock) → owed_blocks past ≡ block ∷ rest → lacks (known_bytes past) block ≡ true
-first-lacks past block rest first =
-    All-head (λ (one : LineBlock). is_owed past one ≡ true) block rest
-    (subst (All (λ (one : LineBlock). is_owed past one ≡ true)) first (filter_passes (is_owed past) (line_blocks (line_of past))))
 
 -- a block's place is one of those that are kept
 pub place-within : (kept : CoreParts) (past taken : Record) (n : ℕ) (block : LineBlock) → Agree kept past taken → slice_get (places (state_of past)) n ≡ Some (Some block) → n < length kept.owed.known
@@ -40,13 +26,6 @@ place-within kept past taken n block agree at = search (rules, slice_get_within,
 pub place-kept : (kept : CoreParts) (past taken : Record) (n : ℕ) (block : LineBlock) → Agree kept past taken → slice_get (places (state_of past)) n ≡ Some (Some block)
     → owed.IsKeptAt kept.owed n (known_bytes past) (state_of past) block
 place-kept kept past taken n block agree at = record { right = agree.known; project = agree.project; stands = at }
-
--- so it is with the first owed one
-pub first-within : (kept : CoreParts) (past taken : Record) (n : ℕ) (block : LineBlock) → Agree kept past taken → IsFirstOwed past n block → n < length kept.owed.known
-first-within kept past taken n block agree first = place-within kept past taken n block agree first.at
-
-pub first-kept : (kept : CoreParts) (past taken : Record) (n : ℕ) (block : LineBlock) → Agree kept past taken → IsFirstOwed past n block → owed.IsKeptAt kept.owed n (known_bytes past) (state_of past) block
-first-kept kept past taken n block agree first = place-kept kept past taken n block agree first.at
 
 -- so it does with each owed one
 

@@ -12,7 +12,7 @@ use Rattle.hc_events.specs.Calls.{MayAnswer}
 use Rattle.hc_events.specs.Entries.{Record, Edited}
 use Rattle.hc_events.specs.Points.{state_of}
 use Rattle.hc_events.specs.Stale.{without_stale}
-use Rattle.hc_events.specs.Steps.{Step, Edits, Posts, SendsTasks, SendsWrite, Arrives, Reads, Forgets, answer_to, answers_to, edit_refused, entries_after, entries_after_all, kept_if, told_of, told_of_arrival, told_of_edit, unless, with_arrival}
+use Rattle.hc_events.specs.Steps.{Step, Edits, Posts, SendsTasks, SendsWrite, Arrives, Reads, Forgets, answer_to, answers_to, edit_refused, entries_after, entries_after_all, kept_if, told_of, told_of_arrival, told_of_edit, unless, with_arrival, SendsWrites}
 use Rattle.hc_events.proofs.lemmas.SameBehind.{SameWithout, same-after, same-answer, same-says, same-stale}
 use Rattle.hc_core.specs.LastData.{GoesWithoutThem, answers_left, events_left, leaves_nothing}
 use Rattle.hc_core.specs.Serving.{MayAnswerAll}
@@ -38,6 +38,7 @@ step_keeps past (Edits edit) e =
 step_keeps past (Posts task epoch bytes) e = search rules
 step_keeps past (SendsTasks tasks) e = search rules
 step_keeps past SendsWrite e = search rules
+step_keeps past SendsWrites e = search rules
 step_keeps past (Arrives bytes) e = arrival_keeps past (arrival_in bytes) e
 step_keeps past (Reads task) e = refl
 step_keeps past (Forgets station) e = search rules

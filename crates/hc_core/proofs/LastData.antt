@@ -15,7 +15,7 @@ use Rattle.hc_events.specs.Arrivals.{Arrival, Part}
 use Rattle.hc_events.specs.Entries.{Entry, Record, Opened, Edited, Sent, Wrote, Came}
 use Rattle.hc_events.specs.Points.{epoch_of, line_of, next_serial}
 use Rattle.hc_events.specs.Sendings.{Named}
-use Rattle.hc_events.specs.Heads.{Datagram, Head, data_head, data_heads, item_of, write_head}
+use Rattle.hc_events.specs.Heads.{Datagram, Head, data_head, data_heads, item_of, write_heads}
 use Rattle.hc_events.specs.Answering.{Good, Sending, Stale, Wrong, answered_by, has_good, has_heads, is_good, judge, judged, sends}
 use Rattle.hc_events.specs.AnswerLaws.{LeavesOpen}
 use Rattle.hc_events.specs.Awaited.{is_no_arrival}
@@ -226,15 +226,17 @@ no_goods = []
 nothing_of : (good : Bool) → cond good no_goods no_goods ++ no_goods ≡ no_goods
 nothing_of good = search rules
 
-write_goods : (since : List Entry) (block : LineBlock) (parts : List Part) → flat_map fresh (map (judge since) (zip (write_head block ∷ []) parts)) ≡ no_goods
-write_goods since block parts = search (rules, nothing_of)
+write_goods : (since : List Entry) (blocks : List LineBlock) (parts : List Part) → flat_map fresh (map (judge since) (zip (write_heads blocks) parts)) ≡ no_goods
+write_goods since [] parts = refl
+write_goods since (block ∷ blocks) [] = refl
+write_goods since (block ∷ blocks) (part ∷ parts) = search (rules, nothing_of, write_goods since blocks parts)
 
 by_entry : (past : Record) (arrival : Arrival) (task d : ℕ) (slot : Option (List ℕ)) (sending : Sending) (entry : Entry) (before : Record) → answered_by past arrival ≡ Some sending → past ≡ sending.since ++ entry ∷ before → is_sending entry ≡ true
     → next_serial before ≡ arrival.serial → sending.heads ≡ heads_of before entry → has_heads sending.heads arrival.parts ≡ true → All (LeavesOpen arrival.serial sending.heads) sending.since
     → Tells past arrival task d slot (fold (renewed task d) slot (flat_map fresh (map (judge sending.since) (zip (heads_of before entry) arrival.parts))))
-by_entry past arrival task d slot sending (Wrote block) before found split sends serial heads fit left = inr (
-  ap (fold (renewed task d) slot) (write_goods sending.since block arrival.parts),
-  λ m other good. let is = that_sending past arrival good.back sending (Wrote block) before found split in let never = is.entry_is in cc,
+by_entry past arrival task d slot sending (Wrote blocks) before found split sends serial heads fit left = inr (
+  ap (fold (renewed task d) slot) (write_goods sending.since blocks arrival.parts),
+  λ m other good. let is = that_sending past arrival good.back sending (Wrote blocks) before found split in let never = is.entry_is in cc,
 )
 by_entry past arrival task d slot sending (Sent frame) before found split sends serial heads fit left =
     let back : CameBack past arrival = search rules in

@@ -28,3 +28,6 @@ pub mod Lines
 pub mod GoesWithout
 pub mod ReadsAmong
 pub mod PartsSent
+pub mod Rooms
+pub mod ChosenBlocks
+pub mod FirstBlocks

@@ -27,8 +27,8 @@ use Rattle.hc_core.specs.Values.{HoldsValues}
 pub values-came : (past : Record) (arrival : Arrival) (packed : Packed) → HoldsValues past packed → HoldsValues (Came arrival ∷ past) packed
 values-came past arrival packed holds = holds
 
-pub values-wrote : (past : Record) (block : LineBlock) (packed : Packed) → HoldsValues past packed → HoldsValues (Wrote block ∷ past) packed
-values-wrote past block packed holds = holds
+pub values-wrote : (past : Record) (blocks : List LineBlock) (packed : Packed) → HoldsValues past packed → HoldsValues (Wrote blocks ∷ past) packed
+values-wrote past blocks packed holds = holds
 
 one_sent : (past : Record) (frame : List Named) (packed : Packed) → HoldsValues past packed → HoldsValues (Sent frame ∷ past) packed
 one_sent past frame packed holds = holds

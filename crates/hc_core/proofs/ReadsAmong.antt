@@ -14,7 +14,7 @@ use Rattle.hc_events.specs.Arrivals.{Arrival, arrival_in}
 use Rattle.hc_events.specs.Calls.{MayAnswer}
 use Rattle.hc_events.specs.Entries.{Record, Came}
 use Rattle.hc_events.specs.Stale.{SameBehind, without_stale}
-use Rattle.hc_events.specs.Steps.{Step, Edits, Posts, SendsTasks, SendsWrite, Arrives, Reads, Forgets, answer_to, entries_after, image_of, read_faults, told_of_arrival, told_of_write, unless, with_arrival}
+use Rattle.hc_events.specs.Steps.{Step, Edits, Posts, SendsTasks, SendsWrite, Arrives, Reads, Forgets, answer_to, entries_after, image_of, read_faults, told_of_arrival, told_of_write, unless, with_arrival, SendsWrites, told_of_writes}
 use Rattle.hc_events.proofs.lemmas.SameBehind.{same-behind, same-stale, same-without}
 use Rattle.hc_core.specs.LastData.{IsAsWithoutStale, ReadsShowLastData, ShowsLastData, StaleLeavesNothing}
 use Rattle.hc_core.specs.Serving.{MayAnswerAll}
@@ -45,6 +45,11 @@ unless_stale refused told plain e = search rules
 no_write_stale : (serial : ℕ) (blocks : List LineBlock) → tells_stale (told_of_write serial blocks) ≡ false
 no_write_stale serial blocks = search rules
 
+no_writes_stale : (serial : ℕ) (blocks : List LineBlock) → tells_stale (told_of_writes serial blocks) ≡ false
+no_writes_stale serial [] = refl
+no_writes_stale serial (block ∷ []) = refl
+no_writes_stale serial (block ∷ next ∷ blocks) = refl
+
 stale_arrival : (past next : Record) (read : Result Arrival FrameFault) → told_of_arrival past read ≡ answer.Stale → next ≡ with_arrival past read → (later : List Step) → SameBehind next past later
 stale_arrival past next (Err fault) told entries later = search rules
 stale_arrival past next (Ok arrival) told entries later =
@@ -56,6 +61,7 @@ stale_step past next (Edits edit) told entries later = search (rules, unless_sta
 stale_step past next (Posts task epoch bytes) told entries later = search (rules, unless_stale)
 stale_step past next (SendsTasks tasks) told entries later = search (rules, unless_stale)
 stale_step past next SendsWrite told entries later = search (rules, unless_stale, no_write_stale)
+stale_step past next SendsWrites told entries later = search (rules, unless_stale, no_writes_stale)
 stale_step past next (Arrives bytes) told entries later = stale_arrival past next (arrival_in bytes) told entries later
 stale_step past next (Forgets station) told entries later = search (rules, unless_stale)
 stale_step past next (Reads task) told entries later = absurd (unless_stale (lowest (read_faults task)) (image_of past task) refl told)

@@ -1,13 +1,12 @@
 -- What is kept stays right behind frames of tasks and register writes.
-use Rattle.std.proofs.Common.{◌≡◌, ℕ, suc, ◌+◌, ◌<◌, ◌≤◌, List, [], ◌∷◌, length, refl, sym, ap, ◌∙◌, subst, arith, None}
+use Rattle.std.proofs.Common.{◌≡◌, ℕ, suc, ◌+◌, ◌<◌, ◌≤◌, List, [], ◌∷◌, length, map, refl, sym, ap, ◌∙◌, subst, arith, None}
+use Rattle.std.specs.Prelude.{All}
 use Rattle.hc_records.specs.Edits.{crowded_task}
 use Rattle.hc_records.specs.Line.{groups_of, line}
 use Rattle.hc_records.specs.Project.{lowest_fault}
 use Rattle.hc_records.specs.Lists.{lowest}
-use Rattle.hc_registers.specs.Blocks.{LineBlock}
-use Rattle.hc_plan.specs.Reports.{name_of}
 use Rattle.hc_frames.specs.declared.limits.TheConstants.{SETUP_SERIAL}
-use Rattle.hc_events.specs.Accepted.{AreAccepted}
+use Rattle.hc_events.specs.Accepted.{AreAccepted, IsWrite}
 use Rattle.hc_events.specs.Changes.{news_of}
 use Rattle.hc_events.specs.Entries.{Record, Sent, Wrote}
 use Rattle.hc_events.specs.Ages.{data_serial}
@@ -17,15 +16,17 @@ use Rattle.hc_events.specs.Points.{next_serial, state_of}
 use Rattle.hc_events.specs.Sendings.{Frame, Named}
 use Rattle.hc_events.specs.Steps.{SendsTasks, kept_if, proposal, task_faults, with_sent}
 use Rattle.hc_events.proofs.lemmas.Accepted.{accepted-more, kept-after}
-use Rattle.hc_sendings.specs.Waiting.{all_sent, wrote}
+use Rattle.hc_sendings.specs.Waiting.{all_sent, awaited_block, wrote}
+use Rattle.hc_sendings.specs.declared.write_frames.PlacedBlock.{PlacedBlock}
+use Rattle.hc_sendings.specs.WriteFrames.{block_of}
 use Rattle.hc_owed.specs.Board.{Board, kept_of}
-use Rattle.hc_owed.specs.Laws.{known_with}
 use Rattle.hc_core.proofs.Awaits.{waits-wrote}
 use Rattle.hc_core.proofs.Posts.{values-sent, values-wrote}
 use Rattle.hc_core.proofs.Known.{kept-alike, known-wrote}
 use Rattle.hc_core.proofs.SentAll.{waits-all_sent}
 use Rattle.hc_core.specs.Agreement.{Agree, CoreParts}
-use Rattle.hc_core.specs.Firsts.{IsFirstOwed}
+use Rattle.hc_core.specs.Chosen.{IsPlaced, known_sent}
+use Rattle.hc_core.proofs.Rooms.{same-length}
 use Rattle.hc_core.specs.Waits.{Waits}
 
 -- frames say nothing of most that a record says
@@ -61,7 +62,7 @@ agree-sent kept past taken tasks none owed left agree =
       uncrowded = ap (λ state. crowded_task (line state)) same ∙ agree.uncrowded;
       serial = ap (λ n. n + length frames) agree.serial ∙ sym (serial_sent frames past);
       left = left;
-      waits = waits-all_sent past kept.awaited tasks owed accepted agree.waits;
+      waits = waits-all_sent past kept.awaited tasks agree.waits;
       slots = λ task d below. agree.slots task d below ∙ sym (sent_alike (λ before. slot_of before task d) (λ before frame. refl) frames past);
       dates = λ task d below. agree.dates task d below ∙ sym (sent_alike (λ before. data_serial before task d) (λ before frame. refl) frames past);
       values = values-sent frames past kept.outputs agree.values;
@@ -76,26 +77,26 @@ agree-sent kept past taken tasks none owed left agree =
       };
     }
 
--- a register write of the first owed block
+-- a frame of register writes
 
 one_left : (n most : ℕ) → n < most → n + 1 ≤ most
 one_left n most less = omega (arith, less)
 
-pub agree-wrote : (kept : CoreParts) (past taken : Record) (n : ℕ) (block : LineBlock) (owed : Board) → IsFirstOwed past n block → kept.serial < SETUP_SERIAL
-    → owed ≡ kept_of (known_with (name_of block) None (known_bytes past)) (state_of past) → Agree kept past taken
-    → Agree (record kept { awaited = wrote kept.serial n block kept.awaited; owed = owed; serial = kept.serial + 1 }) (Wrote block ∷ past) taken
-agree-wrote kept past taken n block owed first left sent agree = record {
-  accepted = (record { rest = first.rest; first = first.first }, agree.accepted);
+pub agree-wrote : (kept : CoreParts) (past taken : Record) (placed : List PlacedBlock) (owed : Board) → IsWrite (owed_blocks past) (map block_of placed) → All (IsPlaced (state_of past)) placed → kept.serial < SETUP_SERIAL
+    → owed ≡ kept_of (known_sent placed (known_bytes past)) (state_of past) → Agree kept past taken
+    → Agree (record kept { awaited = wrote kept.serial (map awaited_block placed) kept.awaited; owed = owed; serial = kept.serial + 1 }) (Wrote (map block_of placed) ∷ past) taken
+agree-wrote kept past taken placed owed write at left sent agree = record {
+  accepted = (write, agree.accepted);
   state = agree.state;
   project = agree.project;
   uncrowded = agree.uncrowded;
   serial = ap (λ m. m + 1) agree.serial;
   left = one_left kept.serial SETUP_SERIAL left;
-  waits = subst (λ m. Waits (Wrote block ∷ past) (wrote m n block kept.awaited)) (sym agree.serial)
-      (waits-wrote past kept.awaited n block first.rest agree.accepted first.at first.first agree.waits);
+  waits = subst (λ m. Waits (Wrote (map block_of placed) ∷ past) (wrote m (map awaited_block placed) kept.awaited)) (sym agree.serial)
+      (waits-wrote past kept.awaited placed (subst (λ n. 0 < n) (same-length placed) write.some) at agree.waits);
   slots = agree.slots;
   dates = agree.dates;
-  values = values-wrote past block kept.outputs agree.values;
-  known = sent ∙ kept-alike (known_with (name_of block) None (known_bytes past)) (known_bytes (Wrote block ∷ past)) (state_of past) (λ station number. sym (known-wrote past block station number));
+  values = values-wrote past (map block_of placed) kept.outputs agree.values;
+  known = sent ∙ kept-alike (known_sent placed (known_bytes past)) (known_bytes (Wrote (map block_of placed) ∷ past)) (state_of past) (λ station number. sym (known-wrote past placed station number));
   tells = record { told = agree.tells.told; legal = agree.tells.legal; exact = agree.tells.exact; behind = agree.tells.behind };
 }

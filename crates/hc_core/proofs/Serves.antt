@@ -16,7 +16,7 @@ use Rattle.hc_events.specs.Entries.{Record, Edited, Forgot, Posted}
 use Rattle.hc_events.specs.Faults.{edit_refusal}
 use Rattle.hc_events.specs.Owed.{owed_blocks}
 use Rattle.hc_events.specs.Points.{state_of}
-use Rattle.hc_events.specs.Steps.{Step, Edits, Posts, SendsTasks, SendsWrite, Reads, Forgets, answer_to, edit_refused, entries_after, forget_faults, post_faults, task_faults, told_of_edit, write_faults}
+use Rattle.hc_events.specs.Steps.{Step, Edits, Posts, SendsTasks, SendsWrite, SendsWrites, Reads, Forgets, answer_to, edit_refused, entries_after, forget_faults, post_faults, task_faults, told_of_edit, write_faults}
 use Rattle.hc_core.specs.Early.{TellsEarly}
 use Rattle.hc_core.specs.Serving.{MayAnswerAll, answer_of, answer_of_edit, answer_of_forget, answer_of_post, answer_or_memory}
 use Rattle.hc_core.specs.State.{CoreState}
@@ -34,6 +34,10 @@ answer-served old new step result takes answers entries same = search rules
 pub write-served : (old new : Record) (result : Result Answer CoreFault) → IfOk result (λ told. told ≡ answer_to old SendsWrite)
     → IfErr result (λ found. found ≢ fault.Memory → lowest (write_faults old (owed_blocks old)) ≡ Some found) → OnOk result (new ≡ entries_after old SendsWrite) → OnErr result (new ≡ old) → MayAnswer old SendsWrite (answer_of result) new
 write-served old new result answers names entries same = search rules
+
+pub writes-served : (old new : Record) (result : Result Answer CoreFault) → IfOk result (λ told. told ≡ answer_to old SendsWrites)
+    → IfErr result (λ found. found ≢ fault.Memory → lowest (write_faults old (owed_blocks old)) ≡ Some found) → OnOk result (new ≡ entries_after old SendsWrites) → OnErr result (new ≡ old) → MayAnswer old SendsWrites (answer_of result) new
+writes-served old new result answers names entries same = search rules
 
 pub tasks-served : (old new : Record) (tasks : List ℕ) (result : Result Answer CoreFault) → IfOk result (λ told. told ≡ answer_to old (SendsTasks tasks))
     → IfErr result (λ found. found ≢ fault.Memory → lowest (task_faults old tasks) ≡ Some found) → OnOk result (new ≡ entries_after old (SendsTasks tasks)) → OnErr result (new ≡ old) → MayAnswer old (SendsTasks tasks) (answer_of result) new

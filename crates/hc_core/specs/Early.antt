@@ -10,7 +10,7 @@ use Rattle.hc_events.specs.Entries.{Record}
 use Rattle.hc_events.specs.Faults.{edit_refusal, frame_refusal}
 use Rattle.hc_events.specs.Owed.{owed_blocks}
 use Rattle.hc_events.specs.Points.{state_of}
-use Rattle.hc_events.specs.Steps.{Step, Edits, Posts, SendsTasks, SendsWrite, Arrives, Reads, Forgets, forget_faults, post_faults, read_faults, write_faults}
+use Rattle.hc_events.specs.Steps.{Step, Edits, Posts, SendsTasks, SendsWrite, SendsWrites, Arrives, Reads, Forgets, forget_faults, post_faults, read_faults, write_faults}
 use Rattle.hc_sendings.specs.Refusals.{early_faults}
 
 -- the fault of an event that is judged before memory is taken: of an edit the one that it has by itself, of tasks that there is no such task or that blocks are owed, of any other event each that it has
@@ -19,6 +19,7 @@ early_fault past (Edits edit) = option_map edit_refusal (own_fault (state_of pas
 early_fault past (Posts task epoch bytes) = lowest (post_faults past task epoch bytes)
 early_fault past (SendsTasks tasks) = lowest (early_faults (length (owed_blocks past)) tasks)
 early_fault past SendsWrite = lowest (write_faults past (owed_blocks past))
+early_fault past SendsWrites = lowest (write_faults past (owed_blocks past))
 early_fault past (Arrives bytes) = option_map frame_refusal (fault_in bytes)
 early_fault past (Reads task) = lowest (read_faults task)
 early_fault past (Forgets station) = lowest (forget_faults past station)

@@ -2,7 +2,7 @@
 use Rattle.std.specs.Prelude.{Bool, true, false, List, [], ◌∷◌, ◌++◌, map}
 use Rattle.hc_frames.specs.Arrived.{Placed}
 use Rattle.hc_events.specs.declared.answer.Outcome.{Outcome}
-use Rattle.hc_events.specs.declared.answer.Outcome.TheVariants.{Inputs, WrongCount, Stale}
+use Rattle.hc_events.specs.declared.answer.Outcome.TheVariants.{Inputs, WrongCount, Stale, Done, Missed}
 use Rattle.hc_events.specs.declared.change.Change.{Change}
 use Rattle.hc_events.specs.declared.change.Change.TheVariants as change
 use Rattle.hc_events.specs.Arrivals.{Part}
@@ -13,12 +13,16 @@ abbrev pub good_of : Outcome → Part → List Fresh
 good_of (Inputs task d) part = record { task = task; datagram = d; bytes = part.bytes } ∷ []
 good_of (WrongCount expected got) part = []
 good_of Stale part = []
+good_of Done part = []
+good_of Missed part = []
 
 -- an outcome is a good answer
 abbrev pub is_inputs : Outcome → Bool
 is_inputs (Inputs task d) = true
 is_inputs (WrongCount expected got) = false
 is_inputs Stale = false
+is_inputs Done = false
+is_inputs Missed = false
 
 -- outcome beside part, in order
 abbrev pub goods_in : List Outcome → List Part → List Fresh

@@ -17,3 +17,4 @@ pub mod Prepared
 pub mod Values
 pub mod Goods
 pub mod Firsts
+pub mod Chosen

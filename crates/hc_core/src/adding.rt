@@ -25,6 +25,8 @@ fn is_inputs(outcome: &Outcome) -> bool
             got: _,
         } => false,
         Outcome::Stale => false,
+        Outcome::Done => false,
+        Outcome::Missed => false,
     }
 }
 
@@ -57,6 +59,7 @@ impl Core {
             Arrived::WriteDone => 0,
             Arrived::WriteMissed => 0,
             Arrived::Stale => 0,
+            Arrived::Written => 0,
         }
     }
 }

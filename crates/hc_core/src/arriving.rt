@@ -2,7 +2,7 @@
 ghost use Rattle.std.specs.Prelude.{◌≡◌, ◌≢◌, ◌<◌, ◌≤◌, [], ◌∷◌, Err, IfErr, IfOk, IfSome, Ok, OnErr, OnOk, Some, option_map, vec_capacity};
 ghost use Rattle.hc_frames.specs.Arrived.{fault_in};
 ghost use Rattle.hc_events.specs.declared.answer.Answer.TheVariants as answer;
-ghost use Rattle.hc_events.specs.declared.answer.Arrived.TheVariants.{Answered};
+ghost use Rattle.hc_events.specs.declared.answer.Arrived.TheVariants.{Answered, Written};
 ghost use Rattle.hc_events.specs.declared.faults.CoreFault.TheVariants.{Memory};
 ghost use Rattle.hc_events.specs.Answering.{judged_by};
 ghost use Rattle.hc_events.specs.Arrivals.{arrival_in};
@@ -10,8 +10,10 @@ ghost use Rattle.hc_events.specs.Entries.{Came};
 ghost use Rattle.hc_events.specs.Faults.{frame_refusal};
 ghost use Rattle.hc_events.specs.Outcomes.{told_with};
 ghost use Rattle.hc_events.specs.Steps.{Arrives, answer_to, entries_after, told_of};
+ghost use Rattle.hc_core.specs.Chosen.{AreWritten};
 ghost use Rattle.hc_sendings.specs.declared.awaited.TheConstants.{FRAME_DATAGRAMS};
 
+use crate::choosing::confirm;
 use crate::goods::{put_changes, put_goods};
 use crate::keeping::Core;
 use hc_events::answer::{Answer, Arrived, Outcome};
@@ -20,10 +22,10 @@ use hc_frames::reading::{Returned, read_frame};
 use hc_records::items::Items;
 use std::alloc::{AllocError, Global};
 
-/// Empties the list of an arrival that answers no frame of tasks.
+/// Empties the list of an arrival that answers neither a frame of tasks nor one of several register writes.
 fn empty_unless_answered(arrived: Arrived, outcomes: &mut Vec<Outcome>)
     ensures told { told_with arrived outcomes.new.items ≡ told_with arrived outcomes.old.items }
-    ensures none { arrived ≢ Answered → outcomes.new.items ≡ [] }
+    ensures none { arrived ≢ Answered → arrived ≢ Written → outcomes.new.items ≡ [] }
     ensures capacity { vec_capacity outcomes.new ≡ vec_capacity outcomes.old }
 {
     match arrived {
@@ -31,6 +33,7 @@ fn empty_unless_answered(arrived: Arrived, outcomes: &mut Vec<Outcome>)
         Arrived::WriteDone => outcomes.clear(),
         Arrived::WriteMissed => outcomes.clear(),
         Arrived::Stale => outcomes.clear(),
+        Arrived::Written => {}
     }
 }
 
@@ -70,26 +73,16 @@ impl Core {
         Ok(())
     }
 
-    /// The answer to a register write with another working counter: the block stays owed.
-    pub(crate) fn take_missed(&mut self, bytes: &[u8], arrival: &Returned<'_>)
+    /// The answer to a frame of register writes: each block whose write is done is known, and the others stay owed. `outcomes`
+    /// has of each block, in the frame's order, what it is.
+    pub(crate) fn take_writes(&mut self, bytes: &[u8], arrival: &Returned<'_>, outcomes: &[Outcome])
         requires read { arrival_in bytes.now ≡ Ok arrival.now }
-        requires told { told_of (judged_by self.old.past arrival.now) ≡ answer.WriteMissed }
+        requires told { AreWritten (judged_by self.old.past arrival.now) outcomes.now }
         ensures { self.new ≡ record self.old { past = Came arrival.now ∷ self.old.past } }
     {
+        let blocks = self.awaited.written(arrival.serial());
+        confirm(&mut self.owed, &self.plan, blocks, outcomes);
         self.awaited.end(arrival.serial());
-        self.past = self.past.came(bytes);
-    }
-
-    /// The answer to a register write with a working counter of 1: the block is known.
-    pub(crate) fn take_written(&mut self, bytes: &[u8], arrival: &Returned<'_>)
-        requires read { arrival_in bytes.now ≡ Ok arrival.now }
-        requires told { told_of (judged_by self.old.past arrival.now) ≡ answer.WriteDone }
-        ensures { self.new ≡ record self.old { past = Came arrival.now ∷ self.old.past } }
-    {
-        let Some((place, block)) = self.awaited.end_write(arrival.serial()) else {
-            unreachable!()
-        };
-        self.owed.confirmed(place, block);
         self.past = self.past.came(bytes);
     }
 
@@ -113,24 +106,26 @@ impl Core {
         let _ = &self.past;
         match arrived {
             Arrived::Answered => self.take_inputs(alloc, bytes, arrival, outcomes)?,
-            Arrived::WriteDone => self.take_written(bytes, arrival),
-            Arrived::WriteMissed => self.take_missed(bytes, arrival),
+            Arrived::WriteDone => self.take_writes(bytes, arrival, &[Outcome::Done]),
+            Arrived::WriteMissed => self.take_writes(bytes, arrival, &[Outcome::Missed]),
             Arrived::Stale => self.take_stale(bytes, arrival),
+            Arrived::Written => self.take_writes(bytes, arrival, outcomes),
         }
         Ok(())
     }
 
-    /// What an arrival is that was read as a frame, and nothing changes. The list is used again: what it held is dropped, and
-    /// where the arrival answers frames of tasks the list has of each datagram, in the frame's order, what it is; else it is
-    /// empty. It takes memory where the list has room for fewer than the frame's datagrams, 115 at most, alone: `AllocError`
-    /// where that was refused. The list's room never falls.
+    /// What an arrival is that was read as a frame, and nothing changes. The list is used again: what it held is
+    /// dropped, and where the arrival answers frames of tasks, or one of several register writes, the list has of each
+    /// datagram, in the frame's order, what it is; else it is empty. It takes memory where the list has room for fewer
+    /// than the frame's datagrams, 115 at most, alone: `AllocError` where that was refused. The list's room never
+    /// falls.
     pub fn judge(
         &self,
         arrival: &Returned<'_>,
         outcomes: &mut Vec<Outcome>,
     ) -> Result<Arrived, AllocError>
         ensures answer { IfOk result (λ arrived. told_with arrived outcomes.new.items ≡ told_of (judged_by self.now.past arrival.now)) }
-        ensures none { result ≢ Ok Answered → outcomes.new.items ≡ [] }
+        ensures none { result ≢ Ok Answered → result ≢ Ok Written → outcomes.new.items ≡ [] }
         ensures room { OnErr result (vec_capacity outcomes.old < FRAME_DATAGRAMS) }
         ensures capacity { vec_capacity outcomes.old ≤ vec_capacity outcomes.new }
     {
@@ -159,12 +154,12 @@ impl Core {
         Ok(arrived.answer(outcomes))
     }
 
-    /// An arrival, any bytes, as `step` serves it, for a list that is used again: where it answers frames of tasks the
-    /// list has of each datagram, in the frame's order, what it is; else it is empty. It takes memory where the list
-    /// has no room for these outcomes, 115 at most; where the list of the changes grows; and for the data of good
-    /// answers, which go into buffers that came back (`give_back`) as long as there are some. A fault of the frame, 20
-    /// to 27, is told whatever memory does, and `Memory` where a growth was refused; then nothing changed, and the list
-    /// is empty. The list's room never falls.
+    /// An arrival, any bytes, as `step` serves it, for a list that is used again: where it answers frames of tasks, or
+    /// one of several register writes, the list has of each datagram, in the frame's order, what it is; else it is
+    /// empty. It takes memory where the list has no room for these outcomes, 115 at most; where the list of the changes
+    /// grows; and for the data of good answers, which go into buffers that came back (`give_back`) as long as there are
+    /// some. A fault of the frame, 20 to 27, is told whatever memory does, and `Memory` where a growth was refused;
+    /// then nothing changed, and the list is empty. The list's room never falls.
     pub fn arrive_into(
         &mut self,
         alloc: Global,
@@ -175,7 +170,7 @@ impl Core {
         ensures entries { OnOk result (self.new ≡ record self.old { past = entries_after self.old.past (Arrives bytes.now) }) }
         ensures refused { IfErr result (λ fault. fault ≢ Memory → option_map frame_refusal (fault_in bytes.now) ≡ Some fault) }
         ensures early { IfSome (fault_in bytes.now) (λ fault. result ≡ Err (frame_refusal fault)) }
-        ensures none { result ≢ Ok Answered → outcomes.new.items ≡ [] }
+        ensures none { result ≢ Ok Answered → result ≢ Ok Written → outcomes.new.items ≡ [] }
         ensures capacity { vec_capacity outcomes.old ≤ vec_capacity outcomes.new }
         ensures unchanged { OnErr result (self.new ≡ self.old) }
     {

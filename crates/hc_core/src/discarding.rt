@@ -1,7 +1,7 @@
 //! Arrivals for who asks for no changes: they make none, and those that came before are discarded.
 ghost use Rattle.std.specs.Prelude.{◌≡◌, ◌≢◌, ◌<◌, ◌≤◌, ◌∷◌, [], IfOk, Ok, OnErr, OnOk, vec_capacity};
 ghost use Rattle.hc_events.specs.declared.answer.Answer.TheVariants as answer;
-ghost use Rattle.hc_events.specs.declared.answer.Arrived.TheVariants.{Answered};
+ghost use Rattle.hc_events.specs.declared.answer.Arrived.TheVariants.{Answered, Written};
 ghost use Rattle.hc_events.specs.Answering.{judged_by};
 ghost use Rattle.hc_events.specs.Arrivals.{arrival_in};
 ghost use Rattle.hc_events.specs.Entries.{Came};
@@ -48,9 +48,10 @@ impl Core {
     {
         match arrived {
             Arrived::Answered => return self.discard_inputs(bytes, arrival, outcomes),
-            Arrived::WriteDone => self.take_written(bytes, arrival),
-            Arrived::WriteMissed => self.take_missed(bytes, arrival),
+            Arrived::WriteDone => self.take_writes(bytes, arrival, &[Outcome::Done]),
+            Arrived::WriteMissed => self.take_writes(bytes, arrival, &[Outcome::Missed]),
             Arrived::Stale => self.take_stale(bytes, arrival),
+            Arrived::Written => self.take_writes(bytes, arrival, outcomes),
         }
         self.discard_changes();
     }
@@ -69,7 +70,7 @@ impl Core {
         requires { arrival_in bytes.now ≡ Ok arrival.now }
         ensures answer { IfOk result (λ arrived. told_with arrived outcomes.new.items ≡ answer_to self.old.past (Arrives bytes.now)) }
         ensures entries { OnOk result (self.new ≡ record { past = entries_after self.old.past (Arrives bytes.now); taken = entries_after self.old.past (Arrives bytes.now) }) }
-        ensures none { result ≢ Ok Answered → outcomes.new.items ≡ [] }
+        ensures none { result ≢ Ok Answered → result ≢ Ok Written → outcomes.new.items ≡ [] }
         ensures room { OnErr result (vec_capacity outcomes.old < FRAME_DATAGRAMS) }
         ensures capacity { vec_capacity outcomes.old ≤ vec_capacity outcomes.new }
         ensures unchanged { OnErr result (self.new ≡ self.old) }

@@ -37,6 +37,8 @@ fn change_of(
             got: _,
         } => Ok(None),
         Outcome::Stale => Ok(None),
+        Outcome::Done => Ok(None),
+        Outcome::Missed => Ok(None),
     }
 }
 
@@ -87,6 +89,8 @@ fn put_good(
             got: _,
         } => {}
         Outcome::Stale => {}
+        Outcome::Done => {}
+        Outcome::Missed => {}
     }
 }
 

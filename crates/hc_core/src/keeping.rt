@@ -9,6 +9,7 @@ use hc_images::outputs::Outputs;
 use hc_owed::owed::Owed;
 use hc_plan::plan::Plan;
 use hc_sendings::awaited::Awaited;
+use hc_sendings::write_frames::WriteFrame;
 use std::marker::Model;
 use std::snapshot::Snapshot;
 
@@ -30,6 +31,8 @@ pub struct Core {
     pub(crate) buffers: Buffers,
     // a list for the frames of sendings by `step`, which is used again
     pub(crate) frames: Vec<Sending>,
+    // the blocks of register writes while they are sent, in room that is used again
+    pub(crate) writes: WriteFrame,
     pub(crate) past: Past,
     pub(crate) taken: Snapshot<Past>,
 }
@@ -48,6 +51,7 @@ impl Drop for Core {
             fresh: _,
             buffers: _,
             frames: _,
+            writes: _,
             past: _,
             taken: _,
         } = self;

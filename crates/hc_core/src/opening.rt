@@ -16,6 +16,7 @@ use hc_plan::plan::Plan;
 use hc_records::faults::EditFault;
 use hc_records::project::Project;
 use hc_sendings::awaited::Awaited;
+use hc_sendings::write_frames::WriteFrame;
 use std::alloc::Global;
 use std::snapshot::Snapshot;
 
@@ -36,6 +37,7 @@ impl Core {
         let owed = Owed::new(alloc, &plan)?;
         let outputs = Outputs::new(alloc, plan.places())?;
         let data_serials = Serials::new(alloc)?;
+        let writes = WriteFrame::new(alloc)?;
         let taken = Snapshot::of(&past);
         Ok(Core {
             plan,
@@ -49,6 +51,7 @@ impl Core {
             fresh: Vec::new(alloc),
             buffers: Buffers::new(alloc),
             frames: Vec::new(alloc),
+            writes,
             past,
             taken,
         })

@@ -1,9 +1,9 @@
 //! The record, entry by entry.
 use crate::text::Text;
 use hc_events::sending::Sending;
-use hc_plan::blocks::LineBlock;
 use hc_records::edit::Edit;
 use hc_records::project::Project;
+use hc_sendings::write_frames::WriteFrame;
 use std::snapshot::Snapshot;
 
 /// The record of a project: its opening, and behind it what was accepted, the last entry outermost.
@@ -18,8 +18,8 @@ pub enum Past {
     Posted(Snapshot<Past>, Snapshot<u8>, Snapshot<Text>),
     /// A frame of tasks was sent.
     Sent(Snapshot<Past>, Snapshot<Sending>),
-    /// A register block was sent.
-    Wrote(Snapshot<Past>, Snapshot<LineBlock>),
+    /// A frame of register writes was sent.
+    Wrote(Snapshot<Past>, Snapshot<WriteFrame>),
     /// Bytes arrived.
     Came(Snapshot<Past>, Snapshot<Text>),
     /// The registers of the slave with this station address were forgotten.

@@ -1,24 +1,20 @@
-//! What is sent: frames of tasks and register writes.
-ghost use Rattle.std.specs.Prelude.{◌≡◌, ◌≢◌, ◌<◌, ◌≤◌, ◌*◌, [], ◌∷◌, All, Err, IfErr, IfOk, IfSome, None, OnErr, OnOk, Some, length, vec_capacity};
+//! Frames of tasks that are sent.
+ghost use Rattle.std.specs.Prelude.{◌≡◌, ◌≢◌, ◌<◌, ◌≤◌, ◌*◌, [], All, Err, IfErr, IfOk, IfSome, None, OnErr, OnOk, Some, length, vec_capacity};
 ghost use Rattle.hc_records.specs.declared.limits.TheConstants.{MOST_DATAGRAMS, TASKS};
 ghost use Rattle.hc_records.specs.Lists.{lowest};
 ghost use Rattle.hc_frames.specs.declared.limits.TheConstants.{SETUP_SERIAL};
 ghost use Rattle.hc_events.specs.declared.faults.CoreFault.TheVariants.{Memory};
 ghost use Rattle.hc_events.specs.Calls.{AreSentTogether, preview};
-ghost use Rattle.hc_events.specs.Entries.{Wrote};
 ghost use Rattle.hc_events.specs.Steps.{SendsTasks, answer_to, entries_after, proposal, task_faults, with_sent};
 ghost use Rattle.hc_events.specs.Owed.{owed_blocks};
-ghost use Rattle.hc_events.specs.Points.{next_serial};
 ghost use Rattle.hc_sendings.specs.Refusals.{early_faults};
 ghost use Rattle.hc_core.specs.Filled.{CanBeFilled};
-ghost use Rattle.hc_core.specs.Firsts.{IsFirstOwed};
 ghost use Rattle.hc_core.specs.Proposed.{IsProposal};
 
 use crate::keeping::Core;
 use hc_events::answer::Answer;
 use hc_events::faults::CoreFault;
 use hc_events::sending::Sending;
-use hc_plan::blocks::LineBlock;
 use hc_sendings::proposing::{preview, propose_into};
 use std::alloc::Global;
 use std::mem;
@@ -119,17 +115,5 @@ impl Core {
         let told = self.send_by(alloc, tasks, &mut frames);
         self.frames = frames;
         told
-    }
-
-    /// The first owed block is sent, with the next serial. It takes no memory.
-    pub(crate) fn commit_write(&mut self, n: u32, block: LineBlock)
-        requires first { IsFirstOwed self.old.past n block }
-        requires left { next_serial self.old.past < SETUP_SERIAL }
-        ensures { self.new ≡ record self.old { past = Wrote block ∷ self.old.past } }
-    {
-        self.past = self.past.wrote(&block);
-        self.awaited.write(self.serial, n, block);
-        self.owed.sent(n);
-        self.serial += 1;
     }
 }

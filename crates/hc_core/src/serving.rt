@@ -1,7 +1,7 @@
 //! Serves events.
 ghost use Rattle.std.specs.Prelude.{◌≡◌, All, IfOk, OnErr, map};
 ghost use Rattle.hc_events.specs.Calls.{AreSentTogether, MayAnswer};
-ghost use Rattle.hc_events.specs.Steps.{Arrives, Edits, Forgets, Posts, Reads, SendsTasks, SendsWrite, step_of};
+ghost use Rattle.hc_events.specs.Steps.{Arrives, Edits, Forgets, Posts, Reads, SendsTasks, SendsWrite, SendsWrites, step_of};
 ghost use Rattle.hc_core.specs.Early.{TellsEarly};
 ghost use Rattle.hc_core.specs.Lines.{IsLineAfter};
 ghost use Rattle.hc_core.specs.LastData.{GoesWithoutThem, IsAsWithoutStale, ReadsShowLastData, StaleLeavesNothing, TasksReadLastData};
@@ -104,6 +104,15 @@ impl Core {
         answer_of(self.write(alloc))
     }
 
+    /// Serves several register writes in one frame.
+    fn serve_writes(&mut self, alloc: Global) -> Answer
+        ensures answer { MayAnswer self.old.past SendsWrites result self.new.past }
+        ensures early { TellsEarly self.old.past SendsWrites result }
+        ensures taken { self.new.taken ≡ self.old.taken }
+    {
+        answer_of(self.write_all(alloc))
+    }
+
     /// Serves an arrival.
     fn serve_arrival(&mut self, alloc: Global, bytes: &[u8]) -> Answer
         ensures answer { MayAnswer self.old.past (Arrives bytes.now) result self.new.past }
@@ -141,6 +150,7 @@ impl Core {
         match event {
             Event::Edit(edit) => self.serve_edit(alloc, edit),
             Event::SendWrite => self.serve_write(alloc),
+            Event::SendWrites => self.serve_writes(alloc),
             Event::Arrive(bytes) => self.serve_arrival(alloc, bytes),
             Event::Read(task) => self.serve_read(alloc, task),
             Event::SendTasks(tasks) => self.serve_tasks(alloc, tasks),

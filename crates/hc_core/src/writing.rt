@@ -1,69 +1,114 @@
-//! Register writes: the first owed block is sent.
-ghost use Rattle.std.specs.Prelude.{◌≡◌, ◌≢◌, ◌^◌, ◌<◌, Err, IfErr, IfOk, IfSome, None, OnErr, OnOk, Some, length};
+//! Register writes: the first owed block is sent, or the first ones, as many as a frame holds.
+ghost use Rattle.std.specs.Prelude.{◌≡◌, ◌≢◌, ◌∷◌, Err, IfErr, IfOk, IfSome, None, OnErr, OnOk, Some, length};
 ghost use Rattle.hc_records.specs.Lists.{lowest};
-ghost use Rattle.hc_frames.specs.Builds.{Builds};
-ghost use Rattle.hc_frames.specs.Sizes.{frame_size};
-ghost use Rattle.hc_frames.specs.declared.limits.TheConstants.{SETUP_SERIAL};
-ghost use Rattle.hc_events.specs.Calls.{write_into_faults};
+ghost use Rattle.hc_events.specs.Calls.{write_all_into_faults, write_into_faults};
+ghost use Rattle.hc_events.specs.Entries.{Wrote};
 ghost use Rattle.hc_events.specs.Owed.{owed_blocks};
 ghost use Rattle.hc_events.specs.Points.{next_serial};
-ghost use Rattle.hc_events.specs.Steps.{SendsWrite, answer_to, entries_after, write_faults, write_text};
+ghost use Rattle.hc_events.specs.Steps.{SendsWrite, SendsWrites, answer_to, entries_after, write_faults};
+ghost use Rattle.hc_events.specs.WriteFrames.{writes_size, writes_text};
 ghost use Rattle.hc_events.specs.declared.faults.CoreFault.TheVariants.{Memory};
-ghost use Rattle.hc_core.specs.Firsts.{HasBytes, IsFirstOwed};
-ghost use Rattle.hc_core.specs.Written.{HoldsWrite};
+ghost use Rattle.hc_core.specs.Written.{HoldsBlocks, HoldsWrite, HoldsWrites, IsMost, first_blocks, first_into_faults, sent_answer};
 
+use crate::choosing::{choose, mark_sent};
 use crate::keeping::Core;
 use hc_events::answer::Answer;
 use hc_events::faults::CoreFault;
-use hc_frames::building::{Room, build_write, frame_size};
+use hc_events::sending::FRAME_BLOCKS;
 use hc_frames::limits::SETUP_SERIAL;
-use hc_plan::blocks::LineBlock;
 use hc_records::items::Items;
-use std::alloc::{AllocError, Global};
+use std::alloc::Global;
 
-/// Writes the frame that writes a block to the front of a slice, and answers its size.
-fn write_block(out: &mut [u8], serial: u64, block: &LineBlock) -> Result<usize, Room>
-    requires serial { serial < 2 ^ 40 }
-    requires bytes { HasBytes block.now.block }
-    ensures { Builds out.old out.new result (write_text serial block.now) (frame_size (length block.now.block.bytes)) }
-{
-    build_write(
-        out,
-        serial,
-        block.station,
-        block.block.register(),
-        block.block.bytes(),
-    )
+/// A frame of register writes that was sent.
+#[derive(Clone, Copy, Debug, PartialEq, Eq)]
+pub struct SentWrites {
+    /// The bytes of the frame, 60 to 1,514.
+    pub size: usize,
+    /// How many blocks it writes, 1 to 74.
+    pub blocks: usize,
 }
 
-/// The frame that writes a block.
-fn text_of(alloc: Global, serial: u64, block: &LineBlock) -> Result<Items<u8>, AllocError>
-    requires serial { serial < 2 ^ 40 }
-    requires bytes { HasBytes block.now.block }
-    ensures { IfOk result (λ text. text ≡ write_text serial block.now) }
+/// The answer to a frame of the first owed blocks: one block is answered as its write alone is.
+fn sent_answer(text: Items<u8>, blocks: usize) -> Answer
+    ensures { result ≡ sent_answer text blocks }
 {
-    let size = frame_size(block.block.bytes().len() as u16);
-    let mut text = Vec::from_elem(alloc, 0, size)?;
-    let _ = write_block(&mut text, serial, block);
-    Ok(Items::of(text))
+    if blocks == 1 {
+        Answer::WriteSent(text)
+    } else {
+        Answer::WritesSent(text)
+    }
 }
 
 impl Core {
-    /// The first owed block with its position, where it can be sent: `NothingOwed` where there is none, and
-    /// `SerialsSpent` where no serial is left for it.
-    fn next_write(&self) -> Result<(u32, LineBlock), CoreFault>
-        ensures found { IfOk result (λ found. IsFirstOwed self.now.past found.0 found.1) }
-        ensures bytes { IfOk result (λ found. HasBytes found.1.block) }
-        ensures left { OnOk result (next_serial self.now.past < SETUP_SERIAL) }
+    /// Whether a register write can be sent: `NothingOwed` where no block is owed; `SerialsSpent` where no serial is left;
+    /// and of both the first.
+    fn can_write(&self) -> Result<(), CoreFault>
+        ensures accepted { OnOk result (lowest (write_faults self.now.past (owed_blocks self.now.past)) ≡ None) }
         ensures refused { IfErr result (λ fault. lowest (write_faults self.now.past (owed_blocks self.now.past)) ≡ Some fault) }
     {
-        let Some(found) = self.first_block() else {
+        if self.owed.count() == 0 {
             return Err(CoreFault::NothingOwed);
-        };
+        }
         if self.serial >= SETUP_SERIAL {
             return Err(CoreFault::SerialsSpent);
         }
-        Ok(found)
+        Ok(())
+    }
+
+    /// The first owed blocks, one or as many as a frame holds, are sent in one frame with the next serial: it is put at the
+    /// front of `out`. It takes no memory.
+    fn write_first(&mut self, most: usize, out: &mut [u8]) -> Result<SentWrites, CoreFault>
+        requires { IsMost most }
+        ensures written { IfOk result (HoldsBlocks self.old.past (first_blocks most self.old.past) out.old out.new) }
+        ensures accepted { OnOk result (lowest (first_into_faults most self.old.past (length out.old)) ≡ None) }
+        ensures entries { OnOk result (self.new ≡ record self.old { past = Wrote (first_blocks most self.old.past) ∷ self.old.past }) }
+        ensures refused { IfErr result (λ fault. lowest (first_into_faults most self.old.past (length out.old)) ≡ Some fault) }
+        ensures unchanged { OnErr result (self.new ≡ self.old) }
+        ensures untouched { OnErr result (out.new ≡ out.old) }
+    {
+        self.can_write()?;
+        self.writes.clear();
+        choose(&mut self.writes, &self.owed, &self.plan, 0, most);
+        let size = self.writes.write_into(out, self.serial)?;
+        self.past = self.past.wrote(&self.writes);
+        self.awaited.write(self.serial, self.writes.blocks());
+        mark_sent(&mut self.owed, self.writes.blocks());
+        self.serial += 1;
+        Ok(SentWrites {
+            size,
+            blocks: self.writes.blocks().len(),
+        })
+    }
+
+    /// The bytes of the frame that `write_first` would put into a slice, once it can be sent.
+    fn first_size(&mut self, most: usize) -> Result<usize, CoreFault>
+        requires { IsMost most }
+        ensures size { IfOk result (λ size. size ≡ writes_size (first_blocks most self.old.past)) }
+        ensures accepted { OnOk result (lowest (write_faults self.old.past (owed_blocks self.old.past)) ≡ None) }
+        ensures refused { IfErr result (λ fault. lowest (write_faults self.old.past (owed_blocks self.old.past)) ≡ Some fault) }
+        ensures unchanged { self.new ≡ self.old }
+    {
+        self.can_write()?;
+        self.writes.clear();
+        choose(&mut self.writes, &self.owed, &self.plan, 0, most);
+        Ok(self.writes.size())
+    }
+
+    /// The same frame in memory of its own.
+    fn write_text(&mut self, alloc: Global, most: usize) -> Result<(Items<u8>, usize), CoreFault>
+        requires { IsMost most }
+        ensures text { IfOk result (λ sent. sent.0 ≡ writes_text (next_serial self.old.past) (first_blocks most self.old.past)) }
+        ensures count { IfOk result (λ sent. sent.1 ≡ length (first_blocks most self.old.past)) }
+        ensures accepted { OnOk result (lowest (write_faults self.old.past (owed_blocks self.old.past)) ≡ None) }
+        ensures entries { OnOk result (self.new ≡ record self.old { past = Wrote (first_blocks most self.old.past) ∷ self.old.past }) }
+        ensures refused { IfErr result (λ fault. fault ≢ Memory → lowest (write_faults self.old.past (owed_blocks self.old.past)) ≡ Some fault) }
+        ensures early { IfSome (lowest (write_faults self.old.past (owed_blocks self.old.past))) (λ fault. result ≡ Err fault) }
+        ensures unchanged { OnErr result (self.new ≡ self.old) }
+    {
+        let size = self.first_size(most)?;
+        let mut text = Vec::from_elem(alloc, 0, size)?;
+        let sent = self.write_first(most, &mut text)?;
+        Ok((Items::of(text), sent.blocks))
     }
 
     /// The first owed block is sent, with the next serial. `NothingOwed` where no block is owed;
@@ -76,10 +121,20 @@ impl Core {
         ensures early { IfSome (lowest (write_faults self.old.past (owed_blocks self.old.past))) (λ fault. result ≡ Err fault) }
         ensures unchanged { OnErr result (self.new ≡ self.old) }
     {
-        let found = self.next_write()?;
-        let text = text_of(alloc, self.serial, &found.1)?;
-        self.commit_write(found.0, found.1);
+        let (text, _) = self.write_text(alloc, 1)?;
         Ok(Answer::WriteSent(text))
+    }
+
+    /// The first owed blocks are sent in one frame, as many as it holds, with the next serial. Refused as `write` is.
+    pub(crate) fn write_all(&mut self, alloc: Global) -> Result<Answer, CoreFault>
+        ensures answer { IfOk result (λ told. told ≡ answer_to self.old.past SendsWrites) }
+        ensures entries { OnOk result (self.new ≡ record self.old { past = entries_after self.old.past SendsWrites }) }
+        ensures refused { IfErr result (λ fault. fault ≢ Memory → lowest (write_faults self.old.past (owed_blocks self.old.past)) ≡ Some fault) }
+        ensures early { IfSome (lowest (write_faults self.old.past (owed_blocks self.old.past))) (λ fault. result ≡ Err fault) }
+        ensures unchanged { OnErr result (self.new ≡ self.old) }
+    {
+        let (text, blocks) = self.write_text(alloc, FRAME_BLOCKS)?;
+        Ok(sent_answer(text, blocks))
     }
 
     /// The first owed block is sent, with the next serial: its frame stands at the front of `out`, and its size
@@ -94,9 +149,24 @@ impl Core {
         ensures unchanged { OnErr result (self.new ≡ self.old) }
         ensures untouched { OnErr result (out.new ≡ out.old) }
     {
-        let found = self.next_write()?;
-        let size = write_block(out, self.serial, &found.1)?;
-        self.commit_write(found.0, found.1);
-        Ok(size)
+        let sent = self.write_first(1, out)?;
+        Ok(sent.size)
+    }
+
+    /// The first owed blocks are sent in one frame with the next serial, in the order in which they are owed: as many as the
+    /// frame holds, whatever the length of `out`. The frame is put at the front of `out`; its size and the number of its
+    /// blocks are answered. `NothingOwed` where no block is owed; `SerialsSpent` where no serial is left; `Room` with the size
+    /// needed where `out` is shorter; and of several the first of these. Then nothing changed, and the write counts as not
+    /// given. One block has the frame that `write_into` sends. Until it is answered the same blocks are sent again. It takes no
+    /// memory (ETG.1000.4, 5.3 and 5.4; this project's profile).
+    pub fn write_all_into(&mut self, out: &mut [u8]) -> Result<SentWrites, CoreFault>
+        ensures written { IfOk result (HoldsWrites self.old.past out.old out.new) }
+        ensures accepted { OnOk result (lowest (write_all_into_faults self.old.past (length out.old)) ≡ None) }
+        ensures entries { OnOk result (self.new ≡ record self.old { past = entries_after self.old.past SendsWrites }) }
+        ensures refused { IfErr result (λ fault. lowest (write_all_into_faults self.old.past (length out.old)) ≡ Some fault) }
+        ensures unchanged { OnErr result (self.new ≡ self.old) }
+        ensures untouched { OnErr result (out.new ≡ out.old) }
+    {
+        self.write_first(FRAME_BLOCKS, out)
     }
 }

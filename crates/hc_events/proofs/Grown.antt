@@ -11,8 +11,9 @@ use Rattle.hc_events.specs.Sendings.{Frame}
 use Rattle.hc_events.specs.Images.{fresh_by}
 use Rattle.hc_events.specs.Changes.{News, Swapped, Answered, news_of}
 use Rattle.hc_events.specs.Owed.{owed_blocks}
-use Rattle.hc_events.specs.Steps.{Step, Edits, Posts, SendsTasks, SendsWrite, Arrives, Reads, Forgets, kept_if, edit_refused, forget_faults, post_faults, proposal, task_faults, with_sent, write_faults, with_write, with_arrival, entries_after, entries_after_all}
+use Rattle.hc_events.specs.Steps.{Step, Edits, Posts, SendsTasks, SendsWrite, Arrives, Reads, Forgets, kept_if, edit_refused, forget_faults, post_faults, proposal, task_faults, with_sent, write_faults, with_write, with_arrival, entries_after, entries_after_all, SendsWrites, with_writes}
 use Rattle.hc_events.specs.NewsLaws.{Grows}
+use Rattle.hc_events.specs.WriteFrames.{frame_blocks}
 
 same : (news : List News) → Grows news news
 same news = record { more = []; joined = sym (append-nil news) }
@@ -38,6 +39,10 @@ grows_write : (past : Record) (blocks : List LineBlock) → Grows (news_of past)
 grows_write past [] = same (news_of past)
 grows_write past (block ∷ blocks) = same (news_of past)
 
+grows_writes : (past : Record) (blocks : List LineBlock) → Grows (news_of past) (news_of (with_writes past blocks))
+grows_writes past [] = same (news_of past)
+grows_writes past (block ∷ blocks) = same (news_of past)
+
 grows_arrival : (past : Record) (read : Result Arrival FrameFault) → Grows (news_of past) (news_of (with_arrival past read))
 grows_arrival past (Err fault) = same (news_of past)
 grows_arrival past (Ok arrival) = record { more = map Answered (fresh_by past arrival); joined = refl }
@@ -51,6 +56,9 @@ grows_after past (SendsTasks tasks) =
     grows_if (news_of past) (lowest (task_faults past tasks)) past (with_sent past (proposal past tasks)) (same (news_of past)) (grows_sent past (proposal past tasks))
 grows_after past SendsWrite =
     grows_if (news_of past) (lowest (write_faults past (owed_blocks past))) past (with_write past (owed_blocks past)) (same (news_of past)) (grows_write past (owed_blocks past))
+grows_after past SendsWrites =
+    grows_if (news_of past) (lowest (write_faults past (owed_blocks past))) past (with_writes past (frame_blocks (owed_blocks past))) (same (news_of past))
+    (grows_writes past (frame_blocks (owed_blocks past)))
 grows_after past (Arrives bytes) = grows_arrival past (arrival_in bytes)
 grows_after past (Reads task) = same (news_of past)
 grows_after past (Forgets station) =

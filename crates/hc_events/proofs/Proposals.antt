@@ -1,5 +1,5 @@
 -- Under which serials the frames of an accepted event are found, and so a write.
-use Rattle.std.proofs.Common.{◌≡◌, ℕ, ◌+◌, Bool, true, false, ◌&&◌, List, [], ◌∷◌, ◌++◌, length, map, refl, sym, ap, ◌∙◌, subst, append_assoc, Option, Some, None}
+use Rattle.std.proofs.Common.{◌≡◌, ℕ, ◌+◌, Bool, true, false, ◌&&◌, List, [], ◌∷◌, ◌++◌, length, map, refl, sym, ap, ◌∙◌, subst, append_assoc, Option, Some, None, ◌<◌, arith}
 use Rattle.std.specs.Prelude.{All, IsNone}
 use Rattle.std.specs.List.{list_all, list_any, range_with_len}
 use Rattle.std.proofs.lemmas.List.Elements.{All-nil, All-cons, All-head, All-tail}
@@ -15,10 +15,12 @@ use Rattle.hc_events.specs.Sendings.{Frame}
 use Rattle.hc_events.specs.Heads.{data_heads}
 use Rattle.hc_events.specs.Answering.{sending_of}
 use Rattle.hc_events.specs.Owed.{owed_blocks}
-use Rattle.hc_events.specs.Steps.{kept_if, proposal, sent_text, task_faults, unless, with_sent, with_write, write_faults, told_of_write}
-use Rattle.hc_events.specs.SendingLaws.{AreSent, IsFound, IsWritten, is_frame, is_opening}
+use Rattle.hc_events.specs.Steps.{kept_if, proposal, sent_text, task_faults, unless, with_sent, with_write, write_faults, told_of_write, told_of_writes, with_writes}
+use Rattle.hc_events.specs.SendingLaws.{AreSent, IsFound, IsWritten, is_frame, is_opening, AreWritten}
 use Rattle.hc_events.proofs.lemmas.Frames.{proposals-numbered}
 use Rattle.hc_events.proofs.lemmas.Standing.{found-under}
+use Rattle.hc_events.specs.WriteFrames.{frame_blocks}
+use Rattle.hc_events.proofs.lemmas.BlockSizes.{frame-holds}
 
 -- frames are found under their own serials
 
@@ -53,7 +55,7 @@ none_opened (Opened groups ∷ since) e = cc
 none_opened (Edited edit ∷ since) e = cc
 none_opened (Posted task bytes ∷ since) e = cc
 none_opened (Forgot station ∷ since) e = cc
-none_opened (Wrote block ∷ since) e = cc
+none_opened (Wrote blocks ∷ since) e = cc
 none_opened (Came arrival ∷ since) e = cc
 
 -- a frame with this line's heads, found with nothing but frames since
@@ -103,7 +105,7 @@ frames-found past tasks none = record {
 
 -- and so is a write
 
-kept_next : (past next : Record) (refused : Option CoreFault) → IsNone refused → kept_if refused past next ≡ next
+pub kept_next : (past next : Record) (refused : Option CoreFault) → IsNone refused → kept_if refused past next ≡ next
 kept_next past next None none = refl
 kept_next past next (Some fault) none = cc
 
@@ -119,8 +121,32 @@ written_by past (block ∷ rest) owed none =
           ∙ ap (told_of_write (next_serial past)) owed;
       found = ap (λ after. sending_of after (next_serial past))
           (kept_next past (with_write past (owed_blocks past)) (lowest (write_faults past (owed_blocks past))) accepted ∙ ap (with_write past) owed)
-          ∙ found-under [] past (Wrote block) refl refl;
+          ∙ found-under [] past (Wrote (block ∷ [])) refl refl;
     }
 
 pub writes-found : (past : Record) → IsNone (lowest (write_faults past (owed_blocks past))) → IsWritten past
 writes-found past none = written_by past (owed_blocks past) refl none
+
+-- and so is a frame of several writes
+
+some_owed : (past : Record) (blocks : List LineBlock) → IsNone (lowest (write_faults past blocks)) → 0 < length blocks
+some_owed past [] none = cc
+some_owed past (block ∷ blocks) none = omega arith
+
+pub frame-some : (past : Record) → IsNone (lowest (write_faults past (owed_blocks past))) → 0 < length (frame_blocks (owed_blocks past))
+frame-some past none = frame-holds past (some_owed past (owed_blocks past) none)
+
+pub written_next : (past : Record) (blocks : List LineBlock) → 0 < length blocks → with_writes past blocks ≡ Wrote blocks ∷ past
+written_next past [] some = absurd (omega arith)
+written_next past (block ∷ blocks) some = refl
+
+pub write-frames-found : (past : Record) → IsNone (lowest (write_faults past (owed_blocks past))) → AreWritten past
+write-frames-found past none =
+    let blocks = frame_blocks (owed_blocks past) in
+    let some = frame-some past none in
+    record {
+      some = some;
+      told = told_next (lowest (write_faults past (owed_blocks past))) (told_of_writes (next_serial past) blocks) none;
+      found = ap (λ after. sending_of after (next_serial past)) (kept_next past (with_writes past blocks) (lowest (write_faults past (owed_blocks past))) none ∙ written_next past blocks some)
+          ∙ found-under [] past (Wrote blocks) refl refl;
+    }

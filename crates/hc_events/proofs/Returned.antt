@@ -10,7 +10,7 @@ use Rattle.hc_registers.specs.Blocks.{LineBlock}
 use Rattle.hc_frames.specs.declared.commands.Command.TheVariants.{Fpwr, Lrw}
 use Rattle.hc_frames.specs.Arrived.{reading_of}
 use Rattle.hc_frames.specs.Commands.{code_of}
-use Rattle.hc_frames.specs.FrameText.{Datagram, block_write, station_address}
+use Rattle.hc_frames.specs.FrameText.{Datagram, station_address}
 use Rattle.hc_frames.specs.Laws.{CanBeCarried}
 use Rattle.hc_frames.specs.Returned.{AllComeBack, ComesBack, IsReturned}
 use Rattle.hc_frames.proofs.lemmas.Returns.{returned-read}
@@ -18,12 +18,13 @@ use Rattle.hc_events.specs.Arrivals.{Arrival, Part, arrival_in, read_unless}
 use Rattle.hc_events.specs.Entries.{Entry, Record, Opened, Edited, Posted, Sent, Wrote, Came, Forgot}
 use Rattle.hc_events.specs.Points.{line_of, next_serial}
 use Rattle.hc_events.specs.Sendings.{Named, length_of}
-use Rattle.hc_events.specs.Heads.{data_head, data_heads, item_of, write_head}
+use Rattle.hc_events.specs.Heads.{data_head, data_heads, item_of, write_head, write_heads}
 use Rattle.hc_events.specs.Answering.{Good, Stale, Wrong, has_head, has_heads, is_answer, is_good, judge, judged, sending_of, sends}
 use Rattle.hc_events.specs.Images.{Fresh, fresh}
 use Rattle.hc_events.specs.Steps.{sent_datagram, told_of, told_of_arrival}
 use Rattle.hc_events.specs.SendingLaws.{heads_of, is_sending}
 use Rattle.hc_events.specs.AnswerLaws.{LeavesOpen, ReturnsWell, good_part, good_parts, sent_datagrams}
+use Rattle.hc_events.specs.WriteFrames.{block_datagram}
 use Rattle.hc_events.proofs.lemmas.SentBits.{sent-data}
 use Rattle.hc_events.proofs.lemmas.Answers.{answer-is, chosen, none-ends, none-opened}
 use Rattle.hc_events.proofs.lemmas.Standing.{found-under, sent_at}
@@ -45,15 +46,16 @@ heads_back past (named ∷ frame) [] back = absurd back
 heads_back past (named ∷ frame) (part ∷ parts) back =
     ap (λ b. b && has_heads (data_heads (line_of past) frame) parts) (head_back past named part back.0) ∙ heads_back past frame parts back.1
 
-write_back : (block : LineBlock) (part : Part) → ComesBack (block_write block.station block.block.register block.block.bytes) part → has_head (write_head block) part ≡ true
+write_back : (block : LineBlock) (part : Part) → ComesBack (block_datagram block) part → has_head (write_head block) part ≡ true
 write_back block part back =
     all_same (code_of Fpwr) (code_of part.command) (station_address block.station block.block.register) part.address (length block.block.bytes) (length part.bytes)
     (ap code_of back.command) back.address back.size
 
-writes_back : (block : LineBlock) (parts : List Part) → AllComeBack (block_write block.station block.block.register block.block.bytes ∷ []) parts → has_heads (write_head block ∷ []) parts ≡ true
-writes_back block [] back = absurd back
-writes_back block (part ∷ []) back = ap (λ b. b && true) (write_back block part back.0)
-writes_back block (part ∷ other ∷ parts) back = absurd back.1
+writes_back : (blocks : List LineBlock) (parts : List Part) → AllComeBack (map block_datagram blocks) parts → has_heads (write_heads blocks) parts ≡ true
+writes_back [] [] back = refl
+writes_back [] (part ∷ parts) back = absurd back
+writes_back (block ∷ blocks) [] back = absurd back
+writes_back (block ∷ blocks) (part ∷ parts) back = ap (λ b. b && has_heads (write_heads blocks) parts) (write_back block part back.0) ∙ writes_back blocks parts back.1
 
 -- what carries a datagram was sent
 
@@ -68,7 +70,7 @@ some_sent before (Posted task bytes) parts back some = absurd (none_carried part
 some_sent before (Forgot station) parts back some = absurd (none_carried parts back some)
 some_sent before (Came arrival) parts back some = absurd (none_carried parts back some)
 some_sent before (Sent frame) parts back some = refl
-some_sent before (Wrote block) parts back some = refl
+some_sent before (Wrote blocks) parts back some = refl
 
 all_back : (before : Record) (entry : Entry) (parts : List Part) → AllComeBack (sent_datagrams before entry) parts → 0 < length parts → has_heads (heads_of before entry) parts ≡ true
 all_back before (Opened groups) parts back some = absurd (none_carried parts back some)
@@ -77,7 +79,7 @@ all_back before (Posted task bytes) parts back some = absurd (none_carried parts
 all_back before (Forgot station) parts back some = absurd (none_carried parts back some)
 all_back before (Came arrival) parts back some = absurd (none_carried parts back some)
 all_back before (Sent frame) parts back some = heads_back before frame parts back
-all_back before (Wrote block) parts back some = writes_back block parts back
+all_back before (Wrote blocks) parts back some = writes_back blocks parts back
 
 -- and its good data are what came back
 
@@ -97,13 +99,15 @@ data_back since line (named ∷ frame) (part ∷ parts) =
 abbrev no_fresh : List Fresh
 no_fresh = []
 
-nothing_of : (good : Bool) → cond good no_fresh no_fresh ++ no_fresh ≡ no_fresh
-nothing_of true = refl
-nothing_of false = refl
+nothing_of : (good : Bool) (others : List Fresh) → cond good no_fresh no_fresh ++ others ≡ others
+nothing_of true others = refl
+nothing_of false others = refl
 
-write_data : (since : List Entry) (block : LineBlock) (parts : List Part) → flat_map fresh (map (judge since) (zip (write_head block ∷ []) parts)) ≡ []
-write_data since block [] = refl
-write_data since block (part ∷ parts) = nothing_of (is_good (judge since (write_head block, part)).verdict)
+write_data : (since : List Entry) (blocks : List LineBlock) (parts : List Part) → flat_map fresh (map (judge since) (zip (write_heads blocks) parts)) ≡ []
+write_data since [] parts = refl
+write_data since (block ∷ blocks) [] = refl
+write_data since (block ∷ blocks) (part ∷ parts) =
+    nothing_of (is_good (judge since (write_head block, part)).verdict) (flat_map fresh (map (judge since) (zip (write_heads blocks) parts))) ∙ write_data since blocks parts
 
 entry_data : (since : List Entry) (before : Record) (entry : Entry) (parts : List Part) → flat_map fresh (map (judge since) (zip (heads_of before entry) parts)) ≡ good_parts since (line_of before) entry parts
 entry_data since before (Opened groups) parts = refl
@@ -112,7 +116,7 @@ entry_data since before (Posted task bytes) parts = refl
 entry_data since before (Forgot station) parts = refl
 entry_data since before (Came arrival) parts = refl
 entry_data since before (Sent frame) parts = data_back since (line_of before) frame parts
-entry_data since before (Wrote block) parts = write_data since block parts
+entry_data since before (Wrote blocks) parts = write_data since blocks parts
 
 read_back : (serial : ℕ) (ds : List Datagram) (parts : List Part) (bytes : List ℕ) → IsReturned serial ds parts bytes → CanBeCarried serial parts → arrival_in bytes ≡ Ok (record { serial = serial; parts = parts })
 read_back serial ds parts bytes back can =

@@ -15,13 +15,14 @@ use Rattle.hc_events.specs.Arrivals.{Arrival, arrival_in}
 use Rattle.hc_events.specs.Entries.{Entry, Record, Opened, Edited, Posted, Sent, Wrote, Came, Forgot}
 use Rattle.hc_events.specs.Points.{line_of, next_serial}
 use Rattle.hc_events.specs.Sendings.{Frame}
-use Rattle.hc_events.specs.Heads.{data_heads, write_head}
+use Rattle.hc_events.specs.Heads.{data_heads, write_heads}
 use Rattle.hc_events.specs.Answering.{Sending, just_sent, followed_by, sending_of}
 use Rattle.hc_events.specs.Owed.{owed_blocks}
-use Rattle.hc_events.specs.Steps.{Step, Edits, Posts, SendsTasks, SendsWrite, Arrives, Reads, Forgets, forget_faults, kept_if, edit_refused, has_serials, is_no_task, post_faults, proposal, task_faults, with_sent, write_faults, with_write, with_arrival, entries_after, entries_after_all}
+use Rattle.hc_events.specs.Steps.{Step, Edits, Posts, SendsTasks, SendsWrite, Arrives, Reads, Forgets, forget_faults, kept_if, edit_refused, has_serials, is_no_task, post_faults, proposal, task_faults, with_sent, write_faults, with_write, with_arrival, entries_after, entries_after_all, SendsWrites, with_writes}
 use Rattle.hc_events.specs.Accepted.{just_opened, record_of}
 use Rattle.hc_events.proofs.lemmas.Accepted.{passed}
 use Rattle.hc_events.proofs.lemmas.Once.{serial-below}
+use Rattle.hc_events.specs.WriteFrames.{frame_blocks}
 
 -- of two sendings the newer has the greater serial
 
@@ -81,8 +82,8 @@ serials-ascend (Forgot station ∷ past) low high = ascends_on (Forgot station) 
 serials-ascend (Came arrival ∷ past) low high = ascends_on (Came arrival) low high (sending_of past low) (sending_of past high) (serials-ascend past low high)
 serials-ascend (Sent frame ∷ past) low high =
     ascends_sent past (Sent frame) (just_sent (data_heads (line_of past) frame)) low high (next_serial past == low) (next_serial past == high) refl refl refl (serials-ascend past low high)
-serials-ascend (Wrote block ∷ past) low high =
-    ascends_sent past (Wrote block) (just_sent (write_head block ∷ [])) low high (next_serial past == low) (next_serial past == high) refl refl refl (serials-ascend past low high)
+serials-ascend (Wrote blocks ∷ past) low high =
+    ascends_sent past (Wrote blocks) (just_sent (write_heads blocks)) low high (next_serial past == low) (next_serial past == high) refl refl refl (serials-ascend past low high)
 
 -- no event leads past the setup serial
 
@@ -122,6 +123,13 @@ left_write past (block ∷ blocks) e before =
     let second = passed (not (has_serials past 1)) SerialsSpent [] first.1 in
     enough (next_serial past) 1 (not-false _ second.0)
 
+left_writes : (past : Record) (blocks more : List LineBlock) → lowest (write_faults past blocks) ≡ None → Left past → Left (with_writes past more)
+left_writes past blocks [] e before = before
+left_writes past blocks (block ∷ more) e before =
+    let first = passed (length blocks == 0) NothingOwed ((not (has_serials past 1), SerialsSpent) ∷ []) e in
+    let second = passed (not (has_serials past 1)) SerialsSpent [] first.1 in
+    enough (next_serial past) 1 (not-false _ second.0)
+
 left_arrival : (past : Record) (read : Result Arrival FrameFault) → Left past → Left (with_arrival past read)
 left_arrival past (Err fault) before = before
 left_arrival past (Ok arrival) before = before
@@ -132,6 +140,9 @@ left_after past (Posts task epoch bytes) before = left_if (lowest (post_faults p
 left_after past (SendsTasks tasks) before = left_if (lowest (task_faults past tasks)) past (with_sent past (proposal past tasks)) (λ e. left_sent past tasks e) before
 left_after past SendsWrite before =
     left_if (lowest (write_faults past (owed_blocks past))) past (with_write past (owed_blocks past)) (λ e. left_write past (owed_blocks past) e before) before
+left_after past SendsWrites before =
+    left_if (lowest (write_faults past (owed_blocks past))) past (with_writes past (frame_blocks (owed_blocks past)))
+    (λ e. left_writes past (owed_blocks past) (frame_blocks (owed_blocks past)) e before) before
 left_after past (Arrives bytes) before = left_arrival past (arrival_in bytes) before
 left_after past (Reads task) before = before
 left_after past (Forgets station) before = left_if (lowest (forget_faults past station)) past (Forgot station ∷ past) (λ e. before) before

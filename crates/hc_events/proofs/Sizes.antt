@@ -1,5 +1,5 @@
 -- The bytes of frames one after another, of a write, and of a preview.
-use Rattle.std.proofs.Common.{◌≡◌, ℕ, ◌+◌, nat_lt, Bool, true, false, cond, ◌&&◌, List, [], ◌∷◌, length, refl, sym, ap, ◌∙◌, subst, arith, length-append, Some, None}
+use Rattle.std.proofs.Common.{◌≡◌, ℕ, ◌+◌, nat_lt, Bool, true, false, cond, ◌&&◌, List, [], ◌∷◌, length, map, refl, sym, ap, ◌∙◌, subst, arith, length-append, Some, None}
 use Rattle.std.specs.Prelude.{All, sum_by}
 use Rattle.std.specs.List.{flat_map}
 use Rattle.std.proofs.lemmas.List.Elements.{All-head, All-tail}
@@ -15,6 +15,7 @@ use Rattle.hc_events.specs.Sendings.{Frame, alone, length_of, size_of}
 use Rattle.hc_events.specs.Owed.{owed_blocks}
 use Rattle.hc_events.specs.Steps.{has_serials, proposal, sent_text, write_text}
 use Rattle.hc_events.specs.Calls.{frames_size, preview, write_size}
+use Rattle.hc_events.specs.WriteFrames.{block_bytes, block_datagram, blocks_bytes, writes_size, writes_text}
 use Rattle.hc_events.specs.CallLaws.{IsPreview}
 use Rattle.hc_events.proofs.lemmas.Frames.{alone-counted, frame-sized, frames-sized}
 
@@ -42,6 +43,17 @@ pub writes-filled : (past : Record) (block : LineBlock) (rest : List LineBlock) 
 writes-filled past block rest owed =
     length-frame_text (next_serial past) (block_write block.station block.block.register block.block.bytes ∷ [])
     ∙ ap frame_bytes (one_size block) ∙ sym (ap write_size owed)
+
+text_sizes : (blocks : List LineBlock) → sum_by (λ (d : Carried). 12 + length d.bytes) (map sent (map block_datagram blocks)) ≡ blocks_bytes blocks
+text_sizes [] = refl
+text_sizes (block ∷ blocks) =
+    let sum = sum_by-cons (λ (d : Carried). 12 + length d.bytes) (sent (block_datagram block)) (map sent (map block_datagram blocks)) in
+    let sizes = sum_by-cons block_bytes block blocks in
+    let rest = text_sizes blocks in
+    omega arith
+
+pub write-frames-filled : (serial : ℕ) (blocks : List LineBlock) → length (writes_text serial blocks) ≡ writes_size blocks
+write-frames-filled serial blocks = length-frame_text serial (map block_datagram blocks) ∙ ap frame_bytes (text_sizes blocks)
 
 is_preview : (past : Record) (task d : ℕ) (frame : Frame) (can : Bool) → cond can (Some (alone (next_serial past) (task, d) (length_of (line_of past) (task, d)))) None ≡ Some frame → IsPreview past task d frame
 is_preview past task d frame false e = cc

@@ -105,7 +105,7 @@ news-of_record (Edited edit ∷ past) =
 news-of_record (Posted task bytes ∷ past) = all_further (Posted task bytes) past (news_of past) (news-of_record past)
 news-of_record (Forgot station ∷ past) = all_further (Forgot station) past (news_of past) (news-of_record past)
 news-of_record (Sent frame ∷ past) = all_further (Sent frame) past (news_of past) (news-of_record past)
-news-of_record (Wrote block ∷ past) = all_further (Wrote block) past (news_of past) (news-of_record past)
+news-of_record (Wrote blocks ∷ past) = all_further (Wrote blocks) past (news_of past) (news-of_record past)
 news-of_record (Came arrival ∷ past) =
     All-append (IsNewsOf (Came arrival ∷ past)) (news_of past) (map Answered (fresh_by past arrival)) (all_further (Came arrival) past (news_of past) (news-of_record past))
     (of_arrival past arrival)

@@ -3,10 +3,16 @@ pub mod Accepted
 pub mod Ages
 pub mod Answers
 pub mod Awaited
+pub mod AwaitedAlone
+pub mod BlockSizes
 pub mod Changes
+pub mod Confirmed
+pub mod Crossing
 pub mod Epochs
 pub mod Frames
+pub mod Fronts
 pub mod LastWrites
+pub mod Live
 pub mod Names
 pub mod Once
 pub mod OneWrite
@@ -16,7 +22,7 @@ pub mod SentBits
 pub mod SentValues
 pub mod Slots
 pub mod StaleStays
-pub mod Views
 pub mod Standing
+pub mod TwoWrites
+pub mod Views
 pub mod WithoutStale
-pub mod Crossing

@@ -1,5 +1,5 @@
 -- What is known of an entry by its being accepted, and of a record by the events that led to it.
-use Rattle.std.specs.Prelude.{◌≡◌, ℕ, ◌<◌, ◌≤◌, true, All, Contains, List, [], ◌∷◌, length, map, None}
+use Rattle.std.specs.Prelude.{◌≡◌, ℕ, ◌<◌, ◌≤◌, ◌⊎◌, true, All, Contains, List, [], ◌∷◌, length, map, take, None}
 use Rattle.hc_records.specs.declared.limits.TheConstants.{TASKS}
 use Rattle.hc_records.specs.declared.records.Group.{Group}
 use Rattle.hc_records.specs.Lists.{lowest}
@@ -12,6 +12,7 @@ use Rattle.hc_events.specs.Entries.{Entry, Record, Opened, Edited, Posted, Sent,
 use Rattle.hc_events.specs.Points.{line_of, next_serial, opened_with, state_of}
 use Rattle.hc_events.specs.Sendings.{Named, sendings_of}
 use Rattle.hc_events.specs.Owed.{is_in_line, owed_blocks}
+use Rattle.hc_events.specs.WriteFrames.{frame_blocks}
 use Rattle.hc_events.specs.Steps.{Step, entries_after_all}
 
 -- a datagram of the line
@@ -40,13 +41,18 @@ pub record IsFirst (block : LineBlock) (blocks : List LineBlock) : Type 0 where
   pub rest : List LineBlock
   pub first : blocks ≡ block ∷ rest
 
--- an edit that the state accepts, such a post, such a frame, the first owed block, any arrival that can be read, a slave of the line that is forgotten; a project is opened once
+-- register blocks that one frame writes while these are owed: the first of them alone, or the first ones, as many as one frame holds
+pub record IsWrite (owed blocks : List LineBlock) : Type 0 where
+  pub some : 0 < length blocks
+  pub first : (blocks ≡ take 1 owed) ⊎ (blocks ≡ frame_blocks owed)
+
+-- an edit that the state accepts, such a post, such a frame, such register blocks, any arrival that can be read, a slave of the line that is forgotten; a project is opened once
 abbrev pub IsAccepted : Record → Entry → Type 0
 IsAccepted past (Opened groups) = ⊥
 IsAccepted past (Edited edit) = lowest (edit_faults (state_of past) edit) ≡ None
 IsAccepted past (Posted task bytes) = IsPost (line_of past) task bytes
 IsAccepted past (Sent frame) = IsFrame past frame
-IsAccepted past (Wrote block) = IsFirst block (owed_blocks past)
+IsAccepted past (Wrote blocks) = IsWrite (owed_blocks past) blocks
 IsAccepted past (Came arrival) = Unit {0}
 IsAccepted past (Forgot station) = is_in_line past station ≡ true
 

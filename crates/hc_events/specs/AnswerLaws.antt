@@ -1,23 +1,26 @@
 -- What holds of answers: an arrival answers a sending as its first one, and what is awaited is what arrivals can answer.
-use Rattle.std.specs.Prelude.{◌≡◌, ◌↔◌, ℕ, ◌==◌, ◌&&◌, not, true, false, if◌then◌else◌, All, Contains, List, [], ◌∷◌, ◌++◌, map, Some, Ok}
-use Rattle.std.specs.List.{flat_map, list_any, zip}
+use Rattle.std.specs.Prelude.{◌≡◌, ◌↔◌, ℕ, ◌<◌, ◌≤◌, ◌==◌, ◌&&◌, not, true, false, if◌then◌else◌, All, Contains, List, [], ◌∷◌, ◌++◌, length, map, Some, Ok}
+use Rattle.std.specs.List.{flat_map, list_all, list_any, zip}
 use Rattle.hc_records.specs.Line.{Member}
 use Rattle.hc_records.specs.Image.{expected_counter}
 use Rattle.hc_registers.specs.Blocks.{LineBlock, line_blocks}
-use Rattle.hc_frames.specs.FrameText.{Datagram, block_write}
+use Rattle.hc_frames.specs.FrameText.{Datagram}
 use Rattle.hc_frames.specs.Laws.{CanBeCarried}
 use Rattle.hc_frames.specs.Returned.{IsReturned}
+use Rattle.hc_events.specs.declared.sending.TheConstants.{FRAME_BLOCKS}
 use Rattle.hc_events.specs.Arrivals.{Arrival, Part, arrival_in}
 use Rattle.hc_events.specs.Entries.{Entry, Record, Opened, Edited, Sent, Wrote, Came}
 use Rattle.hc_events.specs.Points.{line_of, next_serial}
 use Rattle.hc_events.specs.Sendings.{Named}
-use Rattle.hc_events.specs.Heads.{Head, Item, Datagram as DatagramItem, Block, data_head, item_of, write_head}
-use Rattle.hc_events.specs.Answering.{Sending, answered_by, has_heads, is_forgetting, is_stale_to, judge, judged, judged_by, sends}
+use Rattle.hc_events.specs.Heads.{Head, Item, Datagram as DatagramItem, Block, block_item, data_head, item_of, same_item, write_head}
+use Rattle.hc_events.specs.Answering.{Sending, answered_by, has_heads, is_forgetting, is_stale_to, judge, judged, judged_by, sending_of, sends}
 use Rattle.hc_events.specs.Awaited.{awaited, is_write}
 use Rattle.hc_events.specs.Images.{Fresh, fresh_by}
 use Rattle.hc_events.specs.Steps.{Arrives, answer_to, sent_datagram, told_of}
 use Rattle.hc_events.specs.Accepted.{IsReachable, StandsIn}
 use Rattle.hc_events.specs.SendingLaws.{StandsAt, heads_of}
+use Rattle.hc_events.specs.Forgetting.{writes_one}
+use Rattle.hc_events.specs.WriteFrames.{block_datagram}
 
 -- an entry leaves a sending to be answered: it is no opening, no accepted edit, and no arrival with the sending's serial, commands, addresses and lengths
 abbrev pub LeavesOpen : ℕ → List Head → Entry → Type 0
@@ -76,24 +79,47 @@ pub record AnswersTheAwaited (past : Record) (arrival : Arrival) : Type 0 where
 abbrev pub AwaitedAreAnswered : Type 0
 AwaitedAreAnswered = (past : Record) (arrival : Arrival) → AnswersTheAwaited past arrival
 
--- where a register write is awaited no other write is
+-- the register blocks of a line have names of their own: a station address and a number name one block. So it is in a project's line
+abbrev pub HasOwnNames : List Member → Type 0
+HasOwnNames line =
+    (a b : LineBlock) → Contains (line_blocks line) a → Contains (line_blocks line) b → same_item (block_item a) (block_item b) ≡ true → a ≡ b
+
+-- of two frames of register writes the later one is of one block, and the earlier one is of more
+pub record IsBesideOne (older newer : Sending) : Type 0 where
+  pub one : length newer.heads ≡ 1
+  pub more : 1 < length older.heads
+
+-- so it is with any two that are awaited: each later frame of several blocks carries all that is awaited, and so does a single write where a single write is. So at most two are awaited, no two of them of several blocks
+abbrev pub TwoWritesAreAwaited : Type 0
+TwoWritesAreAwaited =
+    (past : Record) (low high : ℕ) (older newer : Sending) → IsReachable past → HasOwnNames (line_of past) → low < high
+    → awaited past low ≡ Some older → is_write older ≡ true → awaited past high ≡ Some newer → is_write newer ≡ true
+    → IsBesideOne older newer
+
+-- where each register write was sent in a frame of its own, no other write is awaited beside one
 abbrev pub OneWriteIsAwaited : Type 0
 OneWriteIsAwaited =
-    (past : Record) (serial other : ℕ) (write sending : Sending) → IsReachable past
-    → awaited past serial ≡ Some write → is_write write ≡ true
+    (past : Record) (serial other : ℕ) (write sending : Sending) → IsReachable past → HasOwnNames (line_of past)
+    → list_all writes_one past ≡ true → awaited past serial ≡ Some write → is_write write ≡ true
     → awaited past other ≡ Some sending → is_write sending ≡ true → other ≡ serial
 
--- and as long as no slave's registers were forgotten nothing else is, neither another write nor a frame of tasks
+-- a frame of register writes has 74 datagrams at most
+abbrev pub WritesFitAFrame : Type 0
+WritesFitAFrame =
+    (past : Record) (serial : ℕ) (sending : Sending) → IsReachable past → sending_of past serial ≡ Some sending
+    → is_write sending ≡ true → length sending.heads ≤ FRAME_BLOCKS
+
+-- and as long as no slave's registers were forgotten no frame of tasks is awaited beside a register write
 abbrev pub WritesAreAwaitedAlone : Type 0
 WritesAreAwaitedAlone =
     (past : Record) (serial other : ℕ) (write sending : Sending) → IsReachable past → list_any is_forgetting past ≡ false
     → awaited past serial ≡ Some write → is_write write ≡ true
-    → awaited past other ≡ Some sending → other ≡ serial
+    → awaited past other ≡ Some sending → is_write sending ≡ true
 
 -- the datagrams with which a sending goes out
 abbrev pub sent_datagrams : Record → Entry → List Datagram
 sent_datagrams past (Sent frame) = map (sent_datagram past) frame
-sent_datagrams past (Wrote block) = block_write block.station block.block.register block.block.bytes ∷ []
+sent_datagrams past (Wrote blocks) = map block_datagram blocks
 sent_datagrams past entry = []
 
 -- of a task's datagram that came back with its expected working counter and wasn't sent again since, the data that came back

@@ -6,7 +6,7 @@ use Rattle.hc_frames.specs.Commands.{code_of}
 use Rattle.hc_events.specs.Arrivals.{Arrival, Part}
 use Rattle.hc_events.specs.Entries.{Entry, Record, Opened, Edited, Sent, Wrote, Came, Forgot}
 use Rattle.hc_events.specs.Points.{line_of, next_serial}
-use Rattle.hc_events.specs.Heads.{Item, Datagram, Block, Head, same_item, item_of, block_item, data_heads, write_head}
+use Rattle.hc_events.specs.Heads.{Item, Datagram, Block, Head, same_item, item_of, block_item, data_heads, write_heads}
 
 -- a sending as it is looked back upon: what it said of its datagrams, and the entries since, the newest first
 pub record Sending : Type 0 where
@@ -28,9 +28,9 @@ sending_of (Opened groups ∷ past) serial = None
 sending_of (Sent frame ∷ past) serial =
     if next_serial past == serial then Some (just_sent (data_heads (line_of past) frame))
     else option_map (followed_by (Sent frame)) (sending_of past serial)
-sending_of (Wrote block ∷ past) serial =
-    if next_serial past == serial then Some (just_sent (write_head block ∷ []))
-    else option_map (followed_by (Wrote block)) (sending_of past serial)
+sending_of (Wrote blocks ∷ past) serial =
+    if next_serial past == serial then Some (just_sent (write_heads blocks))
+    else option_map (followed_by (Wrote blocks)) (sending_of past serial)
 sending_of (entry ∷ past) serial = option_map (followed_by entry) (sending_of past serial)
 
 -- a datagram came back with the command, the address and the length that it was sent with
@@ -71,7 +71,7 @@ answered_by past arrival = option_and_then (only_if (is_answer arrival)) (sendin
 -- a sending of the same datagram or block
 abbrev pub sends : Item → Entry → Bool
 sends item (Sent frame) = list_any (λ named. same_item item (item_of named)) frame
-sends item (Wrote block) = same_item item (block_item block)
+sends item (Wrote blocks) = list_any (λ block. same_item item (block_item block)) blocks
 sends item entry = false
 
 -- a slave's registers were forgotten
@@ -84,10 +84,10 @@ abbrev pub forgets : ℕ → Entry → Bool
 forgets station (Forgot other) = station == other
 forgets station entry = false
 
--- after some slave's registers were forgotten a register write was sent: it takes the place of every write before that, so that one write at most is under way
+-- after some slave's registers were forgotten a register write was sent: it takes the place of every write before that
 abbrev pub starts_over : List Entry → Bool
 starts_over [] = false
-starts_over (Wrote block ∷ since) = list_any is_forgetting since || starts_over since
+starts_over (Wrote blocks ∷ since) = list_any is_forgetting since || starts_over since
 starts_over (entry ∷ since) = starts_over since
 
 -- a write of the register block says nothing any more: the slave was forgotten since, or the writes started over; a task's datagram has no part in either

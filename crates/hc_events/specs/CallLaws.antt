@@ -6,6 +6,7 @@ use Rattle.hc_events.specs.Entries.{Record}
 use Rattle.hc_events.specs.Points.{next_serial}
 use Rattle.hc_events.specs.Sendings.{Frame, size_of}
 use Rattle.hc_events.specs.Owed.{owed_blocks}
+use Rattle.hc_events.specs.WriteFrames.{writes_size, writes_text}
 use Rattle.hc_events.specs.Steps.{proposal, sent_text, write_text}
 use Rattle.hc_events.specs.Calls.{frames_size, preview, write_size}
 
@@ -18,6 +19,10 @@ abbrev pub WritesFillTheirBytes : Type 0
 WritesFillTheirBytes =
     (past : Record) (block : LineBlock) (rest : List LineBlock) → owed_blocks past ≡ block ∷ rest
     → length (write_text (next_serial past) block) ≡ write_size (owed_blocks past)
+
+-- so has the text of the frame that writes these blocks
+abbrev pub WriteFramesFillTheirBytes : Type 0
+WriteFramesFillTheirBytes = (serial : ℕ) (blocks : List LineBlock) → length (writes_text serial blocks) ≡ writes_size blocks
 
 -- a preview is a frame of this datagram alone with the next serial, and it has the bytes of its text
 pub record IsPreview (past : Record) (task d : ℕ) (frame : Frame) : Type 0 where

@@ -13,6 +13,7 @@ use Rattle.hc_events.specs.Entries.{Record}
 use Rattle.hc_events.specs.Points.{line_of, next_serial}
 use Rattle.hc_events.specs.Sendings.{Frame, alone, length_of, size_of}
 use Rattle.hc_events.specs.Owed.{owed_blocks}
+use Rattle.hc_events.specs.WriteFrames.{frame_blocks, writes_size}
 use Rattle.hc_events.specs.Steps.{Step, Posts, Forgets, answer_to, entries_after, has_serials, proposal, task_faults, write_faults}
 
 -- an event takes memory for what it answers or for what is kept behind it; a post takes none, since the room for its values was taken at the opening or by an accepted edit; forgetting a slave's registers takes none
@@ -48,6 +49,10 @@ write_size (block ∷ blocks) = frame_bytes (12 + length block.block.bytes)
 -- it goes into a slice of so many bytes: refused as the event is, and behind that where the slice is too short
 abbrev pub write_into_faults : Record → ℕ → List (Bool × CoreFault)
 write_into_faults past bytes = write_faults past (owed_blocks past) ++ room_faults (write_size (owed_blocks past)) bytes
+
+-- the frame that writes the first of the owed blocks, as many as it holds, goes into a slice of so many bytes: refused in the same way
+abbrev pub write_all_into_faults : Record → ℕ → List (Bool × CoreFault)
+write_all_into_faults past bytes = write_faults past (owed_blocks past) ++ room_faults (writes_size (frame_blocks (owed_blocks past))) bytes
 
 -- the bytes of the frames in which tasks are sent
 abbrev pub frames_size : Record → List ℕ → ℕ

@@ -6,13 +6,13 @@ use Rattle.hc_registers.specs.Blocks.{LineBlock}
 use Rattle.hc_events.specs.Arrivals.{Arrival}
 use Rattle.hc_events.specs.Sendings.{Named}
 
--- the project's groups; an edit; a task and the bytes that it posted; a frame by its datagrams; a register block; a frame that arrived and could be read; the station address of a slave whose registers were forgotten
+-- the project's groups; an edit; a task and the bytes that it posted; a frame by its datagrams; the register blocks that one frame writes, in order; a frame that arrived and could be read; the station address of a slave whose registers were forgotten
 pub data Entry : Type 0 where
   Opened : List Group → Entry
   Edited : Edit → Entry
   Posted : ℕ → List ℕ → Entry
   Sent : List Named → Entry
-  Wrote : LineBlock → Entry
+  Wrote : List LineBlock → Entry
   Came : Arrival → Entry
   Forgot : ℕ → Entry
 

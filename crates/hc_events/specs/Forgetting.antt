@@ -1,6 +1,6 @@
--- What holds of slaves whose registers are forgotten, and of histories in which none is.
-use Rattle.std.specs.Prelude.{◌≡◌, ℕ, ◌==◌, ◌||◌, true, false, All, List, ◌∷◌, map, None, Some}
-use Rattle.std.specs.List.{list_any}
+-- What holds of slaves whose registers are forgotten, and of histories in which none is and each register write has a frame of its own.
+use Rattle.std.specs.Prelude.{◌≡◌, ℕ, ◌==◌, ◌||◌, Bool, true, false, All, List, ◌∷◌, length, map, None, Some}
+use Rattle.std.specs.List.{list_all, list_any}
 use Rattle.hc_records.specs.declared.records.Group.{Group}
 use Rattle.hc_registers.specs.Blocks.{LineBlock}
 use Rattle.hc_events.specs.Accepted.{just_opened}
@@ -9,7 +9,7 @@ use Rattle.hc_events.specs.Answering.{Judged, Sending, Stale, answered_by, follo
 use Rattle.hc_events.specs.Arrivals.{Arrival}
 use Rattle.hc_events.specs.Awaited.{awaited, is_write}
 use Rattle.hc_events.specs.Changes.{news_of}
-use Rattle.hc_events.specs.Entries.{Record, Forgot}
+use Rattle.hc_events.specs.Entries.{Entry, Record, Forgot, Wrote}
 use Rattle.hc_events.specs.Heads.{Block}
 use Rattle.hc_events.specs.Images.{slot_of}
 use Rattle.hc_events.specs.Outputs.{value_bit}
@@ -50,7 +50,7 @@ ForgottenWritesAreStale =
     (history : Record) (arrival : Arrival) (sending : Sending) (station : ℕ) → answered_by history arrival ≡ Some sending
     → list_any (forgets station) sending.since ≡ true → All (IsStaleFor station) (judged_by history arrival)
 
--- what a history in which no slave was forgotten says is what the words for such histories say
+-- what such a history says is what the words for such histories say
 pub record SaysAsAtFirst (history : Record) : Type 0 where
   pub judged : (arrival : Arrival) → first.judged_by history arrival ≡ judged_by history arrival
   pub awaits : (serial : ℕ) → first.awaited history serial ≡ awaited history serial
@@ -60,11 +60,17 @@ pub record SaysAsAtFirst (history : Record) : Type 0 where
   pub known : (station number : ℕ) → first.known_bytes history station number ≡ known_bytes history station number
   pub owed : first.owed_blocks history ≡ owed_blocks history
 
--- so it is with each such history
-abbrev pub HistoriesWithoutForgetting : Type 0
-HistoriesWithoutForgetting = (history : Record) → list_any is_forgetting history ≡ false → SaysAsAtFirst history
+-- an entry is no frame of register writes, or one of a single block
+abbrev pub writes_one : Entry → Bool
+writes_one (Wrote blocks) = length blocks == 1
+writes_one entry = true
 
--- events other than forgetting are answered, from a project's opening on, as by these words, and leave the same history
+-- so it is with each such history in which every register write was sent in a frame of its own
+abbrev pub HistoriesWithoutForgetting : Type 0
+HistoriesWithoutForgetting =
+    (history : Record) → list_any is_forgetting history ≡ false → list_all writes_one history ≡ true → SaysAsAtFirst history
+
+-- events other than forgetting and several writes in a frame are answered, from a project's opening on, as by these words, and leave the same history
 pub record AreAnsweredAsAtFirst (groups : List Group) (steps : List FirstStep) : Type 0 where
   pub answers : first.answers_to (just_opened groups) steps ≡ answers_to (just_opened groups) (map step_of steps)
   pub entries : first.entries_after_all (just_opened groups) steps ≡ entries_after_all (just_opened groups) (map step_of steps)

@@ -61,3 +61,7 @@ write_head block = record {
   length = length block.block.bytes;
   expected = WRITE_COUNT;
 }
+
+-- the heads of a frame that writes these blocks, in order
+abbrev pub write_heads : List LineBlock → List Head
+write_heads blocks = map write_head blocks

@@ -9,6 +9,7 @@ pub mod Images
 pub mod Ages
 pub mod Outputs
 pub mod Owed
+pub mod WriteFrames
 pub mod Changes
 pub mod Exact
 pub mod Steps
@@ -17,6 +18,7 @@ pub mod Calls
 pub mod WorkedAxis
 pub mod WorkedRecords
 pub mod WorkedWrites
+pub mod WorkedWriteFrames
 pub mod WorkedFrames
 pub mod WorkedArrivals
 pub mod WorkedForgetting
@@ -35,3 +37,4 @@ pub mod NewsLaws
 pub mod ViewLaws
 pub mod FaultLaws
 pub mod CallLaws
+pub mod WriteLaws

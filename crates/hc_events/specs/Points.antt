@@ -34,5 +34,5 @@ abbrev pub next_serial : Record → ℕ
 next_serial [] = 0
 next_serial (Opened groups ∷ past) = 0
 next_serial (Sent frame ∷ past) = next_serial past + 1
-next_serial (Wrote block ∷ past) = next_serial past + 1
+next_serial (Wrote blocks ∷ past) = next_serial past + 1
 next_serial (entry ∷ past) = next_serial past

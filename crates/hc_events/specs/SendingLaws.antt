@@ -9,16 +9,17 @@ use Rattle.hc_events.specs.declared.answer.Answer.TheVariants as answer
 use Rattle.hc_events.specs.Entries.{Entry, Record, Opened, Sent, Wrote}
 use Rattle.hc_events.specs.Points.{line_of, next_serial}
 use Rattle.hc_events.specs.Sendings.{Frame, size_of, task_datagrams}
-use Rattle.hc_events.specs.Heads.{Head, data_heads, write_head}
+use Rattle.hc_events.specs.Heads.{Head, data_heads, write_head, write_heads}
 use Rattle.hc_events.specs.Answering.{Sending, just_sent, sending_of}
 use Rattle.hc_events.specs.Owed.{owed_blocks}
-use Rattle.hc_events.specs.Steps.{SendsTasks, SendsWrite, answer_to, entries_after, proposal, sent_text, task_faults, write_faults, write_text}
+use Rattle.hc_events.specs.WriteFrames.{frame_blocks}
+use Rattle.hc_events.specs.Steps.{SendsTasks, SendsWrite, SendsWrites, answer_to, entries_after, proposal, sent_text, task_faults, told_of_writes, write_faults, write_text}
 use Rattle.hc_events.specs.Accepted.{IsReachable}
 
 -- a frame of tasks or a register write
 abbrev pub is_sending : Entry → Bool
 is_sending (Sent frame) = true
-is_sending (Wrote block) = true
+is_sending (Wrote blocks) = true
 is_sending entry = false
 
 -- the entry is the project's opening
@@ -29,7 +30,7 @@ is_opening entry = false
 -- what an entry that is sent behind a record says of its datagrams
 abbrev pub heads_of : Record → Entry → List Head
 heads_of past (Sent frame) = data_heads (line_of past) frame
-heads_of past (Wrote block) = write_head block ∷ []
+heads_of past (Wrote blocks) = write_heads blocks
 heads_of past entry = []
 
 -- a sending stands in a record: the entry before which so many sendings were made as its serial says, and behind it the entries since
@@ -94,6 +95,16 @@ pub record IsWritten (past : Record) : Type 0 where
 -- so it is with every write that has no fault
 abbrev pub SentWritesAreFound : Type 0
 SentWritesAreFound = (past : Record) → IsNone (lowest (write_faults past (owed_blocks past))) → IsWritten past
+
+-- an accepted frame of register writes writes the first owed blocks, at least one, as many as one frame holds; it has the serial that was next
+pub record AreWritten (past : Record) : Type 0 where
+  pub some : 0 < length (frame_blocks (owed_blocks past))
+  pub told : answer_to past SendsWrites ≡ told_of_writes (next_serial past) (frame_blocks (owed_blocks past))
+  pub found : sending_of (entries_after past SendsWrites) (next_serial past) ≡ Some (just_sent (write_heads (frame_blocks (owed_blocks past))))
+
+-- so it is with every such frame that has no fault
+abbrev pub SentWriteFramesAreFound : Type 0
+SentWriteFramesAreFound = (past : Record) → IsNone (lowest (write_faults past (owed_blocks past))) → AreWritten past
 
 -- the datagrams of a proposal's frames, in a row, are those of the tasks in the tasks' order: none is left out, repeated or moved
 abbrev pub ProposalsCarryTheTasks : Type 0

@@ -30,6 +30,7 @@ use Rattle.hc_events.specs.Answering.{Judged, Verdict, Good, Wrong, Stale, is_ne
 use Rattle.hc_events.specs.Images.{slots_of}
 use Rattle.hc_events.specs.Outputs.{sent_data}
 use Rattle.hc_events.specs.Owed.{owed_blocks}
+use Rattle.hc_events.specs.WriteFrames.{frame_blocks, writes_text}
 
 -- an event, without where it lies in memory
 pub data Step : Type 0 where
@@ -37,6 +38,7 @@ pub data Step : Type 0 where
   Posts : ℕ → ℕ → List ℕ → Step
   SendsTasks : List ℕ → Step
   SendsWrite : Step
+  SendsWrites : Step
   Arrives : List ℕ → Step
   Reads : ℕ → Step
   Forgets : ℕ → Step
@@ -128,36 +130,61 @@ told_of_write serial (block ∷ blocks) = answer.WriteSent (write_text serial bl
 -- the record with the write of the first of these blocks as its newest entry; as it was where there are none
 abbrev pub with_write : Record → List LineBlock → Record
 with_write past [] = past
-with_write past (block ∷ blocks) = Wrote block ∷ past
+with_write past (block ∷ blocks) = Wrote (block ∷ []) ∷ past
 
--- an arrival: what it is for each datagram of the tasks, or for the register write; stale where it answers no sending or each datagram is stale
+-- a frame of register writes: the first owed blocks, as many as it holds (`frame_blocks`); refused as a register write is
 
--- a register block has no inputs: its verdict is told by `told_of_block` below, and never by this
+-- the answer to the writes of these blocks in one frame with this serial: one block is answered as its write alone is; refusal 18 where there are none
+abbrev pub told_of_writes : ℕ → List LineBlock → Answer
+told_of_writes serial [] = answer.Refused NothingOwed
+told_of_writes serial (block ∷ []) = answer.WriteSent (write_text serial block)
+told_of_writes serial (block ∷ next ∷ blocks) = answer.WritesSent (writes_text serial (block ∷ next ∷ blocks))
+
+-- the record with the frame that writes these blocks as its newest entry; as it was where there are none
+abbrev pub with_writes : Record → List LineBlock → Record
+with_writes past [] = past
+with_writes past (block ∷ blocks) = Wrote (block ∷ blocks) ∷ past
+
+-- an arrival: what it is for each datagram of the tasks, or for each register write; stale where it answers no sending or each datagram is stale
+
+-- what is told of a good datagram: the inputs of a task's datagram, or that a register block's write is done
 abbrev pub inputs_of : Item → Outcome
 inputs_of (DatagramItem task d) = outcome.Inputs task d
-inputs_of (Block station number) = outcome.Stale
+inputs_of (Block station number) = outcome.Done
 
--- what is told of a datagram by its verdict: `inputs_of` its item where good, `WrongCount` with the head's expected counter and the one that came where wrong, `Stale` where stale
+-- what is told of a wrong datagram: of a task's the expected counter and the one that came, of a register block that its write missed
+abbrev pub wrong_of : Item → ℕ → ℕ → Outcome
+wrong_of (DatagramItem task d) expected got = outcome.WrongCount expected got
+wrong_of (Block station number) expected got = outcome.Missed
+
+-- what is told of a datagram by its verdict: `inputs_of` its item where good, `wrong_of` its item with the head's expected counter and the one that came where wrong, `Stale` where stale
 abbrev pub outcome_of : Head → Part → Verdict → Outcome
 outcome_of head part Good = inputs_of head.item
-outcome_of head part Wrong = outcome.WrongCount head.expected part.counter
+outcome_of head part Wrong = wrong_of head.item head.expected part.counter
 outcome_of head part Stale = outcome.Stale
 
--- what is told of a judged datagram of a task: `Inputs` where it is good, `WrongCount` with the expected counter and the one that came where it is wrong, `Stale` where it is stale
+-- what is told of a judged datagram: where it is good `Inputs` of a task's and `Done` of a register block; where it is wrong `WrongCount` with the expected counter and the one that came, or `Missed`; `Stale` where it is stale
 abbrev pub outcome_for : Judged → Outcome
 outcome_for datagram = outcome_of datagram.head datagram.part datagram.verdict
 
--- the answer to an arrival that answers a register write: `WriteDone` where it is good, `WriteMissed` where it is wrong, `Stale` where it is stale
+-- the answer to an arrival that answers a write of one register block: `WriteDone` where it is good, `WriteMissed` where it is wrong, `Stale` where it is stale
 abbrev pub told_of_block : Verdict → Answer
 told_of_block Good = answer.WriteDone
 told_of_block Wrong = answer.WriteMissed
 told_of_block Stale = answer.Stale
 
--- the answer to an arrival by its judged datagrams: by the first one's verdict (`told_of_block`) where that is a register block, else `Answered` with what each is; `Stale` where all are stale or there is none
+-- the answer to an arrival that answers a frame of register writes, by its judged datagrams: of one block by its verdict (`told_of_block`), of several `Written` with what each is; `Stale` where all are stale or there is none
+abbrev pub told_of_blocks : List Judged → Answer
+told_of_blocks [] = answer.Stale
+told_of_blocks (datagram ∷ []) = told_of_block datagram.verdict
+told_of_blocks (datagram ∷ next ∷ datagrams) =
+    if list_any is_news (datagram ∷ next ∷ datagrams) then answer.Written (map outcome_for (datagram ∷ next ∷ datagrams)) else answer.Stale
+
+-- the answer to an arrival by its judged datagrams: where the first one is a register block as all of them are (`told_of_blocks`), else `Answered` with what each is; `Stale` where all are stale or there is none
 abbrev pub told_of : List Judged → Answer
 told_of [] = answer.Stale
 told_of (datagram ∷ datagrams) =
-    if is_block datagram.head.item then told_of_block datagram.verdict
+    if is_block datagram.head.item then told_of_blocks (datagram ∷ datagrams)
     else (if list_any is_news (datagram ∷ datagrams) then answer.Answered (map outcome_for (datagram ∷ datagrams)) else answer.Stale)
 
 -- the answer to an arrival as it was read: the refusal with the fault for which it can't be read, else what is told of the datagrams that it answers (`judged_by`)
@@ -195,6 +222,7 @@ step_of (event.Edit edit) = Edits edit.now
 step_of (event.Post task epoch bytes) = Posts task epoch bytes.now
 step_of (event.SendTasks tasks) = SendsTasks tasks.now
 step_of event.SendWrite = SendsWrite
+step_of event.SendWrites = SendsWrites
 step_of (event.Arrive bytes) = Arrives bytes.now
 step_of (event.Read task) = Reads task
 step_of (event.Forget station) = Forgets station
@@ -205,6 +233,7 @@ answer_to past (Edits edit) = unless (edit_refused past edit) (told_of_edit (sta
 answer_to past (Posts task epoch bytes) = unless (lowest (post_faults past task epoch bytes)) answer.Posted
 answer_to past (SendsTasks tasks) = unless (lowest (task_faults past tasks)) (answer.Sent (map (sent_text past) (proposal past tasks)))
 answer_to past SendsWrite = unless (lowest (write_faults past (owed_blocks past))) (told_of_write (next_serial past) (owed_blocks past))
+answer_to past SendsWrites = unless (lowest (write_faults past (owed_blocks past))) (told_of_writes (next_serial past) (frame_blocks (owed_blocks past)))
 answer_to past (Arrives bytes) = told_of_arrival past (arrival_in bytes)
 answer_to past (Reads task) = unless (lowest (read_faults task)) (image_of past task)
 answer_to past (Forgets station) = unless (lowest (forget_faults past station)) answer.Forgotten
@@ -215,6 +244,7 @@ entries_after past (Edits edit) = kept_if (edit_refused past edit) past (Edited 
 entries_after past (Posts task epoch bytes) = kept_if (lowest (post_faults past task epoch bytes)) past (Posted task bytes ∷ past)
 entries_after past (SendsTasks tasks) = kept_if (lowest (task_faults past tasks)) past (with_sent past (proposal past tasks))
 entries_after past SendsWrite = kept_if (lowest (write_faults past (owed_blocks past))) past (with_write past (owed_blocks past))
+entries_after past SendsWrites = kept_if (lowest (write_faults past (owed_blocks past))) past (with_writes past (frame_blocks (owed_blocks past)))
 entries_after past (Arrives bytes) = with_arrival past (arrival_in bytes)
 entries_after past (Reads task) = past
 entries_after past (Forgets station) = kept_if (lowest (forget_faults past station)) past (Forgot station ∷ past)

@@ -1,6 +1,7 @@
--- What the words of a history say where no slave's registers are forgotten. These are the words as they were before there was such an event, and they stay as they are for good:
--- a law says that the core answers every history without it as these words have it (`laws`). Words that don't depend on the event are those of the other files.
-use Rattle.std.specs.Prelude.{ℕ, ◌==◌, ◌&&◌, ◌||◌, not, nat_lt, Bool, false, if◌then◌else◌, List, [], ◌∷◌, ◌++◌, filter, fold, length, map, Option, Some, None, option_and_then, Result, Ok, Err}
+-- What the words of a history say where no slave's registers are forgotten, and each register write is sent in a frame of its own. These are the words as they were before there was anything else, and they
+-- stay as they are for good: a law says that the core answers every such history as these words have it (`laws`). Of the blocks that a frame writes they see the first one alone. Words that depend on neither are
+-- those of the other files.
+use Rattle.std.specs.Prelude.{ℕ, ◌==◌, ◌&&◌, ◌||◌, not, nat_lt, Bool, false, if◌then◌else◌, List, [], ◌∷◌, ◌++◌, filter, fold, length, map, Option, Some, None, option_and_then, option_map, Result, Ok, Err}
 use Rattle.std.specs.Option.{option_map_or}
 use Rattle.std.specs.List.{flat_map, list_all, list_any, range_with_len, zip}
 use Rattle.std.specs.Str.{bytes_eq}
@@ -12,21 +13,45 @@ use Rattle.hc_registers.specs.Blocks.{LineBlock, line_blocks}
 use Rattle.hc_frames.specs.declared.reading.faults.FrameFault.{FrameFault}
 use Rattle.hc_events.specs.declared.answer.Answer.{Answer}
 use Rattle.hc_events.specs.declared.answer.Answer.TheVariants as answer
+use Rattle.hc_events.specs.declared.answer.Outcome.{Outcome}
+use Rattle.hc_events.specs.declared.answer.Outcome.TheVariants as outcome
 use Rattle.hc_events.specs.declared.faults.CoreFault.{CoreFault}
 use Rattle.hc_events.specs.declared.faults.CoreFault.TheVariants.{NoSuchTask, SerialsSpent, Unprogrammed}
 use Rattle.hc_events.specs.Faults.{frame_refusal}
 use Rattle.hc_events.specs.Arrivals.{Arrival, Part, arrival_in}
-use Rattle.hc_events.specs.Entries.{Entry, Record, Opened, Edited, Posted, Wrote, Came}
+use Rattle.hc_events.specs.Entries.{Entry, Record, Opened, Edited, Posted, Sent, Wrote, Came}
 use Rattle.hc_events.specs.Points.{epoch_of, line_of, next_serial, state_of}
-use Rattle.hc_events.specs.Heads.{Block, Head, block_item, same_item}
-use Rattle.hc_events.specs.Answering.{Judged, Sending, Verdict, Good, Wrong, Stale, answered_by, has_good, sending_of, sends}
+use Rattle.hc_events.specs.Heads.{Item, Datagram, Block, Head, block_item, data_heads, is_block, item_of, same_item, write_head}
+use Rattle.hc_events.specs.Answering.{Judged, Sending, Verdict, Good, Wrong, Stale, followed_by, has_good, is_answer, is_news, just_sent, only_if}
 use Rattle.hc_events.specs.Awaited.{is_ended, is_no_arrival}
 use Rattle.hc_events.specs.Images.{Fresh, fresh, renewed}
 use Rattle.hc_events.specs.Ages.{dated}
 use Rattle.hc_events.specs.Changes.{Answered, News, Swapped}
 use Rattle.hc_events.specs.Owed.{is_in_line}
-use Rattle.hc_events.specs.Steps.{Step, edit_refused, has_serials, is_no_task, kept_if, post_faults, proposal, read_faults, sent_text, told_of, told_of_edit, told_of_write, unless, with_arrival, with_sent, with_write, write_faults}
+use Rattle.hc_events.specs.Steps.{Step, edit_refused, has_serials, is_no_task, kept_if, post_faults, proposal, read_faults, sent_text, told_of_block, told_of_edit, told_of_write, unless, with_arrival, with_sent, with_write, write_faults}
 use Rattle.hc_events.specs.Steps as now
+
+-- a sending of the same datagram or block
+abbrev pub sends : Item → Entry → Bool
+sends item (Sent frame) = list_any (λ named. same_item item (item_of named)) frame
+sends item (Wrote (block ∷ blocks)) = same_item item (block_item block)
+sends item entry = false
+
+-- the sending with a serial, which is the number of sendings before it
+abbrev pub sending_of : Record → ℕ → Option Sending
+sending_of [] serial = None
+sending_of (Opened groups ∷ past) serial = None
+sending_of (Sent frame ∷ past) serial =
+    if next_serial past == serial then Some (just_sent (data_heads (line_of past) frame))
+    else option_map (followed_by (Sent frame)) (sending_of past serial)
+sending_of (Wrote (block ∷ blocks) ∷ past) serial =
+    if next_serial past == serial then Some (just_sent (write_head block ∷ []))
+    else option_map (followed_by (Wrote (block ∷ blocks))) (sending_of past serial)
+sending_of (entry ∷ past) serial = option_map (followed_by entry) (sending_of past serial)
+
+-- the sending that an arrival answers: the one with its serial, where the arrival is an answer to it; none otherwise
+abbrev pub answered_by : Record → Arrival → Option Sending
+answered_by past arrival = option_and_then (only_if (is_answer arrival)) (sending_of past arrival.serial)
 
 -- what an answer is for a datagram: stale where the same datagram or block was sent again since, else good or wrong by its working counter
 abbrev pub verdict : List Entry → Head → Part → Verdict
@@ -95,7 +120,7 @@ news_of (entry ∷ past) = news_of past
 abbrev pub last_write : Record → ℕ → ℕ → Option (ℕ × List ℕ)
 last_write [] station number = None
 last_write (Opened groups ∷ past) station number = None
-last_write (Wrote block ∷ past) station number =
+last_write (Wrote (block ∷ blocks) ∷ past) station number =
     if same_item (Block station number) (block_item block) then Some (next_serial past, block.block.bytes)
     else last_write past station number
 last_write (Edited edit ∷ past) station number =
@@ -133,6 +158,28 @@ task_faults past tasks =
     ∷ (nat_lt 0 (length (owed_blocks past)), Unprogrammed (length (owed_blocks past)))
     ∷ (not (has_serials past (length (proposal past tasks))), SerialsSpent)
     ∷ []
+
+-- what is told of a judged datagram of a task
+abbrev pub inputs_of : Item → Outcome
+inputs_of (Datagram task d) = outcome.Inputs task d
+inputs_of (Block station number) = outcome.Stale
+
+-- by its verdict
+abbrev pub outcome_of : Head → Part → Verdict → Outcome
+outcome_of head part Good = inputs_of head.item
+outcome_of head part Wrong = outcome.WrongCount head.expected part.counter
+outcome_of head part Stale = outcome.Stale
+
+-- the same of the judged datagram
+abbrev pub outcome_for : Judged → Outcome
+outcome_for datagram = outcome_of datagram.head datagram.part datagram.verdict
+
+-- the answer to an arrival by its judged datagrams
+abbrev pub told_of : List Judged → Answer
+told_of [] = answer.Stale
+told_of (datagram ∷ datagrams) =
+    if is_block datagram.head.item then told_of_block datagram.verdict
+    else (if list_any is_news (datagram ∷ datagrams) then answer.Answered (map outcome_for (datagram ∷ datagrams)) else answer.Stale)
 
 -- the answer to an arrival as it was read
 abbrev pub told_of_arrival : Record → Result Arrival FrameFault → Answer

@@ -12,26 +12,26 @@ use Rattle.hc_events.specs.WorkedAxis.{back, head_of, opened, owed_count, write_
 
 -- the frames that write a sync manager's block and an FMMU's
 
-abbrev sync_write : ℕ → ℕ → List ℕ → List ℕ
+abbrev pub sync_write : ℕ → ℕ → List ℕ → List ℕ
 sync_write serial register bytes =
     head_of serial 0x14 ++ 0x05 ∷ serial ∷ 0xe9 ∷ 0x03 ∷ register ∷ 0x08 ∷ 0x08 ∷ 0 ∷ 0 ∷ 0 ∷ bytes ++ replicate 26 0
 
-abbrev fmmu_write : ℕ → ℕ → List ℕ → List ℕ
+abbrev pub fmmu_write : ℕ → ℕ → List ℕ → List ℕ
 fmmu_write serial register bytes =
     head_of serial 0x1c ++ 0x05 ∷ serial ∷ 0xe9 ∷ 0x03 ∷ register ∷ 0x06 ∷ 0x10 ∷ 0 ∷ 0 ∷ 0 ∷ bytes ++ replicate 18 0
 
-abbrev output_fmmu : List ℕ
+abbrev pub output_fmmu : List ℕ
 output_fmmu =
     0x00 ∷ 0x00 ∷ 0x00 ∷ 0x01 ∷ 0x01 ∷ 0x00 ∷ 0x00 ∷ 0x01 ∷ 0x00 ∷ 0x11 ∷ 0x00 ∷ 0x02 ∷ 0x01 ∷ 0x00 ∷ 0x00 ∷ 0x00 ∷ []
 
-abbrev input_fmmu : List ℕ
+abbrev pub input_fmmu : List ℕ
 input_fmmu =
     0x01 ∷ 0x00 ∷ 0x00 ∷ 0x01 ∷ 0x02 ∷ 0x00 ∷ 0x00 ∷ 0x03 ∷ 0x80 ∷ 0x11 ∷ 0x00 ∷ 0x01 ∷ 0x01 ∷ 0x00 ∷ 0x00 ∷ 0x00 ∷ []
 
 abbrev output_sync : List ℕ
 output_sync = 0x00 ∷ 0x11 ∷ 0x01 ∷ 0x00 ∷ 0x64 ∷ 0x00 ∷ 0x01 ∷ 0x00 ∷ []
 
-abbrev input_sync : List ℕ
+abbrev pub input_sync : List ℕ
 input_sync = 0x80 ∷ 0x11 ∷ 0x02 ∷ 0x00 ∷ 0x20 ∷ 0x00 ∷ 0x01 ∷ 0x00 ∷ []
 
 -- how many blocks are owed before each of these events, and behind the last one

@@ -21,6 +21,10 @@ pub enum Outcome {
     },
     /// The datagram was sent again since, and nothing changed.
     Stale,
+    /// The register block's datagram has a working counter of 1: the block is known now.
+    Done,
+    /// The register block's datagram has another working counter: the block stays owed.
+    Missed,
 }
 
 /// What an arrival is as a whole, where what it is for each datagram stands in a list beside it.
@@ -35,6 +39,9 @@ pub enum Arrived {
     /// It answers no sending, or one of which each datagram or the register block was sent again since: nothing
     /// changed.
     Stale,
+    /// It answers a frame of several register writes, and the list has for each block, in the frame's order, whether its
+    /// write is `Done`, `Missed` or `Stale`.
+    Written,
 }
 
 impl Arrived {
@@ -50,6 +57,7 @@ impl Arrived {
             Arrived::WriteDone => Answer::WriteDone,
             Arrived::WriteMissed => Answer::WriteMissed,
             Arrived::Stale => Answer::Stale,
+            Arrived::Written => Answer::Written(Items::of(outcomes)),
         }
     }
 }
@@ -73,12 +81,17 @@ pub enum Answer {
     Sent(Items<Items<u8>>),
     /// The frame of a register write to be sent.
     WriteSent(Items<u8>),
+    /// The frame of several register writes to be sent.
+    WritesSent(Items<u8>),
     /// The arrival answers frames of tasks: what it is for each datagram, in the frame's order.
     Answered(Items<Outcome>),
     /// The arrival answers a register write, with a working counter of 1: the block is known now.
     WriteDone,
     /// The arrival answers a register write, with another working counter: the block stays owed.
     WriteMissed,
+    /// The arrival answers a frame of several register writes: for each block, in the frame's order, `Done`, `Missed` or
+    /// `Stale`.
+    Written(Items<Outcome>),
     /// The arrival answers no sending, or one of which each datagram or the register block was sent
     /// again since: nothing changed.
     Stale,

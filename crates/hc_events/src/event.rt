@@ -20,6 +20,8 @@ pub enum Event<'a> {
     SendTasks(&'a [u8]),
     /// The first owed register block is sent.
     SendWrite,
+    /// The first owed register blocks are sent in one frame, in their order: as many as the frame holds.
+    SendWrites,
     /// A frame arrives: any bytes.
     Arrive(&'a [u8]),
     /// A task, 0 to 7, reads its input image; a higher one is refused.

@@ -2,16 +2,17 @@
 //! does nothing, and its contract is a law that holds of every record. Nobody calls it.
 ghost use Rattle.hc_events.specs.Accepted.{RecordsAreReachable};
 ghost use Rattle.hc_events.specs.Ages.{SerialsAreOfData};
-ghost use Rattle.hc_events.specs.AnswerLaws.{AnsweredAreOfTheLine, AnswersTheSerial, AwaitedAreAnswered, OneWriteIsAwaited, ReturnedFramesAnswer, WritesAreAwaitedAlone};
-ghost use Rattle.hc_events.specs.CallLaws.{FramesFillTheirBytes, PreviewsAreFrames, WritesFillTheirBytes};
+ghost use Rattle.hc_events.specs.AnswerLaws.{AnsweredAreOfTheLine, AnswersTheSerial, AwaitedAreAnswered, OneWriteIsAwaited, ReturnedFramesAnswer, TwoWritesAreAwaited, WritesAreAwaitedAlone, WritesFitAFrame};
+ghost use Rattle.hc_events.specs.CallLaws.{FramesFillTheirBytes, PreviewsAreFrames, WriteFramesFillTheirBytes, WritesFillTheirBytes};
 ghost use Rattle.hc_events.specs.DataLaws.{SentDataAreValues};
 ghost use Rattle.hc_events.specs.FaultLaws.{FaultsAreNumbered};
 ghost use Rattle.hc_events.specs.Forgetting.{EventsWithoutForgetting, ForgettingLosesRegistersAlone, ForgottenWritesAreStale, HistoriesWithoutForgetting};
 ghost use Rattle.hc_events.specs.Laws.{AnswersOnce, EditsLeaveNoSlot, EpochsAreCounted, ProposalsAreNumbered, SlotsFit, UnmovedIsOwedAsBefore};
 ghost use Rattle.hc_events.specs.Names.{AddressesAreThoseSent, AnsweredAreNamed};
 ghost use Rattle.hc_events.specs.NewsLaws.{ChangesAreLegal, ChangesTellAll, LegalChangesAgree, LegalChangesDecide, NewsAreOfTheRecord, NewsOnlyGrow, SlotsAreLastAnswers};
-ghost use Rattle.hc_events.specs.SendingLaws.{FramesHaveTheirSizes, IndexesComeAgain, ProposalsCarryTheTasks, SendingsHaveSerials, SentFramesAreFound, SentWritesAreFound, SerialsAscend, SerialsStayBelow};
+ghost use Rattle.hc_events.specs.SendingLaws.{FramesHaveTheirSizes, IndexesComeAgain, ProposalsCarryTheTasks, SendingsHaveSerials, SentFramesAreFound, SentWriteFramesAreFound, SentWritesAreFound, SerialsAscend, SerialsStayBelow};
 ghost use Rattle.hc_events.specs.ViewLaws.{ChangesLeadOn, LegalEpochsFit, LegalJoins, ViewsAreReads};
+ghost use Rattle.hc_events.specs.WriteLaws.{DoneWritesAreKnown, GoodAnswersMakeKnown};
 ghost use Rattle.hc_events.specs.Stale.{StaleArrivalsCanGo, StaleChangesNothing, StaleIsToldWithout, StaleStaysStale, StepsKeepWithout, UnreadableChangesNothing};
 
 /// A record with an arrival that was stale when it came, and the same record without it, whatever was
@@ -48,10 +49,11 @@ pub fn unreadable_changes_nothing()
     ensures { UnreadableChangesNothing }
 {}
 
-/// Each entry of a record that events led to was accepted when it came: an edit by the state, a post by
-/// its task and its length, a frame of tasks because all its datagrams are the line's and nothing was
-/// owed, a register write as that of the first owed block. No more sendings were made than there are serials,
-/// and the record begins with the groups that were opened. This is what the laws of such records ask for.
+/// Each entry of a record that events led to was accepted when it came: an edit by the state, a post by its task and
+/// its length, a frame of tasks because all its datagrams are the line's and nothing was owed, a frame of register
+/// writes as that of the first owed block, or of the first ones, as many as it holds. No more sendings were made than
+/// there are serials, and the record begins with the groups that were opened. This is what the laws of such records ask
+/// for.
 pub fn records_are_reachable()
     ensures { RecordsAreReachable }
 {}
@@ -80,13 +82,23 @@ pub fn awaited_are_answered()
     ensures { AwaitedAreAnswered }
 {}
 
-/// Where a register write is awaited, no other write is: at most one is awaited at any time.
+/// In a project's line at most two frames of register writes are awaited at any time: the later one is of one block,
+/// and the earlier one is of more. So no third one is awaited, and no two of several blocks.
+pub fn two_writes_are_awaited()
+    ensures { TwoWritesAreAwaited }
+{}
+
+/// A frame of register writes has at most 74 datagrams.
+pub fn writes_fit_a_frame()
+    ensures { WritesFitAFrame }
+{}
+
+/// Where each register write was sent in a frame of its own, in a project's line, at most one is awaited at any time.
 pub fn one_write_is_awaited()
     ensures { OneWriteIsAwaited }
 {}
 
-/// Where a register write is awaited, nothing else is as long as no slave's registers were forgotten: no other
-/// write, and no frame of tasks.
+/// Where a register write is awaited, no frame of tasks is as long as no slave's registers were forgotten.
 pub fn writes_are_awaited_alone()
     ensures { WritesAreAwaitedAlone }
 {}
@@ -97,6 +109,18 @@ pub fn writes_are_awaited_alone()
 /// of each other one with the expected counter the data are those that came back.
 pub fn returned_frames_answer()
     ensures { ReturnedFramesAnswer }
+{}
+
+/// An arrival in which a block's own datagram is good makes the bytes of the block's last write known. Of every other block
+/// the same is known as before.
+pub fn good_answers_make_known()
+    ensures { GoodAnswersMakeKnown }
+{}
+
+/// In a project's line, after frames of register writes that were each answered well, only those blocks are owed that none
+/// of the frames carried. So nothing is owed once they carried all that was owed.
+pub fn done_writes_are_known()
+    ensures { DoneWritesAreKnown }
 {}
 
 /// Behind an accepted edit no datagram has data, of any task, touched by the edit or not.
@@ -219,6 +243,12 @@ pub fn sent_writes_are_found()
     ensures { SentWritesAreFound }
 {}
 
+/// An accepted frame of register writes carries the first owed blocks, at least one, as many as it holds, and is the
+/// sending with the serial that was the next one.
+pub fn sent_write_frames_are_found()
+    ensures { SentWriteFramesAreFound }
+{}
+
 /// The frames of tasks bear the next serials, one after another in their order.
 pub fn proposals_are_numbered()
     ensures { ProposalsAreNumbered }
@@ -242,6 +272,11 @@ pub fn frames_fill_their_bytes()
 /// So does the frame that writes the first owed block.
 pub fn writes_fill_their_bytes()
     ensures { WritesFillTheirBytes }
+{}
+
+/// So does the frame that writes several blocks.
+pub fn write_frames_fill_their_bytes()
+    ensures { WriteFramesFillTheirBytes }
 {}
 
 /// A preview is a frame of its datagram alone with the next serial, and has the bytes of its text.
@@ -290,12 +325,14 @@ pub fn forgotten_writes_are_stale()
     ensures { ForgottenWritesAreStale }
 {}
 
-/// A history in which no slave was forgotten says what the words say that knew no such event.
+/// A history in which no slave was forgotten and each register write has a frame of its own says what the words say
+/// that knew nothing else.
 pub fn histories_without_forgetting()
     ensures { HistoriesWithoutForgetting }
 {}
 
-/// Events among which no slave is forgotten are answered as by those words, and leave the same history.
+/// Events among which no slave is forgotten and no frame of several writes is sent are answered as by those words, and
+/// leave the same history.
 pub fn events_without_forgetting()
     ensures { EventsWithoutForgetting }
 {}

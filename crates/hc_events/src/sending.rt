@@ -5,6 +5,10 @@ use arrayvec::ArrayVec;
 use hc_frames::limits::{BESIDE_DATA_BYTES, HEAD_BYTES, LEAST_FRAME, MAX_DATA, MAX_ETHERCAT};
 use std::marker::Model;
 
+/// The most register blocks of one frame: each has 8 bytes at least and 12 beside them, and 1,498 bytes follow the EtherCAT
+/// header (ETG.1000.4, 5.3 and 5.4).
+pub const FRAME_BLOCKS: usize = 74;
+
 /// The number of a datagram's task and its number in that task.
 pub type Named = (u8, u8);
 

@@ -8,7 +8,9 @@ mod heads;
 mod loans;
 mod opened;
 
-pub use datagrams::{add_datagram_of, build_blank_datagram, build_datagram_of};
+pub use datagrams::{
+    add_datagram_of, build_blank_datagram, build_datagram_of, build_write_datagram,
+};
 pub use frames::{
     build_alias_read, build_blank_frame, build_blank_lrw, build_station, build_write, frame_size,
 };

@@ -1,15 +1,17 @@
 -- Flags in words.
-use Rattle.std.proofs.Common.{◌≡◌, ℕ, zero, suc, ◌+◌, ◌*◌, ◌<◌, ◌≤◌, ◌==◌, Bool, true, false, cond, List, [], ◌∷◌, ◌++◌, length, take, drop, ◌⊎◌, refl, sym, ap, ◌∙◌, arith, rules}
+use Rattle.std.proofs.Common.{◌≡◌, ℕ, zero, suc, inl, inr, ◌+◌, ◌-◌, ◌*◌, ◌^◌, ◌<◌, ◌≤◌, ◌==◌, Bool, true, false, cond, List, [], ◌∷◌, ◌++◌, length, take, drop, ◌⊎◌, refl, sym, ap, ◌∙◌, arith, rules}
 use Rattle.std.proofs.lemmas.Bool.{cases_lt}
 use Rattle.std.proofs.lemmas.List.{drop_all, get_or_append_left, take-append-le}
 use Rattle.std.proofs.lemmas.Iterator.Adapters.{position_from-zero}
-use Rattle.std.proofs.lemmas.Nat.Bits.{bit_at-zero}
+use Rattle.std.proofs.lemmas.Nat.{pow-add}
+use Rattle.std.proofs.lemmas.Nat.Bits.{bit_at-zero, bit_at_above}
+use Rattle.std.proofs.Math.Nat.{div-div-eq-div-mul}
 use Rattle.std.proofs.Math.Seq.{take-length}
 use Rattle.std.specs.Int.{bit_at}
 use Rattle.std.specs.Prelude.{slice_get, slice_index, ◌/◌, ◌%◌, position, Some, None, Option}
 use Rattle.std.specs.List.{position_from}
 use Rattle.hc_records.specs.Lists.{changed_at}
-use Rattle.hc_owed.specs.Flags.{Flags, IsLowestIn, SetsFlag, flag, flags_from, nth_set, one, set_count}
+use Rattle.hc_owed.specs.Flags.{Flags, IsClearFrom, IsLowestFrom, IsLowestIn, SetsFlag, flag, flags_from, nth_set, one, set_count}
 
 abbrev pub flags_of : List Bool → ℕ → Flags
 flags_of list room = record { list = list; room = room }
@@ -186,3 +188,90 @@ nth-cleared flags n (suc left) is = ap (nth_set (suc left) n) (drop_at flags n f
 pub nth-over : (flags : List Bool) (n left : ℕ) → length flags ≤ n → nth_set left n (drop n flags) ≡ None
 nth-over flags n zero over = ap (nth_set zero n) (drop_all n flags over)
 nth-over flags n (suc left) over = ap (nth_set (suc left) n) (drop_all n flags over)
+
+-- the first set flag from a place on
+
+flags-dropped : (words : List ℕ) (first count n : ℕ) → drop n (flags_from words count first) ≡ flags_from words (count - n) (first + n)
+flags-dropped words first count zero = let same : first + 0 ≡ first = omega arith in let all : count - 0 ≡ count = omega arith in ap (λ (k : ℕ). flags_from words count k) (sym same) ∙ ap (λ (k : ℕ). flags_from words k (first + 0)) (sym all)
+flags-dropped words first zero (suc n) = let none : 0 - suc n ≡ 0 = omega arith in ap (λ (k : ℕ). flags_from words k (first + suc n)) (sym none)
+flags-dropped words first (suc count) (suc n) =
+    let left : count - n ≡ suc count - suc n = omega arith in
+    let at : first + 1 + n ≡ first + suc n = omega arith in
+    flags-dropped words (first + 1) count n ∙ ap (λ (k : ℕ). flags_from words k (first + 1 + n)) left ∙ ap (λ (k : ℕ). flags_from words (suc count - suc n) k) at
+
+-- no flag is set from a number on, below another
+abbrev pub ClearBetween : List ℕ → ℕ → ℕ → Type 0
+ClearBetween words from to = (k : ℕ) → from ≤ k → k < to → flag words k ≡ false
+
+pub next-none : (words : List ℕ) (from to count : ℕ) → ClearBetween words from to → count ≤ to → from_list from (drop from (flags_from words count 0)) ≡ None
+next-none words from to count clear over =
+    let at : 0 + from ≡ from = omega arith in
+    ap (from_list from) (flags-dropped words 0 count from ∙ ap (λ (k : ℕ). flags_from words (count - from) k) at)
+    ∙ position-none words from (count - from) from (λ i low high. clear i low (omega (arith, low, high, over)))
+
+pub next-some : (words : List ℕ) (from count n : ℕ) → from ≤ n → n < count → flag words n ≡ true → ClearBetween words from n → from_list from (drop from (flags_from words count 0)) ≡ Some n
+next-some words from count n low high set clear =
+    let at : 0 + from ≡ from = omega arith in
+    let there : from + (n - from) ≡ n = omega (arith, low) in
+    ap (from_list from) (flags-dropped words 0 count from ∙ ap (λ (k : ℕ). flags_from words (count - from) k) at)
+    ∙ position-first words from (count - from) (n - from) from (omega (arith, low, high)) (ap (flag words) there ∙ set) (λ i above below. clear i above (omega (arith, below, low)))
+    ∙ ap Some there
+
+-- a word from its first place that counts on
+
+pub clear-word_from : (words : List ℕ) (from at first word : ℕ) → word ≡ slice_index words at → first ≡ from - 64 * at → IsClearFrom word first → ClearBetween words from (64 * at) → ClearBetween words from (64 * (at + 1))
+clear-word_from words from at first word is start clear before k low high = by (cases_lt k (64 * at))
+  where
+    by : (k < 64 * at) ⊎ (64 * at ≤ k) → flag words k ≡ false
+    by (inl below) = before k low below
+    by (inr above) =
+        let same : k / 64 ≡ at = omega (arith, above, high) in
+        clear-place words k at same (ap (λ (w : ℕ). bit_at w (k % 64)) (sym is) ∙ clear (k % 64) (omega (arith, low, above, high, start)))
+
+pub clear-below_from : (words : List ℕ) (from at first word place : ℕ) → word ≡ slice_index words at → first ≡ from - 64 * at → IsLowestFrom word first place → ClearBetween words from (64 * at) → ClearBetween words from (64 * at + place)
+clear-below_from words from at first word place is start lowest before k low high = by (cases_lt k (64 * at))
+  where
+    by : (k < 64 * at) ⊎ (64 * at ≤ k) → flag words k ≡ false
+    by (inl below) = before k low below
+    by (inr above) =
+        let inside = lowest.inside in
+        let same : k / 64 ≡ at = omega (arith, above, high, inside) in
+        clear-place words k at same (ap (λ (w : ℕ). bit_at w (k % 64)) (sym is) ∙ lowest.below (k % 64) (omega (arith, low, above, high, start, inside)) (omega (arith, above, high, inside)))
+
+pub set-place_from : (words : List ℕ) (at first word place : ℕ) → word ≡ slice_index words at → IsLowestFrom word first place → flag words (64 * at + place) ≡ true
+set-place_from words at first word place is lowest =
+    let inside = lowest.inside in
+    let word-at : (64 * at + place) / 64 ≡ at = omega (arith, inside) in
+    let bit : (64 * at + place) % 64 ≡ place = omega (arith, inside) in
+    ap (λ (k : ℕ). bit_at (slice_index words k) ((64 * at + place) % 64) == 1) word-at
+    ∙ ap (λ (k : ℕ). bit_at (slice_index words at) k == 1) bit
+    ∙ ap (λ (w : ℕ). bit_at w place == 1) (sym is)
+    ∙ ap (λ (b : ℕ). b == 1) lowest.set
+
+-- the lowest bit of a word that was shifted down
+
+pub bit_at-shifted : (word k i : ℕ) → bit_at (word / 2 ^ k) i ≡ bit_at word (k + i)
+bit_at-shifted word k i = ap (λ (n : ℕ). n % 2) (div-div-eq-div-mul word (2 ^ k) (2 ^ i)) ∙ ap (λ (n : ℕ). word / n % 2) (sym (pow-add 2 k i))
+
+bit_at-back : (word k i : ℕ) → k ≤ i → bit_at word i ≡ bit_at (word / 2 ^ k) (i - k)
+bit_at-back word k i low =
+    let there : k + (i - k) ≡ i = omega (arith, low) in
+    ap (bit_at word) (sym there) ∙ sym (bit_at-shifted word k (i - k))
+
+pub clear-shifted : (word first shifted : ℕ) → shifted ≡ word / 2 ^ first → shifted ≡ 0 → IsClearFrom word first
+clear-shifted word first shifted is none i low =
+    bit_at-back word first i low ∙ ap (λ (w : ℕ). bit_at w (i - first)) (sym is ∙ none) ∙ bit_at-zero (i - first)
+
+pub lowest-shifted : (word first shifted place : ℕ) → shifted ≡ word / 2 ^ first → word < 2 ^ 64 → IsLowestIn shifted place → IsLowestFrom word first (first + place)
+lowest-shifted word first shifted place is fits lowest =
+    let set : bit_at word (first + place) ≡ 1 = sym (bit_at-shifted word first place) ∙ ap (λ (w : ℕ). bit_at w place) (sym is) ∙ lowest.set in
+    record {
+      from = omega arith;
+      inside = inside (cases_lt (first + place) 64) set;
+      set = set;
+      below = λ i low high. bit_at-back word first i low ∙ ap (λ (w : ℕ). bit_at w (i - first)) (sym is) ∙ lowest.below (i - first) (omega (arith, low, high));
+    }
+  where
+    inside : (first + place < 64) ⊎ (64 ≤ first + place) → bit_at word (first + place) ≡ 1 → first + place < 64
+    inside (inl low) set = low
+    inside (inr high) set = let none = bit_at_above word 64 (first + place) fits high in absurd (omega (arith, none, set))

@@ -1,8 +1,9 @@
 -- The set flags tell the owed blocks of the line: their number, and the first one.
-use Rattle.std.proofs.Common.{◌≡◌, ℕ, zero, suc, ◌+◌, Bool, true, false, cond, subst, List, [], ◌∷◌, length, map, refl, sym, ap, ◌∙◌, arith, rules}
+use Rattle.std.proofs.Common.{◌≡◌, ℕ, zero, suc, ◌+◌, ◌≤◌, Bool, true, false, cond, subst, List, [], ◌∷◌, drop, length, map, refl, sym, ap, ◌∙◌, arith, rules}
 use Rattle.std.specs.Prelude.{MatchOption, None, Some, Option, filter, position, slice_get}
 use Rattle.std.specs.List.{position_from}
 use Rattle.std.proofs.lemmas.Iterator.Adapters.{position_from-zero}
+use Rattle.std.proofs.lemmas.List.{drop-drop, drop-map}
 use Rattle.hc_registers.specs.Blocks.{LineBlock}
 use Rattle.hc_records.specs.Line.{State, groups_of}
 use Rattle.hc_records.specs.Project.{lowest_fault}
@@ -11,7 +12,7 @@ use Rattle.hc_registers.specs.RankPlaces.{places}
 use Rattle.hc_registers.proofs.lemmas.RanksGapless.{places-hold}
 use Rattle.hc_owed.specs.Board.{Knowledge, lacks, owed_in}
 use Rattle.hc_owed.specs.Flags.{nth_set, one, set_count}
-use Rattle.hc_owed.specs.Laws.{owed_blocks}
+use Rattle.hc_owed.specs.Laws.{owed_blocks, owed_from}
 
 abbrev lacking : Knowledge → List (Option LineBlock) → List LineBlock
 lacking known all = filter (lacks known) (standing all)
@@ -139,3 +140,71 @@ nth_of_line known state index (Some n) project found = record {
 pub nth-owed : (known : Knowledge) (state : State) (index : ℕ) (found : Option ℕ) → lowest_fault (groups_of state.groups) ≡ None → found ≡ nth_set index 0 (map (owed_in known) (places state))
     → MatchOption found (slice_get (owed_blocks known state) index ≡ None) (IsNthAt known state index)
 nth-owed known state index found project is = nth_of_line known state index found project (subst (Nths known (places state) index 0) (sym is) (nths known (places state) index 0))
+
+-- the first set flag of those from a number on
+record NextFrom (known : Knowledge) (all : List (Option LineBlock)) (at n : ℕ) : Type 0 where
+  index : ℕ
+  is_at : n ≡ at + index
+  block : LineBlock
+  stands : slice_get all index ≡ Some (Some block)
+  next : lacking known all ≡ block ∷ lacking known (drop (suc index) all)
+
+abbrev Nexts : Knowledge → List (Option LineBlock) → ℕ → Option ℕ → Type 0
+Nexts known all at found = MatchOption found (lacking known all ≡ []) (NextFrom known all at)
+
+next_later : (known : Knowledge) (slot : Option LineBlock) (all : List (Option LineBlock)) (at : ℕ) (found : Option ℕ) → lacking known (slot ∷ all) ≡ lacking known all → Nexts known all (at + 1) found → Nexts known (slot ∷ all) at found
+next_later known slot all at None same none = same ∙ none
+next_later known slot all at (Some n) same found =
+    let is = found.is_at in
+    record { index = suc found.index; is_at = omega (arith, is); block = found.block; stands = found.stands; next = same ∙ found.next }
+
+next_by : (known : Knowledge) (block : LineBlock) (all : List (Option LineBlock)) (at : ℕ) (found : Option ℕ) (t : Bool) → lacks known block ≡ t → Nexts known all (at + 1) found
+    → Nexts known (Some block ∷ all) at (cond t (Some at) found)
+next_by known block all at found true is rest = record {
+  index = 0;
+  is_at = omega arith;
+  block = block;
+  stands = refl;
+  next = ap (λ (b : Bool). cond b (block ∷ lacking known all) (lacking known all)) is;
+}
+next_by known block all at found false is rest =
+    next_later known (Some block) all at found (ap (λ (b : Bool). cond b (block ∷ lacking known all) (lacking known all)) is) rest
+
+nexts : (known : Knowledge) (all : List (Option LineBlock)) (at : ℕ) → Nexts known all at (position_from (λ (flag : Bool). flag) at (map (owed_in known) all))
+nexts known [] at = refl
+nexts known (None ∷ all) at = next_later known None all at (position_from (λ (flag : Bool). flag) (at + 1) (map (owed_in known) all)) refl (nexts known all (at + 1))
+nexts known (Some block ∷ all) at = next_by known block all at (position_from (λ (flag : Bool). flag) (at + 1) (map (owed_in known) all)) (lacks known block) refl (nexts known all (at + 1))
+
+-- the block at that place is the first owed one from a place on
+pub record IsNextAt (known : Knowledge) (state : State) (place n : ℕ) : Type 0 where
+  pub block : LineBlock
+  pub from : place ≤ n
+  pub stands : slice_get (places state) n ≡ Some (Some block)
+  pub next : owed_from known state place ≡ block ∷ owed_from known state (n + 1)
+
+slice_get-drop : {X : Type 0} (n i : ℕ) (xs : List X) → slice_get (drop n xs) i ≡ slice_get xs (n + i)
+slice_get-drop zero i xs = ap (slice_get xs) (omega arith)
+slice_get-drop (suc n) i [] = refl
+slice_get-drop (suc n) i (x ∷ xs) = let shift : suc n + i ≡ suc (n + i) = omega arith in slice_get-drop n i xs ∙ ap (slice_get (x ∷ xs)) (sym shift)
+
+next_of_line : (known : Knowledge) (state : State) (place : ℕ) (found : Option ℕ) → Nexts known (drop place (places state)) place found → MatchOption found (owed_from known state place ≡ []) (IsNextAt known state place)
+next_of_line known state place None none = none
+next_of_line known state place (Some n) found =
+    let is = found.is_at in
+    let after : place + suc found.index ≡ n + 1 = omega (arith, is) in
+    record {
+      block = found.block;
+      from = omega (arith, is);
+      stands = ap (slice_get (places state)) is ∙ sym (slice_get-drop place found.index (places state)) ∙ found.stands;
+      next = found.next ∙ ap (λ (left : List (Option LineBlock)). found.block ∷ lacking known left) (drop-drop (suc found.index) place (places state))
+          ∙ ap (λ (k : ℕ). found.block ∷ lacking known (drop k (places state))) after;
+    }
+
+pub next-owed : (known : Knowledge) (state : State) (place : ℕ) (found : Option ℕ) → found ≡ position_from (λ flag. flag) place (drop place (map (owed_in known) (places state)))
+    → MatchOption found (owed_from known state place ≡ []) (IsNextAt known state place)
+next-owed known state place found is =
+    next_of_line known state place found
+    (subst (Nexts known (drop place (places state)) place) (sym (is ∙ ap (position_from (λ (flag : Bool). flag) place) (drop-map (owed_in known) place (places state)))) (nexts known (drop place (places state)) place))
+
+pub all-stand : (known : Knowledge) (state : State) → lowest_fault (groups_of state.groups) ≡ None → owed_from known state 0 ≡ owed_blocks known state
+all-stand known state project = ap (filter (lacks known)) (places-hold state project)

@@ -1,5 +1,5 @@
 -- Bits in words of 64, the lowest bit of a word first, and their count.
-use Rattle.std.specs.Prelude.{◌≡◌, ℕ, zero, suc, ◌+◌, ◌<◌, ◌/◌, ◌%◌, ◌==◌, ◌≢◌, Bool, true, false, if◌then◌else◌, List, [], ◌∷◌, length, slice_index, Option, Some, None}
+use Rattle.std.specs.Prelude.{◌≡◌, ℕ, zero, suc, ◌+◌, ◌<◌, ◌≤◌, ◌/◌, ◌%◌, ◌==◌, ◌≢◌, Bool, true, false, if◌then◌else◌, List, [], ◌∷◌, length, slice_index, Option, Some, None}
 use Rattle.std.specs.Int.{bit_at}
 
 -- flags, and for how many there's room
@@ -43,3 +43,14 @@ pub record IsLowestIn (word place : ℕ) : Type 0 where
   pub inside : place < 64
   pub set : bit_at word place ≡ 1
   pub below : (i : ℕ) → i < place → bit_at word i ≡ 0
+
+-- no bit is set in a word from a place on
+abbrev pub IsClearFrom : ℕ → ℕ → Type 0
+IsClearFrom word first = (i : ℕ) → first ≤ i → bit_at word i ≡ 0
+
+-- the lowest bit that is set in a word, of those from a place on
+pub record IsLowestFrom (word first place : ℕ) : Type 0 where
+  pub from : first ≤ place
+  pub inside : place < 64
+  pub set : bit_at word place ≡ 1
+  pub below : (i : ℕ) → first ≤ i → i < place → bit_at word i ≡ 0

@@ -1,5 +1,5 @@
 -- What is kept is right for what the slaves are known to have: what it tells, and what writes and edits make of it.
-use Rattle.std.specs.Prelude.{◌≡◌, ℕ, ◌==◌, ◌&&◌, Bool, false, if◌then◌else◌, is_some, List, ◌∷◌, filter, slice_get, Option, Some, None, Ok}
+use Rattle.std.specs.Prelude.{◌≡◌, ℕ, ◌+◌, ◌≤◌, ◌==◌, ◌&&◌, Bool, false, if◌then◌else◌, is_some, List, ◌∷◌, drop, filter, slice_get, Option, Some, None, Ok}
 use Rattle.hc_records.specs.declared.edit.Edit.{Edit}
 use Rattle.hc_records.specs.Edits.{declares, edited, slave_at}
 use Rattle.hc_records.specs.Line.{State, groups_of, line}
@@ -8,6 +8,7 @@ use Rattle.hc_registers.specs.Blocks.{LineBlock, line_blocks}
 use Rattle.hc_registers.specs.declared.ranked.Gone.{Gone}
 use Rattle.hc_registers.specs.Ranked.{RankedBlock}
 use Rattle.hc_registers.specs.RankDifferences.{Differ}
+use Rattle.hc_registers.specs.RankLaws.{standing}
 use Rattle.hc_registers.specs.RankPlaces.{places}
 use Rattle.hc_owed.specs.declared.owed.OwedBlock.{OwedBlock}
 use Rattle.hc_owed.specs.Board.{Board, Knowledge, kept_of, lacks}
@@ -24,6 +25,19 @@ pub record IsFirstOwed (known : Knowledge) (state : State) (found : OwedBlock) :
   pub station : found.station ≡ block.station
   pub number : found.number ≡ block.number
   pub first : owed_blocks known state ≡ block ∷ rest
+
+-- those of them that stand at a place or after it; from place 0 on that is all of them
+abbrev pub owed_from : Knowledge → State → ℕ → List LineBlock
+owed_from known state place = filter (lacks known) (standing (drop place (places state)))
+
+-- a block that stands at its place, told by its name, is the first one that is lacking from a place on, and the others are lacking after its place
+pub record IsNextOwed (known : Knowledge) (state : State) (place : ℕ) (found : OwedBlock) : Type 0 where
+  pub block : LineBlock
+  pub from : place ≤ found.place
+  pub stands : slice_get (places state) found.place ≡ Some (Some block)
+  pub station : found.station ≡ block.station
+  pub number : found.number ≡ block.number
+  pub next : owed_from known state place ≡ block ∷ owed_from known state (found.place + 1)
 
 -- a block that stands at its place, told by its name, is the one with an index, from 0, of those that are lacking
 pub record IsOwedAt (known : Knowledge) (state : State) (index : ℕ) (found : OwedBlock) : Type 0 where

@@ -1,7 +1,7 @@
 //! A list of bits in words of 64, whose first set one is found by words, and which are counted.
 ghost use Rattle.std.specs.Prelude.{◌≡◌, ℕ, ◌+◌, ◌-◌, ◌*◌, ◌/◌, ◌^◌, ◌<◌, ◌≤◌, ◌==◌, ◌≢◌, ◌++◌, length, replicate, MatchOption};
 ghost use Rattle.std.specs.Int.{bit_at};
-ghost use Rattle.hc_owed.specs.Flags.{IsLowestIn, SetsFlag, one};
+ghost use Rattle.hc_owed.specs.Flags.{IsClearFrom, IsLowestFrom, IsLowestIn, SetsFlag, one};
 
 use hc_records::room::Room;
 use std::alloc::{AllocError, Global};
@@ -44,6 +44,17 @@ fn lowest_place(word: u64) -> Option<usize>
         return None;
     }
     Some(word.trailing_zeros() as usize)
+}
+
+/// The place of the lowest bit that is set in a word, of those from a place on; none where none of them is.
+fn lowest_from(word: u64, first: usize) -> Option<usize>
+    requires { first < 64 }
+    ensures { MatchOption result (IsClearFrom word first) (IsLowestFrom word first) }
+{
+    match lowest_place(word >> first) {
+        Some(place) => Some(first + place),
+        None => None,
+    }
 }
 
 /// Makes a list of words so long, where it is shorter, with the help of memory that was taken before: the words
@@ -89,7 +100,8 @@ impl Model for Flags {
 }
 
 impl Flags {
-    ghost use Rattle.std.specs.Prelude.{◌≡◌, ◌+◌, ◌*◌, ◌≤◌, ◌<◌, ◌^◌, [], ◌∷◌, ◌++◌, false, length, position, replicate, slice_get, IfOk, IfSome, Some};
+    ghost use Rattle.std.specs.Prelude.{◌≡◌, ◌+◌, ◌*◌, ◌≤◌, ◌<◌, ◌^◌, [], ◌∷◌, ◌++◌, drop, false, length, position, replicate, slice_get, IfOk, IfSome, Some};
+    ghost use Rattle.std.specs.List.{position_from};
     ghost use Rattle.hc_records.specs.Lists.{changed_at};
     ghost use Rattle.hc_owed.specs.Flags.{nth_set, set_count};
 
@@ -204,6 +216,21 @@ impl Flags {
     {
         for i in 0..self.words.len() {
             if let Some(place) = lowest_place(self.words[i]) {
+                let n = WORD_BITS * i + place;
+                return if n < self.len { Some(n) } else { None };
+            }
+        }
+        None
+    }
+
+    /// The index of the first flag that is set, of those from an index on; none where none of them is.
+    pub(crate) fn next_from(&self, from: usize) -> Option<usize>
+        ensures value { result ≡ position_from (λ flag. flag) from (drop from self.now.list) }
+        ensures low { IfSome result (λ n. n < length self.now.list) }
+    {
+        for i in from / WORD_BITS..self.words.len() {
+            let first = from.saturating_sub(WORD_BITS * i);
+            if let Some(place) = lowest_from(self.words[i], first) {
                 let n = WORD_BITS * i + place;
                 return if n < self.len { Some(n) } else { None };
             }

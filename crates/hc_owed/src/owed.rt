@@ -60,7 +60,7 @@ impl Owed {
     ghost use Rattle.hc_registers.specs.RankDifferences.{block_place, first_gone};
     ghost use Rattle.hc_plan.specs.Reports.{name_of};
     ghost use Rattle.hc_owed.specs.Board.{Knowledge, kept_of, lacks, nothing_known};
-    ghost use Rattle.hc_owed.specs.Laws.{IsEdited, IsFirstOwed, IsKeptAt, IsOwedAt, known_over, known_with, known_without, owed_blocks};
+    ghost use Rattle.hc_owed.specs.Laws.{IsEdited, IsFirstOwed, IsKeptAt, IsNextOwed, IsOwedAt, known_over, known_with, known_without, owed_blocks, owed_from};
     ghost use Rattle.hc_owed.specs.Steps.{cleared, compared, compared_all, emptied, forgotten_at, forgotten_of, has_block, judged, learnt};
 
     /// What is kept of a line whose slaves were just connected: nothing is known of any block, and every block is
@@ -104,6 +104,24 @@ impl Owed {
         ensures { (known : Knowledge) (state : State) → lowest_fault (groups_of state.groups) ≡ None → self.now ≡ kept_of known state → MatchOption result (slice_get (owed_blocks known state) index ≡ None) (IsOwedAt known state index) }
     {
         let place = self.owed.nth(index as usize)?;
+        let station = self.stations[place / 16];
+        let number = (place % 16) as u8;
+        let place = place as u32;
+        Some(OwedBlock {
+            place,
+            station,
+            number,
+        })
+    }
+
+    /// The first owed block at a place or after it, in line and block order; none where nothing is owed from there on. So
+    /// place 0 gives the first owed block, and the place after an owed block the next one. It looks at 64 places at a
+    /// time.
+    pub fn next_from(&self, place: u32) -> Option<OwedBlock>
+        ensures next { (known : Knowledge) (state : State) → lowest_fault (groups_of state.groups) ≡ None → self.now ≡ kept_of known state → MatchOption result (owed_from known state place ≡ []) (IsNextOwed known state place) }
+        ensures all { (known : Knowledge) (state : State) → lowest_fault (groups_of state.groups) ≡ None → owed_from known state 0 ≡ owed_blocks known state }
+    {
+        let place = self.owed.next_from(place as usize)?;
         let station = self.stations[place / 16];
         let number = (place % 16) as u8;
         let place = place as u32;
@@ -211,7 +229,7 @@ impl Owed {
         ensures { self.new ≡ compared moved.now self.old }
     {
         let place = moved.place();
-        let owed = differs(&self.known[place], &moved.block);
+        let owed = differs(&self.known[place], &moved.found.block);
         self.judge(place, owed);
     }
 

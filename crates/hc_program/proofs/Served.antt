@@ -18,7 +18,7 @@ use Rattle.hc_events.specs.Calls.{IsAnswered, MayAnswer}
 use Rattle.hc_events.specs.Entries.{Record, Edited}
 use Rattle.hc_events.specs.Heads.{is_block}
 use Rattle.hc_events.specs.Points.{next_serial, state_of}
-use Rattle.hc_events.specs.Steps.{Step, Arrives, Edits, answer_to, edit_refused, entries_after, kept_if, outcome_for, told_of, told_of_arrival, told_of_block, told_of_edit, unless, with_arrival}
+use Rattle.hc_events.specs.Steps.{Step, Arrives, Edits, answer_to, edit_refused, entries_after, kept_if, outcome_for, told_of, told_of_arrival, told_of_block, told_of_blocks, told_of_edit, unless, with_arrival}
 use Rattle.hc_records.specs.Edits.{state_after}
 use Rattle.hc_records.specs.Line.{State}
 use Rattle.hc_segment.specs.Machines.{machines_behind_edit}
@@ -104,11 +104,16 @@ either : (b : Bool) (one other : Answer) → is_refusal one ≡ false → is_ref
 either true one other a b = a
 either false one other a b = b
 
+blocks_told : (all : List Judged) → is_refusal (told_of_blocks all) ≡ false
+blocks_told [] = refl
+blocks_told (d ∷ []) = block_told d.verdict
+blocks_told (d ∷ e ∷ ds) = either (list_any is_news (d ∷ e ∷ ds)) (answer.Written (map outcome_for (d ∷ e ∷ ds))) answer.Stale refl refl
+
 told_plainly : (all : List Judged) → is_refusal (told_of all) ≡ false
 told_plainly [] = refl
 told_plainly (d ∷ ds) =
     let news = answer.Answered (map outcome_for (d ∷ ds)) in
-    either (is_block d.head.item) (told_of_block d.verdict) (cond (list_any is_news (d ∷ ds)) news answer.Stale) (block_told d.verdict)
+    either (is_block d.head.item) (told_of_blocks (d ∷ ds)) (cond (list_any is_news (d ∷ ds)) news answer.Stale) (blocks_told (d ∷ ds))
     (either (list_any is_news (d ∷ ds)) news answer.Stale refl refl)
 
 arrival_stays : (past : Record) (found : Result Arrival FrameFault) (fault : CoreFault) → told_of_arrival past found ≡ answer.Refused fault → with_arrival past found ≡ past
@@ -143,9 +148,11 @@ one_of_edit (answer.Refused fault) is edited refused = refused fault refl
 one_of_edit answer.Posted is edited refused = is
 one_of_edit (answer.Sent frames) is edited refused = is
 one_of_edit (answer.WriteSent frame) is edited refused = is
+one_of_edit (answer.WritesSent frame) is edited refused = is
 one_of_edit (answer.Answered outcomes) is edited refused = is
 one_of_edit answer.WriteDone is edited refused = is
 one_of_edit answer.WriteMissed is edited refused = is
+one_of_edit (answer.Written outcomes) is edited refused = is
 one_of_edit answer.Stale is edited refused = is
 one_of_edit (answer.Image epoch slots) is edited refused = is
 one_of_edit answer.Forgotten is edited refused = is
@@ -156,6 +163,7 @@ IsOfArrival (answer.Answered outcomes) = Unit {0}
 IsOfArrival answer.WriteDone = Unit {0}
 IsOfArrival answer.WriteMissed = Unit {0}
 IsOfArrival answer.Stale = Unit {0}
+IsOfArrival (answer.Written outcomes) = Unit {0}
 IsOfArrival (answer.Refused fault) = fault ≡ Memory
 IsOfArrival _ = ⊥
 
@@ -168,11 +176,16 @@ either_given : (b : Bool) (one other : Answer) → IsOfArrival one → IsOfArriv
 either_given true one other a b = a
 either_given false one other a b = b
 
+blocks_given : (all : List Judged) → IsOfArrival (told_of_blocks all)
+blocks_given [] = tt
+blocks_given (d ∷ []) = block_given d.verdict
+blocks_given (d ∷ e ∷ ds) = either_given (list_any is_news (d ∷ e ∷ ds)) (answer.Written (map outcome_for (d ∷ e ∷ ds))) answer.Stale tt tt
+
 told_given : (all : List Judged) → IsOfArrival (told_of all)
 told_given [] = tt
 told_given (d ∷ ds) =
     let news = answer.Answered (map outcome_for (d ∷ ds)) in
-    either_given (is_block d.head.item) (told_of_block d.verdict) (cond (list_any is_news (d ∷ ds)) news answer.Stale) (block_given d.verdict)
+    either_given (is_block d.head.item) (told_of_blocks (d ∷ ds)) (cond (list_any is_news (d ∷ ds)) news answer.Stale) (blocks_given (d ∷ ds))
     (either_given (list_any is_news (d ∷ ds)) news answer.Stale tt tt)
 
 pub of_arrival : (past next : Record) (bytes : List ℕ) (arrival : Arrival) (given : Answer) → arrival_in bytes ≡ Ok arrival → MayAnswer past (Arrives bytes) given next → IsOfArrival given
@@ -181,18 +194,20 @@ of_arrival past next bytes arrival given reads (inr wanting) = subst IsOfArrival
 
 -- it is one of these
 pub one_of_arrival : (given : Answer) → IsOfArrival given → ((outcomes : List Outcome) → given ≡ answer.Answered outcomes → ⊥) → (given ≡ answer.WriteDone → ⊥) → (given ≡ answer.WriteMissed → ⊥)
-    → (given ≡ answer.Stale → ⊥) → ((fault : CoreFault) → given ≡ answer.Refused fault → ⊥) → ⊥
-one_of_arrival (answer.Answered outcomes) is answered done missed stale refused = answered outcomes refl
-one_of_arrival answer.WriteDone is answered done missed stale refused = done refl
-one_of_arrival answer.WriteMissed is answered done missed stale refused = missed refl
-one_of_arrival answer.Stale is answered done missed stale refused = stale refl
-one_of_arrival (answer.Refused fault) is answered done missed stale refused = refused fault refl
-one_of_arrival (answer.Edited epoch recut moved) is answered done missed stale refused = is
-one_of_arrival answer.Posted is answered done missed stale refused = is
-one_of_arrival (answer.Sent frames) is answered done missed stale refused = is
-one_of_arrival (answer.WriteSent frame) is answered done missed stale refused = is
-one_of_arrival (answer.Image epoch slots) is answered done missed stale refused = is
-one_of_arrival answer.Forgotten is answered done missed stale refused = is
+    → (given ≡ answer.Stale → ⊥) → ((outcomes : List Outcome) → given ≡ answer.Written outcomes → ⊥) → ((fault : CoreFault) → given ≡ answer.Refused fault → ⊥) → ⊥
+one_of_arrival (answer.Answered outcomes) is answered done missed stale written refused = answered outcomes refl
+one_of_arrival answer.WriteDone is answered done missed stale written refused = done refl
+one_of_arrival answer.WriteMissed is answered done missed stale written refused = missed refl
+one_of_arrival answer.Stale is answered done missed stale written refused = stale refl
+one_of_arrival (answer.Written outcomes) is answered done missed stale written refused = written outcomes refl
+one_of_arrival (answer.Refused fault) is answered done missed stale written refused = refused fault refl
+one_of_arrival (answer.Edited epoch recut moved) is answered done missed stale written refused = is
+one_of_arrival answer.Posted is answered done missed stale written refused = is
+one_of_arrival (answer.Sent frames) is answered done missed stale written refused = is
+one_of_arrival (answer.WriteSent frame) is answered done missed stale written refused = is
+one_of_arrival (answer.WritesSent frame) is answered done missed stale written refused = is
+one_of_arrival (answer.Image epoch slots) is answered done missed stale written refused = is
+one_of_arrival answer.Forgotten is answered done missed stale written refused = is
 
 -- an arrival is something for no more datagrams than it has
 
@@ -208,15 +223,24 @@ block_plain Good outcomes e = cc
 block_plain Wrong outcomes e = cc
 block_plain Stale outcomes e = cc
 
-as_many : (block news : Bool) (verdict : Verdict) (all : List Judged) (outcomes : List Outcome)
-    → cond block (told_of_block verdict) (cond news (answer.Answered (map outcome_for all)) answer.Stale) ≡ answer.Answered outcomes → length outcomes ≡ length all
-as_many true news verdict all outcomes e = absurd (block_plain verdict outcomes e)
-as_many false true verdict all outcomes e = let same : map outcome_for all ≡ outcomes = cc in ap length (sym same) ∙ length-map all outcome_for
-as_many false false verdict all outcomes e = cc
+written_plain : (news : Bool) (told outcomes : List Outcome) → cond news (answer.Written told) answer.Stale ≢ answer.Answered outcomes
+written_plain true told outcomes e = cc
+written_plain false told outcomes e = cc
+
+blocks_plain : (all : List Judged) (outcomes : List Outcome) → told_of_blocks all ≢ answer.Answered outcomes
+blocks_plain [] outcomes e = cc
+blocks_plain (d ∷ []) outcomes e = block_plain d.verdict outcomes e
+blocks_plain (d ∷ f ∷ ds) outcomes e = written_plain (list_any is_news (d ∷ f ∷ ds)) (map outcome_for (d ∷ f ∷ ds)) outcomes e
+
+as_many : (block news : Bool) (all : List Judged) (outcomes : List Outcome)
+    → cond block (told_of_blocks all) (cond news (answer.Answered (map outcome_for all)) answer.Stale) ≡ answer.Answered outcomes → length outcomes ≡ length all
+as_many true news all outcomes e = absurd (blocks_plain all outcomes e)
+as_many false true all outcomes e = let same : map outcome_for all ≡ outcomes = cc in ap length (sym same) ∙ length-map all outcome_for
+as_many false false all outcomes e = cc
 
 told_many : (all : List Judged) (outcomes : List Outcome) → told_of all ≡ answer.Answered outcomes → length outcomes ≡ length all
 told_many [] outcomes e = cc
-told_many (d ∷ ds) outcomes e = as_many (is_block d.head.item) (list_any is_news (d ∷ ds)) d.verdict (d ∷ ds) outcomes e
+told_many (d ∷ ds) outcomes e = as_many (is_block d.head.item) (list_any is_news (d ∷ ds)) (d ∷ ds) outcomes e
 
 pub outcomes_few : (past next : Record) (bytes : List ℕ) (arrival : Arrival) (outcomes : List Outcome) → arrival_in bytes ≡ Ok arrival → MayAnswer past (Arrives bytes) (answer.Answered outcomes) next
     → length outcomes ≤ length arrival.parts

@@ -38,11 +38,13 @@ frames_text serial (frame ∷ frames) = sent_lines serial (frame ∷ frames)
 abbrev pub pair_text : ℕ → ℕ → List ℕ
 pair_text first second = decimal first ++ codes " " ++ decimal second ++ codes "\n"
 
--- what an arrival is for a datagram: its inputs by task and number, the expected counter and the one that came, or stale
+-- what an arrival is for a datagram: its inputs by task and number, the expected counter and the one that came, or stale. The program writes each register block in a frame of its own, so what becomes of a block among others has no text
 unfoldable pub outcome_text : Outcome → List ℕ
 outcome_text (outcome.Inputs task datagram) = codes "inputs " ++ pair_text task datagram
 outcome_text (outcome.WrongCount expected got) = codes "wrong count " ++ pair_text expected got
 outcome_text outcome.Stale = codes "stale\n"
+outcome_text outcome.Done = []
+outcome_text outcome.Missed = []
 
 -- the data of a datagram, or none
 abbrev pub data_text : Option (List ℕ) → List ℕ
@@ -62,15 +64,17 @@ slots_text number (slot ∷ slots) = slot_text number slot ++ slots_text (number
 unfoldable pub image_text : ℕ → List (Option (List ℕ)) → List ℕ
 image_text epoch slots = codes "epoch " ++ decimal epoch ++ codes "\n" ++ slots_text 0 slots
 
--- an answer; of frames that it sends the first has this serial. The program forgets no slave, so that answer has no text
+-- an answer; of frames that it sends the first has this serial. The program forgets no slave, and writes each register block in a frame of its own, so the answers to those have no text
 abbrev pub answer_text : ℕ → Answer → List ℕ
 answer_text serial (answer.Edited epoch recut moved) = report_text epoch recut moved
 answer_text serial answer.Posted = codes "posted\n"
 answer_text serial (answer.Sent frames) = frames_text serial frames
 answer_text serial (answer.WriteSent frame) = sent_line serial frame
+answer_text serial (answer.WritesSent frame) = []
 answer_text serial (answer.Answered outcomes) = flat_map outcome_text outcomes
 answer_text serial answer.WriteDone = codes "write done\n"
 answer_text serial answer.WriteMissed = codes "write missed\n"
+answer_text serial (answer.Written outcomes) = []
 answer_text serial answer.Stale = codes "stale\n"
 answer_text serial (answer.Image epoch slots) = image_text epoch slots
 answer_text serial answer.Forgotten = []

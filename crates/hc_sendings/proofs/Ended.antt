@@ -1,7 +1,6 @@
 -- A frame is answered: it has no datagrams any more, and is awaited no longer.
-use Rattle.std.proofs.Common.{◌≡◌, ◌≢◌, ℕ, ◌<◌, ◌==◌, Bool, true, false, cond, not, List, [], ◌∷◌, length, map, filter, get_or, set, refl, sym, ap, subst, arith, ◌∙◌, Option, Some, None, ltb-true}
-use Rattle.std.specs.Prelude.{All, AllPairs, nat_lt, option_and_then}
-use Rattle.std.specs.Option.{option_map_or}
+use Rattle.std.proofs.Common.{◌≡◌, ◌≢◌, ℕ, ◌<◌, ◌==◌, Bool, true, false, cond, not, List, [], ◌∷◌, length, map, filter, get_or, set, refl, sym, ap, subst, arith, ◌∙◌, ltb-true}
+use Rattle.std.specs.Prelude.{All, AllPairs, nat_lt}
 use Rattle.std.specs.List.Sorted.{IsPartitionPoint}
 use Rattle.std.proofs.lemmas.Bool.Decides.{nat_tests}
 use Rattle.std.proofs.lemmas.Grind.{get_or-set_at}
@@ -9,7 +8,6 @@ use Rattle.std.proofs.lemmas.List.{ext_get_or, get_or-map, get_or-set_other, len
 use Rattle.std.proofs.lemmas.List.Elements.{All-cons, All-head, All-nil, All-tail}
 use Rattle.std.proofs.lemmas.Bool.{eq-eqb, ne_eqb, eqb-false, eqb-true}
 use Rattle.hc_records.proofs.lemmas.Choices.{below, by_bool}
-use Rattle.hc_events.specs.Answering.{only_if}
 use Rattle.hc_sendings.specs.Waiting.{AwaitedFrame, AwaitedWrite, IsNamed, ended, is_alive}
 use Rattle.hc_sendings.specs.Kept.{AreKept, KeptFrame, Newest, emptied, newest_of}
 use Rattle.hc_sendings.proofs.Alive.{Table, alive_at, told_at}
@@ -53,31 +51,13 @@ frames-ended at serial (kept ∷ frames) =
     (λ t. ap (λ (one : KeptFrame). cond (is_alive (told_at at one)) (told_at at one ∷ alive_at at (map (emptied serial) frames)) (alive_at at (map (emptied serial) frames))) (emptied-not serial kept t)
     ∙ stays serial (told_at at kept) (alive_at at frames) (alive_at at (map (emptied serial) frames)) (is_alive (told_at at kept)) t (frames-ended at serial frames))
 
--- the write goes where it passes a test, else it stays
-pub write-gone_by : (test : AwaitedWrite → Bool) (write : Option AwaitedWrite) → option_map_or test write false ≡ true → None ≡ option_and_then (only_if (λ one. not (test one))) write
-write-gone_by test None e = cc
-write-gone_by test (Some write) e = sym (ap (λ b. cond (not b) (Some write) None) e)
-
-pub write-stays_by : (test : AwaitedWrite → Bool) (write : Option AwaitedWrite) → option_map_or test write false ≡ false → write ≡ option_and_then (only_if (λ one. not (test one))) write
-write-stays_by test None e = refl
-write-stays_by test (Some write) e = sym (ap (λ b. cond (not b) (Some write) None) e)
-
--- as one that has a serial
-pub write-gone : (serial : ℕ) (write : Option AwaitedWrite) → option_map_or (λ (one : AwaitedWrite). one.serial == serial) write false ≡ true
-    → None ≡ option_and_then (only_if (λ (one : AwaitedWrite). not (one.serial == serial))) write
-write-gone serial write e = write-gone_by (λ one. one.serial == serial) write e
-
-pub write-stays : (serial : ℕ) (write : Option AwaitedWrite) → option_map_or (λ (one : AwaitedWrite). one.serial == serial) write false ≡ false
-    → write ≡ option_and_then (only_if (λ (one : AwaitedWrite). not (one.serial == serial))) write
-write-stays serial write e = write-stays_by (λ one. one.serial == serial) write e
-
-pub all-ended : (newest : Newest) (serial : ℕ) (frames next : List KeptFrame) (write left : Option AwaitedWrite) → next ≡ map (emptied serial) frames
-    → left ≡ option_and_then (only_if (λ (one : AwaitedWrite). not (one.serial == serial))) write
-    → record { frames = alive_at (newest_of newest) next; write = left } ≡ ended serial (record { frames = alive_at (newest_of newest) frames; write = write })
-all-ended newest serial frames next write left are is =
-    ap (λ (kept : List KeptFrame). record { frames = alive_at (newest_of newest) kept; write = left }) are
-    ∙ ap (λ (all : List AwaitedFrame). record { frames = all; write = left }) (frames-ended (newest_of newest) serial frames)
-    ∙ ap (λ (one : Option AwaitedWrite). record { frames = filter (λ (frame : AwaitedFrame). not (frame.serial == serial)) (alive_at (newest_of newest) frames); write = one }) is
+pub all-ended : (newest : Newest) (serial : ℕ) (frames next : List KeptFrame) (writes left : List AwaitedWrite) (forgotten : Bool) → next ≡ map (emptied serial) frames
+    → left ≡ filter (λ (one : AwaitedWrite). not (one.serial == serial)) writes
+    → record { frames = alive_at (newest_of newest) next; writes = left; forgotten = forgotten } ≡ ended serial (record { frames = alive_at (newest_of newest) frames; writes = writes; forgotten = forgotten })
+all-ended newest serial frames next writes left forgotten are is =
+    ap (λ (kept : List KeptFrame). record { frames = alive_at (newest_of newest) kept; writes = left; forgotten = forgotten }) are
+    ∙ ap (λ (all : List AwaitedFrame). record { frames = all; writes = left; forgotten = forgotten }) (frames-ended (newest_of newest) serial frames)
+    ∙ ap (λ (some : List AwaitedWrite). record { frames = filter (λ (frame : AwaitedFrame). not (frame.serial == serial)) (alive_at (newest_of newest) frames); writes = some; forgotten = forgotten }) is
 
 -- the frames are kept as before
 

@@ -18,13 +18,15 @@ use Rattle.hc_frames.specs.Sizes.{text_size}
 use Rattle.hc_frames.proofs.lemmas.Texts.{length-carried_texts}
 use Rattle.hc_events.specs.Sendings.{Frame, Named, sendings_of, task_datagrams}
 use Rattle.hc_events.proofs.lemmas.Frames.{in_row, row-of}
-use Rattle.hc_events.proofs.lemmas.OneWrite.{at_least}
 use Rattle.hc_sendings.specs.PartTexts.{own_texts, part_text, share_text, text_if}
 use Rattle.hc_sendings.specs.Texts.{Data, carried_by, carried_bytes, text_of}
 use Rattle.hc_sendings.proofs.Sums.{is_one_of}
 use Rattle.hc_sendings.proofs.Written.{spelled}
 use Rattle.hc_sendings.proofs.lemmas.Whole.{IsWhole, whole-frames}
 use Rattle.hc_sendings.proofs.Shares.{own-datagrams}
+
+at_least : (n : ℕ) → n ≤ n
+at_least n = omega arith
 
 -- a piece is a text and the task that it belongs to
 abbrev Piece : Type 0

@@ -1,5 +1,5 @@
 -- There are at most as many awaited frames as datagrams: each is the newest of one.
-use Rattle.std.proofs.Common.{◌≡◌, ◌≢◌, ℕ, ◌*◌, ◌<◌, ◌≤◌, ◌==◌, true, ◌||◌, nat_eq, List, [], ◌∷◌, length, map, filter, get_or, ap, ◌∙◌, arith, Option, Some, None, zero, suc}
+use Rattle.std.proofs.Common.{◌≡◌, ◌≢◌, ℕ, ◌*◌, ◌<◌, ◌≤◌, ◌==◌, true, nat_eq, List, [], ◌∷◌, length, map, filter, get_or, ap, ◌∙◌, arith, Option, Some, None, zero, suc}
 use Rattle.std.specs.Prelude.{All, AllPairs, unwrap_or}
 use Rattle.std.specs.List.{list_any, IsDistinct}
 use Rattle.std.specs.Set.{is_member}

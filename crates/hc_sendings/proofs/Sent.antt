@@ -1,5 +1,5 @@
 -- Frames are sent: what is awaited behind them.
-use Rattle.std.proofs.Common.{◌≡◌, ℕ, ◌-◌, ◌<◌, ◌==◌, nat_lt, Bool, true, false, cond, not, ◌&&◌, ◌||◌, List, [], ◌∷◌, ◌++◌, ◌+◌, ◌≤◌, ◌⊎◌, inl, inr, length, length-append, map, filter, get_or, refl, sym, ap, ◌∙◌, subst, arith, append_assoc, append-nil, Option, Some}
+use Rattle.std.proofs.Common.{◌≡◌, ℕ, ◌-◌, ◌<◌, ◌==◌, nat_lt, Bool, true, false, cond, not, ◌&&◌, List, [], ◌∷◌, ◌++◌, ◌+◌, ◌≤◌, ◌⊎◌, inl, inr, length, length-append, map, filter, get_or, refl, sym, ap, ◌∙◌, subst, arith, append_assoc, append-nil, Some}
 use Rattle.std.specs.Prelude.{All, AllPairs}
 use Rattle.std.specs.List.{list_any}
 use Rattle.std.proofs.lemmas.Bool.Decides.{nat_tests}
@@ -104,14 +104,14 @@ sent-one at frame frames below =
 abbrev Below : Frame → KeptFrame → Type 0
 Below frame kept = kept.serial < frame.serial
 
-sent-all : (frames : List Frame) (at : Table) (kept : List KeptFrame) (write : Option AwaitedWrite)
+sent-all : (frames : List Frame) (at : Table) (kept : List KeptFrame) (writes : List AwaitedWrite) (forgotten : Bool)
     → AllPairs (λ a b. a.serial < b.serial) frames
     → All (λ old. All (λ next. old.serial < next.serial) frames) kept
-    → record { frames = alive_at (λ named. newest_after named (at named) frames) (kept ++ map kept_of frames); write = write }
-    ≡ all_sent (record { frames = alive_at at kept; write = write }) frames
-sent-all [] at kept write ascend behind =
-    ap (λ (all : List KeptFrame). record { frames = alive_at at all; write = write }) (append-nil kept)
-sent-all (frame ∷ frames) at kept write ascend behind =
+    → record { frames = alive_at (λ named. newest_after named (at named) frames) (kept ++ map kept_of frames); writes = writes; forgotten = forgotten }
+    ≡ all_sent (record { frames = alive_at at kept; writes = writes; forgotten = forgotten }) frames
+sent-all [] at kept writes forgotten ascend behind =
+    ap (λ (all : List KeptFrame). record { frames = alive_at at all; writes = writes; forgotten = forgotten }) (append-nil kept)
+sent-all (frame ∷ frames) at kept writes forgotten ascend behind =
     let later = AllPairs-head (λ (a b : Frame). a.serial < b.serial) frame frames ascend in
     let below : All (Below frame) kept = All-weaker (λ (old : KeptFrame). All (λ (next : Frame). old.serial < next.serial) (frame ∷ frames)) (Below frame) (λ old all. All-head (λ (next : Frame). old.serial < next.serial) frame frames all) kept behind in
     let rest : All (λ (old : KeptFrame). All (λ (next : Frame). old.serial < next.serial) frames) kept =
@@ -119,11 +119,11 @@ sent-all (frame ∷ frames) at kept write ascend behind =
     let more : All (λ (old : KeptFrame). All (λ (next : Frame). old.serial < next.serial) frames) (kept ++ kept_of frame ∷ []) =
     All-append (λ (old : KeptFrame). All (λ (next : Frame). old.serial < next.serial) frames) kept (kept_of frame ∷ []) rest
     (All-cons (λ (old : KeptFrame). All (λ (next : Frame). old.serial < next.serial) frames) (kept_of frame) [] later (All-nil (λ (old : KeptFrame). All (λ (next : Frame). old.serial < next.serial) frames))) in
-    ap (λ (all : List KeptFrame). record { frames = alive_at (λ named. newest_after named (noted_at frame at named) frames) all; write = write })
+    ap (λ (all : List KeptFrame). record { frames = alive_at (λ named. newest_after named (noted_at frame at named) frames) all; writes = writes; forgotten = forgotten })
     (sym (append_assoc kept (kept_of frame ∷ []) (map kept_of frames)))
-    ∙ sent-all frames (noted_at frame at) (kept ++ kept_of frame ∷ []) write
+    ∙ sent-all frames (noted_at frame at) (kept ++ kept_of frame ∷ []) writes forgotten
     (AllPairs-tail (λ (a b : Frame). a.serial < b.serial) frame frames ascend) more
-    ∙ ap (λ (now : List AwaitedFrame). all_sent (record { frames = now; write = write }) frames)
+    ∙ ap (λ (now : List AwaitedFrame). all_sent (record { frames = now; writes = writes; forgotten = forgotten }) frames)
     (sent-one at frame kept below)
 
 -- what is kept of frames that are sent, behind those that were awaited before: serials ascend and datagrams have their places
@@ -232,24 +232,24 @@ joined-kept before now kept first second frames are places one behind two named 
           (All-filter stays (λ (frame : KeptFrame). All IsNamed frame.datagrams) (map kept_of frames) (All-map (λ (frame : KeptFrame). All IsNamed frame.datagrams) kept_of frames named));
     }
 
-pub joined-told : (before now : Newest) (kept first second : List KeptFrame) (frames : List Frame) (write : Option AwaitedWrite) → AreKept before kept
+pub joined-told : (before now : Newest) (kept first second : List KeptFrame) (frames : List Frame) (writes : List AwaitedWrite) (forgotten : Bool) → AreKept before kept
     → ((d : Named) → IsNamed d → newest_of now d ≡ newest_after d (newest_of before d) frames)
     → IsPruned (newest_of before) kept first → All (Behind frames) first → IsPruned (newest_of now) first second
     → All (λ (frame : Frame). All IsNamed frame.datagrams) frames → AllPairs (λ a b. a.serial < b.serial) frames
-    → record { frames = alive_at (newest_of now) (joined now second frames); write = write }
-    ≡ all_sent (record { frames = alive_at (newest_of before) kept; write = write }) frames
-joined-told before now kept first second frames write are noted one behind two named ascend =
+    → record { frames = alive_at (newest_of now) (joined now second frames); writes = writes; forgotten = forgotten }
+    ≡ all_sent (record { frames = alive_at (newest_of before) kept; writes = writes; forgotten = forgotten }) frames
+joined-told before now kept first second frames writes forgotten are noted one behind two named ascend =
     let at : Table = newest_of now in
     let new : List KeptFrame = map kept_of frames in
-    ap (λ (all : List AwaitedFrame). record { frames = all; write = write })
+    ap (λ (all : List AwaitedFrame). record { frames = all; writes = writes; forgotten = forgotten })
     (alive-append at second (filter (stays_at at) new)
     ∙ ap (λ (all : List AwaitedFrame). all ++ alive_at at (filter (stays_at at) new)) two.told
     ∙ ap (λ (all : List AwaitedFrame). alive_at at first ++ all) (alive-stays at new)
     ∙ sym (alive-append at first new)
     ∙ alive-same at (λ d. newest_after d (newest_of before d) frames) noted (first ++ new)
     (all-named first frames (one.named are.named) named))
-    ∙ sent-all frames (newest_of before) first write ascend behind
-    ∙ ap (λ (all : List AwaitedFrame). all_sent (record { frames = all; write = write }) frames) one.told
+    ∙ sent-all frames (newest_of before) first writes forgotten ascend behind
+    ∙ ap (λ (all : List AwaitedFrame). all_sent (record { frames = all; writes = writes; forgotten = forgotten }) frames) one.told
 
 -- there is room for them: for all that come, or where those that are left are the newest of a datagram each
 pub joined-few : (now : Newest) (first second : List KeptFrame) (frames : List Frame) (room count : ℕ)

@@ -1,5 +1,5 @@
 -- The parts of the tasks are the frames.
-use Rattle.std.proofs.Common.{◌≡◌, ◌∙◌, ◌+◌, ◌-◌, ◌<◌, ℕ, true, List, ap}
+use Rattle.std.proofs.Common.{◌≡◌, ℕ, true, List}
 use Rattle.std.specs.Prelude.{All}
 use Rattle.std.specs.List.{flat_map, range_with_len}
 use Rattle.std.proofs.lemmas.List.Elements.{All-map, All-weaker}
@@ -7,7 +7,6 @@ use Rattle.hc_records.specs.Line.{Member}
 use Rattle.hc_records.specs.Image.{datagram_count, task_places}
 use Rattle.hc_records.proofs.lemmas.Lists.{All-flat_map}
 use Rattle.hc_events.specs.Sendings.{Named, task_datagrams}
-use Rattle.hc_sendings.specs.Parts.{share}
 use Rattle.hc_sendings.proofs.Sums.{each-one, is_one_of}
 
 -- the datagrams of the tasks are theirs

@@ -1,6 +1,6 @@
 -- Sums in two directions, and what one of several distinct numbers has.
-use Rattle.std.proofs.Common.{◌≡◌, ◌∙◌, ◌+◌, ℕ, Bool, true, cond, List, [], ◌∷◌, refl, arith, get_or}
-use Rattle.std.specs.Prelude.{All, sum_by, ◌==◌, ◌||◌}
+use Rattle.std.proofs.Common.{◌≡◌, ℕ, Bool, true, List, [], ◌∷◌, refl, arith, get_or}
+use Rattle.std.specs.Prelude.{All, sum_by, ◌==◌}
 use Rattle.std.specs.List.{list_any}
 use Rattle.std.proofs.lemmas.Bool.{eq-eqb}
 use Rattle.std.proofs.lemmas.List.Elements.{All-head, All-tail}

@@ -1,6 +1,6 @@
 -- What an arrival is told, by what is awaited with its serial.
-use Rattle.std.proofs.Common.{◌≡◌, ℕ, ◌==◌, true, false, cond, ◌||◌, List, [], ◌∷◌, map, refl, sym, ap, ◌∙◌, subst, Option, Some, None}
-use Rattle.std.specs.Prelude.{All, find, option_and_then, option_map}
+use Rattle.std.proofs.Common.{◌≡◌, ℕ, ◌==◌, Bool, true, false, cond, ◌||◌, ◌&&◌, List, [], ◌∷◌, length, map, refl, sym, ap, ◌∙◌, subst, Option, Some, None}
+use Rattle.std.specs.Prelude.{All, find, option_map}
 use Rattle.std.specs.List.{list_any, zip}
 use Rattle.std.specs.Option.{option_map_or, option_or}
 use Rattle.std.proofs.lemmas.Bool.{and_parts}
@@ -11,10 +11,11 @@ use Rattle.hc_records.proofs.lemmas.Choices.{by_bool}
 use Rattle.hc_events.specs.declared.answer.Answer.TheVariants as answer
 use Rattle.hc_events.specs.declared.answer.Outcome.{Outcome}
 use Rattle.hc_events.specs.Accepted.{StandsIn}
-use Rattle.hc_events.specs.Answering.{Judged, has_head, has_heads, is_news, only_if}
+use Rattle.hc_events.specs.Answering.{Judged, has_head, has_heads, is_news}
 use Rattle.hc_events.specs.Arrivals.{Arrival, Part}
 use Rattle.hc_events.specs.Steps.{outcome_for, told_of}
-use Rattle.hc_sendings.specs.Judging.{Due, due_of, found_frame, frame_due, judge_due, judged_due, judged_in, write_due}
+use Rattle.hc_sendings.specs.declared.writes.AwaitedBlock.{AwaitedBlock}
+use Rattle.hc_sendings.specs.Judging.{Due, block_due, due_of, found_frame, found_write, frame_due, judge_due, judged_due, judged_in, write_due, written_head}
 use Rattle.hc_sendings.specs.Kept.{KeptFrame, Newest, carried_by, frame_by}
 use Rattle.hc_sendings.specs.Waiting.{AwaitedFrame, AwaitedWrite, Carried, Waiting, is_alive}
 use Rattle.hc_sendings.specs.Walk.{outcomes_in}
@@ -79,22 +80,74 @@ frame-told line frame arrival outcomes alive e =
     never : (a : List Outcome) → Some a ≡ None → ⊥
     never a e = cc
 
+-- a write of several blocks
+
+any-block : (blocks : List AwaitedBlock) → list_any (λ (one : Due). one.newest) (map block_due blocks) ≡ list_any (λ (one : AwaitedBlock). one.newest) blocks
+any-block [] = refl
+any-block (block ∷ blocks) = ap (λ b. block.newest || b) (any-block blocks)
+
+abbrev Several : List AwaitedBlock → Type 0
+Several blocks = length blocks ≡ 1 → ⊥
+
+blocks-told_back : (blocks : List AwaitedBlock) (parts : List Part) → Several blocks → has_heads (map (λ (one : Due). one.head) (map block_due blocks)) parts ≡ true
+    → told_of (map judge_due (zip (map block_due blocks) parts))
+    ≡ cond (list_any (λ (one : AwaitedBlock). one.newest) blocks) (answer.Written (map (λ (pair : Due × Part). outcome_for (judge_due pair)) (zip (map block_due blocks) parts))) answer.Stale
+blocks-told_back [] parts several back = refl
+blocks-told_back (block ∷ []) parts several back = absurd (several refl)
+blocks-told_back (block ∷ next ∷ blocks) [] several back = cc
+blocks-told_back (block ∷ next ∷ blocks) (part ∷ []) several back = absurd (never (has_head (written_head block) part) back)
+  where
+    never : (b : Bool) → (b && false) ≡ true → ⊥
+    never true e = cc
+    never false e = cc
+blocks-told_back (block ∷ next ∷ blocks) (part ∷ more ∷ parts) several back =
+    let news : list_any is_news (map judge_due (zip (map block_due (block ∷ next ∷ blocks)) (part ∷ more ∷ parts))) ≡ list_any (λ (one : AwaitedBlock). one.newest) (block ∷ next ∷ blocks) =
+    any-news (map block_due (block ∷ next ∷ blocks)) (part ∷ more ∷ parts) back ∙ any-block (block ∷ next ∷ blocks) in
+    ap (λ (b : Bool). cond b (answer.Written (map outcome_for (map judge_due (zip (map block_due (block ∷ next ∷ blocks)) (part ∷ more ∷ parts))))) answer.Stale) news
+    ∙ ap (λ (told : List Outcome). cond (list_any (λ (one : AwaitedBlock). one.newest) (block ∷ next ∷ blocks)) (answer.Written told) answer.Stale) (map-twice (zip (map block_due (block ∷ next ∷ blocks)) (part ∷ more ∷ parts)))
+
+abbrev back_of : Arrival → List AwaitedBlock → Bool
+back_of arrival blocks = has_heads (map (λ (one : Due). one.head) (map block_due blocks)) arrival.parts
+
+same-some : (a b : List Outcome) → Some a ≡ Some b → a ≡ b
+same-some a b e = cc
+
+never-some : (a : List Outcome) → Some a ≡ None → ⊥
+never-some a e = cc
+
+-- all came back, and one is news
+pub blocks-told : (blocks : List AwaitedBlock) (arrival : Arrival) (outcomes : List Outcome) → Several blocks → Some outcomes ≡ outcomes_in (map block_due blocks) arrival.parts
+    → told_of (judged_due arrival (map block_due blocks)) ≡ cond (list_any (λ (one : AwaitedBlock). one.newest) blocks) (answer.Written outcomes) answer.Stale
+blocks-told blocks arrival outcomes several e =
+    let told : List Outcome = map (λ (pair : Due × Part). outcome_for (judge_due pair)) (zip (map block_due blocks) arrival.parts) in
+    by_bool (back_of arrival blocks)
+    (λ t. let same : outcomes ≡ told = same-some outcomes told (e ∙ ap (λ b. cond b (Some told) None) t) in
+    ap (λ b. told_of (cond b (map judge_due (zip (map block_due blocks) arrival.parts)) [])) t
+    ∙ blocks-told_back blocks arrival.parts several t
+    ∙ sym (ap (λ (all : List Outcome). cond (list_any (λ (one : AwaitedBlock). one.newest) blocks) (answer.Written all) answer.Stale) same))
+    (λ t. absurd (never-some outcomes (e ∙ ap (λ b. cond b (Some told) None) t)))
+
+-- not all came back
+pub blocks-missed : (blocks : List AwaitedBlock) (arrival : Arrival) → None ≡ outcomes_in (map block_due blocks) arrival.parts → told_of (judged_due arrival (map block_due blocks)) ≡ answer.Stale
+blocks-missed blocks arrival e =
+    let told : List Outcome = map (λ (pair : Due × Part). outcome_for (judge_due pair)) (zip (map block_due blocks) arrival.parts) in
+    by_bool (back_of arrival blocks)
+    (λ t. absurd (never-some told (sym (e ∙ ap (λ b. cond b (Some told) None) t))))
+    (λ t. ap (λ b. told_of (cond b (map judge_due (zip (map block_due blocks) arrival.parts)) [])) t)
+
 -- what is found
 
-pub judged-frame : (line : List Member) (waiting : Waiting) (arrival : Arrival) (write : Option AwaitedWrite) (found : Option AwaitedFrame) → write ≡ waiting.write
-    → option_map_or (λ (one : AwaitedWrite). one.serial == arrival.serial) write false ≡ false
+pub judged-frame : (line : List Member) (waiting : Waiting) (arrival : Arrival) (found : Option AwaitedFrame) → found_write arrival.serial waiting ≡ None
     → found ≡ found_frame arrival.serial waiting
     → option_map_or (judged_due arrival) (option_map (frame_due line) found) [] ≡ judged_in line waiting arrival
-judged-frame line waiting arrival write found is has there =
+judged-frame line waiting arrival found none there =
     ap (λ (one : Option AwaitedFrame). option_map_or (judged_due arrival) (option_map (frame_due line) one) []) there
-    ∙ unwritten write has
-    ∙ ap (λ (found : Option AwaitedWrite). option_map_or (judged_due arrival) (option_or (option_map write_due (option_and_then (only_if (λ (one : AwaitedWrite). one.serial == arrival.serial)) found)) (option_map (frame_due line) (found_frame arrival.serial waiting))) []) is
-  where
-    unwritten : (found : Option AwaitedWrite) → option_map_or (λ (one : AwaitedWrite). one.serial == arrival.serial) found false ≡ false
-        → option_map_or (judged_due arrival) (option_map (frame_due line) (found_frame arrival.serial waiting)) []
-        ≡ option_map_or (judged_due arrival) (option_or (option_map write_due (option_and_then (only_if (λ (one : AwaitedWrite). one.serial == arrival.serial)) found)) (option_map (frame_due line) (found_frame arrival.serial waiting))) []
-    unwritten None has = refl
-    unwritten (Some one) has = rw has refl
+    ∙ sym (ap (λ (write : Option AwaitedWrite). option_map_or (judged_due arrival) (option_or (option_map write_due write) (option_map (frame_due line) (found_frame arrival.serial waiting))) []) none)
+
+pub judged-write : (line : List Member) (waiting : Waiting) (arrival : Arrival) (write : AwaitedWrite) → found_write arrival.serial waiting ≡ Some write
+    → judged_due arrival (write_due write) ≡ judged_in line waiting arrival
+judged-write line waiting arrival write there =
+    sym (ap (λ (found : Option AwaitedWrite). option_map_or (judged_due arrival) (option_or (option_map write_due found) (option_map (frame_due line) (found_frame arrival.serial waiting))) []) there)
 
 -- a frame that is found is one of those that are awaited
 pub found-holds : (P : AwaitedFrame → Type 0) (serial : ℕ) (frames : List AwaitedFrame) (frame : AwaitedFrame) → All P frames

@@ -6,7 +6,8 @@ use Rattle.hc_records.specs.Line.{Member}
 use Rattle.hc_events.specs.declared.answer.Outcome.{Outcome}
 use Rattle.hc_events.specs.Arrivals.{Part}
 use Rattle.hc_events.specs.Sendings.{Named}
-use Rattle.hc_sendings.specs.Judging.{Due, due_of}
+use Rattle.hc_sendings.specs.declared.writes.AwaitedBlock.{AwaitedBlock}
+use Rattle.hc_sendings.specs.Judging.{Due, block_due, due_of}
 use Rattle.hc_sendings.specs.Kept.{Newest, carried_by}
 use Rattle.hc_sendings.specs.Walk.{outcomes_in}
 
@@ -35,14 +36,26 @@ walked-short line newest serial i datagrams done all within e =
     e ∙ ap (λ (rest : List Named). behind done (outcomes_in (due_by line newest serial rest) [])) cut
 
 -- what the walk begins with
-pub walked-none : (line : List Member) (newest : Newest) (serial : ℕ) (datagrams : List Named) (parts : List Part) (placed : List Placed) (done : List Outcome)
-    → placed ≡ placed_from 16 parts → done ≡ []
-    → outcomes_in (due_by line newest serial datagrams) parts ≡ behind done (outcomes_in (due_by line newest serial datagrams) (parts_of placed))
-walked-none line newest serial datagrams parts placed done is none =
-    ap (outcomes_in (due_by line newest serial datagrams)) (sym (parts-placed 16 parts) ∙ ap parts_of (sym is))
-    ∙ itself (outcomes_in (due_by line newest serial datagrams) (parts_of placed))
-    ∙ ap (λ (front : List Outcome). behind front (outcomes_in (due_by line newest serial datagrams) (parts_of placed))) (sym none)
+pub walked-first : (dues : List Due) (parts : List Part) (placed : List Placed) (done : List Outcome) → placed ≡ placed_from 16 parts → done ≡ []
+    → outcomes_in dues parts ≡ behind done (outcomes_in dues (parts_of placed))
+walked-first dues parts placed done is none =
+    ap (outcomes_in dues) (sym (parts-placed 16 parts) ∙ ap parts_of (sym is))
+    ∙ itself (outcomes_in dues (parts_of placed))
+    ∙ ap (λ (front : List Outcome). behind front (outcomes_in dues (parts_of placed))) (sym none)
   where
     itself : (all : Option (List Outcome)) → all ≡ behind [] all
     itself None = refl
     itself (Some all) = refl
+
+pub walked-none : (line : List Member) (newest : Newest) (serial : ℕ) (datagrams : List Named) (parts : List Part) (placed : List Placed) (done : List Outcome)
+    → placed ≡ placed_from 16 parts → done ≡ []
+    → outcomes_in (due_by line newest serial datagrams) parts ≡ behind done (outcomes_in (due_by line newest serial datagrams) (parts_of placed))
+walked-none line newest serial datagrams parts placed done is none = walked-first (due_by line newest serial datagrams) parts placed done is none
+
+-- none of a write's blocks came back
+pub blocks-short : (i : ℕ) (blocks : List AwaitedBlock) (block : AwaitedBlock) (done : List Outcome) (all : Option (List Outcome)) → i < length blocks
+    → all ≡ behind done (outcomes_in (map block_due (drop i blocks)) [])
+    → all ≡ None
+blocks-short i blocks block done all within e =
+    let cut : drop i blocks ≡ get_or blocks i block ∷ drop (i + 1) blocks = rw add-one (drop-cons blocks i block within) in
+    e ∙ ap (λ (rest : List AwaitedBlock). behind done (outcomes_in (map block_due rest) [])) cut

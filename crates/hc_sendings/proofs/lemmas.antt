@@ -3,8 +3,10 @@ pub mod Listed
 pub mod PartTexts
 pub mod Whole
 pub mod Dues
-pub mod Sorts
-pub mod Framed
+pub mod Marked
+pub mod Forgets
+pub mod Rewritten
+pub mod FewWrites
 pub mod Ended
 pub mod Resent
 pub mod Sent

@@ -1,5 +1,5 @@
 -- What an arrival is for what is awaited with its serial: compared datagram for datagram with what was sent, and judged by the working counter (ETG.1000.4, 5.4; this project's profile).
-use Rattle.std.specs.Prelude.{ℕ, ◌==◌, Bool, true, if◌then◌else◌, List, [], ◌∷◌, find, map, Option, option_and_then, option_map}
+use Rattle.std.specs.Prelude.{ℕ, ◌==◌, Bool, if◌then◌else◌, List, [], find, map, Option, option_map}
 use Rattle.std.specs.Option.{option_map_or, option_or}
 use Rattle.std.specs.List.{zip}
 use Rattle.hc_records.specs.Line.{Member}
@@ -7,7 +7,8 @@ use Rattle.hc_registers.specs.declared.counters.TheConstants.{WRITE_COUNT}
 use Rattle.hc_frames.specs.declared.commands.Command.TheVariants.{Fpwr}
 use Rattle.hc_events.specs.Arrivals.{Arrival, Part}
 use Rattle.hc_events.specs.Heads.{Head, Block, data_head}
-use Rattle.hc_events.specs.Answering.{Judged, Verdict, Good, Wrong, Stale, has_heads, only_if}
+use Rattle.hc_events.specs.Answering.{Judged, Verdict, Good, Wrong, Stale, has_heads}
+use Rattle.hc_sendings.specs.declared.writes.AwaitedBlock.{AwaitedBlock}
 use Rattle.hc_sendings.specs.Waiting.{AwaitedFrame, AwaitedWrite, Carried, Waiting}
 
 -- what is due to come back of a datagram or a register block: what the sending said of it, and whether it wasn't sent again since
@@ -23,23 +24,31 @@ due_of line carried = record { head = data_head line carried.datagram; newest = 
 abbrev pub frame_due : List Member → AwaitedFrame → List Due
 frame_due line frame = map (due_of line) frame.datagrams
 
--- of a register write: a write of its block, by one slave
-abbrev pub written_head : AwaitedWrite → Head
-written_head write = record {
-  item = Block write.station write.number;
+-- of a register block: a write of it, by one slave
+abbrev pub written_head : AwaitedBlock → Head
+written_head block = record {
+  item = Block block.station block.number;
   command = Fpwr;
-  address = write.address;
-  length = write.length;
+  address = block.address;
+  length = block.length;
   expected = WRITE_COUNT;
 }
 
--- what is due of an awaited register write: its one datagram, which is the newest of its kind, since a later write takes its place
-abbrev pub write_due : AwaitedWrite → List Due
-write_due write = record { head = written_head write; newest = true } ∷ []
+-- what is due of a block of an awaited write
+abbrev pub block_due : AwaitedBlock → Due
+block_due block = record { head = written_head block; newest = block.newest }
 
--- what is awaited with a serial: the write under way, or a frame
+-- what is due of an awaited register write, block by block
+abbrev pub write_due : AwaitedWrite → List Due
+write_due write = map block_due write.blocks
+
+-- what is awaited with a serial: a write, or a frame
 abbrev pub found_write : ℕ → Waiting → Option AwaitedWrite
-found_write serial waiting = option_and_then (only_if (λ write. write.serial == serial)) waiting.write
+found_write serial waiting = find (λ write. write.serial == serial) waiting.writes
+
+-- the blocks of the awaited write with a serial, in its order; none where no such write is awaited
+abbrev pub blocks_with : ℕ → Waiting → List AwaitedBlock
+blocks_with serial waiting = option_map_or (λ write. write.blocks) (found_write serial waiting) []
 
 -- the awaited frame with a serial, if there is one
 abbrev pub found_frame : ℕ → Waiting → Option AwaitedFrame

@@ -9,3 +9,4 @@ pub mod Judging
 pub mod Record
 pub mod Kept
 pub mod Walk
+pub mod WriteFrames

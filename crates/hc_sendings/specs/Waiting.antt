@@ -1,13 +1,13 @@
--- What was sent and can still be answered with news: frames of tasks, and a register write (this project's profile).
-use Rattle.std.specs.Prelude.{ℕ, ◌<◌, ◌==◌, ◌&&◌, not, Bool, true, List, [], ◌∷◌, ◌++◌, All, AllPairs, filter, fold, length, map, Option, Some, None, option_and_then}
+-- What was sent and can still be answered with news: frames of tasks, and register writes (this project's profile).
+use Rattle.std.specs.Prelude.{ℕ, ◌<◌, ◌==◌, ◌&&◌, not, Bool, true, false, if◌then◌else◌, List, [], ◌∷◌, ◌++◌, All, AllPairs, filter, fold, length, map}
 use Rattle.std.specs.List.{list_any}
 use Rattle.hc_records.specs.declared.limits.TheConstants.{MOST_DATAGRAMS, TASKS}
 use Rattle.hc_records.specs.Line.{Member}
-use Rattle.hc_registers.specs.Blocks.{LineBlock, RegisterBlock}
 use Rattle.hc_frames.specs.FrameText.{station_address}
 use Rattle.hc_events.specs.Sendings.{Frame, Named}
-use Rattle.hc_events.specs.Answering.{only_if}
 use Rattle.hc_events.specs.Accepted.{StandsIn}
+use Rattle.hc_sendings.specs.declared.write_frames.PlacedBlock.{PlacedBlock}
+use Rattle.hc_sendings.specs.declared.writes.AwaitedBlock.{AwaitedBlock}
 
 -- a datagram of an awaited frame, and whether this is the newest frame that it was sent in
 pub record Carried : Type 0 where
@@ -19,24 +19,20 @@ pub record AwaitedFrame : Type 0 where
   pub serial : ℕ
   pub datagrams : List Carried
 
--- a register write: its serial, the place of its block for who confirms it, its block by the slave's station address and its number in the slave's order, the address and the number of data bytes that it was sent with, and the block
+-- a frame of register writes: its serial, and its blocks in order
 pub record AwaitedWrite : Type 0 where
   pub serial : ℕ
-  pub place : ℕ
-  pub station : ℕ
-  pub number : ℕ
-  pub address : ℕ
-  pub length : ℕ
-  pub block : RegisterBlock
+  pub blocks : List AwaitedBlock
 
--- the awaited frames, the oldest first, and the write under way
+-- the awaited frames, the oldest first; the register writes, the oldest first; and whether a slave was forgotten since the last write
 pub record Waiting : Type 0 where
   pub frames : List AwaitedFrame
-  pub write : Option AwaitedWrite
+  pub writes : List AwaitedWrite
+  pub forgotten : Bool
 
 -- nothing is awaited: so it is at the opening, and behind an accepted edit
 abbrev pub nothing : Waiting
-nothing = record { frames = []; write = None }
+nothing = record { frames = []; writes = []; forgotten = false }
 
 -- a frame is sent: it is the newest one of its datagrams
 
@@ -76,31 +72,62 @@ sent waiting frame =
 abbrev pub all_sent : Waiting → List Frame → Waiting
 all_sent waiting frames = fold sent waiting frames
 
--- a register write is sent: it takes the place of an older one
-abbrev pub awaited_write : ℕ → ℕ → LineBlock → AwaitedWrite
-awaited_write serial place block = record {
-  serial = serial;
-  place = place;
-  station = block.station;
-  number = block.number;
-  address = station_address block.station block.block.register;
-  length = length block.block.bytes;
-  block = block.block;
+-- a register write is sent
+
+-- a block of the line, at a place, as its write is awaited once it was sent
+abbrev pub awaited_block : PlacedBlock → AwaitedBlock
+awaited_block placed = record {
+  place = placed.place;
+  station = placed.block.station;
+  number = placed.block.number;
+  address = station_address placed.block.station placed.block.block.register;
+  length = length placed.block.block.bytes;
+  newest = true;
 }
 
--- what is awaited once the write of a block, at a place, was sent with this serial: that write in place of any other
-abbrev pub wrote : ℕ → ℕ → LineBlock → Waiting → Waiting
-wrote serial place block waiting = record waiting { write = Some (awaited_write serial place block) }
+-- two are of one block: the same station address, and the same number in the slave's order
+abbrev pub is_same : AwaitedBlock → AwaitedBlock → Bool
+is_same block other = (block.station == other.station) && (block.number == other.number)
 
--- what is awaited once the slave with a station address was forgotten: no write of a block of that slave; frames and other writes stay
+-- a block of an older write after a write of these blocks
+abbrev pub written_again : List AwaitedBlock → AwaitedBlock → AwaitedBlock
+written_again again block = record block { newest = block.newest && not (list_any (is_same block) again) }
+
+-- an older write after a write of these blocks
+abbrev pub with_written : List AwaitedBlock → AwaitedWrite → AwaitedWrite
+with_written again write = record write { blocks = map (written_again again) write.blocks }
+
+-- a write is awaited as long as one of its blocks is the newest at least
+abbrev pub is_awaited : AwaitedWrite → Bool
+is_awaited write = list_any (λ block. block.newest) write.blocks
+
+-- the older writes that stay awaited after a write of these blocks: none where a slave was forgotten since the last write, since a write after that takes the place of all before it
+abbrev pub older_writes : List AwaitedBlock → Waiting → List AwaitedWrite
+older_writes again waiting = if waiting.forgotten then [] else filter is_awaited (map (with_written again) waiting.writes)
+
+-- what is awaited once a write of these blocks was sent with this serial
+abbrev pub wrote : ℕ → List AwaitedBlock → Waiting → Waiting
+wrote serial blocks waiting =
+    record waiting { writes = older_writes blocks waiting ++ record { serial = serial; blocks = blocks } ∷ []; forgotten = false }
+
+-- a block of a write after the slave with a station address was forgotten
+abbrev pub block_forgotten : ℕ → AwaitedBlock → AwaitedBlock
+block_forgotten station block = record block { newest = block.newest && not (block.station == station) }
+
+-- a write after that
+abbrev pub write_forgotten : ℕ → AwaitedWrite → AwaitedWrite
+write_forgotten station write = record write { blocks = map (block_forgotten station) write.blocks }
+
+-- what is awaited once the slave with a station address was forgotten: no block of that slave; frames and other blocks stay
 abbrev pub forgot : ℕ → Waiting → Waiting
-forgot station waiting = record waiting { write = option_and_then (only_if (λ write. not (write.station == station))) waiting.write }
+forgot station waiting =
+    record waiting { writes = filter is_awaited (map (write_forgotten station) waiting.writes); forgotten = true }
 
 -- what was sent with a serial was answered
 abbrev pub ended : ℕ → Waiting → Waiting
-ended serial waiting = record {
+ended serial waiting = record waiting {
   frames = filter (λ frame. not (frame.serial == serial)) waiting.frames;
-  write = option_and_then (only_if (λ write. not (write.serial == serial))) waiting.write;
+  writes = filter (λ write. not (write.serial == serial)) waiting.writes;
 }
 
 -- what the caller keeps to

@@ -1,17 +1,16 @@
 //! What was sent and can still be answered with news.
-ghost use Rattle.std.specs.Prelude.{◌≡◌, ◌==◌, ◌<◌, ◌≤◌, [], ◌∷◌, ◌++◌, ◌+◌, ◌⊎◌, false, true, All, AllPairs, Contains, IfSome, IsTrue, filter, find, if◌then◌else◌, length, map, nat_lt, option_map, vec_capacity, vec_len};
+ghost use Rattle.std.specs.Prelude.{◌≡◌, ◌==◌, ◌<◌, ◌≤◌, [], ◌∷◌, ◌++◌, ◌+◌, ◌⊎◌, false, true, All, AllPairs, Contains, IfSome, IsTrue, filter, find, if◌then◌else◌, length, map, nat_lt, not, option_map, vec_capacity, vec_len};
 ghost use Rattle.std.specs.List.Sorted.{IsPartitionPoint};
-ghost use Rattle.std.specs.Option.{option_map_or};
 ghost use Rattle.hc_events.specs.Sendings.{Named};
 ghost use Rattle.hc_sendings.specs.Kept.{awaited_frames, emptied, kept_of, newest_after, newest_of, frame_by};
-ghost use Rattle.hc_sendings.specs.Waiting.{IsNamed, is_alive};
+ghost use Rattle.hc_sendings.specs.Waiting.{IsNamed, is_alive, is_awaited, with_written, write_forgotten};
 
 use crate::kept::KeptFrame;
 use crate::newest::Newest;
+use crate::write_frames::PlacedBlock;
+use crate::writes::{AwaitedBlock, Write};
 use hc_events::sending::Sending;
-use hc_plan::blocks::LineBlock;
 use hc_records::slots::SLOTS;
-use hc_registers::blocks::Block;
 use std::alloc::{AllocError, Global};
 use std::marker::Model;
 
@@ -19,36 +18,23 @@ use std::marker::Model;
 /// 5.4).
 pub const FRAME_DATAGRAMS: usize = 115;
 
-/// A register write as it was sent.
-#[derive(Debug, Drop)]
-pub(crate) struct Write {
-    pub(crate) serial: u64,
-    place: u32,
-    station: u16,
-    number: u8,
-    pub(crate) address: u32,
-    pub(crate) length: usize,
-    block: Block,
-}
+/// The most register writes that are awaited: a frame of several blocks, and the write of one that was sent after it. Each
+/// later frame carries all that is awaited.
+pub const AWAITED_WRITES: usize = 2;
 
-impl Model for Write {
-    ghost use Rattle.hc_sendings.specs.Waiting.{AwaitedWrite};
-
-    ghost Value = { AwaitedWrite };
-
-    ghost view = { λ write. record { serial = write.serial; place = write.place; station = write.station; number = write.number; address = write.address; length = write.length; block = write.block } };
-}
-
-/// The frames of tasks and the register write that are awaited. Contracts see a `Waiting`: the frames in
-/// the order in which they were sent, each datagram with whether this is its newest frame, and the write
-/// under way, if there is one. A frame that is the newest of no datagram is awaited no longer, so there
-/// are at most as many as datagrams, 128.
+/// The frames of tasks and the register writes that are awaited. Contracts see a `Waiting`: the frames in
+/// the order in which they were sent, each datagram with whether this is its newest frame; the writes in their
+/// order, each block with whether this is its newest write; and whether a slave was forgotten since the last
+/// write. A frame that is the newest of no datagram is awaited no longer, so there are at most as many as
+/// datagrams, 128; nor is a write that is the newest of no block.
 #[derive(Debug)]
 pub struct Awaited {
     pub(crate) newest: Newest,
     // in the order of their serials; some may be the newest of no datagram
     pub(crate) frames: Vec<KeptFrame>,
-    pub(crate) write: Option<Write>,
+    // in the order of their serials; each is the newest of a block
+    pub(crate) writes: Vec<Write>,
+    pub(crate) forgotten: bool,
 }
 
 impl Drop for Awaited {
@@ -56,7 +42,8 @@ impl Drop for Awaited {
         let Awaited {
             newest: _,
             frames: _,
-            write: _,
+            writes: _,
+            forgotten: _,
         } = self;
     }
 }
@@ -66,32 +53,54 @@ impl Model for Awaited {
     ghost use Rattle.hc_sendings.specs.Kept.{AreKept, awaited_frames};
     ghost use Rattle.hc_sendings.specs.Waiting.{Waiting};
     ghost use Rattle.hc_records.specs.declared.slots.TheConstants.{SLOTS};
+    ghost use Rattle.hc_sendings.specs.declared.awaited.TheConstants.{AWAITED_WRITES};
 
     ghost Value = { Waiting };
 
-    ghost view = { λ awaited. record { frames = awaited_frames awaited.newest awaited.frames.items; write = awaited.write } };
+    ghost view = { λ awaited. record { frames = awaited_frames awaited.newest awaited.frames.items; writes = awaited.writes.items; forgotten = awaited.forgotten } };
 
-    ghost invariant = { λ awaited. AreKept awaited.newest awaited.frames.items × (SLOTS ≤ vec_capacity awaited.frames) };
+    ghost invariant = { λ awaited. AreKept awaited.newest awaited.frames.items × (SLOTS ≤ vec_capacity awaited.frames) × (AWAITED_WRITES ≤ vec_capacity awaited.writes) };
 }
 
-/// Whether there is a write with this serial.
-pub(crate) fn has_serial(write: &Option<Write>, serial: u64) -> bool
-    ensures { result ≡ option_map_or (λ write. write.serial == serial) write.now false }
+/// The write with a serial.
+pub(crate) fn find_write(writes: &[Write], serial: u64) -> Option<&Write>
+    ensures { option_map (λ write. write.now) result ≡ find (λ write. write.serial == serial) writes.now }
 {
-    match write {
-        Some(write) => write.serial == serial,
-        None => false,
+    writes.iter().find(|write| write.serial() == serial)
+}
+
+/// Those writes stay that are the newest of a block.
+fn keep_writes(writes: &mut Vec<Write>)
+    ensures writes { writes.new.items ≡ filter is_awaited writes.old.items }
+    ensures room { vec_capacity writes.new ≡ vec_capacity writes.old }
+{
+    writes.retain(|write| write.is_awaited());
+}
+
+/// In each write the blocks that are among these aren't the newest any more.
+fn write_again(writes: &mut [Write], again: &[AwaitedBlock])
+    ensures { writes.new ≡ map (with_written again.now) writes.old }
+{
+    for write in writes.iter_mut() {
+        write.write_again(again);
     }
 }
 
-/// Whether there is a write to the slave with this station address.
-fn is_to(write: &Option<Write>, station: u16) -> bool
-    ensures { result ≡ option_map_or (λ write. write.station == station) write.now false }
+/// In each write the blocks of a slave aren't the newest any more.
+fn forget_blocks(writes: &mut [Write], station: u16)
+    ensures { writes.new ≡ map (write_forgotten station) writes.old }
 {
-    match write {
-        Some(write) => write.station == station,
-        None => false,
+    for write in writes.iter_mut() {
+        write.forget(station);
     }
+}
+
+/// The write with a serial, if there is one, goes.
+fn end_write(writes: &mut Vec<Write>, serial: u64)
+    ensures writes { writes.new.items ≡ filter (λ write. not (write.serial == serial)) writes.old.items }
+    ensures room { vec_capacity writes.new ≡ vec_capacity writes.old }
+{
+    writes.retain(|write| write.serial() != serial);
 }
 
 /// Each frame is the newest of its datagrams, the last one last.
@@ -222,10 +231,12 @@ fn empty(frames: &mut Vec<KeptFrame>, serial: u64)
 }
 
 impl Awaited {
-    ghost use Rattle.std.specs.Prelude.{◌≡◌, ◌<◌, ◌≤◌, ◌*◌, All, IfOk, length, option_map};
+    ghost use Rattle.std.specs.Prelude.{◌≡◌, ◌<◌, ◌≤◌, ◌*◌, All, IfOk, length, map};
     ghost use Rattle.hc_records.specs.declared.limits.TheConstants.{MOST_DATAGRAMS, TASKS};
-    ghost use Rattle.hc_sendings.specs.Judging.{found_write};
-    ghost use Rattle.hc_sendings.specs.Waiting.{ComeBehind, IsNamed, all_sent, ended, forgot, nothing, wrote};
+    ghost use Rattle.hc_events.specs.declared.sending.TheConstants.{FRAME_BLOCKS};
+    ghost use Rattle.hc_sendings.specs.declared.awaited.TheConstants.{AWAITED_WRITES};
+    ghost use Rattle.hc_sendings.specs.Judging.{blocks_with};
+    ghost use Rattle.hc_sendings.specs.Waiting.{ComeBehind, IsNamed, all_sent, awaited_block, ended, forgot, nothing, older_writes, wrote};
 
     /// Nothing is awaited. It takes all the memory that it will need: `AllocError` where that was refused.
     pub fn new(alloc: Global) -> Result<Awaited, AllocError>
@@ -234,7 +245,8 @@ impl Awaited {
         Ok(Awaited {
             newest: Newest::new(alloc)?,
             frames: Vec::with_capacity(alloc, SLOTS)?,
-            write: None,
+            writes: Vec::with_capacity(alloc, AWAITED_WRITES)?,
+            forgotten: false,
         })
     }
 
@@ -243,7 +255,8 @@ impl Awaited {
         ensures { self.new ≡ nothing }
     {
         self.frames.clear();
-        self.write = None;
+        self.writes.clear();
+        self.forgotten = false;
     }
 
     /// Frames of tasks are sent, in this order: each is the newest of its datagrams, and frames before it
@@ -262,35 +275,40 @@ impl Awaited {
         add_all(&mut self.frames, &self.newest, frames);
     }
 
-    /// A register write is sent, and is the one that is awaited from now on. Its block and the block's place are
-    /// kept, for who confirms it (`end_write`). It takes no memory.
-    pub fn write(&mut self, serial: u64, place: u32, block: LineBlock)
-        ensures { self.new ≡ wrote serial place block self.old }
+    /// The older writes of which a write of these blocks takes the place go, and the others stay.
+    fn retire(&mut self, again: &[AwaitedBlock])
+        ensures { self.new ≡ record self.old { writes = older_writes again.now self.old } }
     {
-        let LineBlock {
-            station,
-            number,
-            block,
-        } = block;
-        self.write = Some(Write {
-            serial,
-            place,
-            station,
-            number,
-            address: u32::from(station) + 65536 * u32::from(block.register()),
-            length: block.bytes().len(),
-            block,
-        });
+        if self.forgotten {
+            self.writes.clear();
+            return;
+        }
+        write_again(&mut self.writes, again);
+        keep_writes(&mut self.writes);
     }
 
-    /// The slave with a station address was forgotten: a write to it is awaited no longer. Frames of tasks and
-    /// a write to another slave stay. It takes no memory.
+    /// Register blocks, 74 at most, are sent in one frame, and are awaited from now on. Older writes of these blocks aren't
+    /// awaited any more, and where a slave was forgotten since the last write no older write is: one at most stays awaited,
+    /// which is the caller's condition. It takes no memory.
+    pub fn write(&mut self, serial: u64, blocks: &[PlacedBlock])
+        requires few { length blocks.now ≤ FRAME_BLOCKS }
+        requires room { length (older_writes (map awaited_block blocks.now) self.old) < AWAITED_WRITES }
+        ensures { self.new ≡ wrote serial (map awaited_block blocks.now) self.old }
+    {
+        let write = Write::of(serial, blocks);
+        self.retire(write.blocks());
+        self.writes.push_reserved(write);
+        self.forgotten = false;
+    }
+
+    /// The slave with a station address was forgotten: no write of its blocks is awaited any more. Frames of tasks and
+    /// writes of other blocks stay. It takes no memory.
     pub fn forget(&mut self, station: u16)
         ensures { self.new ≡ forgot station self.old }
     {
-        if is_to(&self.write, station) {
-            self.write = None;
-        }
+        forget_blocks(&mut self.writes, station);
+        keep_writes(&mut self.writes);
+        self.forgotten = true;
     }
 
     /// The frame or the write with a serial was answered, and is awaited no longer. Nothing changes where
@@ -299,24 +317,17 @@ impl Awaited {
         ensures { self.new ≡ ended serial self.old }
     {
         empty(&mut self.frames, serial);
-        if has_serial(&self.write, serial) {
-            self.write = None;
-        }
+        end_write(&mut self.writes, serial);
     }
 
-    /// The same, and the block of the write with this serial and its place; none where there is no such write. It
-    /// takes no memory.
-    pub fn end_write(&mut self, serial: u64) -> Option<(u32, Block)>
-        ensures block { result ≡ option_map (λ write. (write.place, write.block)) (found_write serial self.old) }
-        ensures ended { self.new ≡ ended serial self.old }
+    /// The blocks of the awaited write with a serial, in its order: 74 at most; none where no such write is awaited.
+    pub fn written(&self, serial: u64) -> &[AwaitedBlock]
+        ensures blocks { result.now ≡ blocks_with serial self.now }
+        ensures few { length result.now ≤ FRAME_BLOCKS }
     {
-        empty(&mut self.frames, serial);
-        if !has_serial(&self.write, serial) {
-            return None;
-        }
-        match self.write.take() {
-            Some(write) => Some((write.place, write.block)),
-            None => None,
+        match find_write(self.writes.as_slice(), serial) {
+            Some(write) => write.blocks(),
+            None => &[],
         }
     }
 }

@@ -1,6 +1,5 @@
 //! What an arrival is for what is awaited with its serial.
-ghost use Rattle.std.specs.Option.{option_map_or};
-ghost use Rattle.std.specs.Prelude.{◌≡◌, ◌==◌, ◌<◌, ◌≤◌, List, [], All, IfOk, None, OnErr, Some, if◌then◌else◌, vec_capacity};
+ghost use Rattle.std.specs.Prelude.{◌≡◌, ◌==◌, ◌<◌, ◌≤◌, List, [], ◌∷◌, All, IfOk, None, OnErr, Some, if◌then◌else◌, length, map, vec_capacity};
 ghost use Rattle.hc_records.specs.Line.{line};
 ghost use Rattle.hc_registers.specs.declared.counters.TheConstants.{WRITE_COUNT};
 ghost use Rattle.hc_places.specs.Table.{datagram_of};
@@ -13,13 +12,15 @@ ghost use Rattle.hc_events.specs.Sendings.{Named};
 ghost use Rattle.hc_events.specs.Steps.{outcome_for, told_of, told_of_block};
 ghost use Rattle.hc_sendings.specs.declared.awaited.TheConstants.{FRAME_DATAGRAMS};
 ghost use Rattle.hc_sendings.specs.Waiting.{IsNamed};
-ghost use Rattle.hc_sendings.specs.Judging.{frame_due, judge_due, judged_due, write_due};
+ghost use Rattle.hc_events.specs.declared.sending.TheConstants.{FRAME_BLOCKS};
+ghost use Rattle.hc_sendings.specs.Judging.{block_due, frame_due, judge_due, judged_due, write_due};
 ghost use Rattle.hc_sendings.specs.Kept.{frame_by};
 ghost use Rattle.hc_sendings.specs.Walk.{head_of, outcomes_in};
 
-use crate::awaited::{Awaited, Write, find_frame, has_serial};
+use crate::awaited::{Awaited, find_frame, find_write};
 use crate::kept::KeptFrame;
 use crate::newest::Newest;
+use crate::writes::{AwaitedBlock, Write};
 use hc_events::answer::{Arrived, Outcome};
 use hc_events::sending::Named;
 use hc_frames::Command;
@@ -40,15 +41,13 @@ fn told_of_write(counter: u16) -> Arrived
     }
 }
 
-impl Write {
-    ghost use Rattle.std.specs.Prelude.{◌≡◌, List};
-    ghost use Rattle.hc_events.specs.declared.answer.Outcome.{Outcome};
+impl AwaitedBlock {
+    ghost use Rattle.std.specs.Prelude.{◌≡◌};
     ghost use Rattle.hc_events.specs.Answering.{has_head};
-    ghost use Rattle.hc_events.specs.Outcomes.{told_with};
-    ghost use Rattle.hc_events.specs.Steps.{told_of};
-    ghost use Rattle.hc_sendings.specs.Judging.{judged_due, write_due, written_head};
+    ghost use Rattle.hc_events.specs.Steps.{outcome_for};
+    ghost use Rattle.hc_sendings.specs.Judging.{block_due, judge_due, written_head};
 
-    /// Whether a datagram came back with the write's command, address and length.
+    /// Whether a datagram came back with the block's command, address and length.
     fn is_of(&self, part: &Part<'_>) -> bool
         ensures { result ≡ has_head (written_head self.now) part.now.carried }
     {
@@ -57,28 +56,83 @@ impl Write {
             && part.bytes.len() == self.length
     }
 
-    /// What an arrival with the write's serial is for it.
-    fn judge(&self, arrival: &Returned<'_>) -> Arrived
-        ensures { (none : List Outcome) → told_with result none ≡ told_of (judged_due arrival.now (write_due self.now)) }
+    /// What its datagram is that came back with its head.
+    fn judge(&self, part: &Part<'_>) -> Outcome
+        ensures { result ≡ outcome_for (judge_due (block_due self.now, part.now.carried)) }
     {
-        let mut parts = arrival.parts();
-        let Some(part) = parts.next() else {
-            return Arrived::Stale;
-        };
-        if parts.next().is_some() || !self.is_of(&part) {
-            return Arrived::Stale;
+        if !self.newest {
+            return Outcome::Stale;
         }
-        told_of_write(part.counter)
+        if part.counter == WRITE_COUNT {
+            Outcome::Done
+        } else {
+            Outcome::Missed
+        }
     }
 }
 
-/// What an arrival is for the write, if there is one.
-fn judge_write(write: &Option<Write>, arrival: &Returned<'_>) -> Arrived
-    ensures { (none : List Outcome) → told_with result none ≡ told_of (option_map_or (λ write. judged_due arrival.now (write_due write)) write.now []) }
+/// What an arrival is for a write of one block, which has its serial.
+fn judge_one(block: &AwaitedBlock, arrival: &Returned<'_>) -> Arrived
+    ensures { (none : List Outcome) → told_with result none ≡ told_of (judged_due arrival.now (block_due block.now ∷ [])) }
 {
-    match write {
-        Some(write) => write.judge(arrival),
-        None => Arrived::Stale,
+    let mut parts = arrival.parts();
+    let Some(part) = parts.next() else {
+        return Arrived::Stale;
+    };
+    if parts.next().is_some() || !block.is_of(&part) || !block.newest {
+        return Arrived::Stale;
+    }
+    told_of_write(part.counter)
+}
+
+/// Puts into an empty list what the blocks of a write are that came back as this arrival, in one walk over both. Whether
+/// all are there: not where a datagram is missing or left over, or came back with another command, address or length.
+fn judge_blocks(
+    blocks: &[AwaitedBlock],
+    arrival: &Returned<'_>,
+    outcomes: &mut Vec<Outcome>,
+) -> Result<bool, AllocError>
+    requires few { length blocks.now ≤ FRAME_BLOCKS }
+    requires empty { outcomes.old.items ≡ [] }
+    ensures outcomes { IfOk result (λ whole. (if whole then Some outcomes.new.items else None) ≡ outcomes_in (map block_due blocks.now) arrival.now.parts) }
+    ensures room { OnErr result (vec_capacity outcomes.old < FRAME_DATAGRAMS) }
+    ensures capacity { vec_capacity outcomes.old ≤ vec_capacity outcomes.new }
+    ensures none { OnErr result (outcomes.new.items ≡ []) }
+{
+    outcomes.reserve(blocks.len())?;
+    let mut came = arrival.parts();
+    for block in blocks {
+        let Some(part) = came.next() else {
+            return Ok(false);
+        };
+        if !block.is_of(&part) {
+            return Ok(false);
+        }
+        outcomes.push_reserved(block.judge(&part));
+    }
+    Ok(came.next().is_none())
+}
+
+/// What an arrival with a write's serial is for it, as `Awaited::judge` says.
+fn judge_write(
+    write: &Write,
+    arrival: &Returned<'_>,
+    outcomes: &mut Vec<Outcome>,
+) -> Result<Arrived, AllocError>
+    requires empty { outcomes.old.items ≡ [] }
+    ensures answer { IfOk result (λ arrived. told_with arrived outcomes.new.items ≡ told_of (judged_due arrival.now (write_due write.now))) }
+    ensures room { OnErr result (vec_capacity outcomes.old < FRAME_DATAGRAMS) }
+    ensures capacity { vec_capacity outcomes.old ≤ vec_capacity outcomes.new }
+    ensures none { OnErr result (outcomes.new.items ≡ []) }
+{
+    let blocks = write.blocks();
+    if blocks.len() == 1 {
+        return Ok(judge_one(&blocks[0], arrival));
+    }
+    if judge_blocks(blocks, arrival, outcomes)? && write.is_awaited() {
+        Ok(Arrived::Written)
+    } else {
+        Ok(Arrived::Stale)
     }
 }
 
@@ -164,10 +218,11 @@ impl Awaited {
 
     /// What an arrival is, by what is awaited with its serial: `Stale` where nothing is, or where a datagram is missing
     /// or left over, or came back with another command, address or length; else `WriteDone` or `WriteMissed` of a
-    /// register write, by its working counter; else `Answered`, and the list, which is empty before, has of each
-    /// datagram in the frame's order that it is stale where it was sent again since, else good or wrong by its working
-    /// counter. What is awaited is of the plan's line. It takes memory where the list has no room for the frame's
-    /// datagrams, 115 at most, alone: `AllocError` where that was refused, and the list is empty. Its room never falls.
+    /// register write of one block, by its working counter; else `Answered` of tasks and `Written` of several blocks, and
+    /// the list, which is empty before, has of each datagram in the frame's order that it is stale where it was sent again
+    /// since or its slave was forgotten, else good or wrong by its working counter. What is awaited is of the plan's line.
+    /// It takes memory where the list has no room for the frame's datagrams, 115 at most, alone: `AllocError` where that
+    /// was refused, and the list is empty. Its room never falls.
     pub fn judge(
         &self,
         plan: &Plan,
@@ -181,8 +236,9 @@ impl Awaited {
         ensures capacity { vec_capacity outcomes.old ≤ vec_capacity outcomes.new }
         ensures none { OnErr result (outcomes.new.items ≡ []) }
     {
-        if has_serial(&self.write, arrival.serial()) {
-            return Ok(judge_write(&self.write, arrival));
+        let written = find_write(self.writes.as_slice(), arrival.serial());
+        if let Some(write) = written {
+            return judge_write(write, arrival, outcomes);
         }
         let found = find_frame(&self.newest, self.frames.as_slice(), arrival.serial());
         let Some(frame) = found else {

@@ -10,4 +10,6 @@ mod kept;
 mod newest;
 pub mod parts;
 pub mod proposing;
+pub mod write_frames;
+pub mod writes;
 pub mod writing;

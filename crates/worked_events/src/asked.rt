@@ -30,6 +30,7 @@ pub enum Asked {
     Post(u8, u32, &'static [u8]),
     Send(&'static [u8]),
     Write,
+    Writes,
     /// These bytes arrive.
     Arrive(&'static [u8]),
     /// The frame with a serial arrives that carries these datagrams.
@@ -47,9 +48,11 @@ pub enum Wanted {
     Posted,
     Sent(&'static [Text]),
     WriteSent(Text),
+    WritesSent(Text),
     Answered(&'static [Outcome]),
     WriteDone,
     WriteMissed,
+    Written(&'static [Outcome]),
     Stale,
     /// The epoch and the slots.
     Image(u32, &'static [Option<&'static [u8]>]),
@@ -146,9 +149,11 @@ pub fn is_wanted(answer: &Answer, wanted: &Wanted) -> bool {
         (Answer::Posted, Wanted::Posted) => true,
         (Answer::Sent(frames), Wanted::Sent(texts)) => are_texts(frames.as_slice(), *texts),
         (Answer::WriteSent(frame), Wanted::WriteSent(text)) => is_text(frame.as_slice(), text),
+        (Answer::WritesSent(frame), Wanted::WritesSent(text)) => is_text(frame.as_slice(), text),
         (Answer::Answered(outcomes), Wanted::Answered(others)) => outcomes.as_slice() == *others,
         (Answer::WriteDone, Wanted::WriteDone) => true,
         (Answer::WriteMissed, Wanted::WriteMissed) => true,
+        (Answer::Written(outcomes), Wanted::Written(others)) => outcomes.as_slice() == *others,
         (Answer::Stale, Wanted::Stale) => true,
         (Answer::Image { epoch, slots }, Wanted::Image(number, others)) => {
             *epoch == *number && are_slots(slots.as_slice(), *others)
@@ -189,6 +194,7 @@ fn other_answer(driven: &mut Driven, alloc: Global, asked: Asked) -> Result<Answ
         Asked::Post(task, epoch, bytes) => driven.put(alloc, Event::Post { task, epoch, bytes }),
         Asked::Send(tasks) => driven.put(alloc, Event::SendTasks(tasks)),
         Asked::Write => driven.put(alloc, Event::SendWrite),
+        Asked::Writes => driven.put(alloc, Event::SendWrites),
         Asked::Arrive(bytes) => driven.put(alloc, Event::Arrive(bytes)),
         Asked::Comes(serial, datagrams) => {
             let bytes = back(alloc, serial, datagrams)?;

@@ -9,6 +9,8 @@ mod asked;
 #[cfg(test)]
 mod changed;
 #[cfg(test)]
+mod changed_writes;
+#[cfg(test)]
 mod declared;
 #[cfg(test)]
 mod driven;
@@ -24,6 +26,8 @@ mod handed;
 mod lines;
 #[cfg(test)]
 mod pieces;
+#[cfg(test)]
+mod several;
 #[cfg(test)]
 mod shared;
 #[cfg(test)]

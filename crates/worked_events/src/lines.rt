@@ -182,7 +182,7 @@ fn answer_write(frame: &mut [u8]) {
 
 /// Writes the next owed block, and answers it; false where nothing is owed, or its answer isn't taken as the
 /// confirmation.
-fn write_one(driven: &mut Driven, alloc: Global) -> Result<bool, AllocError> {
+pub fn write_one(driven: &mut Driven, alloc: Global) -> Result<bool, AllocError> {
     let sent = driven.put(alloc, Event::SendWrite)?;
     let Answer::WriteSent(text) = sent else {
         return Ok(false);

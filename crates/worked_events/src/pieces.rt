@@ -10,11 +10,13 @@ use crate::asked::Asked::{Comes, Read, Send};
 use crate::asked::{Row, Text, Wanted, are_texts, first_wrong, is_text, is_wanted};
 use crate::driven::{Driven, are_sent_together};
 use crate::lines::opened_axis;
+use crate::several::FOUR;
 use crate::shared::{FIRST, FIRST_INPUTS, SECOND, SECOND_INPUTS, TO_TASK_1};
 use crate::stages::Stage::{Blocks, Rows};
 use crate::stages::{Stage, first_wrong_at};
 use crate::texts::back;
 use hc_core::keeping::Core;
+use hc_core::writing::SentWrites;
 use hc_events::answer::Answer;
 use hc_events::event::Event;
 use hc_events::faults::CoreFault;
@@ -278,6 +280,42 @@ fn written_at_opening(alloc: Global) -> Result<Written, Fail> {
 fn a_block_is_written_into_a_slice(rt: HostRuntime) -> Result<(), Fail> {
     let told = [(Err(CoreFault::Room(60)), true), (Ok(60), true)];
     assert_eq!(rt; written_at_opening(rt.alloc())?, (told, 4, 1));
+    Ok(())
+}
+
+/// The same of the frame that writes all blocks.
+fn all_written(core: &mut Core, out: &mut [u8]) -> (Result<SentWrites, CoreFault>, bool) {
+    out.fill(0xaa);
+    let told = core.write_all_into(out);
+    let size = match told {
+        Ok(sent) => sent.size,
+        Err(_) => 0,
+    };
+    let (front, behind) = out.split_at(size.min(out.len()));
+    let holds = told.is_err() || is_text(front, &FOUR);
+    (told, holds && behind.iter().all(|byte| *byte == 0xaa))
+}
+
+/// Two frames of writes, the first into too few bytes; then the number of owed blocks and the next serial.
+type AllWritten = ([(Result<SentWrites, CoreFault>, bool); 2], u32, u64);
+
+/// They are done at the axis' opening.
+fn all_written_at_opening(alloc: Global) -> Result<AllWritten, Fail> {
+    let mut driven = opened_axis(alloc)?;
+    let short = all_written(&mut driven.core, &mut [0; 111]);
+    let long = all_written(&mut driven.core, &mut [0; 120]);
+    Ok(([short, long], driven.core.owed(), driven.core.next_serial()))
+}
+
+/// Four blocks need 112 bytes. A shorter slice doesn't get a frame of fewer blocks: it is refused, and no serial is used.
+#[test]
+fn all_blocks_are_written_into_a_slice(rt: HostRuntime) -> Result<(), Fail> {
+    let sent = SentWrites {
+        size: 112,
+        blocks: 4,
+    };
+    let told = [(Err(CoreFault::Room(112)), true), (Ok(sent), true)];
+    assert_eq!(rt; all_written_at_opening(rt.alloc())?, (told, 4, 1));
     Ok(())
 }
 

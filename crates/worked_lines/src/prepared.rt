@@ -32,11 +32,11 @@ const NONE: Gone = Gone { rank: 1, slaves: 0 };
 /// Whether a plan has these blocks.
 fn has_blocks(plan: &Plan, blocks: &[RankedBlock]) -> bool {
     for moved in blocks {
-        let block = &moved.block;
+        let block = &moved.found.block;
         if !has_block(
             plan,
-            moved.station,
-            moved.number,
+            moved.found.station,
+            moved.found.number,
             block.register(),
             block.bytes(),
         ) {

@@ -4,18 +4,19 @@ ghost use Rattle.std.specs.List.{flat_map};
 ghost use Rattle.hc_records.specs.Lists.{lowest};
 ghost use Rattle.hc_core.specs.Early.{TellsEarly};
 ghost use Rattle.hc_core.specs.Proposed.{IsProposal};
-ghost use Rattle.hc_core.specs.Written.{HoldsWrite};
-ghost use Rattle.hc_events.specs.Calls.{AreSentTogether, MayAnswer, frames_size, send_into_faults, write_into_faults};
+ghost use Rattle.hc_core.specs.Written.{HoldsWrite, HoldsWrites};
+ghost use Rattle.hc_events.specs.Calls.{AreSentTogether, MayAnswer, frames_size, send_into_faults, write_all_into_faults, write_into_faults};
 ghost use Rattle.hc_events.specs.declared.faults.CoreFault.TheVariants.{Memory};
 ghost use Rattle.hc_events.specs.Entries.{Forgot};
 ghost use Rattle.hc_events.specs.Owed.{owed_blocks};
-ghost use Rattle.hc_events.specs.Steps.{Arrives, Edits, SendsTasks, SendsWrite, entries_after, forget_faults, proposal, sent_text, with_sent};
+ghost use Rattle.hc_events.specs.Steps.{Arrives, Edits, SendsTasks, SendsWrite, SendsWrites, entries_after, forget_faults, proposal, sent_text, with_sent};
 ghost use Rattle.hc_sendings.specs.Refusals.{early_faults};
 ghost use Rattle.hc_conductor.specs.Conducting.{IsConducting};
 ghost use Rattle.hc_conductor.specs.Mastering.{SameTasks, past_of};
 
 use crate::one_thread::master::Master;
 use hc_core::keeping::Core;
+use hc_core::writing::SentWrites;
 use hc_events::answer::Answer;
 use hc_events::faults::CoreFault;
 use hc_events::sending::Sending;
@@ -65,6 +66,21 @@ impl Master {
         ensures untouched { OnErr result (out.new ≡ out.old) }
     {
         self.conductor.next_write(out)
+    }
+
+    /// The first owed register blocks are sent in one frame, in the order in which they are owed: as many as the frame holds,
+    /// whatever the length of `out`. The frame is put at the front of `out`; its size and the number of its blocks, at most
+    /// 74, are answered. The faults are those of the conductor's `next_writes`; then nothing changed. It takes no memory.
+    pub fn next_writes(&mut self, out: &mut [u8]) -> Result<SentWrites, CoreFault>
+        ensures written { IfOk result (HoldsWrites (past_of self.old) out.old out.new) }
+        ensures accepted { OnOk result (lowest (write_all_into_faults (past_of self.old) (length out.old)) ≡ None) }
+        ensures entries { OnOk result (past_of self.new ≡ entries_after (past_of self.old) SendsWrites) }
+        ensures tasks { SameTasks self.old self.new }
+        ensures refused { IfErr result (λ fault. lowest (write_all_into_faults (past_of self.old) (length out.old)) ≡ Some fault) }
+        ensures unchanged { OnErr result (self.new ≡ self.old) }
+        ensures untouched { OnErr result (out.new ≡ out.old) }
+    {
+        self.conductor.next_writes(out)
     }
 
     /// The slave with this station address may have lost its registers: all its blocks are owed, as the core's

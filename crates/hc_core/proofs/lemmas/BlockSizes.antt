@@ -3,7 +3,7 @@ use Rattle.std.proofs.Common.{◌≡◌, ◌≤◌, ℕ, Bool, false, List, [], 
 use Rattle.std.specs.Prelude.{All, nat_lt, slice_get}
 use Rattle.std.specs.List.{enumerate_from}
 use Rattle.std.proofs.lemmas.Bool.{le-ltb}
-use Rattle.std.proofs.lemmas.List.Elements.{All-contains, All-filter, All-head, All-map}
+use Rattle.std.proofs.lemmas.List.Elements.{All-filter, All-head, All-map}
 use Rattle.hc_records.specs.declared.records.Area.{Area}
 use Rattle.hc_records.specs.Line.{Member}
 use Rattle.hc_records.specs.Lists.{lowest}
@@ -15,8 +15,7 @@ use Rattle.hc_events.specs.Entries.{Record}
 use Rattle.hc_events.specs.Owed.{is_owed, owed_blocks}
 use Rattle.hc_events.specs.Points.{line_of}
 use Rattle.hc_events.specs.Steps.{write_faults}
-use Rattle.hc_events.proofs.lemmas.Answers.{owed-in_line}
-use Rattle.hc_core.specs.Firsts.{HasBytes, IsFirstOwed}
+use Rattle.hc_core.specs.Firsts.{HasBytes}
 use Rattle.hc_core.proofs.Firsts.{each-is}
 
 area_has : (line : List Member) (rank : ℕ) (e : ℕ × Area) → All HasBytes (area_blocks line rank e)
@@ -35,9 +34,6 @@ member_has line member =
 
 line_has : (line : List Member) → All Has (line_blocks line)
 line_has line = All-flat_map Has (member_blocks line) line (λ i d within. member_has line (get_or line i d))
-
-pub first-bytes : (past : Record) (n : ℕ) (block : LineBlock) → IsFirstOwed past n block → HasBytes block.block
-first-bytes past n block first = search (rules, All-contains, line_has, owed-in_line)
 
 first-size : (blocks : List LineBlock) → All Has blocks → write_size blocks ≤ 60
 first-size blocks all = search (rules, All-head)

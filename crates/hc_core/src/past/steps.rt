@@ -1,17 +1,18 @@
 //! How the record grows.
-ghost use Rattle.std.specs.Prelude.{◌≡◌, ◌∷◌};
+ghost use Rattle.std.specs.Prelude.{◌≡◌, ◌∷◌, map};
 ghost use Rattle.hc_events.specs.Accepted.{just_opened};
 ghost use Rattle.hc_events.specs.Arrivals.{arrival_in};
 ghost use Rattle.hc_events.specs.Entries.{Edited, Forgot, Posted, Sent, Wrote};
 ghost use Rattle.hc_events.specs.Steps.{with_arrival, with_sent};
+ghost use Rattle.hc_sendings.specs.WriteFrames.{block_of};
 ghost use Rattle.hc_core.specs.Records.{record_of};
 
 use super::Past;
 use crate::text::text_of;
 use hc_events::sending::Sending;
-use hc_plan::blocks::LineBlock;
 use hc_records::edit::Edit;
 use hc_records::project::Project;
+use hc_sendings::write_frames::WriteFrame;
 use std::snapshot::Snapshot;
 
 impl Past {
@@ -44,11 +45,11 @@ impl Past {
         Past::Sent(Snapshot::of(self), Snapshot::of(frame))
     }
 
-    /// With a register block behind it.
-    pub fn wrote(&self, block: &LineBlock) -> Past
-        ensures { record_of result ≡ Wrote block.now ∷ record_of self.now }
+    /// With a frame of register writes after it.
+    pub fn wrote(&self, frame: &WriteFrame) -> Past
+        ensures { record_of result ≡ Wrote (map block_of frame.now.blocks) ∷ record_of self.now }
     {
-        Past::Wrote(Snapshot::of(self), Snapshot::of(block))
+        Past::Wrote(Snapshot::of(self), Snapshot::of(frame))
     }
 
     /// With what arrived behind it, if it can be read.

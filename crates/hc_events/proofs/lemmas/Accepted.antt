@@ -1,5 +1,5 @@
 -- What is kept by each accepted entry is kept by each event.
-use Rattle.std.proofs.Common.{◌≡◌, ℕ, zero, suc, ◌+◌, ◌≤◌, ◌==◌, nat_lt, Bool, true, false, cond, not, List, [], ◌∷◌, length, map, refl, sym, ◌∙◌, subst, arith, Option, Some, None, ltb-true}
+use Rattle.std.proofs.Common.{◌≡◌, ℕ, zero, suc, ◌+◌, ◌<◌, ◌≤◌, ◌==◌, nat_lt, Bool, true, false, cond, not, List, [], ◌∷◌, length, map, take, refl, sym, ap, ◌∙◌, subst, arith, Option, Some, None, ltb-true, inl, inr}
 use Rattle.std.specs.Prelude.{All, Contains, is_none, is_some, option_map, Result, Ok, Err}
 use Rattle.std.specs.List.{flat_map, list_any, range_with_len}
 use Rattle.std.proofs.lemmas.Bool.Decides.{nat_tests}
@@ -22,7 +22,8 @@ use Rattle.hc_events.specs.Entries.{Entry, Record, Opened, Edited, Posted, Sent,
 use Rattle.hc_events.specs.Points.{epoch_of, line_of, next_serial, state_of}
 use Rattle.hc_events.specs.Sendings.{Frame, Named, alone, framed, framed_behind, has_room, joined, length_of, task_datagrams}
 use Rattle.hc_events.specs.Owed.{is_in_line, owed_blocks}
-use Rattle.hc_events.specs.Steps.{Step, Edits, Posts, SendsTasks, SendsWrite, Arrives, Reads, Forgets, kept_if, edit_refused, forget_faults, is_no_task, post_faults, proposal, has_serials, task_faults, with_sent, write_faults, with_write, with_arrival, entries_after, entries_after_all}
+use Rattle.hc_events.specs.WriteFrames.{frame_blocks}
+use Rattle.hc_events.specs.Steps.{Step, Edits, Posts, SendsTasks, SendsWrite, SendsWrites, Arrives, Reads, Forgets, kept_if, edit_refused, forget_faults, is_no_task, post_faults, proposal, has_serials, task_faults, with_sent, write_faults, with_write, with_writes, with_arrival, entries_after, entries_after_all}
 use Rattle.hc_events.specs.Accepted.{AreAccepted, IsAccepted, IsPost, StandsIn, frames_of, just_opened}
 
 -- the datagrams of a proposal are those of the line
@@ -139,9 +140,16 @@ keeps_sent P keeps line serial tasks (sending ∷ sendings) past same none stand
     })
     before)
 
+one_some : (block : LineBlock) (blocks : List LineBlock) → 0 < length (block ∷ blocks)
+one_some block blocks = omega arith
+
 keeps_write : (P : Record → Type 0) → Keeps P → (past : Record) (blocks : List LineBlock) → owed_blocks past ≡ blocks → P past → P (with_write past blocks)
 keeps_write P keeps past [] same before = before
-keeps_write P keeps past (block ∷ blocks) same before = keeps past (Wrote block) (record { rest = blocks; first = same }) before
+keeps_write P keeps past (block ∷ blocks) same before = keeps past (Wrote (block ∷ [])) (record { some = one_some block []; first = inl (sym (ap (take 1) same)) }) before
+
+keeps_writes : (P : Record → Type 0) → Keeps P → (past : Record) (blocks : List LineBlock) → frame_blocks (owed_blocks past) ≡ blocks → P past → P (with_writes past blocks)
+keeps_writes P keeps past [] same before = before
+keeps_writes P keeps past (block ∷ blocks) same before = keeps past (Wrote (block ∷ blocks)) (record { some = one_some block blocks; first = inr (sym same) }) before
 
 keeps_arrival : (P : Record → Type 0) → Keeps P → (past : Record) (read : Result Arrival FrameFault) → P past → P (with_arrival past read)
 keeps_arrival P keeps past (Err fault) before = before
@@ -157,6 +165,8 @@ kept-after P keeps past (SendsTasks tasks) before =
     (λ e. keeps_sent P keeps (line_of past) (next_serial past) tasks (proposal past tasks) past refl (nothing_owed past tasks e) (proposal-stands past tasks) (All-contains_itself (frames_of (line_of past) (next_serial past) tasks)) before) before
 kept-after P keeps past SendsWrite before =
     keeps_if P (lowest (write_faults past (owed_blocks past))) past (with_write past (owed_blocks past)) (λ e. keeps_write P keeps past (owed_blocks past) refl before) before
+kept-after P keeps past SendsWrites before =
+    keeps_if P (lowest (write_faults past (owed_blocks past))) past (with_writes past (frame_blocks (owed_blocks past))) (λ e. keeps_writes P keeps past (frame_blocks (owed_blocks past)) refl before) before
 kept-after P keeps past (Arrives bytes) before = keeps_arrival P keeps past (arrival_in bytes) before
 kept-after P keeps past (Reads task) before = before
 kept-after P keeps past (Forgets station) before =
@@ -174,7 +184,7 @@ accepted-more past (Edited edit) accepted before = (accepted, before)
 accepted-more past (Posted task bytes) accepted before = (accepted, before)
 accepted-more past (Forgot station) accepted before = (accepted, before)
 accepted-more past (Sent frame) accepted before = (accepted, before)
-accepted-more past (Wrote block) accepted before = (accepted, before)
+accepted-more past (Wrote blocks) accepted before = (accepted, before)
 accepted-more past (Came arrival) accepted before = (accepted, before)
 
 -- what each accepted entry keeps holds of each record of accepted entries
@@ -186,5 +196,5 @@ held-of_accepted P keeps just (Edited edit ∷ past) all = keeps past (Edited ed
 held-of_accepted P keeps just (Posted task bytes ∷ past) all = keeps past (Posted task bytes) all.0 (held-of_accepted P keeps just past all.1)
 held-of_accepted P keeps just (Forgot station ∷ past) all = keeps past (Forgot station) all.0 (held-of_accepted P keeps just past all.1)
 held-of_accepted P keeps just (Sent frame ∷ past) all = keeps past (Sent frame) all.0 (held-of_accepted P keeps just past all.1)
-held-of_accepted P keeps just (Wrote block ∷ past) all = keeps past (Wrote block) all.0 (held-of_accepted P keeps just past all.1)
+held-of_accepted P keeps just (Wrote blocks ∷ past) all = keeps past (Wrote blocks) all.0 (held-of_accepted P keeps just past all.1)
 held-of_accepted P keeps just (Came arrival ∷ past) all = keeps past (Came arrival) all.0 (held-of_accepted P keeps just past all.1)

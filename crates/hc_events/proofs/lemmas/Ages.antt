@@ -23,5 +23,5 @@ serials-of_data (Edited edit ∷ past) task d = refl
 serials-of_data (Posted t bytes ∷ past) task d = serials-of_data past task d
 serials-of_data (Forgot station ∷ past) task d = serials-of_data past task d
 serials-of_data (Sent frame ∷ past) task d = serials-of_data past task d
-serials-of_data (Wrote block ∷ past) task d = serials-of_data past task d
+serials-of_data (Wrote blocks ∷ past) task d = serials-of_data past task d
 serials-of_data (Came arrival ∷ past) task d = all_more arrival.serial task d (fresh_by past arrival) (data_serial past task d) (slot_of past task d) (serials-of_data past task d)

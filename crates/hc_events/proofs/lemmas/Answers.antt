@@ -14,14 +14,15 @@ use Rattle.hc_events.specs.Arrivals.{Arrival}
 use Rattle.hc_events.specs.Entries.{Entry, Record, Opened, Edited, Posted, Sent, Wrote, Came, Forgot}
 use Rattle.hc_events.specs.Points.{line_of}
 use Rattle.hc_events.specs.Sendings.{Named}
-use Rattle.hc_events.specs.Heads.{Head, data_head, data_heads, write_head}
+use Rattle.hc_events.specs.Heads.{Head, data_head, data_heads, write_head, write_heads}
 use Rattle.hc_events.specs.Answering.{Sending, answered_by, ends, fits, has_heads, is_answer, is_news, is_stale_to, judged, only_if, sending_of}
 use Rattle.hc_events.specs.Awaited.{alive, all_outdated, is_ended, is_no_arrival}
 use Rattle.hc_events.specs.Owed.{is_owed, owed_blocks}
-use Rattle.hc_events.specs.Accepted.{AreAccepted, IsAccepted, StandsIn}
+use Rattle.hc_events.specs.Accepted.{AreAccepted, IsAccepted, IsWrite, StandsIn}
 use Rattle.hc_events.specs.SendingLaws.{heads_of, is_opening, is_sending}
 use Rattle.hc_events.specs.AnswerLaws.{AnswersTheAwaited, IsAnsweredAs, IsAwaited, IsFirstAnswer, IsHeadOf, LeavesOpen}
 use Rattle.hc_events.proofs.lemmas.Awaited.{judged-filter, news-is, same_is}
+use Rattle.hc_events.proofs.lemmas.Fronts.{front-all, write-front}
 use Rattle.hc_events.proofs.lemmas.Once.{only-if_some}
 use Rattle.hc_events.proofs.lemmas.Standing.{standing-found, stands-at}
 
@@ -31,14 +32,14 @@ left_by_arrival : (serial : ℕ) (heads : List Head) (other : Arrival) → fits 
 left_by_arrival serial heads other none = λ same.
     sym (ap (λ b. b && has_heads heads other.parts) (eq-eqb serial other.serial (sym same))) ∙ none
 
-still_open : (serial : ℕ) (heads : List Head) (since : List Entry) → list_any is_opening since ≡ false → list_any (ends serial heads) since ≡ false → All (LeavesOpen serial heads) since
+pub still_open : (serial : ℕ) (heads : List Head) (since : List Entry) → list_any is_opening since ≡ false → list_any (ends serial heads) since ≡ false → All (LeavesOpen serial heads) since
 still_open serial heads [] running none = All-nil (LeavesOpen serial heads)
 still_open serial heads (Opened groups ∷ since) running none = cc
 still_open serial heads (Edited edit ∷ since) running none = cc
 still_open serial heads (Posted task bytes ∷ since) running none = All-cons (LeavesOpen serial heads) (Posted task bytes) since tt (still_open serial heads since running none)
 still_open serial heads (Forgot station ∷ since) running none = All-cons (LeavesOpen serial heads) (Forgot station) since tt (still_open serial heads since running none)
 still_open serial heads (Sent frame ∷ since) running none = All-cons (LeavesOpen serial heads) (Sent frame) since tt (still_open serial heads since running none)
-still_open serial heads (Wrote block ∷ since) running none = All-cons (LeavesOpen serial heads) (Wrote block) since tt (still_open serial heads since running none)
+still_open serial heads (Wrote blocks ∷ since) running none = All-cons (LeavesOpen serial heads) (Wrote blocks) since tt (still_open serial heads since running none)
 still_open serial heads (Came other ∷ since) running none =
     let parts = or_parts (fits serial heads other) (list_any (ends serial heads) since) none in
     All-cons (LeavesOpen serial heads) (Came other) since (left_by_arrival serial heads other parts.0) (still_open serial heads since running parts.1)
@@ -56,7 +57,7 @@ none-ends serial heads (Edited edit ∷ since) all = absurd (All-head (LeavesOpe
 none-ends serial heads (Posted task bytes ∷ since) all = none-ends serial heads since (All-tail (LeavesOpen serial heads) (Posted task bytes) since all)
 none-ends serial heads (Forgot station ∷ since) all = none-ends serial heads since (All-tail (LeavesOpen serial heads) (Forgot station) since all)
 none-ends serial heads (Sent frame ∷ since) all = none-ends serial heads since (All-tail (LeavesOpen serial heads) (Sent frame) since all)
-none-ends serial heads (Wrote block ∷ since) all = none-ends serial heads since (All-tail (LeavesOpen serial heads) (Wrote block) since all)
+none-ends serial heads (Wrote blocks ∷ since) all = none-ends serial heads since (All-tail (LeavesOpen serial heads) (Wrote blocks) since all)
 none-ends serial heads (Came other ∷ since) all =
     ap (λ b. b || list_any (ends serial heads) since) (unfit serial heads other (All-head (LeavesOpen serial heads) (Came other) since all))
     ∙ none-ends serial heads since (All-tail (LeavesOpen serial heads) (Came other) since all)
@@ -68,7 +69,7 @@ none-opened serial heads (Edited edit ∷ since) all = none-opened serial heads 
 none-opened serial heads (Posted task bytes ∷ since) all = none-opened serial heads since (All-tail (LeavesOpen serial heads) (Posted task bytes) since all)
 none-opened serial heads (Forgot station ∷ since) all = none-opened serial heads since (All-tail (LeavesOpen serial heads) (Forgot station) since all)
 none-opened serial heads (Sent frame ∷ since) all = none-opened serial heads since (All-tail (LeavesOpen serial heads) (Sent frame) since all)
-none-opened serial heads (Wrote block ∷ since) all = none-opened serial heads since (All-tail (LeavesOpen serial heads) (Wrote block) since all)
+none-opened serial heads (Wrote blocks ∷ since) all = none-opened serial heads since (All-tail (LeavesOpen serial heads) (Wrote blocks) since all)
 none-opened serial heads (Came other ∷ since) all = none-opened serial heads since (All-tail (LeavesOpen serial heads) (Came other) since all)
 
 -- a first answer is the answer
@@ -100,14 +101,14 @@ answers-first past arrival sending = (first_answer past arrival sending, answer_
 
 -- an answered sending is of the present line
 
-same_line : (serial : ℕ) (heads : List Head) (since : List Entry) (past : Record) → All (LeavesOpen serial heads) since → line_of (since ++ past) ≡ line_of past
+pub same_line : (serial : ℕ) (heads : List Head) (since : List Entry) (past : Record) → All (LeavesOpen serial heads) since → line_of (since ++ past) ≡ line_of past
 same_line serial heads [] past all = refl
 same_line serial heads (Opened groups ∷ since) past all = absurd (All-head (LeavesOpen serial heads) (Opened groups) since all)
 same_line serial heads (Edited edit ∷ since) past all = absurd (All-head (LeavesOpen serial heads) (Edited edit) since all)
 same_line serial heads (Posted task bytes ∷ since) past all = same_line serial heads since past (All-tail (LeavesOpen serial heads) (Posted task bytes) since all)
 same_line serial heads (Forgot station ∷ since) past all = same_line serial heads since past (All-tail (LeavesOpen serial heads) (Forgot station) since all)
 same_line serial heads (Sent frame ∷ since) past all = same_line serial heads since past (All-tail (LeavesOpen serial heads) (Sent frame) since all)
-same_line serial heads (Wrote block ∷ since) past all = same_line serial heads since past (All-tail (LeavesOpen serial heads) (Wrote block) since all)
+same_line serial heads (Wrote blocks ∷ since) past all = same_line serial heads since past (All-tail (LeavesOpen serial heads) (Wrote blocks) since all)
 same_line serial heads (Came other ∷ since) past all = same_line serial heads since past (All-tail (LeavesOpen serial heads) (Came other) since all)
 
 same_sent : (before : Record) (entry : Entry) → is_sending entry ≡ true → line_of (entry ∷ before) ≡ line_of before
@@ -117,24 +118,24 @@ same_sent before (Posted task bytes) sends = cc
 same_sent before (Forgot station) sends = cc
 same_sent before (Came arrival) sends = cc
 same_sent before (Sent frame) sends = refl
-same_sent before (Wrote block) sends = refl
+same_sent before (Wrote blocks) sends = refl
 
 -- what lies behind entries was accepted too
-accepted_at : (since : List Entry) (before : Record) (entry : Entry) → list_any is_opening since ≡ false → is_sending entry ≡ true → AreAccepted (since ++ entry ∷ before) → IsAccepted before entry
-accepted_at [] before (Opened groups) running sends all = cc
-accepted_at [] before (Edited edit) running sends all = cc
-accepted_at [] before (Posted task bytes) running sends all = cc
-accepted_at [] before (Forgot station) running sends all = cc
-accepted_at [] before (Came arrival) running sends all = cc
-accepted_at [] before (Sent frame) running sends all = all.0
-accepted_at [] before (Wrote block) running sends all = all.0
-accepted_at (Opened groups ∷ since) before entry running sends all = cc
-accepted_at (Edited edit ∷ since) before entry running sends all = accepted_at since before entry running sends all.1
-accepted_at (Posted task bytes ∷ since) before entry running sends all = accepted_at since before entry running sends all.1
-accepted_at (Forgot station ∷ since) before entry running sends all = accepted_at since before entry running sends all.1
-accepted_at (Sent frame ∷ since) before entry running sends all = accepted_at since before entry running sends all.1
-accepted_at (Wrote block ∷ since) before entry running sends all = accepted_at since before entry running sends all.1
-accepted_at (Came arrival ∷ since) before entry running sends all = accepted_at since before entry running sends all.1
+pub accepted-at : (since : List Entry) (before : Record) (entry : Entry) → list_any is_opening since ≡ false → is_sending entry ≡ true → AreAccepted (since ++ entry ∷ before) → IsAccepted before entry
+accepted-at [] before (Opened groups) running sends all = cc
+accepted-at [] before (Edited edit) running sends all = cc
+accepted-at [] before (Posted task bytes) running sends all = cc
+accepted-at [] before (Forgot station) running sends all = cc
+accepted-at [] before (Came arrival) running sends all = cc
+accepted-at [] before (Sent frame) running sends all = all.0
+accepted-at [] before (Wrote blocks) running sends all = all.0
+accepted-at (Opened groups ∷ since) before entry running sends all = cc
+accepted-at (Edited edit ∷ since) before entry running sends all = accepted-at since before entry running sends all.1
+accepted-at (Posted task bytes ∷ since) before entry running sends all = accepted-at since before entry running sends all.1
+accepted-at (Forgot station ∷ since) before entry running sends all = accepted-at since before entry running sends all.1
+accepted-at (Sent frame ∷ since) before entry running sends all = accepted-at since before entry running sends all.1
+accepted-at (Wrote blocks ∷ since) before entry running sends all = accepted-at since before entry running sends all.1
+accepted-at (Came arrival ∷ since) before entry running sends all = accepted-at since before entry running sends all.1
 
 frame_of_line : (line : List Member) (frame : List Named) → All (StandsIn line) frame → All (IsHeadOf line) (data_heads line frame)
 frame_of_line line [] all = All-nil (IsHeadOf line)
@@ -145,11 +146,27 @@ frame_of_line line (named ∷ frame) all =
 of_filter : (test : LineBlock → Bool) (blocks : List LineBlock) → All (Contains blocks) (filter test blocks)
 of_filter test blocks = All-passing (Contains blocks) test blocks (λ k d within passes. All-contains_itself blocks k d within)
 
--- an owed block is one of the line
+-- the owed blocks are of the line
+pub owed-inside : (past : Record) → All (Contains (line_blocks (line_of past))) (owed_blocks past)
+owed-inside past = of_filter (is_owed past) (line_blocks (line_of past))
+
+-- and so is the first of them
 pub owed-in_line : (past : Record) (block : LineBlock) (rest : List LineBlock) → owed_blocks past ≡ block ∷ rest → Contains (line_blocks (line_of past)) block
 owed-in_line past block rest first =
     All-head (Contains (line_blocks (line_of past))) block rest
-    (subst (All (Contains (line_blocks (line_of past)))) first (of_filter (is_owed past) (line_blocks (line_of past))))
+    (subst (All (Contains (line_blocks (line_of past)))) first (owed-inside past))
+
+writes_of_line : (line : List Member) (blocks : List LineBlock) → All (Contains (line_blocks line)) blocks → All (IsHeadOf line) (write_heads blocks)
+writes_of_line line [] all = All-nil (IsHeadOf line)
+writes_of_line line (block ∷ blocks) all =
+    All-cons (IsHeadOf line) (write_head block) (write_heads blocks) (block, All-head (Contains (line_blocks line)) block blocks all, refl)
+    (writes_of_line line blocks (All-tail (Contains (line_blocks line)) block blocks all))
+
+-- and what a frame writes
+pub written-inside : (past : Record) (blocks : List LineBlock) → IsWrite (owed_blocks past) blocks → All (Contains (line_blocks (line_of past))) blocks
+written-inside past blocks write =
+    let front = write-front (owed_blocks past) blocks write in
+    front-all (Contains (line_blocks (line_of past))) blocks front.rest (subst (All (Contains (line_blocks (line_of past)))) front.joined (owed-inside past))
 
 heads_of_line : (before : Record) (entry : Entry) → is_sending entry ≡ true → IsAccepted before entry → All (IsHeadOf (line_of before)) (heads_of before entry)
 heads_of_line before (Opened groups) sends accepted = cc
@@ -158,13 +175,13 @@ heads_of_line before (Posted task bytes) sends accepted = cc
 heads_of_line before (Forgot station) sends accepted = cc
 heads_of_line before (Came arrival) sends accepted = cc
 heads_of_line before (Sent frame) sends accepted = frame_of_line (line_of before) frame accepted.stands
-heads_of_line before (Wrote block) sends accepted =
-    All-cons (IsHeadOf (line_of before)) (write_head block) [] (block, owed-in_line before block accepted.rest accepted.first, refl) (All-nil (IsHeadOf (line_of before)))
+heads_of_line before (Wrote blocks) sends accepted =
+    writes_of_line (line_of before) blocks (written-inside before blocks accepted)
 
 of-line : (past : Record) (arrival : Arrival) (sending : Sending) → AreAccepted past → IsFirstAnswer past arrival sending → All (IsHeadOf (line_of past)) sending.heads
 of-line past arrival sending all first =
     let at = first.stands in
-    let accepted = accepted_at sending.since at.before at.entry at.running at.sends (subst AreAccepted at.split all) in
+    let accepted = accepted-at sending.since at.before at.entry at.running at.sends (subst AreAccepted at.split all) in
     let line : line_of past ≡ line_of at.before =
     ap line_of at.split ∙ same_line arrival.serial sending.heads sending.since (at.entry ∷ at.before) first.left_open ∙ same_sent at.before at.entry at.sends in
     subst (λ heads. All (IsHeadOf (line_of past)) heads) (sym at.heads)
@@ -176,16 +193,16 @@ answered-of_line past arrival sending all e = of-line past arrival sending all (
 -- what is awaited is what is answered
 
 -- an awaited sending, as it was made
-record IsAlive (serial : ℕ) (found : Option Sending) (sending : Sending) : Type 0 where
-  made : Sending
-  there : found ≡ Some made
-  goes_on : is_ended serial made ≡ false
-  news : all_outdated made.since made.heads ≡ false
-  same : record { heads = made.heads; since = filter is_no_arrival made.since } ≡ sending
+pub record IsAlive (serial : ℕ) (found : Option Sending) (sending : Sending) : Type 0 where
+  pub made : Sending
+  pub there : found ≡ Some made
+  pub goes_on : is_ended serial made ≡ false
+  pub news : all_outdated made.since made.heads ≡ false
+  pub same : record { heads = made.heads; since = filter is_no_arrival made.since } ≡ sending
 
-alive_is : (serial : ℕ) (found : Option Sending) (sending : Sending) → option_and_then (alive serial) found ≡ Some sending → IsAlive serial found sending
-alive_is serial None sending e = cc
-alive_is serial (Some made) sending e =
+pub alive-is : (serial : ℕ) (found : Option Sending) (sending : Sending) → option_and_then (alive serial) found ≡ Some sending → IsAlive serial found sending
+alive-is serial None sending e = cc
+alive-is serial (Some made) sending e =
     by_bool (is_ended serial made)
     (λ t. let never : None ≡ Some sending = rw t at e in cc)
     (λ t. by_bool (all_outdated made.since made.heads)
@@ -207,12 +224,12 @@ answered_as past arrival made sending there goes_on fit same =
 
 answers_awaited : (past : Record) (arrival : Arrival) (a : IsAwaited past arrival) → IsAnsweredAs past arrival a.sending
 answers_awaited past arrival a =
-    let live = alive_is arrival.serial (sending_of past arrival.serial) a.sending a.there in
+    let live = alive-is arrival.serial (sending_of past arrival.serial) a.sending a.there in
     answered_as past arrival live.made a.sending live.there live.goes_on (ap (λ s. has_heads s.heads arrival.parts) live.same ∙ a.fits) live.same
 
 is_fresh : (past : Record) (arrival : Arrival) → IsAwaited past arrival → is_stale_to past arrival ≡ false
 is_fresh past arrival a =
-    let live = alive_is arrival.serial (sending_of past arrival.serial) a.sending a.there in
+    let live = alive-is arrival.serial (sending_of past arrival.serial) a.sending a.there in
     let fit : has_heads live.made.heads arrival.parts ≡ true = ap (λ s. has_heads s.heads arrival.parts) live.same ∙ a.fits in
     let found : answered_by past arrival ≡ Some live.made = chosen (is_answer arrival) (sending_of past arrival.serial) live.made live.there (answer-is arrival live.made fit live.goes_on) in
     ap (λ answer. not (list_any is_news (option_map_or (judged arrival) answer []))) found

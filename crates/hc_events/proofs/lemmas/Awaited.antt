@@ -11,7 +11,7 @@ use Rattle.hc_records.proofs.lemmas.Choices.{by_bool}
 use Rattle.hc_events.specs.Arrivals.{Arrival, Part}
 use Rattle.hc_events.specs.Entries.{Entry, Record, Opened, Edited, Posted, Sent, Wrote, Came, Forgot}
 use Rattle.hc_events.specs.Points.{line_of, next_serial}
-use Rattle.hc_events.specs.Heads.{Head, Item, Datagram, Block, data_heads, is_block, write_head}
+use Rattle.hc_events.specs.Heads.{Head, Item, Datagram, Block, data_heads, is_block, write_heads}
 use Rattle.hc_events.specs.Answering.{Sending, Judged, Good, Wrong, Stale, just_sent, followed_by, sending_of, has_heads, fits, ends, is_answer, only_if, sends, is_forgetting, forgets, starts_over, is_dropped, is_outdated, is_stale, judge, judged, judged_by, is_news}
 use Rattle.hc_events.specs.Awaited.{is_ended, all_outdated, is_no_arrival, alive, awaited}
 
@@ -40,7 +40,7 @@ any-filter test none (other ∷ since) = ap (λ b. test other || b) (any-filter 
 
 starts_filter : (since : List Entry) → starts_over (filter is_no_arrival since) ≡ starts_over since
 starts_filter [] = refl
-starts_filter (Wrote block ∷ since) =
+starts_filter (Wrote blocks ∷ since) =
     ap (λ b. b || starts_over (filter is_no_arrival since)) (any-filter is_forgetting (λ arrival. refl) since)
     ∙ ap (λ b. list_any is_forgetting since || b) (starts_filter since)
 starts_filter (Came arrival ∷ since) = starts_filter since
@@ -78,7 +78,7 @@ again_filter heads entry since other =
 -- what is out of date stays so
 
 starts_more : (entry : Entry) (since : List Entry) → starts_over since ≡ true → starts_over (entry ∷ since) ≡ true
-starts_more (Wrote block) since e = or_right (list_any is_forgetting since) (starts_over since) e
+starts_more (Wrote blocks) since e = or_right (list_any is_forgetting since) (starts_over since) e
 starts_more other since e = e
 
 block_more : (station number : ℕ) (entry : Entry) (since : List Entry) → is_outdated (Block station number) since ≡ true → is_outdated (Block station number) (entry ∷ since) ≡ true
@@ -262,9 +262,9 @@ awaited-grows a b serial (Sent frame) n l same =
     ap (λ m. option_and_then (alive serial) (cond (m == serial) (Some (just_sent (data_heads (line_of a) frame))) (option_map (followed_by (Sent frame)) (sending_of a serial)))) n
     ∙ ap (λ line. option_and_then (alive serial) (cond (next_serial b == serial) (Some (just_sent (data_heads line frame))) (option_map (followed_by (Sent frame)) (sending_of a serial)))) l
     ∙ by_serial serial (next_serial b == serial) _ _ _ (other_grows a b serial (Sent frame) (λ heads. refl) refl same)
-awaited-grows a b serial (Wrote block) n l same =
-    ap (λ m. option_and_then (alive serial) (cond (m == serial) (Some (just_sent (write_head block ∷ []))) (option_map (followed_by (Wrote block)) (sending_of a serial)))) n
-    ∙ by_serial serial (next_serial b == serial) _ _ _ (other_grows a b serial (Wrote block) (λ heads. refl) refl same)
+awaited-grows a b serial (Wrote blocks) n l same =
+    ap (λ m. option_and_then (alive serial) (cond (m == serial) (Some (just_sent (write_heads blocks))) (option_map (followed_by (Wrote blocks)) (sending_of a serial)))) n
+    ∙ by_serial serial (next_serial b == serial) _ _ _ (other_grows a b serial (Wrote blocks) (λ heads. refl) refl same)
 
 -- a stale arrival
 

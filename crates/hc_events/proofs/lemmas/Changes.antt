@@ -89,7 +89,7 @@ follows_grows groups past (Edited edit) accepted follows = record {
 follows_grows groups past (Posted task bytes) accepted follows = record { slots = follows.slots; state = follows.state; epoch = follows.epoch }
 follows_grows groups past (Forgot station) accepted follows = record { slots = follows.slots; state = follows.state; epoch = follows.epoch }
 follows_grows groups past (Sent frame) accepted follows = record { slots = follows.slots; state = follows.state; epoch = follows.epoch }
-follows_grows groups past (Wrote block) accepted follows = record { slots = follows.slots; state = follows.state; epoch = follows.epoch }
+follows_grows groups past (Wrote blocks) accepted follows = record { slots = follows.slots; state = follows.state; epoch = follows.epoch }
 follows_grows groups past (Came arrival) accepted follows = record {
   slots = λ task d. slot_joined task d None (news_of past) (map Answered (fresh_by past arrival))
       ∙ slot_goods task d (slot_by task d None (news_of past)) (fresh_by past arrival)
@@ -109,7 +109,7 @@ follows_more past (Edited edit) accepted follows = follows_grows (opened_with pa
 follows_more past (Posted task bytes) accepted follows = follows_grows (opened_with past) past (Posted task bytes) accepted follows
 follows_more past (Forgot station) accepted follows = follows_grows (opened_with past) past (Forgot station) accepted follows
 follows_more past (Sent frame) accepted follows = follows_grows (opened_with past) past (Sent frame) accepted follows
-follows_more past (Wrote block) accepted follows = follows_grows (opened_with past) past (Wrote block) accepted follows
+follows_more past (Wrote blocks) accepted follows = follows_grows (opened_with past) past (Wrote blocks) accepted follows
 follows_more past (Came arrival) accepted follows = follows_grows (opened_with past) past (Came arrival) accepted follows
 
 records-follow : (past : Record) → AreAccepted past → Follows (opened_with past) past
@@ -238,7 +238,7 @@ slot_news task d (Edited edit ∷ past) = sym (slot_joined task d None (news_of 
 slot_news task d (Posted t bytes ∷ past) = slot_news task d past
 slot_news task d (Forgot station ∷ past) = slot_news task d past
 slot_news task d (Sent frame ∷ past) = slot_news task d past
-slot_news task d (Wrote block ∷ past) = slot_news task d past
+slot_news task d (Wrote blocks ∷ past) = slot_news task d past
 slot_news task d (Came arrival ∷ past) =
     ap (λ slot. fold (renewed task d) slot (fresh_by past arrival)) (slot_news task d past)
     ∙ sym (slot_joined task d None (news_of past) (map Answered (fresh_by past arrival)) ∙ slot_goods task d (slot_by task d None (news_of past)) (fresh_by past arrival))
@@ -330,8 +330,8 @@ legal_grows groups past (Forgot station) accepted before =
     record { follows = follows_grows groups past (Forgot station) accepted before.follows; sent = before.sent; legal = before.legal }
 legal_grows groups past (Sent frame) accepted before =
     record { follows = follows_grows groups past (Sent frame) accepted before.follows; sent = (accepted.stands, before.sent); legal = before.legal }
-legal_grows groups past (Wrote block) accepted before =
-    record { follows = follows_grows groups past (Wrote block) accepted before.follows; sent = before.sent; legal = before.legal }
+legal_grows groups past (Wrote blocks) accepted before =
+    record { follows = follows_grows groups past (Wrote blocks) accepted before.follows; sent = before.sent; legal = before.legal }
 legal_grows groups past (Came arrival) accepted before = record {
   follows = follows_grows groups past (Came arrival) accepted before.follows;
   sent = before.sent;
@@ -355,7 +355,7 @@ legal_more past (Edited edit) accepted before = legal_grows (opened_with past) p
 legal_more past (Posted task bytes) accepted before = legal_grows (opened_with past) past (Posted task bytes) accepted before
 legal_more past (Forgot station) accepted before = legal_grows (opened_with past) past (Forgot station) accepted before
 legal_more past (Sent frame) accepted before = legal_grows (opened_with past) past (Sent frame) accepted before
-legal_more past (Wrote block) accepted before = legal_grows (opened_with past) past (Wrote block) accepted before
+legal_more past (Wrote blocks) accepted before = legal_grows (opened_with past) past (Wrote blocks) accepted before
 legal_more past (Came arrival) accepted before = legal_grows (opened_with past) past (Came arrival) accepted before
 
 legal_opening : (groups : List Group) → LegalOwn (just_opened groups)

@@ -17,7 +17,7 @@ counted-more past (Edited edit) accepted before =
 counted-more past (Posted task bytes) accepted before = before
 counted-more past (Forgot station) accepted before = before
 counted-more past (Sent frame) accepted before = before
-counted-more past (Wrote block) accepted before = before
+counted-more past (Wrote blocks) accepted before = before
 counted-more past (Came arrival) accepted before = before
 
 pub epochs-counted : (past : Record) → AreAccepted past → Counted past

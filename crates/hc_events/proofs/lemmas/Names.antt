@@ -1,5 +1,5 @@
 -- What a frame that came back names by its own addresses is what was sent.
-use Rattle.std.proofs.Common.{◌≡◌, ℕ, ◌+◌, ◌*◌, ◌-◌, ◌/◌, ◌%◌, ◌<◌, ◌==◌, true, false, ◌&&◌, List, [], ◌∷◌, length, map, refl, sym, ap, ◌∙◌, arith, Option, Some, None}
+use Rattle.std.proofs.Common.{◌≡◌, ℕ, ◌+◌, ◌*◌, ◌-◌, ◌/◌, ◌%◌, ◌<◌, ◌==◌, true, false, ◌&&◌, List, [], ◌∷◌, length, map, refl, sym, ap, ◌∙◌, arith, Option, Some, None, cond, Bool}
 use Rattle.std.specs.Prelude.{All}
 use Rattle.std.specs.Option.{option_map_or}
 use Rattle.std.specs.List.{list_any, zip}
@@ -16,9 +16,9 @@ use Rattle.hc_events.specs.Arrivals.{Arrival, Part}
 use Rattle.hc_events.specs.Entries.{Entry, Record, Opened, Edited, Posted, Sent, Wrote, Came, Forgot}
 use Rattle.hc_events.specs.Points.{line_of}
 use Rattle.hc_events.specs.Sendings.{Named}
-use Rattle.hc_events.specs.Heads.{Head, Item, Datagram, Block, is_block, write_head}
-use Rattle.hc_events.specs.Answering.{Sending, Verdict, Good, Wrong, Stale, answered_by, has_head, has_heads, judge, judged, judged_by, verdict}
-use Rattle.hc_events.specs.Steps.{told_of, told_of_block}
+use Rattle.hc_events.specs.Heads.{Head, Item, Datagram, Block, is_block, write_heads}
+use Rattle.hc_events.specs.Answering.{Sending, Verdict, Good, Wrong, Stale, answered_by, has_head, has_heads, judge, judged, judged_by, Judged, is_news}
+use Rattle.hc_events.specs.Steps.{told_of, told_of_block, told_of_blocks, outcome_for}
 use Rattle.hc_events.specs.Accepted.{AreAccepted}
 use Rattle.hc_events.specs.SendingLaws.{heads_of, is_sending}
 use Rattle.hc_events.specs.AnswerLaws.{IsHeadOf, IsItemOf}
@@ -93,9 +93,20 @@ not_answered Good outcomes e = cc
 not_answered Wrong outcomes e = cc
 not_answered Stale outcomes e = cc
 
-never_write : (since : List Entry) (block : LineBlock) (parts : List Part) (outcomes : List Outcome) → told_of (map (judge since) (zip (write_head block ∷ []) parts)) ≡ answer.Answered outcomes → ⊥
-never_write since block [] outcomes e = cc
-never_write since block (part ∷ parts) outcomes e = not_answered (verdict since (write_head block) part) outcomes e
+not_written : (news : Bool) (written outcomes : List Outcome) → cond news (answer.Written written) answer.Stale ≡ answer.Answered outcomes → ⊥
+not_written true written outcomes e = cc
+not_written false written outcomes e = cc
+
+never_blocks : (datagrams : List Judged) (outcomes : List Outcome) → told_of_blocks datagrams ≡ answer.Answered outcomes → ⊥
+never_blocks [] outcomes e = cc
+never_blocks (datagram ∷ []) outcomes e = not_answered datagram.verdict outcomes e
+never_blocks (datagram ∷ next ∷ datagrams) outcomes e =
+    not_written (list_any is_news (datagram ∷ next ∷ datagrams)) (map outcome_for (datagram ∷ next ∷ datagrams)) outcomes e
+
+never_write : (since : List Entry) (blocks : List LineBlock) (parts : List Part) (outcomes : List Outcome) → told_of (map (judge since) (zip (write_heads blocks) parts)) ≡ answer.Answered outcomes → ⊥
+never_write since [] parts outcomes e = cc
+never_write since (block ∷ blocks) [] outcomes e = cc
+never_write since (block ∷ blocks) (part ∷ parts) outcomes e = never_blocks (map (judge since) (zip (write_heads (block ∷ blocks)) (part ∷ parts))) outcomes e
 
 plain_by : (before : Record) (entry : Entry) (since : List Entry) (heads : List Head) (parts : List Part) (outcomes : List Outcome) → is_sending entry ≡ true → heads ≡ heads_of before entry
     → told_of (map (judge since) (zip heads parts)) ≡ answer.Answered outcomes → list_any (λ head. is_block head.item) heads ≡ false
@@ -105,8 +116,8 @@ plain_by before (Posted task bytes) since heads parts outcomes sends is told = c
 plain_by before (Forgot station) since heads parts outcomes sends is told = cc
 plain_by before (Came arrival) since heads parts outcomes sends is told = cc
 plain_by before (Sent frame) since heads parts outcomes sends is told = ap (list_any (λ (head : Head). is_block head.item)) is ∙ no_blocks (line_of before) frame
-plain_by before (Wrote block) since heads parts outcomes sends is told =
-    absurd (never_write since block parts outcomes (sym (ap (λ all. told_of (map (judge since) (zip all parts))) is) ∙ told))
+plain_by before (Wrote blocks) since heads parts outcomes sends is told =
+    absurd (never_write since blocks parts outcomes (sym (ap (λ all. told_of (map (judge since) (zip all parts))) is) ∙ told))
 
 named_by_answer : (past : Record) (arrival : Arrival) (outcomes : List Outcome) (found : Option Sending) → AreAccepted past → HasFewDatagrams (line_of past) → answered_by past arrival ≡ found
     → told_of (option_map_or (judged arrival) found []) ≡ answer.Answered outcomes → All (IsNamed (line_of past)) (option_map_or (judged arrival) found [])

@@ -9,7 +9,7 @@ use Rattle.hc_records.proofs.lemmas.Choices.{by_bool, is_other}
 use Rattle.hc_events.specs.Arrivals.{Arrival}
 use Rattle.hc_events.specs.Entries.{Entry, Record, Opened, Edited, Posted, Sent, Wrote, Came, Forgot}
 use Rattle.hc_events.specs.Points.{line_of, next_serial}
-use Rattle.hc_events.specs.Heads.{data_heads, write_head}
+use Rattle.hc_events.specs.Heads.{data_heads, write_heads}
 use Rattle.hc_events.specs.Answering.{Sending, just_sent, followed_by, sending_of, fits, ends, is_answer, only_if, answered_by}
 use Rattle.hc_events.specs.Steps.{Step, entries_after_all}
 use Rattle.hc_events.proofs.lemmas.Accepted.{Keeps, kept-after_all}
@@ -52,9 +52,9 @@ serial-made (Sent frame ∷ past) serial =
     one_of (next_serial past == serial) (Some (just_sent (data_heads (line_of past) frame))) (option_map (followed_by (Sent frame)) (sending_of past serial)) refl
     ∙ ap (λ b. cond (next_serial past == serial) true b) (mapped_some (Sent frame) (sending_of past serial) ∙ serial-made past serial)
     ∙ sym (next_or_before serial (next_serial past))
-serial-made (Wrote block ∷ past) serial =
-    one_of (next_serial past == serial) (Some (just_sent (write_head block ∷ []))) (option_map (followed_by (Wrote block)) (sending_of past serial)) refl
-    ∙ ap (λ b. cond (next_serial past == serial) true b) (mapped_some (Wrote block) (sending_of past serial) ∙ serial-made past serial)
+serial-made (Wrote blocks ∷ past) serial =
+    one_of (next_serial past == serial) (Some (just_sent (write_heads blocks))) (option_map (followed_by (Wrote blocks)) (sending_of past serial)) refl
+    ∙ ap (λ b. cond (next_serial past == serial) true b) (mapped_some (Wrote blocks) (sending_of past serial) ∙ serial-made past serial)
     ∙ sym (next_or_before serial (next_serial past))
 
 pub serial-below : (past : Record) (serial : ℕ) → is_some (sending_of past serial) ≡ true → serial < next_serial past
@@ -94,9 +94,9 @@ ended_grows serial past (Sent frame) accepted over = record {
   made = below_more serial (next_serial past) over.made;
   over = ended_older serial (next_serial past) _ (option_map (followed_by (Sent frame)) (sending_of past serial)) over.made (ended_still serial (Sent frame) (sending_of past serial) over.over);
 }
-ended_grows serial past (Wrote block) accepted over = record {
+ended_grows serial past (Wrote blocks) accepted over = record {
   made = below_more serial (next_serial past) over.made;
-  over = ended_older serial (next_serial past) _ (option_map (followed_by (Wrote block)) (sending_of past serial)) over.made (ended_still serial (Wrote block) (sending_of past serial) over.over);
+  over = ended_older serial (next_serial past) _ (option_map (followed_by (Wrote blocks)) (sending_of past serial)) over.made (ended_still serial (Wrote blocks) (sending_of past serial) over.over);
 }
 
 nothing_answers : (arrival : Arrival) (found : Option Sending) → ended arrival.serial found → option_and_then (only_if (is_answer arrival)) found ≡ None

@@ -14,6 +14,7 @@ use Rattle.hc_events.specs.Entries.{Record, Edited}
 use Rattle.hc_events.specs.Points.{line_of}
 use Rattle.hc_events.specs.Owed.{if_confirmed, is_in_line, is_owed, last_write}
 use Rattle.hc_events.proofs.lemmas.Once.{and_left}
+use Rattle.hc_events.specs.Heads.{block_item}
 
 same_number : (m n : ℕ) → (m == n) ≡ true → (n == m) ≡ true
 same_number m n e = grind (arith, nat_tests)
@@ -45,4 +46,4 @@ of_line line (member ∷ members) block e =
 pub unmoved-is_owed : (past : Record) (edit : Edit) (block : LineBlock) → list_any (same_block block) (line_blocks (line_of past)) ≡ true → is_owed (Edited edit ∷ past) block ≡ is_owed past block
 unmoved-is_owed past edit block e =
     let there : is_in_line past block.station ≡ true = of_line (line_of past) (line_of past) block e in
-    ap (λ b. not (option_map_or (bytes_eq block.block.bytes) (option_and_then (if_confirmed past) (cond b (last_write past block.station block.number) None)) false)) there
+    ap (λ b. not (option_map_or (bytes_eq block.block.bytes) (option_and_then (if_confirmed past (block_item block)) (cond b (last_write past block.station block.number) None)) false)) there

@@ -26,12 +26,13 @@ use Rattle.hc_events.specs.Answering.{Judged, Verdict, Good, Wrong, Stale, is_ne
 use Rattle.hc_events.specs.Images.{slot_of, slots_of}
 use Rattle.hc_events.specs.Outputs.{byte_of, bytes_of, has_bit, outputs_in, sent_bit, sent_data, value_bit}
 use Rattle.hc_events.specs.Owed.{is_owed, known_bytes, owed_blocks}
-use Rattle.hc_events.specs.Steps.{Step, Edits, Posts, SendsTasks, SendsWrite, Arrives, Reads, Forgets, unless, kept_if, forget_faults, edit_refused, told_of_edit, is_no_task, post_faults, has_serials, serials_left, proposal, task_faults, sent_datagram, sent_text, with_sent, write_faults, told_of_write, with_write, told_of_block, told_of, told_of_arrival, with_arrival, read_faults, answer_to, entries_after, answers_to, entries_after_all}
+use Rattle.hc_events.specs.Steps.{Step, Edits, Posts, SendsTasks, SendsWrite, Arrives, Reads, Forgets, unless, kept_if, forget_faults, edit_refused, told_of_edit, is_no_task, post_faults, has_serials, serials_left, proposal, task_faults, sent_datagram, sent_text, with_sent, write_faults, told_of_write, with_write, told_of_block, told_of, told_of_arrival, with_arrival, read_faults, answer_to, entries_after, answers_to, entries_after_all, SendsWrites, told_of_writes, with_writes, told_of_blocks}
 use Rattle.hc_events.specs.Heads.{is_block}
 use Rattle.hc_events.specs.Changes.{news_of}
 use Rattle.hc_events.specs.Stale.{SameBehind, SaysTheSame, without_stale}
 use Rattle.hc_events.proofs.lemmas.Awaited.{news}
 use Rattle.hc_events.proofs.lemmas.WithoutStale.{without-epoch, without-known, without-news, without-serial, without-slot, without-stale, without-state, without-told, without-value}
+use Rattle.hc_events.specs.WriteFrames.{frame_blocks}
 
 abbrev pub SameWithout : Record → Record → Type 0
 SameWithout a b = without_stale a ≡ without_stale b
@@ -58,7 +59,7 @@ same-grows (Edited edit) a b same = ap (λ past. Edited edit ∷ past) same
 same-grows (Posted task bytes) a b same = ap (λ past. Posted task bytes ∷ past) same
 same-grows (Forgot station) a b same = ap (λ past. Forgot station ∷ past) same
 same-grows (Sent frame) a b same = ap (λ past. Sent frame ∷ past) same
-same-grows (Wrote block) a b same = ap (λ past. Wrote block ∷ past) same
+same-grows (Wrote blocks) a b same = ap (λ past. Wrote blocks ∷ past) same
 same-grows (Came arrival) a b same =
     without_came a arrival ∙ ap (λ past. cond (is_stale_to past arrival) past (Came arrival ∷ past)) same ∙ sym (without_came b arrival)
 
@@ -85,7 +86,7 @@ same-without (Edited edit ∷ past) = ap (λ kept. Edited edit ∷ kept) (same-w
 same-without (Posted task bytes ∷ past) = ap (λ kept. Posted task bytes ∷ kept) (same-without past)
 same-without (Forgot station ∷ past) = ap (λ kept. Forgot station ∷ kept) (same-without past)
 same-without (Sent frame ∷ past) = ap (λ kept. Sent frame ∷ kept) (same-without past)
-same-without (Wrote block ∷ past) = ap (λ kept. Wrote block ∷ kept) (same-without past)
+same-without (Wrote blocks ∷ past) = ap (λ kept. Wrote blocks ∷ kept) (same-without past)
 same-without (Came arrival ∷ past) = sym (kept_either (is_stale_to past arrival) arrival past refl (same-without past))
 
 -- what a record says decides the answers
@@ -154,12 +155,16 @@ block_told Good e = cc
 block_told Wrong e = cc
 block_told Stale e = refl
 
+blocks_told : (datagrams : List Judged) → list_any is_news datagrams ≡ false → told_of_blocks datagrams ≡ answer.Stale
+blocks_told [] e = refl
+blocks_told (datagram ∷ []) e = block_told datagram.verdict (or_parts (is_news datagram) false e).0
+blocks_told (datagram ∷ next ∷ datagrams) e = rw e refl
+
 stale_told : (datagrams : List Judged) → list_any is_news datagrams ≡ false → told_of datagrams ≡ answer.Stale
 stale_told [] e = refl
 stale_told (datagram ∷ datagrams) e =
-    let first = (or_parts (is_news datagram) (list_any is_news datagrams) e).0 in
     by_bool (is_block datagram.head.item)
-    (λ t. rw t (block_told datagram.verdict first))
+    (λ t. rw t (blocks_told (datagram ∷ datagrams) e))
     (λ t. rw (t, e) refl)
 
 -- an arrival is told as its news are
@@ -193,6 +198,11 @@ same-answer a b SendsWrite same =
     ap (λ refused. unless refused (told_of_write (next_serial a) (owed_blocks a))) (same_write_faults a b says)
     ∙ ap (λ n. unless (lowest (write_faults b (owed_blocks b))) (told_of_write n (owed_blocks a))) says.serial
     ∙ ap (λ blocks. unless (lowest (write_faults b (owed_blocks b))) (told_of_write (next_serial b) blocks)) (same-owed a b says)
+same-answer a b SendsWrites same =
+    let says = same-says a b same in
+    ap (λ refused. unless refused (told_of_writes (next_serial a) (frame_blocks (owed_blocks a)))) (same_write_faults a b says)
+    ∙ ap (λ n. unless (lowest (write_faults b (owed_blocks b))) (told_of_writes n (frame_blocks (owed_blocks a)))) says.serial
+    ∙ ap (λ blocks. unless (lowest (write_faults b (owed_blocks b))) (told_of_writes (next_serial b) (frame_blocks blocks))) (same-owed a b says)
 same-answer a b (Arrives bytes) same = same_told a b (arrival_in bytes) same
 same-answer a b (Reads task) same =
     let says = same-says a b same in
@@ -211,7 +221,11 @@ same_sent (sending ∷ sendings) a b same = same_sent sendings (Sent sending.dat
 
 same_write : (blocks : List LineBlock) (a b : Record) → SameWithout a b → SameWithout (with_write a blocks) (with_write b blocks)
 same_write [] a b same = same
-same_write (block ∷ blocks) a b same = same-grows (Wrote block) a b same
+same_write (block ∷ blocks) a b same = same-grows (Wrote (block ∷ [])) a b same
+
+same_writes : (blocks : List LineBlock) (a b : Record) → SameWithout a b → SameWithout (with_writes a blocks) (with_writes b blocks)
+same_writes [] a b same = same
+same_writes (block ∷ blocks) a b same = same-grows (Wrote (block ∷ blocks)) a b same
 
 same_arrival : (read : Result Arrival FrameFault) (a b : Record) → SameWithout a b → SameWithout (with_arrival a read) (with_arrival b read)
 same_arrival (Err fault) a b same = same
@@ -234,6 +248,12 @@ same-after a b SendsWrite same =
     ap (λ refused. without_stale (kept_if refused a (with_write a (owed_blocks a)))) (same_write_faults a b says)
     ∙ ap (λ blocks. without_stale (kept_if (lowest (write_faults b (owed_blocks b))) a (with_write a blocks))) (same-owed a b says)
     ∙ same_kept (lowest (write_faults b (owed_blocks b))) a b (with_write a (owed_blocks b)) (with_write b (owed_blocks b)) same (same_write (owed_blocks b) a b same)
+same-after a b SendsWrites same =
+    let says = same-says a b same in
+    ap (λ refused. without_stale (kept_if refused a (with_writes a (frame_blocks (owed_blocks a))))) (same_write_faults a b says)
+    ∙ ap (λ blocks. without_stale (kept_if (lowest (write_faults b (owed_blocks b))) a (with_writes a (frame_blocks blocks)))) (same-owed a b says)
+    ∙ same_kept (lowest (write_faults b (owed_blocks b))) a b (with_writes a (frame_blocks (owed_blocks b))) (with_writes b (frame_blocks (owed_blocks b))) same
+    (same_writes (frame_blocks (owed_blocks b)) a b same)
 same-after a b (Arrives bytes) same = same_arrival (arrival_in bytes) a b same
 same-after a b (Reads task) same = same
 same-after a b (Forgets station) same =

@@ -37,7 +37,7 @@ value_small (Posted task bytes ∷ past) variable k =
     posted_small (line_of past) task bytes k (variable_place variable (line_of past)) (value_bit past variable k) (value_small past variable k)
 value_small (Forgot station ∷ past) variable k = value_small past variable k
 value_small (Sent frame ∷ past) variable k = value_small past variable k
-value_small (Wrote block ∷ past) variable k = value_small past variable k
+value_small (Wrote blocks ∷ past) variable k = value_small past variable k
 value_small (Came arrival ∷ past) variable k = value_small past variable k
 
 found_small : (past : Record) (k : ℕ) (found : Option (ℕ × VariablePlace)) → option_map_or (λ pair. value_bit past pair.0 (k - pair.1.bit)) found 0 < 2

@@ -13,9 +13,10 @@ use Rattle.hc_events.specs.Arrivals.{Arrival, Part}
 use Rattle.hc_events.specs.Entries.{Entry, Record, Opened, Edited, Posted, Sent, Wrote, Came, Forgot}
 use Rattle.hc_events.specs.Points.{line_of, next_serial}
 use Rattle.hc_events.specs.Sendings.{Named, length_of}
-use Rattle.hc_events.specs.Heads.{Head, Item, Datagram, Block, data_head, data_heads, write_head}
+use Rattle.hc_events.specs.Heads.{Head, Item, Datagram, Block, data_head, data_heads, write_head, write_heads}
 use Rattle.hc_events.specs.Answering.{Sending, just_sent, followed_by, sending_of, has_head, has_heads, fits, ends, is_answer, only_if, has_good, judge, judged}
 use Rattle.hc_events.specs.Images.{Fresh, fresh, fresh_by, fresh_item, is_for, renewed, slot_of}
+use Rattle.hc_registers.specs.Blocks.{LineBlock}
 
 -- something that holds of each datagram that was sent, in the line at that time
 
@@ -39,7 +40,7 @@ any_sent (Edited edit ∷ past) = any_sent past
 any_sent (Posted task bytes ∷ past) = any_sent past
 any_sent (Forgot station ∷ past) = any_sent past
 any_sent (Sent frame ∷ past) = (any_frame (line_of past) frame, any_sent past)
-any_sent (Wrote block ∷ past) = any_sent past
+any_sent (Wrote blocks ∷ past) = any_sent past
 any_sent (Came arrival ∷ past) = any_sent past
 
 -- a head of a task's datagram says the length that the datagram has in a line
@@ -55,6 +56,10 @@ data_fit : (P : List Member → Named → Type 0) (line : List Member) (frame : 
 data_fit P line [] all = All-nil (FitsHead P line)
 data_fit P line (named ∷ frame) all =
     All-cons (FitsHead P line) (data_head line named) (data_heads line frame) (refl, All-head (P line) named frame all) (data_fit P line frame (All-tail (P line) named frame all))
+
+writes_fit : (P : List Member → Named → Type 0) (line : List Member) (blocks : List LineBlock) → All (FitsHead P line) (write_heads blocks)
+writes_fit P line [] = All-nil (FitsHead P line)
+writes_fit P line (block ∷ blocks) = All-cons (FitsHead P line) (write_head block) (write_heads blocks) tt (writes_fit P line blocks)
 
 -- a sending that hasn't ended has such heads for the present line
 
@@ -85,10 +90,10 @@ sent_fit P (Came arrival ∷ past) serial sent = fits_more P (line_of past) seri
 sent_fit P (Sent frame ∷ past) serial sent =
     fits_either P (line_of past) serial (next_serial past == serial) (Some (just_sent (data_heads (line_of past) frame))) (option_map (followed_by (Sent frame)) (sending_of past serial))
     (λ none. data_fit P (line_of past) frame sent.0) (fits_more P (line_of past) serial (Sent frame) (sending_of past serial) (sent_fit P past serial sent.1))
-sent_fit P (Wrote block ∷ past) serial sent =
-    fits_either P (line_of past) serial (next_serial past == serial) (Some (just_sent (write_head block ∷ []))) (option_map (followed_by (Wrote block)) (sending_of past serial))
-    (λ none. All-cons (FitsHead P (line_of past)) (write_head block) [] tt (All-nil (FitsHead P (line_of past))))
-    (fits_more P (line_of past) serial (Wrote block) (sending_of past serial) (sent_fit P past serial sent))
+sent_fit P (Wrote blocks ∷ past) serial sent =
+    fits_either P (line_of past) serial (next_serial past == serial) (Some (just_sent (write_heads blocks))) (option_map (followed_by (Wrote blocks)) (sending_of past serial))
+    (λ none. writes_fit P (line_of past) blocks)
+    (fits_more P (line_of past) serial (Wrote blocks) (sending_of past serial) (sent_fit P past serial sent))
 
 -- what comes back has the heads' lengths, so good data fit
 
@@ -156,7 +161,7 @@ slot_sized (Edited edit ∷ past) task d = tt
 slot_sized (Posted t bytes ∷ past) task d = slot_sized past task d
 slot_sized (Forgot station ∷ past) task d = slot_sized past task d
 slot_sized (Sent frame ∷ past) task d = slot_sized past task d
-slot_sized (Wrote block ∷ past) task d = slot_sized past task d
+slot_sized (Wrote blocks ∷ past) task d = slot_sized past task d
 slot_sized (Came arrival ∷ past) task d = all_fit (line_of past) task d (fresh_by past arrival) (slot_of past task d) (fresh-fits Any past arrival (any_sent past)) (slot_sized past task d)
 
 pub slots-fit : (past : Record) (task d : ℕ) (bytes : List ℕ) → slot_of past task d ≡ Some bytes → length bytes ≡ length_of (line_of past) (task, d)

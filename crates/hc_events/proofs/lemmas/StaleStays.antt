@@ -1,5 +1,5 @@
 -- What is over stays over: an arrival that is stale once its sending was made is stale for good.
-use Rattle.std.proofs.Common.{◌≡◌, ℕ, ◌<◌, true, false, cond, not, List, [], ◌∷◌, refl, sym, ap, ◌∙◌, subst, Option, Some, None}
+use Rattle.std.proofs.Common.{◌≡◌, ℕ, ◌<◌, true, false, cond, not, List, ◌∷◌, refl, sym, ap, ◌∙◌, subst, Option, Some, None}
 use Rattle.std.specs.Prelude.{option_map, option_and_then}
 use Rattle.std.specs.List.{list_any}
 use Rattle.std.proofs.lemmas.Bool.{not-false, not-true}
@@ -7,7 +7,7 @@ use Rattle.hc_records.proofs.lemmas.Choices.{by_bool, is_other}
 use Rattle.hc_events.specs.Arrivals.{Arrival}
 use Rattle.hc_events.specs.Entries.{Entry, Record, Opened, Edited, Posted, Sent, Wrote, Came, Forgot}
 use Rattle.hc_events.specs.Points.{line_of, next_serial}
-use Rattle.hc_events.specs.Heads.{data_heads, write_head}
+use Rattle.hc_events.specs.Heads.{data_heads, write_heads}
 use Rattle.hc_events.specs.Answering.{Sending, just_sent, followed_by, sending_of, has_heads, fits, is_news, is_stale_to, judged_by}
 use Rattle.hc_events.specs.Awaited.{all_outdated, alive, awaited}
 use Rattle.hc_events.specs.Steps.{Step, entries_after_all}
@@ -42,10 +42,10 @@ quiet_grows past (Sent frame) arrival below q =
     subst (quiet arrival) (sym
     (ap (λ b. option_and_then (alive arrival.serial) (cond b (Some (just_sent (data_heads (line_of past) frame))) (option_map (followed_by (Sent frame)) (sending_of past arrival.serial)))) (is_other arrival.serial (next_serial past) below)
     ∙ alive_other arrival.serial (Sent frame) (λ heads. refl) refl (sending_of past arrival.serial))) (quiet_other (Sent frame) arrival (awaited past arrival.serial) q)
-quiet_grows past (Wrote block) arrival below q =
+quiet_grows past (Wrote blocks) arrival below q =
     subst (quiet arrival) (sym
-    (ap (λ b. option_and_then (alive arrival.serial) (cond b (Some (just_sent (write_head block ∷ []))) (option_map (followed_by (Wrote block)) (sending_of past arrival.serial)))) (is_other arrival.serial (next_serial past) below)
-    ∙ alive_other arrival.serial (Wrote block) (λ heads. refl) refl (sending_of past arrival.serial))) (quiet_other (Wrote block) arrival (awaited past arrival.serial) q)
+    (ap (λ b. option_and_then (alive arrival.serial) (cond b (Some (just_sent (write_heads blocks))) (option_map (followed_by (Wrote blocks)) (sending_of past arrival.serial)))) (is_other arrival.serial (next_serial past) below)
+    ∙ alive_other arrival.serial (Wrote blocks) (λ heads. refl) refl (sending_of past arrival.serial))) (quiet_other (Wrote blocks) arrival (awaited past arrival.serial) q)
 
 -- a sending with the arrival's serial was made, and the arrival is no news for what is awaited with it
 record IsOver (arrival : Arrival) (past : Record) : Type 0 where
@@ -59,8 +59,8 @@ over_grows arrival past (Posted task bytes) accepted over = record { made = over
 over_grows arrival past (Forgot station) accepted over = record { made = over.made; quiet_now = quiet_grows past (Forgot station) arrival over.made over.quiet_now }
 over_grows arrival past (Sent frame) accepted over =
     record { made = below_more arrival.serial (next_serial past) over.made; quiet_now = quiet_grows past (Sent frame) arrival over.made over.quiet_now }
-over_grows arrival past (Wrote block) accepted over =
-    record { made = below_more arrival.serial (next_serial past) over.made; quiet_now = quiet_grows past (Wrote block) arrival over.made over.quiet_now }
+over_grows arrival past (Wrote blocks) accepted over =
+    record { made = below_more arrival.serial (next_serial past) over.made; quiet_now = quiet_grows past (Wrote blocks) arrival over.made over.quiet_now }
 over_grows arrival past (Came other) accepted over = record { made = over.made; quiet_now = quiet_grows past (Came other) arrival over.made over.quiet_now }
 
 pub stale-stays : (past : Record) (steps : List Step) (arrival : Arrival) → arrival.serial < next_serial past → is_stale_to past arrival ≡ true → is_stale_to (entries_after_all past steps) arrival ≡ true

@@ -6,7 +6,7 @@ use Rattle.std.proofs.lemmas.Bool.{eqb-true}
 use Rattle.hc_records.proofs.lemmas.Choices.{is_other}
 use Rattle.hc_events.specs.Entries.{Entry, Record, Opened, Edited, Posted, Sent, Wrote, Came, Forgot}
 use Rattle.hc_events.specs.Points.{line_of, next_serial}
-use Rattle.hc_events.specs.Heads.{data_heads, write_head}
+use Rattle.hc_events.specs.Heads.{data_heads, write_heads}
 use Rattle.hc_events.specs.Answering.{Sending, just_sent, followed_by, sending_of}
 use Rattle.hc_events.specs.SendingLaws.{StandsAt, heads_of, is_opening, is_sending}
 use Rattle.hc_events.proofs.lemmas.Awaited.{same_is}
@@ -52,10 +52,10 @@ stands-at (Sent frame ∷ past) serial =
     stands_either (Sent frame ∷ past) serial (next_serial past == serial) (Some (just_sent (data_heads (line_of past) frame))) (option_map (followed_by (Sent frame)) (sending_of past serial))
     (λ t. made_now past (Sent frame) refl serial (eqb-true (next_serial past) serial t))
     (moved_on (Sent frame) refl past serial (sending_of past serial) (stands-at past serial))
-stands-at (Wrote block ∷ past) serial =
-    stands_either (Wrote block ∷ past) serial (next_serial past == serial) (Some (just_sent (write_head block ∷ []))) (option_map (followed_by (Wrote block)) (sending_of past serial))
-    (λ t. made_now past (Wrote block) refl serial (eqb-true (next_serial past) serial t))
-    (moved_on (Wrote block) refl past serial (sending_of past serial) (stands-at past serial))
+stands-at (Wrote blocks ∷ past) serial =
+    stands_either (Wrote blocks ∷ past) serial (next_serial past == serial) (Some (just_sent (write_heads blocks))) (option_map (followed_by (Wrote blocks)) (sending_of past serial))
+    (λ t. made_now past (Wrote blocks) refl serial (eqb-true (next_serial past) serial t))
+    (moved_on (Wrote blocks) refl past serial (sending_of past serial) (stands-at past serial))
 
 -- and back
 
@@ -69,7 +69,7 @@ sent_counts before (Posted task bytes) sends = cc
 sent_counts before (Forgot station) sends = cc
 sent_counts before (Came arrival) sends = cc
 sent_counts before (Sent frame) sends = one_more (next_serial before)
-sent_counts before (Wrote block) sends = one_more (next_serial before)
+sent_counts before (Wrote blocks) sends = one_more (next_serial before)
 
 -- behind a sending the next serial is above its own
 serial-above : (since : List Entry) (before : Record) (entry : Entry) → is_sending entry ≡ true → list_any is_opening since ≡ false → next_serial before < next_serial (since ++ entry ∷ before)
@@ -80,7 +80,7 @@ serial-above (Posted task bytes ∷ since) before entry sends running = serial-a
 serial-above (Forgot station ∷ since) before entry sends running = serial-above since before entry sends running
 serial-above (Came arrival ∷ since) before entry sends running = serial-above since before entry sends running
 serial-above (Sent frame ∷ since) before entry sends running = below_more _ _ (serial-above since before entry sends running)
-serial-above (Wrote block ∷ since) before entry sends running = below_more _ _ (serial-above since before entry sends running)
+serial-above (Wrote blocks ∷ since) before entry sends running = below_more _ _ (serial-above since before entry sends running)
 
 found_now : (before : Record) (entry : Entry) → is_sending entry ≡ true → sending_of (entry ∷ before) (next_serial before) ≡ Some (just_sent (heads_of before entry))
 found_now before (Opened groups) sends = cc
@@ -89,13 +89,13 @@ found_now before (Posted task bytes) sends = cc
 found_now before (Forgot station) sends = cc
 found_now before (Came arrival) sends = cc
 found_now before (Sent frame) sends = rw (same_is (next_serial before)) refl
-found_now before (Wrote block) sends = rw (same_is (next_serial before)) refl
+found_now before (Wrote blocks) sends = rw (same_is (next_serial before)) refl
 
 -- the sending at a point of a record, with the entries since
 abbrev pub sent_at : List Entry → Record → Entry → Sending
 sent_at since before entry = record { heads = heads_of before entry; since = since }
 
-passed_by : (serial next : ℕ) (now : Option Sending) (entry : Entry) (found : Option Sending) (older : Sending) → serial < next → found ≡ Some older → cond (next == serial) now (option_map (followed_by entry) found) ≡ Some (followed_by entry older)
+pub passed_by : (serial next : ℕ) (now : Option Sending) (entry : Entry) (found : Option Sending) (older : Sending) → serial < next → found ≡ Some older → cond (next == serial) now (option_map (followed_by entry) found) ≡ Some (followed_by entry older)
 passed_by serial next now entry found older less e = rw (is_other serial next less) (ap (option_map (followed_by entry)) e)
 
 pub found-under : (since : List Entry) (before : Record) (entry : Entry) → is_sending entry ≡ true → list_any is_opening since ≡ false → sending_of (since ++ entry ∷ before) (next_serial before) ≡ Some (sent_at since before entry)
@@ -108,8 +108,8 @@ found-under (Came arrival ∷ since) before entry sends running = ap (option_map
 found-under (Sent frame ∷ since) before entry sends running =
     passed_by (next_serial before) (next_serial (since ++ entry ∷ before)) _ (Sent frame) (sending_of (since ++ entry ∷ before) (next_serial before)) (sent_at since before entry)
     (serial-above since before entry sends running) (found-under since before entry sends running)
-found-under (Wrote block ∷ since) before entry sends running =
-    passed_by (next_serial before) (next_serial (since ++ entry ∷ before)) _ (Wrote block) (sending_of (since ++ entry ∷ before) (next_serial before)) (sent_at since before entry)
+found-under (Wrote blocks ∷ since) before entry sends running =
+    passed_by (next_serial before) (next_serial (since ++ entry ∷ before)) _ (Wrote blocks) (sending_of (since ++ entry ∷ before) (next_serial before)) (sent_at since before entry)
     (serial-above since before entry sends running) (found-under since before entry sends running)
 
 pub standing-found : (past : Record) (serial : ℕ) (sending : Sending) → StandsAt past serial sending → sending_of past serial ≡ Some sending

@@ -1,6 +1,6 @@
 //! Datagrams in slices of their exact size.
-ghost use Rattle.std.specs.Prelude.{◌≡◌, ◌+◌, ◌≤◌, ◌++◌, OnOk, length, map};
-ghost use Rattle.hc_frames.specs.FrameText.{datagram_text, datagrams_text, blank_lrw, lrw};
+ghost use Rattle.std.specs.Prelude.{◌≡◌, ◌+◌, ◌*◌, ◌≤◌, ◌++◌, OnOk, length, map};
+ghost use Rattle.hc_frames.specs.FrameText.{block_write, datagram_text, datagrams_text, blank_lrw, lrw, station_address};
 ghost use Rattle.hc_frames.specs.Sizes.{datagrams_size};
 
 use super::heads::datagram_head;
@@ -36,6 +36,32 @@ pub fn build_datagram_of(out: &mut [u8], serial: u64, address: u32, bytes: &[u8]
     ensures { out.new ≡ datagram_text serial more (lrw address bytes.now) }
 {
     write_datagram(out, serial, Command::Lrw, address, bytes, more);
+}
+
+/// A register of the slave with a station address, as the address of a datagram: the station in its low word.
+pub(crate) fn station_address(station: u16, register: u16) -> u32
+    ensures { result ≡ station_address station register }
+{
+    u32::from(station) + 65536 * u32::from(register)
+}
+
+/// Writes one datagram of a register block write (FPWR) with these data bytes, 1 to 1,486, and the working counter 0.
+/// `out` has 12 bytes more than the data. `more` says that another datagram follows it. After the 16 bytes of `build_head`,
+/// one such datagram and zeros up to the least frame are the frame of `build_write`.
+pub fn build_write_datagram(
+    out: &mut [u8],
+    serial: u64,
+    station: u16,
+    register: u16,
+    bytes: &[u8],
+    more: bool,
+)
+    requires exact { length out.old ≡ 12 + length bytes.now }
+    requires size { length bytes.now ≤ MAX_DATA }
+    ensures { out.new ≡ datagram_text serial more (block_write station register bytes.now) }
+{
+    let address = station_address(station, register);
+    write_datagram(out, serial, Command::Fpwr, address, bytes, more);
 }
 
 /// Adds one LRW datagram with these data bytes to a text, as `build_datagram_of` writes it. `AllocError` where the text has

@@ -5,7 +5,7 @@ ghost use Rattle.hc_frames.specs.FrameText.{frame_text, blank_lrw, block_write, 
 ghost use Rattle.hc_frames.specs.Sizes.{ShareFrame, datagrams_size, frame_bytes, frame_size};
 
 use super::Room;
-use super::datagrams::{write_blank_datagrams, write_datagram};
+use super::datagrams::{station_address, write_blank_datagrams, write_datagram};
 use super::heads::build_head;
 use crate::commands::Command;
 use crate::limits::{
@@ -77,7 +77,7 @@ pub fn build_write(
     requires size { length bytes.now ≤ MAX_DATA }
     ensures { Builds out.old out.new result (frame_text serial (block_write station register bytes.now ∷ [])) (frame_size (length bytes.now)) }
 {
-    let address = u32::from(station) + 65536 * u32::from(register);
+    let address = station_address(station, register);
     build_single(out, serial, Command::Fpwr, address, bytes)
 }
 

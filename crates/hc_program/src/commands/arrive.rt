@@ -18,7 +18,8 @@ use std::alloc::{AllocError, Global};
 const LONGEST_OUTCOME: usize = 14 + 2 * MOST_DIGITS;
 
 /// Hands in bytes that arrive and adds what they are: a line for each datagram that they answer, one for a
-/// register write or where they are stale, or why they can't be read. `AllocError` where a growth was
+/// register write or where they are stale, or why they can't be read; of several writes in one frame, which the program
+/// never sends, nothing. `AllocError` where a growth was
 /// refused; nothing has then arrived, and `out` may have a front of the lines. Room for the longest lines
 /// is taken before the bytes are handed in.
 #[tactic(auto, unfolding(crate::specs::Answers::told))]
@@ -42,6 +43,8 @@ pub fn reply(
         Answer::WriteDone => add_text("write done\n", out),
         Answer::WriteMissed => add_text("write missed\n", out),
         Answer::Stale => add_text("stale\n", out),
+        // the program sends no frame of several register writes, so such an answer has no text
+        Answer::Written(_) => {}
         // what can be read is refused in want of memory alone
         Answer::Refused(_) => return Err(AllocError),
         _ => unreachable!(),
@@ -88,6 +91,8 @@ fn add_outcome(outcome: Outcome, out: &mut String)
             add_pair(u64::from(expected), u64::from(got), out);
         }
         Outcome::Stale => add_text("stale\n", out),
+        Outcome::Done => {}
+        Outcome::Missed => {}
     }
 }
 

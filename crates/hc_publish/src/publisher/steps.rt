@@ -103,22 +103,15 @@ impl Publisher {
         }
     }
 
-    fn published<R: Wait>(mut self, rt: &R) -> (Publisher, Result<(), AllocError>)
-        ensures lists { MatchResult result.1
-            (λ _. (published result.0 ≡ published self ++ pending self) × (pending result.0 ≡ []))
-            (λ _. (published result.0 ≡ published self) × (pending result.0 ≡ pending self)) }
-        ensures origin { origin_of result.0 ≡ origin_of self }
+    // All that is pending has its seal from now on.
+    fn be_sealed(&mut self) -> Result<(), AllocError>
+        ensures same { AreSame self.old self.new }
+        ensures ready { IfOk result (λ _. IsReady self.new) }
     {
-        if !self.writer.has_pending_operations() {
-            return (self, Ok(()));
-        }
         if self.is_sealed {
-            return self.exchanged(rt);
+            return Ok(());
         }
-        match self.seal() {
-            Ok(()) => self.exchanged(rt),
-            Err(error) => (self, Err(error)),
-        }
+        self.seal()
     }
 
     /// Shows the views to come all pending changes at once. It waits while a view of the old copy lives.
@@ -129,15 +122,20 @@ impl Publisher {
             (λ _. (published self.new ≡ published self.old) × (pending self.new ≡ pending self.old)) }
         ensures origin { origin_of self.new ≡ origin_of self.old }
     {
+        if !self.writer.has_pending_operations() {
+            return Ok(());
+        }
+        self.be_sealed()?;
         replace_with(
             self,
             rt,
             |publisher: Publisher, rt: &R| -> (Publisher, Result<(), AllocError>)
+                requires { IsReady publisher }
                 ensures lists { MatchResult result.1
                     (λ _. (published result.0 ≡ published publisher ++ pending publisher) × (pending result.0 ≡ []))
                     (λ _. (published result.0 ≡ published publisher) × (pending result.0 ≡ pending publisher)) }
                 ensures origin { origin_of result.0 ≡ origin_of publisher }
-            { publisher.published(rt) },
+            { publisher.exchanged(rt) },
         )
     }
 

@@ -1,49 +1,53 @@
 -- What is kept as awaited stays what the record awaits: at the opening, behind edits, stale arrivals, posts, register writes and forgotten slaves.
-use Rattle.std.proofs.Common.{◌≡◌, ◌≢◌, ℕ, ◌+◌, ◌==◌, ◌<◌, Bool, true, false, cond, not, ◌&&◌, ◌||◌, List, [], ◌∷◌, filter, map, refl, sym, ap, ◌∙◌, subst, arith, Option, Some, None}
-use Rattle.std.specs.Prelude.{All, option_and_then, option_map}
+use Rattle.std.proofs.Common.{◌≡◌, ◌≢◌, ℕ, ◌+◌, ◌==◌, ◌<◌, Bool, true, false, cond, not, ◌||◌, List, [], ◌∷◌, ◌++◌, filter, length, map, refl, sym, ap, ◌∙◌, arith, Option, Some, None}
+use Rattle.std.specs.Prelude.{All, AllPairs, find, option_and_then, option_map}
 use Rattle.std.specs.Option.{option_or}
 use Rattle.std.specs.List.{list_any}
-use Rattle.std.proofs.lemmas.Bool.{eq-eqb, not-true}
-use Rattle.std.proofs.lemmas.List.Elements.{All-nil, All-weaker}
-use Rattle.std.proofs.lemmas.Option.{none-some, same_Some}
+use Rattle.std.proofs.lemmas.Bool.{not-true}
+use Rattle.std.proofs.lemmas.List.Elements.{All-append, All-cons, All-filter, All-map, All-nil, All-weaker}
+use Rattle.std.proofs.lemmas.List.Kept.{AllPairs-cons, AllPairs-filter}
 use Rattle.hc_records.specs.declared.edit.Edit.{Edit}
 use Rattle.hc_records.specs.declared.records.Group.{Group}
-use Rattle.hc_records.proofs.lemmas.Lists.{AllPairs-nil}
+use Rattle.hc_records.proofs.lemmas.Lists.{AllPairs-append, AllPairs-map, AllPairs-nil}
 use Rattle.hc_records.proofs.lemmas.Choices.{by_bool}
 use Rattle.hc_registers.specs.Blocks.{LineBlock}
 use Rattle.hc_events.specs.Arrivals.{Arrival}
-use Rattle.hc_events.specs.Accepted.{AreAccepted, StandsIn, just_opened}
+use Rattle.hc_events.specs.Accepted.{StandsIn, just_opened}
 use Rattle.hc_events.specs.Entries.{Entry, Record, Edited, Posted, Wrote, Came, Forgot}
 use Rattle.hc_events.specs.Points.{line_of, next_serial}
-use Rattle.hc_events.specs.Heads.{Block, Datagram, Head, is_block, write_head}
-use Rattle.hc_events.specs.Answering.{Sending, followed_by, forgets, is_news, is_outdated, is_stale_to, judged_by, just_sent, only_if, sending_of, sends, starts_over}
-use Rattle.hc_events.specs.Awaited.{alive, all_outdated, awaited, is_ended, is_no_arrival, is_write}
-use Rattle.hc_events.specs.Owed.{owed_blocks}
-use Rattle.hc_events.proofs.lemmas.Awaited.{alive_edited, alive_other, all-posted, awaited-fresh, awaited-stale, data-untouched, frame-untouched, no-block_first, outdated-posted, unless_again}
-use Rattle.hc_events.proofs.lemmas.OneWrite.{older-frame}
-use Rattle.hc_events.proofs.lemmas.Once.{below_more, only-if_some}
-use Rattle.hc_sendings.specs.Waiting.{AwaitedFrame, AwaitedWrite, Waiting, awaited_write, forgot, nothing, wrote}
-use Rattle.hc_sendings.specs.Judging.{Due, due_with, found_frame, found_write, frame_due, write_due, written_head}
-use Rattle.hc_sendings.proofs.lemmas.Framed.{frame-due, frames-due, is_frame, nothing-due, write-due}
-use Rattle.hc_sendings.proofs.lemmas.Sorts.{write-kept}
-use Rattle.hc_sendings.specs.Record.{KeepsAwaited, due_by, due_in, dues_of}
+use Rattle.hc_events.specs.Heads.{Datagram, Head, write_heads}
+use Rattle.hc_events.specs.Answering.{Sending, followed_by, is_news, is_stale_to, judged_by, just_sent, sending_of, sends}
+use Rattle.hc_events.specs.Awaited.{alive, all_outdated, awaited, is_ended, is_no_arrival}
+use Rattle.hc_events.proofs.lemmas.Awaited.{alive_edited, alive_other, all-posted, awaited-stale, outdated-posted, unless_again}
+use Rattle.hc_events.proofs.lemmas.Once.{below_more}
+use Rattle.hc_sendings.specs.declared.write_frames.PlacedBlock.{PlacedBlock}
+use Rattle.hc_sendings.specs.declared.writes.AwaitedBlock.{AwaitedBlock}
+use Rattle.hc_sendings.specs.Waiting.{AwaitedFrame, AwaitedWrite, Waiting, awaited_block, block_forgotten, forgot, is_awaited, nothing, older_writes, with_written, write_forgotten, written_again, wrote}
+use Rattle.hc_sendings.specs.WriteFrames.{block_of}
+use Rattle.hc_sendings.specs.Judging.{Due, block_due, due_with, found_frame, found_write, frame_due, write_due}
+use Rattle.hc_sendings.proofs.lemmas.Marked.{find-last, find-marked}
+use Rattle.hc_sendings.proofs.lemmas.Rewritten.{all-over, forgotten-marks, frame-after, kept-since, marked-dues, write-after, write-left, written-marks}
+use Rattle.hc_sendings.specs.Record.{KeepsAwaited, due_by, due_in, dues_of, was_forgotten}
 
 -- nothing is awaited at the opening, and behind an accepted edit
 
-nothing_waits : (past : Record) → ((serial : ℕ) → due_by past serial ≡ None) → KeepsAwaited past nothing
-nothing_waits past none = record {
+nothing_waits : (past : Record) → ((serial : ℕ) → due_by past serial ≡ None) → was_forgotten past ≡ false → KeepsAwaited past nothing
+nothing_waits past none never = record {
   due = λ serial. sym (none serial);
   ascend = AllPairs-nil (λ (a b : AwaitedFrame). a.serial < b.serial);
   below = All-nil (λ (frame : AwaitedFrame). frame.serial < next_serial past);
   stands = All-nil (λ (frame : AwaitedFrame). All (λ carried. StandsIn (line_of past) carried.datagram) frame.datagrams);
-  apart = λ write e. absurd (none-some write e);
+  in_order = AllPairs-nil (λ (a b : AwaitedWrite). a.serial < b.serial);
+  given = All-nil (λ (write : AwaitedWrite). write.serial < next_serial past);
+  apart = All-nil (λ (write : AwaitedWrite). All (λ (frame : AwaitedFrame). frame.serial ≢ write.serial) []);
+  forgotten = sym never;
 }
 
 pub waits-opened : (groups : List Group) → KeepsAwaited (just_opened groups) nothing
-waits-opened groups = nothing_waits (just_opened groups) (λ serial. refl)
+waits-opened groups = nothing_waits (just_opened groups) (λ serial. refl) refl
 
 pub waits-edited : (past : Record) (edit : Edit) → KeepsAwaited (Edited edit ∷ past) nothing
-waits-edited past edit = nothing_waits (Edited edit ∷ past) (λ serial. ap (option_map dues_of) (alive_edited serial edit (sending_of past serial)))
+waits-edited past edit = nothing_waits (Edited edit ∷ past) (λ serial. ap (option_map dues_of) (alive_edited serial edit (sending_of past serial))) refl
 
 -- a stale arrival changes nothing
 
@@ -53,7 +57,10 @@ waits-stale past kept arrival stale waits = record {
   ascend = waits.ascend;
   below = waits.below;
   stands = waits.stands;
+  in_order = waits.in_order;
+  given = waits.given;
   apart = waits.apart;
+  forgotten = waits.forgotten;
 }
 
 -- nor does a post
@@ -84,177 +91,210 @@ waits-posted past kept task bytes waits = record {
   ascend = waits.ascend;
   below = waits.below;
   stands = waits.stands;
+  in_order = waits.in_order;
+  given = waits.given;
   apart = waits.apart;
+  forgotten = waits.forgotten;
 }
 
--- entries that say nothing of frames of tasks leave what is due of these
+-- register blocks are written in one frame
 
-dues_stay : (entry : Entry) → ((task d : ℕ) → sends (Datagram task d) entry ≡ false) → (heads : List Head) (since : List Entry) → list_any (λ head. is_block head.item) heads ≡ false
-    → map (due_in (entry ∷ since)) heads ≡ map (due_in since) heads
-dues_stay entry none [] since e = refl
-dues_stay entry none (head ∷ heads) since e =
-    let both = no-block_first head heads e in
-    ap (λ b. let due : Due = record { head = head; newest = not b } in due ∷ map (due_in (entry ∷ since)) heads) (data-untouched entry none head.item since both.0)
-    ∙ ap (λ dues. due_in since head ∷ dues) (dues_stay entry none heads since both.1)
+-- the writes that stay
 
-frame_stays : (past : Record) (entry : Entry) → ((task d : ℕ) → sends (Datagram task d) entry ≡ false) → (serial : ℕ) (sending : Sending) → awaited past serial ≡ Some sending → is_write sending ≡ false
-    → option_map dues_of (unless_again entry sending) ≡ Some (dues_of sending)
-frame_stays past entry none serial sending there frame =
-    ap (λ b. option_map dues_of (cond b None (Some (followed_by entry sending)))) (frame-untouched entry none sending.heads sending.since frame ∙ awaited-fresh past serial sending there)
-    ∙ ap (λ dues. Some dues) (dues_stay entry none sending.heads sending.since frame)
+abbrev Ascend : AwaitedWrite → AwaitedWrite → Type 0
+Ascend a b = a.serial < b.serial
 
--- a register write of the first owed block takes the place of any other, and the frames stay
+abbrev serial_of : AwaitedWrite → ℕ
+serial_of write = write.serial
 
-awaited_now : (past : Record) (block : LineBlock) (serial : ℕ) → (next_serial past == serial) ≡ true → awaited (Wrote block ∷ past) serial ≡ Some (just_sent (write_head block ∷ []))
-awaited_now past block serial t =
-    ap (λ b. option_and_then (alive serial) (cond b (Some (just_sent (write_head block ∷ []))) (option_map (followed_by (Wrote block)) (sending_of past serial)))) t
+kept_all : (P : AwaitedWrite → Type 0) (again : List AwaitedBlock) (writes : List AwaitedWrite) (gone : Bool) → ((write : AwaitedWrite) → P write → P (with_written again write)) → All P writes
+    → All P (cond gone [] (filter is_awaited (map (with_written again) writes)))
+kept_all P again writes true still all = All-nil P
+kept_all P again writes false still all =
+    All-filter is_awaited P (map (with_written again) writes) (All-map P (with_written again) writes (All-weaker P (λ (write : AwaitedWrite). P (with_written again write)) still writes all))
 
-awaited_older : (past : Record) (block : LineBlock) (serial : ℕ) → (next_serial past == serial) ≡ false → awaited (Wrote block ∷ past) serial ≡ option_and_then (unless_again (Wrote block)) (awaited past serial)
-awaited_older past block serial t =
-    ap (λ b. option_and_then (alive serial) (cond b (Some (just_sent (write_head block ∷ []))) (option_map (followed_by (Wrote block)) (sending_of past serial)))) t
-    ∙ alive_other serial (Wrote block) (λ heads. refl) refl (sending_of past serial)
-
-over_if : (over : Bool) (sending : Sending) → (over ≡ false → ⊥) → option_map dues_of (cond over None (Some sending)) ≡ None
-over_if true sending never = refl
-over_if false sending never = absurd (never refl)
-
-wrote_left : (past : Record) (block : LineBlock) (rest : List LineBlock) (serial : ℕ) (found : Option Sending) → AreAccepted past → owed_blocks past ≡ block ∷ rest → (next_serial past == serial) ≡ false → awaited past serial ≡ found
-    → option_map dues_of (option_and_then (unless_again (Wrote block)) found) ≡ option_map dues_of (option_and_then (only_if is_frame) found)
-wrote_left past block rest serial None all owed other there = refl
-wrote_left past block rest serial (Some sending) all owed other there =
-    by_bool (is_write sending)
-    (λ t. over_if (all_outdated (Wrote block ∷ sending.since) sending.heads) (followed_by (Wrote block) sending)
-    (λ stays. let now : awaited (Wrote block ∷ past) serial ≡ Some (followed_by (Wrote block) sending) =
-    awaited_older past block serial other ∙ ap (option_and_then (unless_again (Wrote block))) there ∙ ap (λ b. cond b None (Some (followed_by (Wrote block) sending))) stays in
-    let never : true ≡ false = sym t ∙ older-frame past block rest serial (followed_by (Wrote block) sending) all owed other now in cc)
-    ∙ sym (ap (λ b. option_map dues_of (cond (not b) (Some sending) None)) t))
-    (λ t. frame_stays past (Wrote block) (λ task d. refl) serial sending there t
-    ∙ sym (ap (λ b. option_map dues_of (cond (not b) (Some sending) None)) t))
-
-due_wrote : (past : Record) (kept : Waiting) (place : ℕ) (block : LineBlock) (rest : List LineBlock) (serial : ℕ) → AreAccepted past → owed_blocks past ≡ block ∷ rest → KeepsAwaited past kept
-    → due_with (line_of past) (wrote (next_serial past) place block kept) serial ≡ due_by (Wrote block ∷ past) serial
-due_wrote past kept place block rest serial all owed waits =
-    let write = awaited_write (next_serial past) place block in
-    by_bool (next_serial past == serial)
-    (λ t. ap (λ b. option_or (option_map write_due (cond b (Some write) None)) (option_map (frame_due (line_of past)) (found_frame serial kept))) t
-    ∙ sym (ap (option_map dues_of) (awaited_now past block serial t)))
-    (λ t. ap (λ b. option_or (option_map write_due (cond b (Some write) None)) (option_map (frame_due (line_of past)) (found_frame serial kept))) t
-    ∙ frames-due past kept serial waits
-    ∙ sym (wrote_left past block rest serial (awaited past serial) all owed t refl)
-    ∙ sym (ap (option_map dues_of) (awaited_older past block serial t)))
+kept_order : (again : List AwaitedBlock) (writes : List AwaitedWrite) (gone : Bool) → AllPairs Ascend writes → AllPairs Ascend (cond gone [] (filter is_awaited (map (with_written again) writes)))
+kept_order again writes true all = AllPairs-nil Ascend
+kept_order again writes false all = AllPairs-filter Ascend is_awaited (map (with_written again) writes) (AllPairs-map Ascend (with_written again) writes all)
 
 less_apart : (m n : ℕ) → m < n → m ≢ n
 less_apart m n less same = omega (arith, less, same)
 
-pub waits-wrote : (past : Record) (kept : Waiting) (place : ℕ) (block : LineBlock) (rest : List LineBlock) → AreAccepted past
-    → owed_blocks past ≡ block ∷ rest → KeepsAwaited past kept → KeepsAwaited (Wrote block ∷ past) (wrote (next_serial past) place block kept)
-waits-wrote past kept place block rest all first waits = record {
-  due = λ serial. due_wrote past kept place block rest serial all first waits;
-  ascend = waits.ascend;
-  below = All-weaker (λ (frame : AwaitedFrame). frame.serial < next_serial past) (λ (frame : AwaitedFrame). frame.serial < next_serial past + 1) (λ frame below. below_more frame.serial (next_serial past) below) kept.frames waits.below;
-  stands = waits.stands;
-  apart = λ write e.
-      subst (λ (serial : ℕ). All (λ (frame : AwaitedFrame). frame.serial ≢ serial) kept.frames)
-      (ap (λ (one : AwaitedWrite). one.serial) (same_Some (awaited_write (next_serial past) place block) write e))
-      (All-weaker (λ (frame : AwaitedFrame). frame.serial < next_serial past) (λ (frame : AwaitedFrame). frame.serial ≢ next_serial past) (λ frame below. less_apart frame.serial (next_serial past) below) kept.frames waits.below);
-}
-
--- forgetting a slave ends a write to it, and nothing else
-
-none_left : (station serial : ℕ) (write : Option AwaitedWrite) → option_and_then (only_if (λ w. w.serial == serial)) write ≡ None
-    → option_and_then (only_if (λ w. w.serial == serial)) (option_and_then (only_if (λ w. not (w.station == station))) write) ≡ None
-none_left station serial None e = refl
-none_left station serial (Some write) e = by (write.station == station)
-  where
-    by : (own : Bool) → option_and_then (only_if (λ w. w.serial == serial)) (cond (not own) (Some write) None) ≡ None
-    by true = refl
-    by false = e
-
-forgot_frame : (past : Record) (kept : Waiting) (station serial : ℕ) (found : Option AwaitedWrite) → found_write serial (forgot station kept) ≡ found → found ≡ None
-    → due_with (line_of past) (forgot station kept) serial ≡ option_map (frame_due (line_of past)) (found_frame serial kept)
-forgot_frame past kept station serial found is none =
-    ap (λ write. option_or (option_map write_due write) (option_map (frame_due (line_of past)) (found_frame serial kept))) (is ∙ none)
-
-write_forgot : (station serial : ℕ) (write : AwaitedWrite) (own : Bool) → (write.station == station) ≡ own → write.serial ≡ serial
-    → option_and_then (only_if (λ w. w.serial == serial)) (option_and_then (only_if (λ w. not (w.station == station))) (Some write)) ≡ cond own None (Some write)
-write_forgot station serial write true e same = ap (λ b. option_and_then (only_if (λ (w : AwaitedWrite). w.serial == serial)) (cond (not b) (Some write) None)) e
-write_forgot station serial write false e same =
-    ap (λ b. option_and_then (only_if (λ (w : AwaitedWrite). w.serial == serial)) (cond (not b) (Some write) None)) e
-    ∙ ap (λ b. cond b (Some write) None) (eq-eqb write.serial serial same)
-
 -- by the record
 
-one_forgot : (station a n : ℕ) (since : List Entry) → is_outdated (Block a n) (Forgot station ∷ since) ≡ ((a == station) || is_outdated (Block a n) since)
-one_forgot station a n since = by (a == station)
-  where
-    by : (own : Bool) → (((own || list_any (forgets a) since) || starts_over since) || list_any (sends (Block a n)) since) ≡ (own || is_outdated (Block a n) since)
-    by true = refl
-    by false = refl
+awaited_now : (past : Record) (block : LineBlock) (blocks : List LineBlock) (serial : ℕ) → (next_serial past == serial) ≡ true
+    → awaited (Wrote (block ∷ blocks) ∷ past) serial ≡ Some (just_sent (write_heads (block ∷ blocks)))
+awaited_now past block blocks serial t =
+    ap (λ b. option_and_then (alive serial) (cond b (Some (just_sent (write_heads (block ∷ blocks)))) (option_map (followed_by (Wrote (block ∷ blocks))) (sending_of past serial)))) t
 
-forgot_one : (station : ℕ) (write : AwaitedWrite) (sending : Sending) (own : Bool) → (write.station == station) ≡ own → sending.heads ≡ written_head write ∷ [] → all_outdated sending.since sending.heads ≡ false
-    → option_map dues_of (unless_again (Forgot station) sending) ≡ cond own None (Some (dues_of sending))
-forgot_one station write sending own e heads fresh =
-    let item = Block write.station write.number in
-    let since = sending.since in
-    let out : all_outdated (Forgot station ∷ since) sending.heads ≡ (((write.station == station) || is_outdated item since) && true) =
-    ap (all_outdated (Forgot station ∷ since)) heads ∙ ap (λ b. b && true) (one_forgot station write.station write.number since) in
-    let was : (is_outdated item since && true) ≡ false = sym (ap (all_outdated since) heads) ∙ fresh in
-    by own e out was
-  where
-    plain : (b : Bool) → (b && true) ≡ false → b ≡ false
-    plain true e = cc
-    plain false e = refl
+awaited_older : (past : Record) (blocks : List LineBlock) (serial : ℕ) → (next_serial past == serial) ≡ false
+    → awaited (Wrote blocks ∷ past) serial ≡ option_and_then (unless_again (Wrote blocks)) (awaited past serial)
+awaited_older past blocks serial t =
+    ap (λ b. option_and_then (alive serial) (cond b (Some (just_sent (write_heads blocks))) (option_map (followed_by (Wrote blocks)) (sending_of past serial)))) t
+    ∙ alive_other serial (Wrote blocks) (λ heads. refl) refl (sending_of past serial)
 
-    by : (own : Bool) → (write.station == station) ≡ own
-        → all_outdated (Forgot station ∷ sending.since) sending.heads ≡ (((write.station == station) || is_outdated (Block write.station write.number) sending.since) && true)
-        → (is_outdated (Block write.station write.number) sending.since && true) ≡ false
-        → option_map dues_of (unless_again (Forgot station) sending) ≡ cond own None (Some (dues_of sending))
-    by true e out was =
-        ap (λ b. option_map dues_of (cond b None (Some (followed_by (Forgot station) sending)))) (out ∙ ap (λ b. (b || is_outdated (Block write.station write.number) sending.since) && true) e)
-    by false e out was =
-        let not_own = ap (λ b. (b || is_outdated (Block write.station write.number) sending.since) && true) e in
-        ap (λ b. option_map dues_of (cond b None (Some (followed_by (Forgot station) sending)))) (out ∙ not_own ∙ was)
-        ∙ ap (λ (all : List Head). Some (map (due_in (Forgot station ∷ sending.since)) all)) heads
-        ∙ ap (λ b. let due : Due = record { head = written_head write; newest = not b } in Some (due ∷ [])) (one_forgot station write.station write.number sending.since ∙ ap (λ b. b || is_outdated (Block write.station write.number) sending.since) e)
-        ∙ sym (ap (λ (all : List Head). Some (map (due_in sending.since) all)) heads)
+no_datagram : (task d : ℕ) (blocks : List LineBlock) → sends (Datagram task d) (Wrote blocks) ≡ false
+no_datagram task d [] = refl
+no_datagram task d (block ∷ blocks) = no_datagram task d blocks
 
-due_forgot : (past : Record) (kept : Waiting) (station serial : ℕ) (found : Option Sending) → KeepsAwaited past kept → awaited past serial ≡ found
-    → due_with (line_of past) (forgot station kept) serial ≡ option_map dues_of (option_and_then (unless_again (Forgot station)) found)
-due_forgot past kept station serial None waits there =
-    let none = nothing-due past kept serial waits there in
-    forgot_frame past kept station serial (found_write serial (forgot station kept)) refl (none_left station serial kept.write none.0) ∙ none.1
-due_forgot past kept station serial (Some sending) waits there =
-    by_bool (is_write sending)
-    (λ t. let one = write-kept past kept serial sending waits there t in
-    let own = one.write.station == station in
-    let write : found_write serial (forgot station kept) ≡ cond own None (Some one.write) =
-    ap (λ w. option_and_then (only_if (λ (v : AwaitedWrite). v.serial == serial)) (option_and_then (only_if (λ (v : AwaitedWrite). not (v.station == station))) w)) one.there
-    ∙ write_forgot station serial one.write own refl one.serial_is in
-    let frame : option_map (frame_due (line_of past)) (found_frame serial kept) ≡ None =
-    frames-due past kept serial waits ∙ ap (λ f. option_map dues_of (option_and_then (only_if is_frame) f)) there ∙ ap (λ b. option_map dues_of (cond (not b) (Some sending) None)) t in
-    ap (λ w. option_or (option_map write_due w) (option_map (frame_due (line_of past)) (found_frame serial kept))) write
-    ∙ ap (λ f. option_or (option_map write_due (cond own None (Some one.write))) f) frame
-    ∙ either own one.write sending (sym (write-due past kept serial sending waits there t))
-    ∙ sym (forgot_one station one.write sending own refl one.heads (awaited-fresh past serial sending there)))
-    (λ t. let due = frame-due past kept serial sending waits there t in
-    forgot_frame past kept station serial (found_write serial (forgot station kept)) refl (none_left station serial kept.write due.0) ∙ due.1
-    ∙ sym (frame_stays past (Forgot station) (λ task d. refl) serial sending there t))
-  where
-    either : (own : Bool) (write : AwaitedWrite) (sending : Sending) → dues_of sending ≡ write_due write
-        → option_or (option_map write_due (cond own None (Some write))) None ≡ cond own None (Some (dues_of sending))
-    either true write sending same = refl
-    either false write sending same = ap (λ dues. Some dues) (sym same)
+new_dues : (placed : List PlacedBlock) → map block_due (map awaited_block placed) ≡ map (due_in []) (write_heads (map block_of placed))
+new_dues [] = refl
+new_dues (one ∷ placed) = ap (λ (dues : List Due). block_due (awaited_block one) ∷ dues) (new_dues placed)
 
-left_write : (station : ℕ) (found : Option AwaitedWrite) (write : AwaitedWrite) → option_and_then (only_if (λ w. not (w.station == station))) found ≡ Some write → found ≡ Some write
-left_write station found write e = (only-if_some found (λ w. not (w.station == station)) write e).0
+-- by what is kept
+
+module _ (past : Record) (kept : Waiting) (placed : List PlacedBlock) (waits : KeepsAwaited past kept) where
+  abbrev again : List AwaitedBlock
+  again = map awaited_block placed
+
+  abbrev older : List AwaitedWrite
+  older = older_writes again kept
+
+  abbrev new : AwaitedWrite
+  new = record { serial = next_serial past; blocks = again }
+
+  abbrev frames_with : ℕ → Option (List Due)
+  frames_with serial = option_map (frame_due (line_of past)) (found_frame serial kept)
+
+  abbrev left_with : ℕ → Option (List Due)
+  left_with serial = option_or (option_map write_due (find (λ (write : AwaitedWrite). write.serial == serial) older)) (frames_with serial)
+
+  below_next : All (λ (write : AwaitedWrite). write.serial < next_serial past) older
+  below_next = kept_all (λ (write : AwaitedWrite). write.serial < next_serial past) again kept.writes kept.forgotten (λ write below. below) waits.given
+
+  found_all : (serial : ℕ) → find (λ (write : AwaitedWrite). write.serial == serial) (older ++ new ∷ []) ≡ cond (next_serial past == serial) (Some new) (find (λ (write : AwaitedWrite). write.serial == serial) older)
+  found_all serial = find-last serial_of serial older new below_next
+
+  -- an older write stays unless all its blocks are written again
+  stays_found : (serial : ℕ) → kept.forgotten ≡ false → (found : Option AwaitedWrite) → found_write serial kept ≡ found
+      → find (λ (write : AwaitedWrite). write.serial == serial) older ≡ option_and_then (λ (write : AwaitedWrite). cond (is_awaited (with_written again write)) (Some (with_written again write)) None) found
+  stays_found serial not_forgotten found e =
+      ap (λ b. find (λ (write : AwaitedWrite). write.serial == serial) (cond b [] (filter is_awaited (map (with_written again) kept.writes)))) not_forgotten
+      ∙ find-marked serial_of (with_written again) is_awaited (λ write. refl) serial kept.writes waits.in_order
+      ∙ ap (option_and_then (λ (write : AwaitedWrite). cond (is_awaited (with_written again write)) (Some (with_written again write)) None)) e
+
+  goes_found : (serial : ℕ) → kept.forgotten ≡ true → find (λ (write : AwaitedWrite). write.serial == serial) older ≡ None
+  goes_found serial some = ap (λ b. find (λ (write : AwaitedWrite). write.serial == serial) (cond b [] (filter is_awaited (map (with_written again) kept.writes)))) some
+
+  abbrev Left : ℕ → Type 0
+  Left serial = left_with serial ≡ option_map dues_of (option_and_then (unless_again (Wrote (map block_of placed))) (awaited past serial))
+
+  left_none : (serial : ℕ) → find (λ (write : AwaitedWrite). write.serial == serial) older ≡ None → found_write serial kept ≡ None → Left serial
+  left_none serial gone e =
+      ap (λ found. option_or (option_map write_due found) (frames_with serial)) gone
+      ∙ frame-after past kept (Wrote (map block_of placed)) serial waits (λ task d. no_datagram task d (map block_of placed)) e
+
+  left_over : (serial : ℕ) (write : AwaitedWrite) → kept.forgotten ≡ true → found_write serial kept ≡ Some write → Left serial
+  left_over serial write some e =
+      ap (λ found. option_or (option_map write_due found) (frames_with serial)) (goes_found serial some)
+      ∙ write-after past kept (Wrote (map block_of placed)) serial waits write None e
+      (λ one. sym (ap (λ b. option_map dues_of (cond b None (Some (followed_by (Wrote (map block_of placed)) one.sending))))
+      (all-over placed one.sending.since write.blocks one.sending.heads one.dues (kept-since past kept serial write waits one ∙ some))))
+
+  left_again : (serial : ℕ) (write : AwaitedWrite) → kept.forgotten ≡ false → found_write serial kept ≡ Some write → Left serial
+  left_again serial write not_forgotten e =
+      let mark = with_written again write in
+      ap (λ found. option_or (option_map write_due found) (frames_with serial)) (stays_found serial not_forgotten (Some write) e)
+      ∙ write-after past kept (Wrote (map block_of placed)) serial waits write (cond (is_awaited mark) (Some mark) None) e
+      (λ one. write-left (written_again again) (Wrote (map block_of placed)) write one.sending
+      (marked-dues (written_again again) (Wrote (map block_of placed)) one.sending.since
+      (written-marks placed one.sending.since (kept-since past kept serial write waits one ∙ not_forgotten)) write.blocks one.sending.heads one.dues))
+
+  left_by : (serial : ℕ) (found : Option AwaitedWrite) → found_write serial kept ≡ found → Left serial
+  left_by serial None e =
+      by_bool kept.forgotten
+      (λ t. left_none serial (goes_found serial t) e)
+      (λ t. left_none serial (stays_found serial t None e) e)
+  left_by serial (Some write) e =
+      by_bool kept.forgotten
+      (λ t. left_over serial write t e)
+      (λ t. left_again serial write t e)
+
+  due_all : (serial : ℕ) → due_with (line_of past) (wrote (next_serial past) again kept) serial ≡ cond (next_serial past == serial) (Some (write_due new)) (left_with serial)
+  due_all serial =
+      ap (λ found. option_or (option_map write_due found) (frames_with serial)) (found_all serial)
+      ∙ by (next_serial past == serial)
+    where
+      by : (now : Bool) → option_or (option_map write_due (cond now (Some new) (find (λ (write : AwaitedWrite). write.serial == serial) older))) (frames_with serial) ≡ cond now (Some (write_due new)) (left_with serial)
+      by true = refl
+      by false = refl
+
+due_wrote : (past : Record) (kept : Waiting) (one : PlacedBlock) (rest : List PlacedBlock) (serial : ℕ) → KeepsAwaited past kept
+    → due_with (line_of past) (wrote (next_serial past) (map awaited_block (one ∷ rest)) kept) serial ≡ due_by (Wrote (map block_of (one ∷ rest)) ∷ past) serial
+due_wrote past kept one rest serial waits =
+    let placed = one ∷ rest in
+    due_all past kept placed waits serial
+    ∙ by_bool (next_serial past == serial)
+    (λ t. ap (λ b. cond b (Some (write_due (new past kept placed waits))) (left_with past kept placed waits serial)) t
+    ∙ ap (λ (dues : List Due). Some dues) (new_dues placed)
+    ∙ sym (ap (option_map dues_of) (awaited_now past one.block (map block_of rest) serial t)))
+    (λ t. ap (λ b. cond b (Some (write_due (new past kept placed waits))) (left_with past kept placed waits serial)) t
+    ∙ left_by past kept placed waits serial (found_write serial kept) refl
+    ∙ sym (ap (option_map dues_of) (awaited_older past (map block_of placed) serial t)))
+
+write_waits : (past : Record) (kept : Waiting) (one : PlacedBlock) (rest : List PlacedBlock) → KeepsAwaited past kept
+    → KeepsAwaited (Wrote (map block_of (one ∷ rest)) ∷ past) (wrote (next_serial past) (map awaited_block (one ∷ rest)) kept)
+write_waits past kept one rest waits =
+    let placed = one ∷ rest in
+    let again = map awaited_block placed in
+    let older = older_writes again kept in
+    let new : AwaitedWrite = record { serial = next_serial past; blocks = again } in
+    let given = below_next past kept placed waits in
+    record {
+      due = λ serial. due_wrote past kept one rest serial waits;
+      ascend = waits.ascend;
+      below = All-weaker (λ (frame : AwaitedFrame). frame.serial < next_serial past) (λ (frame : AwaitedFrame). frame.serial < next_serial past + 1) (λ frame below. below_more frame.serial (next_serial past) below) kept.frames waits.below;
+      stands = waits.stands;
+      in_order = AllPairs-append Ascend older (new ∷ []) (kept_order again kept.writes kept.forgotten waits.in_order)
+          (AllPairs-cons Ascend new [] (All-nil (Ascend new)) (AllPairs-nil Ascend))
+          (All-weaker (λ (write : AwaitedWrite). write.serial < next_serial past) (λ (write : AwaitedWrite). All (Ascend write) (new ∷ []))
+          (λ write less. All-cons (Ascend write) new [] less (All-nil (Ascend write))) older given);
+      given = All-append (λ (write : AwaitedWrite). write.serial < next_serial past + 1) older (new ∷ [])
+          (All-weaker (λ (write : AwaitedWrite). write.serial < next_serial past) (λ (write : AwaitedWrite). write.serial < next_serial past + 1) (λ write below. below_more write.serial (next_serial past) below) older given)
+          (All-cons (λ (write : AwaitedWrite). write.serial < next_serial past + 1) new [] (omega arith) (All-nil (λ (write : AwaitedWrite). write.serial < next_serial past + 1)));
+      apart = All-append (λ (write : AwaitedWrite). All (λ (frame : AwaitedFrame). frame.serial ≢ write.serial) kept.frames) older (new ∷ [])
+          (kept_all (λ (write : AwaitedWrite). All (λ (frame : AwaitedFrame). frame.serial ≢ write.serial) kept.frames) again kept.writes kept.forgotten (λ write other. other) waits.apart)
+          (All-cons (λ (write : AwaitedWrite). All (λ (frame : AwaitedFrame). frame.serial ≢ write.serial) kept.frames) new []
+          (All-weaker (λ (frame : AwaitedFrame). frame.serial < next_serial past) (λ (frame : AwaitedFrame). frame.serial ≢ next_serial past) (λ frame below. less_apart frame.serial (next_serial past) below) kept.frames waits.below)
+          (All-nil (λ (write : AwaitedWrite). All (λ (frame : AwaitedFrame). frame.serial ≢ write.serial) kept.frames)));
+      forgotten = refl;
+    }
+
+pub waits-wrote : (past : Record) (kept : Waiting) (placed : List PlacedBlock) → 0 < length placed → KeepsAwaited past kept
+    → KeepsAwaited (Wrote (map block_of placed) ∷ past) (wrote (next_serial past) (map awaited_block placed) kept)
+waits-wrote past kept [] some waits = absurd (omega (arith, some))
+waits-wrote past kept (one ∷ rest) some waits = write_waits past kept one rest waits
+
+-- forgetting a slave ends the writes of its blocks, and nothing else
+
+forgot_by : (past : Record) (kept : Waiting) (station serial : ℕ) (found : Option AwaitedWrite) → KeepsAwaited past kept → found_write serial kept ≡ found
+    → due_with (line_of past) (forgot station kept) serial ≡ option_map dues_of (option_and_then (unless_again (Forgot station)) (awaited past serial))
+forgot_by past kept station serial None waits e =
+    ap (λ write. option_or (option_map write_due write) (option_map (frame_due (line_of past)) (found_frame serial kept)))
+    (find-marked serial_of (write_forgotten station) is_awaited (λ write. refl) serial kept.writes waits.in_order
+    ∙ ap (option_and_then (λ (write : AwaitedWrite). cond (is_awaited (write_forgotten station write)) (Some (write_forgotten station write)) None)) e)
+    ∙ frame-after past kept (Forgot station) serial waits (λ task d. refl) e
+forgot_by past kept station serial (Some write) waits e =
+    let mark = write_forgotten station write in
+    ap (λ write. option_or (option_map write_due write) (option_map (frame_due (line_of past)) (found_frame serial kept)))
+    (find-marked serial_of (write_forgotten station) is_awaited (λ write. refl) serial kept.writes waits.in_order
+    ∙ ap (option_and_then (λ (write : AwaitedWrite). cond (is_awaited (write_forgotten station write)) (Some (write_forgotten station write)) None)) e)
+    ∙ write-after past kept (Forgot station) serial waits write (cond (is_awaited mark) (Some mark) None) e
+    (λ one. write-left (block_forgotten station) (Forgot station) write one.sending
+    (marked-dues (block_forgotten station) (Forgot station) one.sending.since (forgotten-marks station one.sending.since) write.blocks one.sending.heads one.dues))
 
 pub waits-forgot : (past : Record) (kept : Waiting) (station : ℕ) → KeepsAwaited past kept → KeepsAwaited (Forgot station ∷ past) (forgot station kept)
 waits-forgot past kept station waits = record {
   due = λ serial.
-      due_forgot past kept station serial (awaited past serial) waits refl
+      forgot_by past kept station serial (found_write serial kept) waits refl
       ∙ sym (ap (option_map dues_of) (alive_other serial (Forgot station) (λ heads. refl) refl (sending_of past serial)));
   ascend = waits.ascend;
   below = waits.below;
   stands = waits.stands;
-  apart = λ write e. waits.apart write (left_write station kept.write write e);
+  in_order = AllPairs-filter Ascend is_awaited (map (write_forgotten station) kept.writes) (AllPairs-map Ascend (write_forgotten station) kept.writes waits.in_order);
+  given = All-filter is_awaited (λ (write : AwaitedWrite). write.serial < next_serial past) (map (write_forgotten station) kept.writes)
+      (All-map (λ (write : AwaitedWrite). write.serial < next_serial past) (write_forgotten station) kept.writes waits.given);
+  apart = All-filter is_awaited (λ (write : AwaitedWrite). All (λ (frame : AwaitedFrame). frame.serial ≢ write.serial) kept.frames) (map (write_forgotten station) kept.writes)
+      (All-map (λ (write : AwaitedWrite). All (λ (frame : AwaitedFrame). frame.serial ≢ write.serial) kept.frames) (write_forgotten station) kept.writes waits.apart);
+  forgotten = refl;
 }

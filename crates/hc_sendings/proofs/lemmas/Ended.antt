@@ -2,8 +2,8 @@
 use Rattle.std.proofs.Common.{◌≡◌, ◌≢◌, ℕ, ◌==◌, ◌<◌, Bool, true, false, cond, not, List, [], ◌∷◌, filter, refl, sym, ap, ◌∙◌, subst, Option, Some, None}
 use Rattle.std.specs.Prelude.{All, find, option_and_then, option_map}
 use Rattle.std.specs.Option.{option_or}
-use Rattle.std.proofs.lemmas.Bool.{eqb-true, not-true}
-use Rattle.std.proofs.lemmas.List.Elements.{All-filter}
+use Rattle.std.proofs.lemmas.Bool.{eqb-true}
+use Rattle.std.proofs.lemmas.List.Elements.{All-filter, All-weaker}
 use Rattle.std.proofs.lemmas.List.Kept.{AllPairs-filter}
 use Rattle.hc_records.specs.Line.{Member}
 use Rattle.hc_records.proofs.lemmas.Choices.{by_bool}
@@ -12,64 +12,46 @@ use Rattle.hc_events.specs.Accepted.{StandsIn}
 use Rattle.hc_events.specs.AnswerLaws.{IsAwaited}
 use Rattle.hc_events.specs.Entries.{Record, Came}
 use Rattle.hc_events.specs.Points.{line_of, next_serial}
-use Rattle.hc_events.specs.Answering.{Sending, has_heads, is_stale_to, only_if, sending_of}
+use Rattle.hc_events.specs.Answering.{Sending, has_heads, is_stale_to, sending_of}
 use Rattle.hc_events.specs.Awaited.{awaited}
 use Rattle.hc_events.proofs.lemmas.Answers.{awaited-answered}
 use Rattle.hc_events.proofs.lemmas.Awaited.{alive_came, same_is, unless_fits, unless-other}
-use Rattle.hc_events.proofs.lemmas.Once.{only-if_some}
 use Rattle.hc_sendings.specs.Waiting.{AwaitedFrame, AwaitedWrite, Waiting, ended}
 use Rattle.hc_sendings.specs.Judging.{due_with, found_frame, found_write, frame_due, write_due}
 use Rattle.hc_sendings.specs.Record.{KeepsAwaited, due_by, dues_of}
 
 -- among what is kept
 
-then_cond : {X Y : Type 0} (f : X → Option Y) (keep : Bool) (x : X) → option_and_then f (cond keep (Some x) None) ≡ cond keep (f x) None
-then_cond f true x = refl
-then_cond f false x = refl
-
 either_none : {X : Type 0} (b : Bool) (x : Option X) → cond b x x ≡ x
 either_none true x = refl
 either_none false x = refl
 
-turned : {X : Type 0} (b : Bool) (x : Option X) → cond (not b) x None ≡ cond b None x
-turned true x = refl
-turned false x = refl
-
-ended_one : {X : Type 0} (out found over : Bool) (x : Option X) → (found ≡ true → out ≡ over) → cond (not out) (cond found x None) None ≡ cond over None (cond found x None)
-ended_one out true over x same = ap (λ b. cond (not b) x None) (same refl) ∙ turned over x
-ended_one out false over x same = either_none (not out) None ∙ sym (either_none over None)
-
 same_other : (own serial n : ℕ) → (own == serial) ≡ true → (own == n) ≡ (serial == n)
 same_other own serial n e = ap (λ m. m == n) (eqb-true own serial e)
 
-write_ended : (n serial : ℕ) (write : Option AwaitedWrite) → option_and_then (only_if (λ w. w.serial == serial)) (option_and_then (only_if (λ w. not (w.serial == n))) write)
-    ≡ cond (serial == n) None (option_and_then (only_if (λ w. w.serial == serial)) write)
-write_ended n serial None = sym (either_none (serial == n) None)
-write_ended n serial (Some w) =
-    then_cond (only_if (λ v. v.serial == serial)) (not (w.serial == n)) w
-    ∙ ended_one (w.serial == n) (w.serial == serial) (serial == n) (Some w) (same_other w.serial serial n)
-
-find_kept : (serial : ℕ) (keep : Bool) (frame : AwaitedFrame) (rest : List AwaitedFrame) → find (λ f. f.serial == serial) (cond keep (frame ∷ rest) rest)
-    ≡ cond keep (cond (frame.serial == serial) (Some frame) (find (λ f. f.serial == serial) rest)) (find (λ f. f.serial == serial) rest)
-find_kept serial true frame rest = refl
-find_kept serial false frame rest = refl
-
-first_gone : (over : Bool) (x rest : Option AwaitedFrame) → cond (not over) x (cond over None rest) ≡ cond over None x
+first_gone : {X : Type 0} (over : Bool) (x rest : Option X) → cond (not over) x (cond over None rest) ≡ cond over None x
 first_gone true x rest = refl
 first_gone false x rest = refl
 
-ended_many : (out found over : Bool) (x rest : Option AwaitedFrame) → (found ≡ true → out ≡ over)
+ended_many : {X : Type 0} (out found over : Bool) (x rest : Option X) → (found ≡ true → out ≡ over)
     → cond (not out) (cond found x (cond over None rest)) (cond over None rest) ≡ cond over None (cond found x rest)
 ended_many out true over x rest same = ap (λ b. cond (not b) x (cond over None rest)) (same refl) ∙ first_gone over x rest
 ended_many out false over x rest same = either_none (not out) (cond over None rest)
 
-frame_ended : (n serial : ℕ) (frames : List AwaitedFrame) → find (λ f. f.serial == serial) (filter (λ f. not (f.serial == n)) frames)
-    ≡ cond (serial == n) None (find (λ f. f.serial == serial) frames)
-frame_ended n serial [] = sym (either_none (serial == n) None)
-frame_ended n serial (frame ∷ frames) =
-    find_kept serial (not (frame.serial == n)) frame (filter (λ f. not (f.serial == n)) frames)
-    ∙ ap (λ rest. cond (not (frame.serial == n)) (cond (frame.serial == serial) (Some frame) rest) rest) (frame_ended n serial frames)
-    ∙ ended_many (frame.serial == n) (frame.serial == serial) (serial == n) (Some frame) (find (λ f. f.serial == serial) frames) (same_other frame.serial serial n)
+-- frames or writes, each with its serial
+module _ {X : Type 0} (number : X → ℕ) where
+  find_kept : (serial : ℕ) (keep : Bool) (one : X) (rest : List X) → find (λ x. number x == serial) (cond keep (one ∷ rest) rest)
+      ≡ cond keep (cond (number one == serial) (Some one) (find (λ x. number x == serial) rest)) (find (λ x. number x == serial) rest)
+  find_kept serial true one rest = refl
+  find_kept serial false one rest = refl
+
+  found_ended : (n serial : ℕ) (all : List X) → find (λ x. number x == serial) (filter (λ x. not (number x == n)) all)
+      ≡ cond (serial == n) None (find (λ x. number x == serial) all)
+  found_ended n serial [] = sym (either_none (serial == n) None)
+  found_ended n serial (one ∷ all) =
+      find_kept serial (not (number one == n)) one (filter (λ x. not (number x == n)) all)
+      ∙ ap (λ rest. cond (not (number one == n)) (cond (number one == serial) (Some one) rest) rest) (found_ended n serial all)
+      ∙ ended_many (number one == n) (number one == serial) (serial == n) (Some one) (find (λ x. number x == serial) all) (same_other (number one) serial n)
 
 dues_ended : (line : List Member) (over : Bool) (write : Option AwaitedWrite) (frame : Option AwaitedFrame)
     → option_or (option_map write_due (cond over None write)) (option_map (frame_due line) (cond over None frame))
@@ -79,8 +61,8 @@ dues_ended line false write frame = refl
 
 due_ended : (line : List Member) (n : ℕ) (waiting : Waiting) (serial : ℕ) → due_with line (ended n waiting) serial ≡ cond (serial == n) None (due_with line waiting serial)
 due_ended line n waiting serial =
-    ap (λ write. option_or (option_map write_due write) (option_map (frame_due line) (found_frame serial (ended n waiting)))) (write_ended n serial waiting.write)
-    ∙ ap (λ frame. option_or (option_map write_due (cond (serial == n) None (found_write serial waiting))) (option_map (frame_due line) frame)) (frame_ended n serial waiting.frames)
+    ap (λ write. option_or (option_map write_due write) (option_map (frame_due line) (found_frame serial (ended n waiting)))) (found_ended (λ (write : AwaitedWrite). write.serial) n serial waiting.writes)
+    ∙ ap (λ frame. option_or (option_map write_due (cond (serial == n) None (found_write serial waiting))) (option_map (frame_due line) frame)) (found_ended (λ (frame : AwaitedFrame). frame.serial) n serial waiting.frames)
     ∙ dues_ended line (serial == n) (found_write serial waiting) (found_frame serial waiting)
 
 -- by the record
@@ -101,19 +83,21 @@ due_answered past arrival serial news =
 
 -- so what is kept then is what the record awaits
 
-pub left_over : (n : ℕ) (found : Option AwaitedWrite) (write : AwaitedWrite) → option_and_then (only_if (λ w. not (w.serial == n))) found ≡ Some write → (found ≡ Some write) × ((write.serial == n) ≡ false)
-left_over n found write e =
-    let kept = only-if_some found (λ w. not (w.serial == n)) write e in (kept.0, not-true (write.serial == n) kept.1)
-
 pub waits-ended : (past : Record) (waiting : Waiting) (arrival : Arrival) → KeepsAwaited past waiting → is_stale_to past arrival ≡ false
     → KeepsAwaited (Came arrival ∷ past) (ended arrival.serial waiting)
 waits-ended past waiting arrival waits news =
     let for = (awaited-answered past arrival).news.0 news in
     let keep : AwaitedFrame → Bool = λ frame. not (frame.serial == arrival.serial) in
+    let stays : AwaitedWrite → Bool = λ write. not (write.serial == arrival.serial) in
     record {
       due = λ serial. due_ended (line_of past) arrival.serial waiting serial ∙ ap (cond (serial == arrival.serial) None) (waits.due serial) ∙ sym (due_answered past arrival serial for);
       ascend = AllPairs-filter (λ (a b : AwaitedFrame). a.serial < b.serial) keep waiting.frames waits.ascend;
       below = All-filter keep (λ (frame : AwaitedFrame). frame.serial < next_serial past) waiting.frames waits.below;
       stands = All-filter keep (λ (frame : AwaitedFrame). All (λ carried. StandsIn (line_of past) carried.datagram) frame.datagrams) waiting.frames waits.stands;
-      apart = λ write e. All-filter keep (λ (frame : AwaitedFrame). frame.serial ≢ write.serial) waiting.frames (waits.apart write (left_over arrival.serial waiting.write write e).0);
+      in_order = AllPairs-filter (λ (a b : AwaitedWrite). a.serial < b.serial) stays waiting.writes waits.in_order;
+      given = All-filter stays (λ (write : AwaitedWrite). write.serial < next_serial past) waiting.writes waits.given;
+      apart = All-filter stays (λ (write : AwaitedWrite). All (λ (frame : AwaitedFrame). frame.serial ≢ write.serial) (filter keep waiting.frames)) waiting.writes
+          (All-weaker (λ (write : AwaitedWrite). All (λ (frame : AwaitedFrame). frame.serial ≢ write.serial) waiting.frames) (λ (write : AwaitedWrite). All (λ (frame : AwaitedFrame). frame.serial ≢ write.serial) (filter keep waiting.frames))
+          (λ write all. All-filter keep (λ (frame : AwaitedFrame). frame.serial ≢ write.serial) waiting.frames all) waiting.writes waits.apart);
+      forgotten = waits.forgotten;
     }

@@ -3,6 +3,7 @@ use Rattle.std.proofs.Common.{◌≡◌, ℕ, ◌==◌, ◌<◌, Bool, true, fal
 use Rattle.std.specs.Prelude.{All, AllPairs, find, option_and_then, option_map}
 use Rattle.std.specs.Option.{option_or}
 use Rattle.std.specs.List.{list_any}
+use Rattle.std.proofs.lemmas.Bool.{ne_eqb, not-true}
 use Rattle.std.proofs.lemmas.Bool.Decides.{nat_tests}
 use Rattle.std.proofs.lemmas.List.Elements.{All-head, All-tail, filter-append}
 use Rattle.std.proofs.lemmas.Grind.{common_steps}
@@ -13,13 +14,14 @@ use Rattle.hc_events.specs.Entries.{Entry, Record, Sent}
 use Rattle.hc_events.specs.Points.{line_of, next_serial}
 use Rattle.hc_events.specs.Sendings.{Frame, Named}
 use Rattle.hc_events.specs.Heads.{Block, Datagram, Head, Item, data_heads}
-use Rattle.hc_events.specs.Answering.{Sending, followed_by, is_dropped, is_outdated, just_sent, only_if, sending_of, sends}
+use Rattle.hc_events.specs.Answering.{Sending, followed_by, is_dropped, is_outdated, just_sent, sending_of, sends}
 use Rattle.hc_events.specs.Awaited.{alive, all_outdated, awaited}
-use Rattle.hc_events.proofs.lemmas.Awaited.{alive_other, unless_again, not_both}
+use Rattle.hc_events.proofs.lemmas.Awaited.{alive_other, awaited-fresh, unless_again}
 use Rattle.hc_sendings.specs.Waiting as waiting
-use Rattle.hc_sendings.specs.Waiting.{AwaitedFrame, Carried, Waiting, as_sent, is_alive, sent, sent_again, with_again}
-use Rattle.hc_sendings.specs.Judging.{Due, due_of, due_with, found_frame, frame_due, write_due}
-use Rattle.hc_sendings.specs.Record.{due_by, due_in, dues_of}
+use Rattle.hc_sendings.specs.Waiting.{AwaitedFrame, AwaitedWrite, Carried, Waiting, as_sent, is_alive, sent, sent_again, with_again}
+use Rattle.hc_sendings.specs.Judging.{Due, due_of, due_with, found_frame, found_write, frame_due, write_due}
+use Rattle.hc_sendings.proofs.lemmas.Rewritten.{IsKeptWrite, kept-write, sent-dues, some-newest, written-below}
+use Rattle.hc_sendings.specs.Record.{KeepsAwaited, due_by, due_in, dues_of}
 
 -- what is due of a sending behind a frame with these datagrams; nothing where all was sent again
 
@@ -52,12 +54,6 @@ dues_again frame since (head ∷ heads) =
     (not_or (sends head.item (Sent frame)) (is_outdated head.item since) ∙ ap not (outdated_sent head.item frame since))
     ∙ ap (λ rest. due_in (Sent frame ∷ since) head ∷ rest) (dues_again frame since heads)
 
-some_newest : (since : List Entry) (heads : List Head) → list_any is_newest (map (due_in since) heads) ≡ not (all_outdated since heads)
-some_newest since [] = refl
-some_newest since (head ∷ heads) =
-    ap (λ b. not (is_outdated head.item since) || b) (some_newest since heads)
-    ∙ not_both (is_outdated head.item since) (all_outdated since heads)
-
 dues_unless : (over : Bool) (sending : Sending) → option_map dues_of (cond over None (Some sending)) ≡ cond (not over) (Some (dues_of sending)) None
 dues_unless true sending = refl
 dues_unless false sending = refl
@@ -65,7 +61,7 @@ dues_unless false sending = refl
 one_left : (frame : List Named) (sending : Sending) → option_map dues_of (unless_again (Sent frame) sending) ≡ left_by frame (dues_of sending)
 one_left frame sending =
     dues_unless (all_outdated (Sent frame ∷ sending.since) sending.heads) (followed_by (Sent frame) sending)
-    ∙ ap (λ some. cond some (Some (map (due_in (Sent frame ∷ sending.since)) sending.heads)) None) (sym (some_newest (Sent frame ∷ sending.since) sending.heads))
+    ∙ ap (λ some. cond some (Some (map (due_in (Sent frame ∷ sending.since)) sending.heads)) None) (sym (some-newest (Sent frame ∷ sending.since) sending.heads))
     ∙ ap (λ dues. cond (list_any is_newest dues) (Some dues) None) (sym (dues_again frame sending.since sending.heads))
 
 found_left : (frame : List Named) (found : Option Sending) → option_map dues_of (option_and_then (unless_again (Sent frame)) found) ≡ option_and_then (left_by frame) (option_map dues_of found)
@@ -165,9 +161,9 @@ found_sent line last serial (frame ∷ frames) ascend below =
     ∙ rest
     ∙ sym (ap (λ b. cond (last.serial == serial) (Some (frame_due line (as_sent last))) (option_and_then (left_by last.datagrams) (option_map (frame_due line) (cond b (Some frame) (find (has_number serial) frames))))) t))
 
-no_write : (line : List Member) (kept : Waiting) (serial : ℕ) → kept.write ≡ None → due_with line kept serial ≡ option_map (frame_due line) (found_frame serial kept)
+no_write : (line : List Member) (kept : Waiting) (serial : ℕ) → found_write serial kept ≡ None → due_with line kept serial ≡ option_map (frame_due line) (found_frame serial kept)
 no_write line kept serial none =
-    ap (λ write. option_or (option_map write_due (option_and_then (only_if (λ w. w.serial == serial)) write)) (option_map (frame_due line) (found_frame serial kept))) none
+    ap (λ write. option_or (option_map write_due write) (option_map (frame_due line) (found_frame serial kept))) none
 
 pub sent-frames : (last : Frame) (frames : List AwaitedFrame) → is_alive (as_sent last) ≡ true
     → filter is_alive (map (with_again last.datagrams) frames ++ as_sent last ∷ []) ≡ filter is_alive (map (with_again last.datagrams) frames) ++ as_sent last ∷ []
@@ -175,7 +171,7 @@ sent-frames last frames alive =
     filter-append is_alive (map (with_again last.datagrams) frames) (as_sent last ∷ [])
     ∙ ap (λ b. filter is_alive (map (with_again last.datagrams) frames) ++ cond b (as_sent last ∷ []) []) alive
 
-due_kept : (line : List Member) (last : Frame) (kept : Waiting) (serial : ℕ) → is_alive (as_sent last) ≡ true → kept.write ≡ None → Ascend kept.frames → Below last.serial kept.frames
+due_kept : (line : List Member) (last : Frame) (kept : Waiting) (serial : ℕ) → is_alive (as_sent last) ≡ true → found_write serial kept ≡ None → Ascend kept.frames → Below last.serial kept.frames
     → due_with line (sent kept last) serial
     ≡ cond (last.serial == serial) (Some (frame_due line (as_sent last))) (option_and_then (left_by last.datagrams) (due_with line kept serial))
 due_kept line last kept serial alive none ascend below =
@@ -191,7 +187,7 @@ due_new line [] = refl
 due_new line (named ∷ frame) = ap (λ rest. due_of line (waiting.just_sent named) ∷ rest) (due_new line frame)
 
 pub due-both : (past : Record) (last : Frame) (first : Named) (others : List Named) (kept : Waiting) (serial : ℕ) → last.serial ≡ next_serial past → last.datagrams ≡ first ∷ others
-    → kept.write ≡ None → Ascend kept.frames → Below last.serial kept.frames → due_with (line_of past) kept serial ≡ due_by past serial
+    → found_write serial kept ≡ None → Ascend kept.frames → Below last.serial kept.frames → due_with (line_of past) kept serial ≡ due_by past serial
     → due_with (line_of past) (sent kept last) serial ≡ due_by (Sent last.datagrams ∷ past) serial
 due-both past last first others kept serial number some none ascend below same =
     due_kept (line_of past) last kept serial (ap (λ (datagrams : List Named). list_any (λ (one : Carried). one.newest) (map waiting.just_sent datagrams)) some) none ascend below
@@ -201,3 +197,34 @@ due-both past last first others kept serial number some none ascend below same =
     ∙ ap (λ frame. cond (next_serial past == serial) (Some (map (due_in []) (data_heads (line_of past) frame))) (option_and_then (left_by frame) (due_by past serial))) some
     ∙ sym (due_sent past first others serial)
     ∙ sym (ap (λ frame. due_by (Sent frame ∷ past) serial) some)
+
+-- a write that is awaited says the same behind it
+
+still : (past : Record) (serial : ℕ) (frame : List Named) (write : AwaitedWrite) (one : IsKeptWrite past serial write) → all_outdated (Sent frame ∷ one.sending.since) one.sending.heads ≡ false
+still past serial frame write one =
+    let since = one.sending.since in
+    let heads = one.sending.heads in
+    not-true (all_outdated (Sent frame ∷ since) heads)
+    (sym (some-newest (Sent frame ∷ since) heads)
+    ∙ ap (list_any is_newest) (sym (sent-dues frame since write.blocks heads one.dues) ∙ one.dues)
+    ∙ some-newest since heads
+    ∙ ap not (awaited-fresh past serial one.sending one.there))
+
+pub due-written : (past : Record) (last : Frame) (kept : Waiting) (serial : ℕ) (write : AwaitedWrite) → KeepsAwaited past kept → found_write serial kept ≡ Some write → (next_serial past == serial) ≡ false
+    → due_with (line_of past) (sent kept last) serial ≡ due_by (Sent last.datagrams ∷ past) serial
+due-written past last kept serial write waits e other =
+    let entry : Entry = Sent last.datagrams in
+    let one = kept-write past kept serial write waits e in
+    ap (λ found. option_or (option_map write_due found) (option_map (frame_due (line_of past)) (found_frame serial (sent kept last)))) e
+    ∙ ap (λ (dues : List Due). Some dues) (sent-dues last.datagrams one.sending.since write.blocks one.sending.heads one.dues)
+    ∙ sym (ap (λ b. option_map dues_of (cond b None (Some (followed_by entry one.sending)))) (still past serial last.datagrams write one))
+    ∙ sym (ap (λ found. option_map dues_of (option_and_then (unless_again entry) found)) one.there)
+    ∙ sym (ap (option_map dues_of) (alive_other serial entry (λ heads. refl) refl (sending_of past serial)))
+    ∙ sym (ap (λ b. option_map dues_of (option_and_then (alive serial) (cond b (Some (just_sent (data_heads (line_of past) last.datagrams))) (option_map (followed_by entry) (sending_of past serial))))) other)
+
+pub due-sent : (past : Record) (last : Frame) (first : Named) (others : List Named) (kept : Waiting) (serial : ℕ) (found : Option AwaitedWrite) → last.serial ≡ next_serial past → last.datagrams ≡ first ∷ others
+    → KeepsAwaited past kept → Below last.serial kept.frames → found_write serial kept ≡ found
+    → due_with (line_of past) (sent kept last) serial ≡ due_by (Sent last.datagrams ∷ past) serial
+due-sent past last first others kept serial None number some waits below e = due-both past last first others kept serial number some e waits.ascend below (waits.due serial)
+due-sent past last first others kept serial (Some write) number some waits below e =
+    due-written past last kept serial write waits e (let given = written-below past kept serial write waits e in ne_eqb (next_serial past) serial (λ same. omega (arith, given, same)))

@@ -1,22 +1,20 @@
 -- What is kept as awaited stays what the record awaits behind frames of tasks.
-use Rattle.std.proofs.Common.{◌≡◌, ℕ, ◌+◌, ◌<◌, Bool, true, false, cond, List, [], ◌∷◌, ◌++◌, filter, map, refl, sym, ap, ◌∙◌, subst, arith}
+use Rattle.std.proofs.Common.{◌≡◌, ◌≢◌, ℕ, ◌+◌, ◌<◌, Bool, true, false, cond, List, [], ◌∷◌, ◌++◌, filter, map, refl, sym, ap, subst, arith}
 use Rattle.std.specs.Prelude.{All, AllPairs}
 use Rattle.std.specs.List.{list_any}
-use Rattle.std.proofs.lemmas.List.Elements.{All-nil, All-cons, All-append, All-filter, All-map, All-weaker}
+use Rattle.std.proofs.lemmas.List.Elements.{All-nil, All-cons, All-append, All-filter, All-head, All-map, All-tail, All-weaker}
 use Rattle.std.proofs.lemmas.List.Kept.{AllPairs-cons, AllPairs-filter}
-use Rattle.std.proofs.lemmas.Option.{none-some}
 use Rattle.hc_records.specs.Line.{Member}
 use Rattle.hc_records.proofs.lemmas.Lists.{AllPairs-append, AllPairs-map, AllPairs-nil}
-use Rattle.hc_events.specs.Accepted.{AreAccepted, StandsIn}
+use Rattle.hc_events.specs.Accepted.{StandsIn}
 use Rattle.hc_events.specs.Entries.{Record, Sent}
 use Rattle.hc_events.specs.Points.{line_of, next_serial}
 use Rattle.hc_events.specs.Sendings.{Frame, Named, alone, framed, framed_behind, has_room, joined, length_of}
-use Rattle.hc_events.specs.Owed.{owed_blocks}
 use Rattle.hc_events.proofs.lemmas.Once.{below_more}
 use Rattle.hc_sendings.specs.Waiting as waiting
-use Rattle.hc_sendings.specs.Waiting.{AwaitedFrame, Carried, Waiting, as_sent, is_alive, sent, with_again}
-use Rattle.hc_sendings.proofs.lemmas.Resent.{due-both, sent-frames}
-use Rattle.hc_sendings.proofs.lemmas.Sorts.{none-written}
+use Rattle.hc_sendings.specs.Waiting.{AwaitedFrame, AwaitedWrite, Carried, Waiting, as_sent, is_alive, sent, with_again}
+use Rattle.hc_sendings.specs.Judging.{found_write}
+use Rattle.hc_sendings.proofs.lemmas.Resent.{due-sent, sent-frames}
 use Rattle.hc_sendings.specs.Record.{KeepsAwaited}
 
 -- a frame that carries something
@@ -53,16 +51,15 @@ kept_frames P again frames last all one =
 
 -- one frame
 
-pub waits-sent : (past : Record) (kept : Waiting) (frame : Frame) → AreAccepted past → owed_blocks past ≡ [] → frame.serial ≡ next_serial past → HasFirst frame → All (StandsIn (line_of past)) frame.datagrams
+pub waits-sent : (past : Record) (kept : Waiting) (frame : Frame) → frame.serial ≡ next_serial past → HasFirst frame → All (StandsIn (line_of past)) frame.datagrams
     → KeepsAwaited past kept → KeepsAwaited (Sent frame.datagrams ∷ past) (sent kept frame)
-waits-sent past kept frame accepted none number some stand waits =
-    let no_write = none-written past kept accepted waits none in
+waits-sent past kept frame number some stand waits =
     let ascends : AwaitedFrame → AwaitedFrame → Type 0 = λ a b. a.serial < b.serial in
     let back : (P : List AwaitedFrame → Type 0) → P (filter is_alive (map (with_again frame.datagrams) kept.frames) ++ as_sent frame ∷ []) → P (sent kept frame).frames =
     λ P holds. subst P (sym (sent-frames frame kept.frames (new_alive frame some))) holds in
     let below : All (λ (f : AwaitedFrame). f.serial < frame.serial) kept.frames = subst (λ n. All (λ (f : AwaitedFrame). f.serial < n) kept.frames) (sym number) waits.below in
     record {
-      due = λ serial. due-both past frame some.first some.others kept serial number some.some no_write waits.ascend below (waits.due serial);
+      due = λ serial. due-sent past frame some.first some.others kept serial (found_write serial kept) number some.some waits below refl;
       ascend = back (AllPairs ascends) (AllPairs-append ascends (filter is_alive (map (with_again frame.datagrams) kept.frames)) (as_sent frame ∷ [])
           (AllPairs-filter ascends is_alive (map (with_again frame.datagrams) kept.frames) (AllPairs-map ascends (with_again frame.datagrams) kept.frames waits.ascend))
           (AllPairs-cons ascends (as_sent frame) [] (All-nil (ascends (as_sent frame))) (AllPairs-nil ascends))
@@ -76,8 +73,25 @@ waits-sent past kept frame accepted none number some stand waits =
       stands = back (All (Stands (line_of past))) (kept_frames (Stands (line_of past)) frame.datagrams kept.frames (as_sent frame)
           (All-weaker (Stands (line_of past)) (λ (f : AwaitedFrame). Stands (line_of past) (with_again frame.datagrams f)) (λ f all. again_stands (line_of past) frame.datagrams f.datagrams all) kept.frames waits.stands)
           (new_stands (line_of past) frame.datagrams stand));
-      apart = λ write e. absurd (none-some write (sym no_write ∙ e));
+      in_order = waits.in_order;
+      given = All-weaker (λ (write : AwaitedWrite). write.serial < next_serial past) (λ (write : AwaitedWrite). write.serial < next_serial past + 1) (λ write less. below_more write.serial (next_serial past) less) kept.writes waits.given;
+      apart = apart_all (λ write. back (All (λ (f : AwaitedFrame). f.serial ≢ write.serial))) kept.writes waits.given waits.apart;
+      forgotten = waits.forgotten;
     }
+  where
+    apart_all : ((write : AwaitedWrite) → All (λ (f : AwaitedFrame). f.serial ≢ write.serial) (filter is_alive (map (with_again frame.datagrams) kept.frames) ++ as_sent frame ∷ []) → All (λ (f : AwaitedFrame). f.serial ≢ write.serial) (sent kept frame).frames)
+        → (writes : List AwaitedWrite) → All (λ (write : AwaitedWrite). write.serial < next_serial past) writes
+        → All (λ (write : AwaitedWrite). All (λ (f : AwaitedFrame). f.serial ≢ write.serial) kept.frames) writes
+        → All (λ (write : AwaitedWrite). All (λ (f : AwaitedFrame). f.serial ≢ write.serial) (sent kept frame).frames) writes
+    apart_all back [] given apart = All-nil (λ (write : AwaitedWrite). All (λ (f : AwaitedFrame). f.serial ≢ write.serial) (sent kept frame).frames)
+    apart_all back (write ∷ writes) given apart =
+        let less : write.serial < next_serial past = All-head (λ (w : AwaitedWrite). w.serial < next_serial past) write writes given in
+        All-cons (λ (w : AwaitedWrite). All (λ (f : AwaitedFrame). f.serial ≢ w.serial) (sent kept frame).frames) write writes
+        (back write (kept_frames (λ f. f.serial ≢ write.serial) frame.datagrams kept.frames (as_sent frame)
+        (All-head (λ (w : AwaitedWrite). All (λ (f : AwaitedFrame). f.serial ≢ w.serial) kept.frames) write writes apart)
+        (λ same. omega (arith, less, same, number))))
+        (apart_all back writes (All-tail (λ (w : AwaitedWrite). w.serial < next_serial past) write writes given)
+        (All-tail (λ (w : AwaitedWrite). All (λ (f : AwaitedFrame). f.serial ≢ w.serial) kept.frames) write writes apart))
 
 -- each frame of a proposal carries something
 

@@ -14,7 +14,7 @@ use Rattle.hc_c.specs.Arrivals.{Tells, added_by, is_taken, with_arrived}
 use Rattle.hc_c.specs.Counts.{all_judged}
 use Rattle.hc_c.specs.Embedded.{are_too_many, past_of, settled, with_counts, with_past}
 use Rattle.hc_c.specs.Lists.{put}
-use Rattle.hc_c.specs.Returned.{IsInFrame, told_arrival, told_parts}
+use Rattle.hc_c.specs.Returned.{IsInFrame, counted_as, told_arrival, told_as}
 use Rattle.hc_c.proofs.Arrives.{IsDone, done-told, memory-told, refused-told}
 use Rattle.hc_c.proofs.InFrame.{in-frame}
 use Rattle.hc_c.proofs.Taken.{fault-adds, fault-number, fault-other, none-fits, none-kept, past-taken, refused-memory, refused-other, settled-taken, taken-number, taken-other}
@@ -66,27 +66,26 @@ returns-clause-told c =
       none = c.in-Ok.ensures.0;
       told = c.in-Ok-take.ensures.answer;
       entries = pasts;
-      empty = λ other. c.in-Ok-take.ensures.none other;
       reachable = c.plan.ensures.reachable;
       state_is = c.plan.ensures.state;
       project = c.places-places.ensures.kept;
       uncrowded = c.places-places.ensures.uncrowded;
     } in
-    let counts = c.put_outcomes.new.counts in
+    let counts = c.put_arrived.new.counts in
     λ fits. record {
-      tells = done-told old new bytes which list state c.arrived_number.result before c.put_outcomes.new.out c.args.arrival.now c.told_arrival.result own.counts counts done
+      tells = done-told old new bytes which list state c.arrived_number.result before c.put_arrived.new.out c.args.arrival.now c.told_arrival.result own.counts counts done
           c.arrived_number.ensures
-          (c.put_outcomes.ensures.put
-          ∙ ap (λ (one : Table). put (told_parts one c.as_slice-told.result.now c.parts.result) before) c.places-places.ensures.table
-          ∙ ap (λ (one : List core.Outcome). put (told_parts table one c.parts.result) before) c.as_slice-told.ensures.value
-          ∙ ap (λ (one : List Placed). put (told_parts table list one) before) parts)
+          (c.put_arrived.ensures.put
+          ∙ ap (λ (one : Table). put (told_as which one c.as_slice-told.result.now c.parts.result) before) c.places-places.ensures.table
+          ∙ ap (λ (one : List core.Outcome). put (told_as which table one c.parts.result) before) c.as_slice-told.ensures.value
+          ∙ ap (λ (one : List Placed). put (told_as which table list one) before) parts)
           (c.told_arrival.ensures
           ∙ ap (λ n. told_arrival which n c.in-Ok.frame) (ap length c.as_slice-told.ensures.value)
           ∙ ap (λ (one : Reading). told_arrival which (length list) one) frame)
-          (c.put_outcomes.ensures.counted
-          ∙ ap (λ (one : Table). all_judged own.counts (told_parts one c.as_slice-told.result.now c.parts.result)) c.places-places.ensures.table
-          ∙ ap (λ (one : List core.Outcome). all_judged own.counts (told_parts table one c.parts.result)) c.as_slice-told.ensures.value
-          ∙ ap (λ (one : List Placed). all_judged own.counts (told_parts table list one)) parts);
+          (c.put_arrived.ensures.counted
+          ∙ ap (λ (one : Table). all_judged own.counts (counted_as which one c.as_slice-told.result.now c.parts.result)) c.places-places.ensures.table
+          ∙ ap (λ (one : List core.Outcome). all_judged own.counts (counted_as which table one c.parts.result)) c.as_slice-told.ensures.value
+          ∙ ap (λ (one : List Placed). all_judged own.counts (counted_as which table list one)) parts);
       kept = ap (λ (one : CoreState). let it : Embedded = record own { core = one; counts = counts } in it) (grown ∙ ap (λ (room : Option ℕ). with_arrived room own.core next) c.changes_room-room.ensures)
           ∙ settled-taken own next counts
           ∙ ap (λ (past : Record). settled (with_counts (with_past own past) counts)) (sym pasts)
@@ -94,8 +93,8 @@ returns-clause-told c =
       memory = λ keeps is. (taken-other which).0 (sym c.arrived_number.ensures ∙ is);
     }
 
-pub put_outcomes-requires : goal.put_outcomes-requires
-put_outcomes-requires c =
+pub put_arrived-requires : goal.put_arrived-requires
+put_arrived-requires c =
     let is = c.parts.ensures ∙ ap (λ (frame : Reading). placed_from 16 frame.parts) c.in-Ok.ensures.1 in
     subst (All IsInFrame) (sym is) (in-frame c.args.bytes.now c.in-Ok.ensures.0)
 

@@ -1,4 +1,4 @@
-use Rattle.hc_events.proofs.Forgetting.{answered-first}
+use Rattle.hc_events.proofs.AsAtFirstEvents.{answered-first}
 use Rattle.hc_events.proofs.laws.events_without_forgetting.Goals as goal
 
 pub returns : goal.returns

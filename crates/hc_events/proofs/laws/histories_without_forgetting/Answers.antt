@@ -1,5 +1,5 @@
-use Rattle.hc_events.proofs.Forgetting.{says-first}
+use Rattle.hc_events.proofs.AsAtFirst.{says-first}
 use Rattle.hc_events.proofs.laws.histories_without_forgetting.Goals as goal
 
 pub returns : goal.returns
-returns c history plain = says-first history plain
+returns c history plain one = says-first history (plain, one)

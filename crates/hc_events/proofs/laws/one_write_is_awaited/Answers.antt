@@ -1,4 +1,4 @@
-use Rattle.hc_events.proofs.lemmas.OneWrite.{one-write}
+use Rattle.hc_events.proofs.lemmas.AwaitedAlone.{one-write}
 use Rattle.hc_events.proofs.laws.one_write_is_awaited.Goals as goal
 
 pub returns : goal.returns

@@ -16,7 +16,7 @@ opened_more groups past (Edited edit) accepted before = before
 opened_more groups past (Posted task bytes) accepted before = before
 opened_more groups past (Forgot station) accepted before = before
 opened_more groups past (Sent frame) accepted before = before
-opened_more groups past (Wrote block) accepted before = before
+opened_more groups past (Wrote blocks) accepted before = before
 opened_more groups past (Came arrival) accepted before = before
 
 pub returns : goal.returns

@@ -25,11 +25,11 @@ invariant_of-result c =
     let owed : c.in_ok-owed.owed ≡ kept_of nothing_known (opened groups) = c.in_ok-owed.ensures ∙ ap (kept_of nothing_known) plan in
     let zeros : Holds (table_of (line (opened groups))) (λ variable k. 0) c.in_ok-outputs.outputs =
     subst (λ (t : Table). Holds t (λ variable k. 0) c.in_ok-outputs.outputs) (c.places.ensures.table ∙ ap (λ (state : State). table_of (line state)) plan) c.in_ok-outputs.ensures in
-    subst (λ (before : Record). Agree (kept c.in_ok-plan.plan c.in_ok-awaited.awaited c.new-7.result.items) before (record_of c.of-taken.result.value)) (sym past)
-    (subst (λ (before : Record). Agree (kept c.in_ok-plan.plan c.in_ok-awaited.awaited c.new-7.result.items) (just_opened groups) before) (sym taken)
-    (subst (λ (state : State). Agree (kept state c.in_ok-awaited.awaited c.new-7.result.items) (just_opened groups) (just_opened groups)) (sym plan)
-    (subst (λ (waiting : Waiting). Agree (kept (opened groups) waiting c.new-7.result.items) (just_opened groups) (just_opened groups)) (sym c.in_ok-awaited.ensures)
-    (subst (λ (changes : List Change). Agree (kept (opened groups) nothing changes) (just_opened groups) (just_opened groups)) (sym c.new-7.ensures.items)
+    subst (λ (before : Record). Agree (kept c.in_ok-plan.plan c.in_ok-awaited.awaited c.new-8.result.items) before (record_of c.of-taken.result.value)) (sym past)
+    (subst (λ (before : Record). Agree (kept c.in_ok-plan.plan c.in_ok-awaited.awaited c.new-8.result.items) (just_opened groups) before) (sym taken)
+    (subst (λ (state : State). Agree (kept state c.in_ok-awaited.awaited c.new-8.result.items) (just_opened groups) (just_opened groups)) (sym plan)
+    (subst (λ (waiting : Waiting). Agree (kept (opened groups) waiting c.new-8.result.items) (just_opened groups) (just_opened groups)) (sym c.in_ok-awaited.ensures)
+    (subst (λ (changes : List Change). Agree (kept (opened groups) nothing changes) (just_opened groups) (just_opened groups)) (sym c.new-8.ensures.items)
     (agree-opened groups inputs c.in_ok-data_serials.data_serials c.in_ok-outputs.outputs c.in_ok-owed.owed
     (subst IsProject plan c.places.ensures.kept)
     (subst IsUncrowded plan c.places.ensures.uncrowded)

@@ -1,7 +1,6 @@
 use Rattle.std.proofs.Common.{ap, arith}
 use Rattle.hc_core.specs.News.{untaken}
 use Rattle.hc_core.specs.Records.{record_of}
-use Rattle.hc_core.specs.State.{CoreState}
 use Rattle.hc_core.proofs.News.{count-untaken}
 use Rattle.hc_core.proofs.keeping.Core.untaken.Goals as goal
 

@@ -1,11 +1,14 @@
-use Rattle.std.proofs.Common.{arith, ◌++◌, ◌∙◌, Ok, ap, sym, string_bytes}
+use Rattle.std.proofs.Common.{arith, rules, ◌≡◌, [], ◌++◌, ◌∙◌, Ok, ap, sym, string_bytes}
 use Rattle.std.specs.Prelude.{codes}
+use Rattle.std.specs.List.{flat_map}
+use Rattle.hc_program.specs.Answers.{outcome_text, told}
 use Rattle.hc_events.specs.declared.answer.Answer.TheVariants as answer
 use Rattle.hc_events.specs.Steps.{Arrives}
 use Rattle.hc_frames.specs.Arrived.{reading_of}
 use Rattle.hc_events.specs.Arrivals.{read_unless}
 use Rattle.hc_program.proofs.Served.{bytes_stay, of_arrival, one_of_arrival, outcomes_few, printed_as, refused_stays, stays_put}
 use Rattle.hc_program.proofs.commands.arrive.reply.Goals as goal
+use Rattle.hc_program.proofs.commands.arrive.reply.Goals.{in-Answered, in-WriteDone, in-WriteMissed, in-Stale, in-Written}
 
 pub add_outcomes-requires : goal.add_outcomes-requires
 add_outcomes-requires c =
@@ -28,11 +31,38 @@ pub unreachable-requires : goal.unreachable-requires
 unreachable-requires c =
     let read = ap (λ fault. read_unless fault (reading_of c.args.bytes.now)) c.in-Ok.ensures.0 ∙ ap Ok (sym c.in-Ok.ensures.1) in
     let is = of_arrival c.args.session.now.past c.arrive.new.self.past c.args.bytes.now c.in-Ok.arrival c.arrive.result read c.arrive.ensures.answer in
-    one_of_arrival c.arrive.result is c.in_default.not-Answered c.in_default.not-WriteDone c.in_default.not-WriteMissed c.in_default.not-Stale c.in_default.not-Refused
+    one_of_arrival c.arrive.result is c.in_default.not-Answered c.in_default.not-WriteDone c.in_default.not-WriteMissed c.in_default.not-Stale c.in_default.not-Written c.in_default.not-Refused
 
-pub returns-in-WriteDone-clause-text : goal.returns-in-WriteDone-clause-text
-returns-in-WriteDone-clause-text c =
-    let old = string_bytes c.args.out.now in
-    c.add_text.ensures.bytes
-    ∙ ap (λ text. text ++ codes "write done\n") c.in_ok-reserve.ensures.bytes
-    ∙ ap (λ text. old ++ text) (sym (printed_as c.args.session.now.past c.arrive.new.self.past (Arrives c.args.bytes.now) answer.WriteDone c.in-WriteDone.ensures.answer (λ e. cc)))
+pub returns-clause-text : goal.returns-clause-text
+returns-clause-text c =
+    let past = c.args.session.now.past in
+    let next = c.arrive.new.self.past in
+    let event = Arrives c.args.bytes.now in
+    let room = c.in_ok-reserve.ensures.bytes in
+    elim c.match-arrive.branch [
+      | in-Answered w ↦
+          let printed : told past event ≡ flat_map outcome_text w.in-Answered.outcomes = printed_as past next event (answer.Answered w.in-Answered.outcomes) w.in-Answered.ensures.answer (λ e. cc) in
+          let added = w.add_outcomes.ensures in
+          let out = w.out-is in
+          let slice = w.as_slice.ensures in
+          search (rules, printed, added, out, room, slice)
+      | in-WriteDone w ↦
+          let printed : told past event ≡ codes "write done\n" = printed_as past next event answer.WriteDone w.in-WriteDone.ensures.answer (λ e. cc) in
+          let added = w.add_text.ensures.bytes in
+          let out = w.out-is in
+          search (rules, printed, added, out, room)
+      | in-WriteMissed w ↦
+          let printed : told past event ≡ codes "write missed\n" = printed_as past next event answer.WriteMissed w.in-WriteMissed.ensures.answer (λ e. cc) in
+          let added = w.add_text-in-WriteMissed.ensures.bytes in
+          let out = w.out-is in
+          search (rules, printed, added, out, room)
+      | in-Stale w ↦
+          let printed : told past event ≡ codes "stale\n" = printed_as past next event answer.Stale w.in-Stale.ensures.answer (λ e. cc) in
+          let added = w.add_text-in-Stale.ensures.bytes in
+          let out = w.out-is in
+          search (rules, printed, added, out, room)
+      | in-Written w ↦
+          let printed : told past event ≡ [] = printed_as past next event (answer.Written w.in-Written.field-0) w.in-Written.ensures.answer (λ e. cc) in
+          let out = w.out-is in
+          search (rules, printed, out, room)
+    ]

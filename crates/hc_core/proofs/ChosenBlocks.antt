@@ -1,0 +1,239 @@
+-- Which owed blocks a frame carries, and what is kept once they are sent and once they are answered.
+use Rattle.std.proofs.Common.{◌≡◌, ℕ, zero, suc, ◌+◌, ◌<◌, ◌≤◌, true, false, cond, not, List, [], ◌∷◌, ◌++◌, length, map, take, refl, sym, ap, ◌∙◌, subst, arith, append_assoc, Option, Some, None, rules}
+use Rattle.std.specs.Prelude.{All, Contains, option_map, option_to_list, slice_get}
+use Rattle.std.specs.Option.{option_map_or}
+use Rattle.std.specs.Str.{bytes_eq}
+use Rattle.std.proofs.lemmas.List.{append-nil, length-map, map-append}
+use Rattle.std.proofs.lemmas.List.Elements.{All-append, All-cons, All-contains, All-head, All-nil, All-tail, All-weaker, Contains-append_left, Contains-append_right}
+use Rattle.std.proofs.lemmas.List.Sums.{sum_by-cons}
+use Rattle.std.proofs.lemmas.Option.{same_Some, slice_get_within}
+use Rattle.hc_records.proofs.lemmas.Choices.{by_bool}
+use Rattle.hc_records.proofs.lemmas.Stations.{project-distinct}
+use Rattle.hc_records.specs.Line.{State, groups_of, line}
+use Rattle.hc_records.specs.Project.{lowest_fault}
+use Rattle.hc_registers.specs.Blocks.{LineBlock, RegisterBlock, line_blocks}
+use Rattle.hc_registers.specs.RankLaws.{standing}
+use Rattle.hc_registers.specs.RankPlaces.{places}
+use Rattle.hc_registers.proofs.lemmas.RanksGapless.{places-hold}
+use Rattle.hc_registers.proofs.lemmas.RanksStanding.{length-places}
+use Rattle.hc_records.proofs.lemmas.Lines.{declared_slaves}
+use Rattle.hc_records.proofs.lemmas.Projects.{project-few}
+use Rattle.hc_events.proofs.lemmas.BlockSizes.{Sized, line-sized}
+use Rattle.hc_plan.specs.Configuration.{block_at}
+use Rattle.hc_plan.specs.Reports.{name_of}
+use Rattle.hc_plan.proofs.lemmas.Configured.{configured-block}
+use Rattle.hc_events.specs.declared.answer.Outcome.{Outcome}
+use Rattle.hc_events.specs.Heads.{Head, Item, Datagram, Block}
+use Rattle.hc_events.specs.Sendings.{has_room}
+use Rattle.hc_events.specs.WriteFrames.{block_bytes, blocks_beside, blocks_bytes}
+use Rattle.hc_owed.specs.Board.{Board, Knowledge, kept_of, lacks}
+use Rattle.hc_owed.specs.Laws.{IsKeptAt, IsNextOwed, known_with, owed_from, same_name}
+use Rattle.hc_owed.specs.declared.owed.OwedBlock.{OwedBlock}
+use Rattle.hc_sendings.specs.declared.write_frames.PlacedBlock.{PlacedBlock}
+use Rattle.hc_sendings.specs.declared.writes.AwaitedBlock.{AwaitedBlock}
+use Rattle.hc_sendings.specs.WriteFrames.{WriteFrame, block_of, joined}
+use Rattle.hc_core.specs.Chosen.{CanConfirm, CanMark, IsAwaitedAt, IsChosenFrom, IsNext, IsPlaced, bytes_of, is_done, known_if}
+
+-- which blocks a frame carries
+
+take_none : {X : Type 0} (n : ℕ) (xs : List X) → xs ≡ [] → take n xs ≡ []
+take_none zero xs none = refl
+take_none (suc n) [] none = refl
+take_none (suc n) (x ∷ xs) none = cc
+
+no_more : (n : ℕ) → n ≡ n + 0
+no_more n = omega arith
+
+-- none joins where none may, none is left, or the next one has no room
+pub chosen-none : (known : Knowledge) (state : State) (place most : ℕ) (frame : WriteFrame) → take most (blocks_beside frame.bytes (owed_from known state place)) ≡ [] → IsChosenFrom known state place most frame frame
+chosen-none known state place most frame none = record {
+  blocks = sym (append-nil (map block_of frame.blocks)) ∙ ap (λ more. map block_of frame.blocks ++ more) (sym none);
+  bytes = no_more frame.bytes ∙ ap (λ more. frame.bytes + blocks_bytes more) (sym none);
+  placed = λ all. all;
+}
+
+pub chosen-over : (known : Knowledge) (state : State) (place most : ℕ) (frame : WriteFrame) → owed_from known state place ≡ [] → IsChosenFrom known state place most frame frame
+chosen-over known state place most frame none =
+    chosen-none known state place most frame (take_none most (blocks_beside frame.bytes (owed_from known state place)) (ap (blocks_beside frame.bytes) none))
+
+pub chosen-full : (known : Knowledge) (state : State) (place most : ℕ) (frame : WriteFrame) (next : PlacedBlock) → IsNext known state place next → has_room frame.bytes (length next.block.block.bytes) ≡ false
+    → IsChosenFrom known state place most frame frame
+chosen-full known state place most frame next is full =
+    chosen-none known state place most frame
+    (take_none most (blocks_beside frame.bytes (owed_from known state place))
+    (ap (blocks_beside frame.bytes) is.next ∙ ap (λ b. cond b (next.block ∷ blocks_beside (frame.bytes + block_bytes next.block) (owed_from known state (next.place + 1))) []) full))
+
+pub chosen-zero : (known : Knowledge) (state : State) (place most : ℕ) (frame : WriteFrame) → most ≡ 0 → IsChosenFrom known state place most frame frame
+chosen-zero known state place most frame none =
+    chosen-none known state place most frame (ap (λ n. take n (blocks_beside frame.bytes (owed_from known state place))) none)
+
+-- a block joins, and then those after it
+pub chosen-more : (known : Knowledge) (state : State) (place most left : ℕ) (old new : WriteFrame) (next : PlacedBlock) → IsNext known state place next → has_room old.bytes (length next.block.block.bytes) ≡ true
+    → most ≡ suc left → IsChosenFrom known state (next.place + 1) left (joined next old) new → IsChosenFrom known state place most old new
+chosen-more known state place most left old new next is room more step =
+    let later = take left (blocks_beside (old.bytes + block_bytes next.block) (owed_from known state (next.place + 1))) in
+    let beside : blocks_beside old.bytes (owed_from known state place) ≡ next.block ∷ blocks_beside (old.bytes + block_bytes next.block) (owed_from known state (next.place + 1)) =
+    ap (blocks_beside old.bytes) is.next ∙ ap (λ b. cond b (next.block ∷ blocks_beside (old.bytes + block_bytes next.block) (owed_from known state (next.place + 1))) []) room in
+    let all : take most (blocks_beside old.bytes (owed_from known state place)) ≡ next.block ∷ later =
+    ap (λ n. take n (blocks_beside old.bytes (owed_from known state place))) more ∙ ap (take (suc left)) beside in
+    let sum = sum_by-cons block_bytes next.block later in
+    record {
+      blocks = step.blocks ∙ ap (λ front. front ++ later) (map-append block_of old.blocks (next ∷ [])) ∙ append_assoc (map block_of old.blocks) (next.block ∷ []) later
+          ∙ ap (λ more. map block_of old.blocks ++ more) (sym all);
+      bytes = subst (λ more. new.bytes ≡ old.bytes + blocks_bytes more) (sym all) (omega (arith, step.bytes, sum));
+      placed = λ at. step.placed (All-append (IsPlaced state) old.blocks (next ∷ []) at (All-cons (IsPlaced state) next [] is.at (All-nil (IsPlaced state))));
+    }
+
+-- blocks that are sent
+
+pub lacks_with : (known : Knowledge) (name : ℕ × ℕ) (block : LineBlock) → lacks known block ≡ true → lacks (known_with name None known) block ≡ true
+lacks_with known name block lacking =
+    by_bool (same_name name (block.station, block.number))
+    (λ t. ap (λ b. not (option_map_or (bytes_eq block.block.bytes) (cond b None (known block.station block.number)) false)) t)
+    (λ t. ap (λ b. not (option_map_or (bytes_eq block.block.bytes) (cond b None (known block.station block.number)) false)) t ∙ lacking)
+
+abbrev pub mark-first : (board : Board) (placed : PlacedBlock) (rest : List PlacedBlock) (can : CanMark board (placed ∷ rest)) → IsKeptAt board placed.place can.known can.state placed.block
+mark-first board placed rest can = record { right = can.right; project = can.project; stands = All-head (IsPlaced can.state) placed rest can.placed }
+
+pub mark-lacks : (board : Board) (placed : PlacedBlock) (rest : List PlacedBlock) (can : CanMark board (placed ∷ rest)) → lacks can.known placed.block ≡ true
+mark-lacks board placed rest can = All-head (λ (one : PlacedBlock). lacks can.known one.block ≡ true) placed rest can.lacking
+
+abbrev pub mark-rest : (board new : Board) (placed : PlacedBlock) (rest : List PlacedBlock) (can : CanMark board (placed ∷ rest)) → new ≡ kept_of (known_with (name_of placed.block) None can.known) can.state → CanMark new rest
+mark-rest board new placed rest can sent = record {
+  known = known_with (name_of placed.block) None can.known;
+  state = can.state;
+  project = can.project;
+  right = sent;
+  placed = All-tail (IsPlaced can.state) placed rest can.placed;
+  lacking =
+      All-weaker (λ (one : PlacedBlock). lacks can.known one.block ≡ true) (λ (one : PlacedBlock). lacks (known_with (name_of placed.block) None can.known) one.block ≡ true)
+      (λ one lacking. lacks_with can.known (name_of placed.block) one.block lacking) rest (All-tail (λ (one : PlacedBlock). lacks can.known one.block ≡ true) placed rest can.lacking);
+}
+
+-- a place that has a block is one of those that are kept
+pub kept-within : (board : Board) (known : Knowledge) (state : State) (n : ℕ) (block : LineBlock) → board ≡ kept_of known state → slice_get (places state) n ≡ Some (Some block) → n < length board.known
+kept-within board known state n block right at = search (rules, slice_get_within, length-map)
+
+pub no_items : {X : Type 0} (xs : List X) → length xs ≡ 0 → xs ≡ []
+no_items [] none = refl
+no_items (x ∷ xs) none = cc
+
+-- blocks that are answered
+
+stands_among : (all : List (Option LineBlock)) (n : ℕ) (block : LineBlock) → slice_get all n ≡ Some (Some block) → Contains (standing all) block
+stands_among [] n block at = cc
+stands_among (one ∷ all) zero block at =
+    subst (λ found. Contains (option_to_list found ++ standing all) block) (sym (same_Some one (Some block) at))
+    (Contains-append_left (block ∷ []) (standing all) block (0, omega arith, refl))
+stands_among (one ∷ all) (suc n) block at = Contains-append_right (option_to_list one) (standing all) block (stands_among all n block at)
+
+pub placed-inside : (state : State) (n : ℕ) (block : LineBlock) → lowest_fault (groups_of state.groups) ≡ None → slice_get (places state) n ≡ Some (Some block) → Contains (line_blocks (line state)) block
+placed-inside state n block project at = subst (λ all. Contains all block) (places-hold state project) (stands_among (places state) n block at)
+
+abbrev station_in : Item → ℕ
+station_in (Datagram task d) = 0
+station_in (Block station number) = station
+
+abbrev number_in : Item → ℕ
+number_in (Datagram task d) = 0
+number_in (Block station number) = number
+
+-- the line configures the block for its slave
+pub configured-at : (state : State) (block : AwaitedBlock) (at : IsAwaitedAt state block) → lowest_fault (groups_of state.groups) ≡ None → block_at (line state) block.station block.number ≡ Some at.found.block
+configured-at state block at project =
+    let station : block.station ≡ at.found.station = ap (λ (head : Head). station_in head.item) at.head in
+    let number : block.number ≡ at.found.number = ap (λ (head : Head). number_in head.item) at.head in
+    ap (λ n. block_at (line state) n block.number) station ∙ ap (block_at (line state) at.found.station) number
+    ∙ configured-block (line state) (line state) at.found (project-distinct state.groups project) (placed-inside state block.place at.found project at.at)
+
+pub first-awaited : (board : Board) (state : State) (block : AwaitedBlock) (rest : List AwaitedBlock) (can : CanConfirm board state (block ∷ rest)) → IsAwaitedAt state block
+first-awaited board state block rest can = All-head (IsAwaitedAt state) block rest can.placed
+
+abbrev pub confirm-first : (board : Board) (state : State) (block : AwaitedBlock) (rest : List AwaitedBlock) → CanConfirm board state (block ∷ rest) → CanConfirm board state (block ∷ [])
+confirm-first board state block rest can = record {
+  known = can.known;
+  project = can.project;
+  right = can.right;
+  placed = All-cons (IsAwaitedAt state) block [] (first-awaited board state block rest can) (All-nil (IsAwaitedAt state));
+}
+
+abbrev pub confirm-rest : (board new : Board) (state : State) (block : AwaitedBlock) (rest : List AwaitedBlock) (outcome : Outcome) (can : CanConfirm board state (block ∷ rest))
+    → new ≡ kept_of (known_if state block outcome can.known) state → CanConfirm new state rest
+confirm-rest board new state block rest outcome can confirmed = record {
+  known = known_if state block outcome can.known;
+  project = can.project;
+  right = confirmed;
+  placed = All-tail (IsAwaitedAt state) block rest can.placed;
+}
+
+-- what is known once a block's write is done
+pub confirmed-known : (board new : Board) (state : State) (block : AwaitedBlock) (bytes : RegisterBlock) (outcome : Outcome) (can : CanConfirm board state (block ∷ [])) → is_done outcome ≡ true
+    → Some bytes ≡ block_at (line state) block.station block.number
+    → ((known : Knowledge) (kept_state : State) (found : LineBlock) → IsKeptAt board block.place known kept_state found → bytes.bytes ≡ found.block.bytes → new ≡ kept_of (known_with (name_of found) (Some bytes.bytes) known) kept_state)
+    → new ≡ kept_of (known_if state block outcome can.known) state
+confirmed-known board new state block bytes outcome can done configured confirmed =
+    let at = first-awaited board state block [] can in
+    let own : bytes ≡ at.found.block = same_Some bytes at.found.block (configured ∙ configured-at state block at can.project) in
+    let station : at.found.station ≡ block.station = sym (ap (λ (head : Head). station_in head.item) at.head) in
+    let number : at.found.number ≡ block.number = sym (ap (λ (head : Head). number_in head.item) at.head) in
+    confirmed can.known state at.found (record { right = can.right; project = can.project; stands = at.at }) (ap (λ (one : RegisterBlock). one.bytes) own)
+    ∙ ap (λ n. kept_of (known_with (n, at.found.number) (Some bytes.bytes) can.known) state) station
+    ∙ ap (λ n. kept_of (known_with (block.station, n) (Some bytes.bytes) can.known) state) number
+    ∙ ap (λ (found : Option RegisterBlock). kept_of (known_with (block.station, block.number) (option_map (λ (one : RegisterBlock). one.bytes) found) can.known) state) configured
+    ∙ sym (ap (λ b. kept_of (cond b (known_with (block.station, block.number) (bytes_of state block) can.known) can.known) state) done)
+
+pub undone : (board : Board) (state : State) (block : AwaitedBlock) (outcome : Outcome) (can : CanConfirm board state (block ∷ [])) → is_done outcome ≡ false → board ≡ kept_of (known_if state block outcome can.known) state
+undone board state block outcome can other =
+    can.right ∙ sym (ap (λ b. kept_of (cond b (known_with (block.station, block.number) (bytes_of state block) can.known) can.known) state) other)
+
+-- the next owed block, by its name
+
+pub configured-block_at : (state : State) (place : ℕ) (block : LineBlock) (station number : ℕ) → lowest_fault (groups_of state.groups) ≡ None → slice_get (places state) place ≡ Some (Some block) → station ≡ block.station
+    → number ≡ block.number → block_at (line state) station number ≡ Some block.block
+configured-block_at state place block station number project at first second =
+    ap (λ n. block_at (line state) n number) first ∙ ap (block_at (line state) block.station) second
+    ∙ configured-block (line state) (line state) block (project-distinct state.groups project) (placed-inside state place block project at)
+
+pub next-is : (known : Knowledge) (state : State) (place : ℕ) (found : OwedBlock) (block : RegisterBlock) → lowest_fault (groups_of state.groups) ≡ None → (is : IsNextOwed known state place found)
+    → Some block ≡ block_at (line state) found.station found.number → IsNext known state place (record { place = found.place; block = record { station = found.station; number = found.number; block = block } })
+next-is known state place found block project is configured =
+    let own : block ≡ is.block.block = same_Some block is.block.block (configured ∙ configured-block_at state found.place is.block found.station found.number project is.stands is.station is.number) in
+    let same : record { station = found.station; number = found.number; block = block } ≡ is.block =
+    ap (λ n. let one : LineBlock = record { station = n; number = found.number; block = block } in one) is.station
+    ∙ ap (λ n. let one : LineBlock = record { station = is.block.station; number = n; block = block } in one) is.number
+    ∙ ap (λ b. let one : LineBlock = record { station = is.block.station; number = is.block.number; block = b } in one) own in
+    record {
+      at = is.stands ∙ ap (λ (one : LineBlock). Some (Some one)) (sym same);
+      next = is.next ∙ ap (λ (one : LineBlock). one ∷ owed_from known state (found.place + 1)) (sym same);
+    }
+
+-- a place of a project's line is low
+pub place-low : (state : State) (n : ℕ) (block : LineBlock) → lowest_fault (groups_of state.groups) ≡ None → slice_get (places state) n ≡ Some (Some block) → n < 32768
+place-low state n block project at =
+    let few : length (declared_slaves state.groups) ≤ 2048 = project-few (groups_of state.groups) project in
+    let within : n < length (places state) = slice_get_within (places state) n (Some block) at in
+    omega (arith, few, within, length-places state)
+
+-- and its blocks have 8 bytes at least
+pub placed-sized : (state : State) (n : ℕ) (block : LineBlock) → lowest_fault (groups_of state.groups) ≡ None → slice_get (places state) n ≡ Some (Some block) → 8 ≤ length block.block.bytes
+placed-sized state n block project at = (All-contains Sized (line_blocks (line state)) block (line-sized (line state)) (placed-inside state n block project at)).least
+
+-- the same condition, of blocks that are cut
+
+abbrev pub can-cut : (board : Board) (blocks : List PlacedBlock) (first : PlacedBlock) (rest : List PlacedBlock) → blocks ≡ first ∷ rest → CanMark board blocks → CanMark board (first ∷ rest)
+can-cut board blocks first rest cut can = record {
+  known = can.known;
+  state = can.state;
+  project = can.project;
+  right = can.right;
+  placed = subst (All (IsPlaced can.state)) cut can.placed;
+  lacking = subst (All (λ (one : PlacedBlock). lacks can.known one.block ≡ true)) cut can.lacking;
+}
+
+abbrev pub confirm-cut : (board : Board) (state : State) (blocks : List AwaitedBlock) (first : AwaitedBlock) (rest : List AwaitedBlock) → blocks ≡ first ∷ rest → CanConfirm board state blocks → CanConfirm board state (first ∷ rest)
+confirm-cut board state blocks first rest cut can = record {
+  known = can.known;
+  project = can.project;
+  right = can.right;
+  placed = subst (All (IsAwaitedAt state)) cut can.placed;
+}

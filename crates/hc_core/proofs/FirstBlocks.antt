@@ -1,0 +1,113 @@
+-- The first owed blocks are those that are chosen by what is kept of the line's blocks, and they can be marked as sent.
+use Rattle.std.proofs.Common.{◌≡◌, ℕ, ◌+◌, ◌<◌, nat_lt, true, false, cond, List, [], ◌∷◌, filter, map, take, refl, sym, ap, ◌∙◌, subst, arith, Some, None}
+use Rattle.std.specs.Prelude.{All}
+use Rattle.std.proofs.lemmas.List.Elements.{All-cons, All-head, All-nil, All-tail, filter_passes}
+use Rattle.hc_records.specs.Line.{State, groups_of}
+use Rattle.hc_records.specs.Lists.{lowest}
+use Rattle.hc_records.specs.Project.{lowest_fault}
+use Rattle.hc_registers.specs.Blocks.{LineBlock, line_blocks}
+use Rattle.hc_registers.proofs.lemmas.RanksGapless.{places-hold}
+use Rattle.hc_frames.specs.FrameText.{Datagram, frame_text}
+use Rattle.std.proofs.lemmas.Bool.Decides.{nat_tests}
+use Rattle.hc_events.specs.declared.faults.CoreFault.TheVariants.{Room}
+use Rattle.hc_events.specs.Accepted.{IsWrite}
+use Rattle.hc_events.specs.Calls.{room_faults}
+use Rattle.hc_events.specs.Entries.{Record}
+use Rattle.hc_events.specs.Owed.{is_owed, known_bytes, owed_blocks}
+use Rattle.hc_events.specs.Points.{line_of, state_of}
+use Rattle.hc_events.specs.WriteFrames.{block_datagram, blocks_beside, blocks_bytes, writes_text}
+use Rattle.hc_events.proofs.lemmas.Fronts.{front-all, write-front}
+use Rattle.hc_owed.specs.Board.{kept_of, lacks}
+use Rattle.hc_owed.specs.Laws.{owed_from}
+use Rattle.hc_sendings.specs.declared.write_frames.PlacedBlock.{PlacedBlock}
+use Rattle.hc_sendings.specs.WriteFrames.{WriteFrame, block_of, no_blocks, placed_datagram, placed_text}
+use Rattle.hc_core.specs.Agreement.{Agree, CoreParts}
+use Rattle.hc_core.specs.Chosen.{CanMark, IsChosenFrom, IsPlaced, KeepsBlocks}
+use Rattle.hc_core.specs.Written.{first_blocks}
+
+-- what is kept of the blocks is right for the line
+abbrev pub keeps-blocks : (kept : CoreParts) (past taken : Record) → Agree kept past taken → KeepsBlocks kept.owed kept.plan
+keeps-blocks kept past taken agree = record {
+  known = known_bytes past;
+  project = subst (λ (state : State). lowest_fault (groups_of state.groups) ≡ None) (sym agree.state) agree.project;
+  right = agree.known ∙ ap (kept_of (known_bytes past)) (sym agree.state);
+}
+
+-- the blocks that are chosen from the first place on
+pub record AreFirst (past : Record) (most : ℕ) (frame : WriteFrame) : Type 0 where
+  pub blocks : map block_of frame.blocks ≡ first_blocks most past
+  pub bytes : frame.bytes ≡ blocks_bytes (first_blocks most past)
+  pub placed : All (IsPlaced (state_of past)) frame.blocks
+
+from_first : (past : Record) → lowest_fault (groups_of (state_of past).groups) ≡ None → owed_from (known_bytes past) (state_of past) 0 ≡ owed_blocks past
+from_first past project = ap (filter (lacks (known_bytes past))) (places-hold (state_of past) project)
+
+first_from : (past : Record) (most : ℕ) (old new : WriteFrame) → lowest_fault (groups_of (state_of past).groups) ≡ None → old ≡ no_blocks → IsChosenFrom (known_bytes past) (state_of past) 0 most old new → AreFirst past most new
+first_from past most old new project none chosen =
+    let own = subst (λ frame. IsChosenFrom (known_bytes past) (state_of past) 0 most frame new) none chosen in
+    let first : take most (blocks_beside 0 (owed_from (known_bytes past) (state_of past) 0)) ≡ first_blocks most past = ap (λ blocks. take most (blocks_beside 0 blocks)) (from_first past project) in
+    let sum = own.bytes in
+    record {
+      blocks = own.blocks ∙ first;
+      bytes = none_before new.bytes (blocks_bytes (take most (blocks_beside 0 (owed_from (known_bytes past) (state_of past) 0)))) sum ∙ ap blocks_bytes first;
+      placed = own.placed (All-nil (IsPlaced (state_of past)));
+    }
+  where
+    none_before : (n m : ℕ) → n ≡ 0 + m → n ≡ m
+    none_before n m same = omega (arith, same)
+
+pub are-first : (kept : CoreParts) (past taken : Record) (most : ℕ) (old new : WriteFrame) → Agree kept past taken → old ≡ no_blocks → IsChosenFrom (known_bytes past) kept.plan 0 most old new → AreFirst past most new
+are-first kept past taken most old new agree none chosen =
+    first_from past most old new agree.project none (subst (λ (state : State). IsChosenFrom (known_bytes past) state 0 most old new) agree.state chosen)
+
+-- they are owed
+
+placed_owed : (past : Record) (placed : List PlacedBlock) → All (λ block. is_owed past block ≡ true) (map block_of placed) → All (λ (one : PlacedBlock). lacks (known_bytes past) one.block ≡ true) placed
+placed_owed past [] all = All-nil (λ (one : PlacedBlock). lacks (known_bytes past) one.block ≡ true)
+placed_owed past (one ∷ placed) all =
+    All-cons (λ (other : PlacedBlock). lacks (known_bytes past) other.block ≡ true) one placed (All-head (λ (block : LineBlock). is_owed past block ≡ true) one.block (map block_of placed) all)
+    (placed_owed past placed (All-tail (λ (block : LineBlock). is_owed past block ≡ true) one.block (map block_of placed) all))
+
+pub all-lacking : (past : Record) (placed : List PlacedBlock) → IsWrite (owed_blocks past) (map block_of placed) → All (λ (one : PlacedBlock). lacks (known_bytes past) one.block ≡ true) placed
+all-lacking past placed write =
+    let front = write-front (owed_blocks past) (map block_of placed) write in
+    placed_owed past placed
+    (front-all (λ block. is_owed past block ≡ true) (map block_of placed) front.rest
+    (subst (All (λ (block : LineBlock). is_owed past block ≡ true)) front.joined (filter_passes (is_owed past) (line_blocks (line_of past)))))
+
+abbrev pub can-mark : (kept : CoreParts) (past taken : Record) (placed shown : List PlacedBlock) → shown ≡ placed → Agree kept past taken → IsWrite (owed_blocks past) (map block_of placed) → All (IsPlaced (state_of past)) placed
+    → CanMark kept.owed shown
+can-mark kept past taken placed shown same agree write at = record {
+  known = known_bytes past;
+  state = state_of past;
+  project = agree.project;
+  right = agree.known;
+  placed = subst (All (IsPlaced (state_of past))) (sym same) at;
+  lacking = subst (All (λ (one : PlacedBlock). lacks (known_bytes past) one.block ≡ true)) (sym same) (all-lacking past placed write);
+}
+
+-- the frame that writes them
+
+datagrams_of : (placed : List PlacedBlock) → map placed_datagram placed ≡ map block_datagram (map block_of placed)
+datagrams_of [] = refl
+datagrams_of (one ∷ placed) = ap (λ (datagrams : List Datagram). placed_datagram one ∷ datagrams) (datagrams_of placed)
+
+pub placed-text : (serial : ℕ) (placed : List PlacedBlock) → placed_text serial placed ≡ writes_text serial (map block_of placed)
+placed-text serial placed = ap (frame_text serial) (datagrams_of placed)
+
+-- a slice that is too short is refused
+
+is_short : (bytes needed : ℕ) → bytes < needed → nat_lt bytes needed ≡ true
+is_short bytes needed less = grind (arith, nat_tests)
+
+has_all : (bytes needed : ℕ) → (bytes < needed → ⊥) → nat_lt bytes needed ≡ false
+has_all bytes needed enough = grind (arith, nat_tests)
+
+pub room-short : (needed bytes : ℕ) → bytes < needed → lowest (room_faults needed bytes) ≡ Some (Room needed)
+room-short needed bytes less = ap (λ b. cond b (Some (Room needed)) None) (is_short bytes needed less)
+
+never : false ≡ true → ⊥
+never e = cc
+
+pub room-enough : (needed bytes : ℕ) → (bytes < needed → false ≡ true) → lowest (room_faults needed bytes) ≡ None
+room-enough needed bytes enough = ap (λ b. cond b (Some (Room needed)) None) (has_all bytes needed (λ less. never (enough less)))

@@ -1,0 +1,194 @@
+//! A frame of register writes: the owed blocks that share it, and its bytes. The core fills it from the first owed block
+//! on, writes it, and hands its blocks to what is awaited.
+ghost use Rattle.std.specs.Prelude.{◌≡◌, ◌+◌, ◌≤◌, length, map};
+ghost use Rattle.hc_frames.specs.FrameText.{datagrams_text};
+ghost use Rattle.hc_frames.specs.declared.limits.TheConstants.{MAX_ETHERCAT};
+ghost use Rattle.hc_sendings.specs.WriteFrames.{placed_bytes, placed_datagram};
+
+use crate::writes::AwaitedBlock;
+use hc_events::sending::FRAME_BLOCKS;
+use hc_frames::building::{Room, build_head, build_write_datagram};
+use hc_frames::limits::{BESIDE_DATA_BYTES, HEAD_BYTES, LEAST_FRAME, MAX_ETHERCAT};
+use hc_plan::blocks::LineBlock;
+use hc_records::items::Items;
+use std::alloc::{AllocError, Global};
+use std::marker::Model;
+
+/// A block of the line, and its place for who confirms its write.
+#[derive(Debug, Drop)]
+pub struct PlacedBlock {
+    /// Its place.
+    pub place: u32,
+    /// The block.
+    pub block: LineBlock,
+}
+
+impl PlacedBlock {
+    ghost use Rattle.std.specs.Prelude.{◌≡◌, ◌+◌, length};
+    ghost use Rattle.hc_sendings.specs.Waiting.{awaited_block};
+
+    /// Its bytes.
+    fn bytes(&self) -> &[u8]
+        ensures { result.now ≡ self.now.block.block.bytes }
+    {
+        self.block.block.bytes()
+    }
+
+    /// As its write is awaited once it was sent.
+    pub(crate) fn awaited(&self) -> AwaitedBlock
+        ensures { result ≡ awaited_block self.now }
+    {
+        let station = self.block.station;
+        AwaitedBlock {
+            place: self.place,
+            station,
+            number: self.block.number,
+            address: u32::from(station) + 65536 * u32::from(self.block.block.register()),
+            length: self.bytes().len(),
+            newest: true,
+        }
+    }
+}
+
+/// Writes the datagrams of blocks one after another into a slice of their exact size. A frame has 74 at most, so deep
+/// is this recursion.
+fn write_datagrams(out: &mut [u8], serial: u64, blocks: &[PlacedBlock])
+    requires exact { length out.old ≡ placed_bytes blocks.now }
+    requires size { 2 + placed_bytes blocks.now ≤ MAX_ETHERCAT }
+    ensures { out.new ≡ datagrams_text serial (map placed_datagram blocks.now) }
+{
+    if let [first, rest @ ..] = blocks {
+        let bytes = first.bytes();
+        let (text, others) = out.split_at_mut(BESIDE_DATA_BYTES + bytes.len());
+        let register = first.block.block.register();
+        build_write_datagram(
+            text,
+            serial,
+            first.block.station,
+            register,
+            bytes,
+            !rest.is_empty(),
+        );
+        write_datagrams(others, serial, rest);
+    }
+}
+
+/// The first owed blocks, in order, that share a frame. It has room for the 74 blocks that a frame holds at most.
+#[derive(Debug, Drop)]
+pub struct WriteFrame {
+    // of its datagrams, with their headers and their counters
+    bytes: u16,
+    blocks: Vec<PlacedBlock>,
+}
+
+impl Model for WriteFrame {
+    ghost use Rattle.std.specs.Prelude.{◌≤◌, vec_capacity};
+    ghost use Rattle.hc_events.specs.declared.sending.TheConstants.{FRAME_BLOCKS};
+    ghost use Rattle.hc_sendings.specs.WriteFrames.{WriteFrame, IsShared};
+
+    ghost Value = { WriteFrame };
+
+    ghost view = { λ frame. record { bytes = frame.bytes; blocks = frame.blocks.items } };
+
+    ghost invariant = { λ frame. IsShared frame.bytes frame.blocks.items × (FRAME_BLOCKS ≤ vec_capacity frame.blocks) };
+}
+
+impl WriteFrame {
+    ghost use Rattle.std.specs.Prelude.{◌≡◌, ◌+◌, ◌^◌, ◌<◌, ◌≤◌, [], IfOk, length, true};
+    ghost use Rattle.hc_frames.specs.declared.limits.TheConstants.{MAX_DATA};
+    ghost use Rattle.hc_frames.specs.Builds.{Builds};
+    ghost use Rattle.hc_frames.specs.Sizes.{frame_bytes};
+    ghost use Rattle.hc_events.specs.Sendings.{has_room};
+    ghost use Rattle.hc_events.specs.declared.sending.TheConstants.{FRAME_BLOCKS};
+    ghost use Rattle.hc_sendings.specs.WriteFrames.{LEAST_BLOCK, joined, no_blocks, placed_text};
+
+    /// No block yet. It takes all the memory that it will need: `AllocError` where that was refused.
+    pub fn new(alloc: Global) -> Result<WriteFrame, AllocError>
+        ensures { IfOk result (λ frame. frame ≡ no_blocks) }
+    {
+        Ok(WriteFrame {
+            bytes: 0,
+            blocks: Vec::with_capacity(alloc, FRAME_BLOCKS)?,
+        })
+    }
+
+    /// It has no blocks any more. It takes no memory.
+    pub fn clear(&mut self)
+        ensures { self.new ≡ no_blocks }
+    {
+        self.blocks.clear();
+        self.bytes = 0;
+    }
+
+    /// Whether a block with so many bytes, at most 1,486, can join the frame: the frame then has at most the 1,500 bytes
+    /// that may follow the Ethernet header.
+    pub fn has_room(&self, length: u16) -> bool
+        requires { length ≤ MAX_DATA }
+        ensures { result ≡ has_room self.now.bytes length }
+    {
+        2 + self.bytes + BESIDE_DATA_BYTES as u16 + length <= MAX_ETHERCAT
+    }
+
+    /// A block of 8 bytes at least, for which there is room, joins the frame after the others. It takes no memory.
+    pub fn join(&mut self, block: PlacedBlock)
+        requires least { LEAST_BLOCK ≤ length block.block.block.bytes }
+        requires room { has_room self.old.bytes (length block.block.block.bytes) ≡ true }
+        ensures { self.new ≡ joined block self.old }
+    {
+        self.bytes += BESIDE_DATA_BYTES as u16 + block.bytes().len() as u16;
+        self.blocks.push_reserved(block);
+    }
+
+    /// Its blocks, in order: 74 at most.
+    pub fn blocks(&self) -> &[PlacedBlock]
+        ensures blocks { result.now ≡ self.now.blocks }
+        ensures few { length result.now ≤ FRAME_BLOCKS }
+    {
+        self.blocks.as_slice()
+    }
+
+    /// The bytes of the whole frame, 60 to 1,514.
+    pub fn size(&self) -> usize
+        ensures { result ≡ frame_bytes self.now.bytes }
+    {
+        let bytes = HEAD_BYTES + usize::from(self.bytes);
+        bytes.max(usize::from(LEAST_FRAME))
+    }
+
+    /// Writes the frame into a slice of its exact size.
+    fn write(&self, out: &mut [u8], serial: u64)
+        requires exact { length out.old ≡ frame_bytes self.now.bytes }
+        requires serial { serial < 2 ^ 40 }
+        ensures { out.new ≡ placed_text serial self.now.blocks }
+    {
+        let (head, rest) = out.split_at_mut(HEAD_BYTES);
+        let (texts, padding) = rest.split_at_mut(usize::from(self.bytes));
+        build_head(head, serial, self.bytes);
+        write_datagrams(texts, serial, self.blocks.as_slice());
+        padding.fill(0);
+    }
+
+    /// Writes the frame to the front of `out`, and answers its size in bytes. `serial` is below 2^40. `Room` with the size
+    /// needed where `out` is shorter; `out` is then as it was. It takes no memory.
+    pub fn write_into(&self, out: &mut [u8], serial: u64) -> Result<usize, Room>
+        requires serial { serial < 2 ^ 40 }
+        ensures { Builds out.old out.new result (placed_text serial self.now.blocks) (frame_bytes self.now.bytes) }
+    {
+        let size = self.size();
+        if out.len() < size {
+            return Err(Room(size));
+        }
+        self.write(&mut out[..size], serial);
+        Ok(size)
+    }
+
+    /// The frame's bytes in memory of their own. `AllocError` where that was refused.
+    pub fn text(&self, alloc: Global, serial: u64) -> Result<Items<u8>, AllocError>
+        requires serial { serial < 2 ^ 40 }
+        ensures { IfOk result (λ text. text ≡ placed_text serial self.now.blocks) }
+    {
+        let mut text = Vec::from_elem(alloc, 0, self.size())?;
+        self.write(&mut text, serial);
+        Ok(Items::of(text))
+    }
+}

@@ -1,0 +1,218 @@
+//! Every answer to a frame of three register writes of which one byte has another value.
+use crate::asked::Back;
+use crate::driven::Driven;
+use crate::lines::{opened_axis, write_one};
+use crate::texts::back;
+use hc_events::answer::Outcome::{Done, Missed};
+use hc_events::answer::{Answer, Outcome};
+use hc_events::event::Event;
+use hc_events::faults::CoreFault;
+use hc_frames::Command::Fpwr;
+use std::alloc::{AllocError, Global};
+use std::test::Fail;
+
+/// The bytes of the answer: 16 of the frame's head, and datagrams of 28, 20 and 28.
+const SIZE: usize = 92;
+
+/// The last three of the axis' four blocks, as they come back well.
+const THREE: &[Back] = &[
+    (Fpwr, 0x0600_03e9, &[0; 16], 1),
+    (Fpwr, 0x0818_03e9, &[0; 8], 1),
+    (Fpwr, 0x0610_03e9, &[0; 16], 1),
+];
+
+/// What a changed answer is.
+#[derive(Clone, Copy, PartialEq, Eq)]
+enum Meaning {
+    /// It can't be read, for this fault.
+    Refused(CoreFault),
+    /// It can't be read, or answers no sending: with another length the bytes after it have other meanings.
+    LeftOut,
+    /// It answers no sending.
+    Stale,
+    /// It is the answer, and each slave took its block.
+    AllDone,
+    /// It is the answer, and the block with this number, from 0, wasn't taken.
+    OneMissed(usize),
+}
+
+/// What the answer is where a byte of a datagram has another value, by the fields of the datagram: command, index, four
+/// bytes of address, two of length, two of interrupt, data, two of working counter.
+fn field_told(datagram: usize, at: usize, data: usize, value: u8) -> Meaning {
+    match at {
+        0 if value == 1 || value == 2 || value == 12 => Meaning::Stale,
+        0 => Meaning::Refused(CoreFault::UnknownCommand),
+        1 => Meaning::Refused(CoreFault::IndexMismatch),
+        2..=5 => Meaning::Stale,
+        6 | 7 => Meaning::LeftOut,
+        8 | 9 => Meaning::AllDone,
+        _ if at < data.saturating_add(10) => Meaning::AllDone,
+        _ => Meaning::OneMissed(datagram),
+    }
+}
+
+/// The same by the byte of the frame: destination and the source's first byte are anyone's; of the source's other bytes the
+/// last one is also each datagram's index; then come EtherType, length and type. A length of 28 or 48 ends with the first or the
+/// second datagram, which promises that another follows.
+fn told(at: usize, value: u8) -> Meaning {
+    match at {
+        0..=6 => Meaning::AllDone,
+        7..=10 => Meaning::Stale,
+        11 => Meaning::Refused(CoreFault::IndexMismatch),
+        12 | 13 => Meaning::Refused(CoreFault::NotEtherCat),
+        14 if value == 28 || value == 48 => Meaning::Refused(CoreFault::MoreFollows),
+        14 => Meaning::Refused(CoreFault::BadLength),
+        15 if (0x11..=0x17).contains(&value) => Meaning::Refused(CoreFault::BadLength),
+        15 => Meaning::Refused(CoreFault::BadType),
+        16..=43 => field_told(0, at.saturating_sub(16), 16, value),
+        44..=63 => field_told(1, at.saturating_sub(44), 8, value),
+        _ => field_told(2, at.saturating_sub(64), 16, value),
+    }
+}
+
+/// Whether the answer has these outcomes.
+fn is_written(answer: &Answer, wanted: &[Outcome]) -> bool {
+    match answer {
+        Answer::Written(outcomes) => outcomes.as_slice() == wanted,
+        _ => false,
+    }
+}
+
+/// The outcomes where the block with a number wasn't taken.
+fn with_missed(number: usize) -> [Outcome; 3] {
+    match number {
+        0 => [Missed, Done, Done],
+        1 => [Done, Missed, Done],
+        _ => [Done, Done, Missed],
+    }
+}
+
+/// Whether the answer to a frame is that which is told.
+fn is_told(answer: &Answer, told: Meaning) -> bool {
+    match told {
+        Meaning::Refused(fault) => matches!(answer, Answer::Refused(found) if *found == fault),
+        Meaning::LeftOut => matches!(answer, Answer::Refused(_) | Answer::Stale),
+        Meaning::Stale => matches!(answer, Answer::Stale),
+        Meaning::AllDone => is_written(answer, &[Done; 3]),
+        Meaning::OneMissed(number) => is_written(answer, &with_missed(number)),
+    }
+}
+
+/// How many blocks are owed after it.
+fn owed_after(told: Meaning) -> u32 {
+    match told {
+        Meaning::AllDone => 0,
+        Meaning::OneMissed(_) => 1,
+        _ => 3,
+    }
+}
+
+/// Whether an answer ends what is awaited.
+fn is_answer(told: Meaning) -> bool {
+    matches!(told, Meaning::AllDone | Meaning::OneMissed(_))
+}
+
+/// The axis is forgotten, its first block is written and answered, and the other three are sent in a frame with the serial
+/// that is answered; none where something of this isn't so.
+fn sent_three(driven: &mut Driven, alloc: Global) -> Result<Option<u64>, AllocError> {
+    let forgotten = driven.put(alloc, Event::Forget(1001))?;
+    if !matches!(forgotten, Answer::Forgotten) || !write_one(driven, alloc)? {
+        return Ok(None);
+    }
+    let serial = driven.core.next_serial();
+    Ok(match driven.put(alloc, Event::SendWrites)? {
+        Answer::WritesSent(_) => Some(serial),
+        _ => None,
+    })
+}
+
+/// The answer to a serial with another value of a byte; the answer itself where it has no such byte.
+fn changed(alloc: Global, serial: u64, at: usize, value: u8) -> Result<Vec<u8>, AllocError> {
+    let mut frame = back(alloc, serial, THREE)?;
+    if at < frame.len() {
+        frame[at] = value;
+    }
+    Ok(frame)
+}
+
+/// Whether the answer with another value of a byte is answered as told, and leaves as many blocks owed as it should.
+fn holds_of(
+    driven: &mut Driven,
+    alloc: Global,
+    serial: u64,
+    at: usize,
+    value: u8,
+) -> Result<bool, AllocError> {
+    let frame = changed(alloc, serial, at, value)?;
+    let answer = driven.put(alloc, Event::Arrive(frame.as_slice()))?;
+    let told = told(at, value);
+    Ok(is_told(&answer, told) && driven.core.owed() == owed_after(told))
+}
+
+/// The serial of a frame that waits for its answer: the one that was sent, unless it was answered; then another is sent.
+fn awaited(
+    driven: &mut Driven,
+    alloc: Global,
+    sent: Option<u64>,
+) -> Result<Option<u64>, AllocError> {
+    match sent {
+        Some(serial) => Ok(Some(serial)),
+        None => sent_three(driven, alloc),
+    }
+}
+
+/// How many of a byte's other values hold.
+fn held(driven: &mut Driven, alloc: Global, at: usize, old: u8) -> Result<u32, AllocError> {
+    let mut held = 0_u32;
+    let mut sent = None;
+    for value in 0..=255_u8 {
+        if value != old {
+            let Some(serial) = awaited(driven, alloc, sent)? else {
+                return Ok(0);
+            };
+            if holds_of(driven, alloc, serial, at, value)? {
+                held = held.saturating_add(1);
+            }
+            sent = if is_answer(told(at, value)) {
+                None
+            } else {
+                Some(serial)
+            };
+        }
+    }
+    Ok(held)
+}
+
+/// The byte of an answer with an index; 0 behind its end.
+fn byte_of(frame: &[u8], at: usize) -> u8 {
+    match frame.get(at) {
+        Some(byte) => *byte,
+        None => 0,
+    }
+}
+
+/// Whether each other value of a byte holds, on an axis that just opened. Bytes of the serial and the index are those of the
+/// serial 1: the first block has the serial 0.
+fn holds_at(alloc: Global, at: usize) -> Result<bool, Fail> {
+    let mut driven = opened_axis(alloc)?;
+    let old = byte_of(back(alloc, 1, THREE)?.as_slice(), at);
+    Ok(held(&mut driven, alloc, at, old)? == 255)
+}
+
+/// The first byte of which not each of 255 other values holds; none where all do.
+fn first_unheld(alloc: Global) -> Result<Option<usize>, Fail> {
+    for at in 0..SIZE {
+        if !holds_at(alloc, at)? {
+            return Ok(Some(at));
+        }
+    }
+    Ok(None)
+}
+
+/// 92 bytes with 255 other values each are 23,460 frames.
+#[test]
+fn every_changed_answer_to_writes(rt: HostRuntime) -> Result<(), Fail> {
+    assert_eq!(rt; back(rt.alloc(), 1, THREE)?.len(), SIZE);
+    assert_eq!(rt; first_unheld(rt.alloc())?, None);
+    Ok(())
+}
