@@ -12,7 +12,6 @@ use hc_records::keys::Key;
 use hc_records::records::{Area, Slave};
 use hc_records::task::Task;
 use hc_registers::blocks::Block;
-
 pub use hc_registers::blocks::LineBlock;
 
 /// One of the two blocks of the area at an index of a slave with a rank: the sync manager block for an
