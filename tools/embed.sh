@@ -3,8 +3,8 @@
 # sanitizer, from C++, Rust and Python: players play examples/*.in, and what they print is compared with *.out, byte for byte.
 # The C callers also try what a caller may do wrong, each growth of memory refused in turn, and two million drawn calls. The cycle
 # of docs/use/EMBEDDING.md and the examples in the pages of the Rust crate are run. What drawn calls are answered is compared, byte
-# for byte, with what the program hotline prints of the same commands; the comparison is shown wrong programs and wrong
-# libraries, and must find each. The library is installed below a folder, and programs outside the repository find it: in C by
+# for byte, with what the program hotline prints of the same commands; the comparison is shown wrong programs, wrong libraries and
+# wrong models, and must find each. The library is installed below a folder, and programs outside the repository find it: in C by
 # pkg-config and by CMake, in Rust by cargo, in Python by pip. Each target of tools/release.sh is packed, and plays the examples
 # on the processor that it is made for. A master and its slaves run for five seconds where a network namespace can be made, and
 # tshark reads their capture; where none can be made, that is said. What is missing is named, and counts as failed:

@@ -9,9 +9,10 @@ compiled() {
     gcc -std=c11 -g -O1 $warnings "$@" -Iinclude "tools/embed/$caller.c" build/libzangjulf.a -o "$scratch/$caller"
 }
 
-# compiled_fuzz WORDS..: the caller that draws, likewise
+# compiled_fuzz WORDS..: the caller that draws, likewise, over the plain model or the one that `model` names
 compiled_fuzz() {
-    compiled fuzz tools/embed/draws.c tools/embed/growths.c tools/embed/model.c tools/embed/news.c tools/embed/words.c $wrapped "$@"
+    compiled fuzz -Itools/embed tools/embed/draws.c tools/embed/growths.c "${model:-tools/embed/model.c}" tools/embed/news.c \
+        tools/embed/words.c $wrapped "$@"
 }
 
 # edges LABEL FLAGS..: what a caller may do wrong

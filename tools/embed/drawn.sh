@@ -19,6 +19,23 @@ drawn() {
     (timeout 300 "$scratch/fuzz" "$1" "$2" "$3" "$scratch/drawn" $declare >"$scratch/printed") 2>/dev/null
 }
 
+# wrong_models: drawn calls find a model of register writes of which one line is wrong. Each has a name, and what sed makes of it
+wrong_models() {
+    model=$scratch/model.c
+    while read -r name edit; do
+        sed "$edit" tools/embed/model.c >"$model"
+        [ "$(diff tools/embed/model.c "$model" | grep -c '^>')" -eq 1 ] && compiled_fuzz
+        tell $? "the model with $name isn't built"
+        ! (timeout 300 "$scratch/fuzz" examples/tool_changer.toml 30000 3 >"$scratch/printed") 2>/dev/null </dev/null
+        tell $? "drawn calls don't find the model with $name"
+    done <<'END'
+older_frames_that_confirm s/ || known->serial != sending->serial//
+writes_answered_after_a_forget s/ || sending->forgets < model->forgets_at_write//
+slaves_that_are_forgotten_with_another s/\.station != station)/.station < station)/
+END
+    model=
+}
+
 # compare_drawn: drawn calls beside the program, in three projects; then wrong programs and wrong libraries
 compare_drawn() {
     declare=
@@ -55,4 +72,5 @@ compare_drawn() {
         ! (timeout 300 "$scratch/fuzz" examples/tool_changer.in 30000 3 >"$scratch/printed") 2>/dev/null
         tell $? "drawn calls don't find the wrong $name"
     done
+    wrong_models
 }
