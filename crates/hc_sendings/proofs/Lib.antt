@@ -10,6 +10,7 @@ pub mod Noted
 pub mod Alive
 pub mod Sent
 pub mod Ended
+pub mod Again
 pub mod Found
 pub mod Room
 pub mod Rows

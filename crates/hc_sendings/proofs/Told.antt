@@ -144,10 +144,29 @@ judged-frame line waiting arrival found none there =
     ap (λ (one : Option AwaitedFrame). option_map_or (judged_due arrival) (option_map (frame_due line) one) []) there
     ∙ sym (ap (λ (write : Option AwaitedWrite). option_map_or (judged_due arrival) (option_or (option_map write_due write) (option_map (frame_due line) (found_frame arrival.serial waiting))) []) none)
 
-pub judged-write : (line : List Member) (waiting : Waiting) (arrival : Arrival) (write : AwaitedWrite) → found_write arrival.serial waiting ≡ Some write
-    → judged_due arrival (write_due write) ≡ judged_in line waiting arrival
-judged-write line waiting arrival write there =
-    sym (ap (λ (found : Option AwaitedWrite). option_map_or (judged_due arrival) (option_or (option_map write_due found) (option_map (frame_due line) (found_frame arrival.serial waiting))) []) there)
+judged-found : (line : List Member) (waiting : Waiting) (arrival : Arrival) (found : Option AwaitedWrite) (blocks : List AwaitedBlock) → option_map (λ (write : AwaitedWrite). write.blocks) found ≡ Some blocks
+    → option_map_or (judged_due arrival) (option_or (option_map write_due found) (option_map (frame_due line) (found_frame arrival.serial waiting))) [] ≡ judged_due arrival (map block_due blocks)
+judged-found line waiting arrival None blocks there = absurd (never there)
+  where
+    never : None ≡ Some blocks → ⊥
+    never e = cc
+judged-found line waiting arrival (Some write) blocks there = ap (λ (all : List AwaitedBlock). judged_due arrival (map block_due all)) (same write.blocks blocks there)
+  where
+    same : (a b : List AwaitedBlock) → Some a ≡ Some b → a ≡ b
+    same a b e = cc
+
+-- the blocks of the write with the arrival's serial are judged
+pub judged-blocks : (line : List Member) (waiting : Waiting) (arrival : Arrival) (blocks : List AwaitedBlock) → option_map (λ (write : AwaitedWrite). write.blocks) (found_write arrival.serial waiting) ≡ Some blocks
+    → judged_due arrival (map block_due blocks) ≡ judged_in line waiting arrival
+judged-blocks line waiting arrival blocks there = sym (judged-found line waiting arrival (found_write arrival.serial waiting) blocks there)
+
+none-found : (found : Option AwaitedWrite) → option_map (λ (write : AwaitedWrite). write.blocks) found ≡ None → found ≡ None
+none-found None none = refl
+none-found (Some write) none = cc
+
+-- where no blocks are found, no write is
+pub no-blocks : (serial : ℕ) (waiting : Waiting) → option_map (λ (write : AwaitedWrite). write.blocks) (found_write serial waiting) ≡ None → found_write serial waiting ≡ None
+no-blocks serial waiting none = none-found (found_write serial waiting) none
 
 -- a frame that is found is one of those that are awaited
 pub found-holds : (P : AwaitedFrame → Type 0) (serial : ℕ) (frames : List AwaitedFrame) (frame : AwaitedFrame) → All P frames

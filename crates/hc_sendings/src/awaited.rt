@@ -1,14 +1,15 @@
 //! What was sent and can still be answered with news.
-ghost use Rattle.std.specs.Prelude.{◌≡◌, ◌==◌, ◌<◌, ◌≤◌, [], ◌∷◌, ◌++◌, ◌+◌, ◌⊎◌, false, true, All, AllPairs, Contains, IfSome, IsTrue, filter, find, if◌then◌else◌, length, map, nat_lt, not, option_map, vec_capacity, vec_len};
+ghost use Rattle.std.specs.Prelude.{◌≡◌, ◌==◌, ◌<◌, ◌≤◌, [], ◌∷◌, ◌++◌, ◌+◌, ◌⊎◌, false, true, All, AllPairs, Contains, IfSome, IsTrue, filter, find, if◌then◌else◌, length, map, nat_lt, option_map, vec_capacity, vec_len};
 ghost use Rattle.std.specs.List.Sorted.{IsPartitionPoint};
 ghost use Rattle.hc_events.specs.Sendings.{Named};
 ghost use Rattle.hc_sendings.specs.Kept.{awaited_frames, emptied, kept_of, newest_after, newest_of, frame_by};
-ghost use Rattle.hc_sendings.specs.Waiting.{IsNamed, is_alive, is_awaited, with_written, write_forgotten};
+ghost use Rattle.hc_sendings.specs.Waiting.{IsNamed, is_alive};
 
 use crate::kept::KeptFrame;
+use crate::last_writes::LastWrites;
 use crate::newest::Newest;
 use crate::write_frames::PlacedBlock;
-use crate::writes::{AwaitedBlock, Write};
+use crate::writes::AwaitedBlock;
 use hc_events::sending::Sending;
 use hc_records::slots::SLOTS;
 use std::alloc::{AllocError, Global};
@@ -32,8 +33,7 @@ pub struct Awaited {
     pub(crate) newest: Newest,
     // in the order of their serials; some may be the newest of no datagram
     pub(crate) frames: Vec<KeptFrame>,
-    // in the order of their serials; each is the newest of a block
-    pub(crate) writes: Vec<Write>,
+    pub(crate) writes: LastWrites,
     pub(crate) forgotten: bool,
 }
 
@@ -53,54 +53,12 @@ impl Model for Awaited {
     ghost use Rattle.hc_sendings.specs.Kept.{AreKept, awaited_frames};
     ghost use Rattle.hc_sendings.specs.Waiting.{Waiting};
     ghost use Rattle.hc_records.specs.declared.slots.TheConstants.{SLOTS};
-    ghost use Rattle.hc_sendings.specs.declared.awaited.TheConstants.{AWAITED_WRITES};
 
     ghost Value = { Waiting };
 
-    ghost view = { λ awaited. record { frames = awaited_frames awaited.newest awaited.frames.items; writes = awaited.writes.items; forgotten = awaited.forgotten } };
+    ghost view = { λ awaited. record { frames = awaited_frames awaited.newest awaited.frames.items; writes = awaited.writes; forgotten = awaited.forgotten } };
 
-    ghost invariant = { λ awaited. AreKept awaited.newest awaited.frames.items × (SLOTS ≤ vec_capacity awaited.frames) × (AWAITED_WRITES ≤ vec_capacity awaited.writes) };
-}
-
-/// The write with a serial.
-pub(crate) fn find_write(writes: &[Write], serial: u64) -> Option<&Write>
-    ensures { option_map (λ write. write.now) result ≡ find (λ write. write.serial == serial) writes.now }
-{
-    writes.iter().find(|write| write.serial() == serial)
-}
-
-/// Those writes stay that are the newest of a block.
-fn keep_writes(writes: &mut Vec<Write>)
-    ensures writes { writes.new.items ≡ filter is_awaited writes.old.items }
-    ensures room { vec_capacity writes.new ≡ vec_capacity writes.old }
-{
-    writes.retain(|write| write.is_awaited());
-}
-
-/// In each write the blocks that are among these aren't the newest any more.
-fn write_again(writes: &mut [Write], again: &[AwaitedBlock])
-    ensures { writes.new ≡ map (with_written again.now) writes.old }
-{
-    for write in writes.iter_mut() {
-        write.write_again(again);
-    }
-}
-
-/// In each write the blocks of a slave aren't the newest any more.
-fn forget_blocks(writes: &mut [Write], station: u16)
-    ensures { writes.new ≡ map (write_forgotten station) writes.old }
-{
-    for write in writes.iter_mut() {
-        write.forget(station);
-    }
-}
-
-/// The write with a serial, if there is one, goes.
-fn end_write(writes: &mut Vec<Write>, serial: u64)
-    ensures writes { writes.new.items ≡ filter (λ write. not (write.serial == serial)) writes.old.items }
-    ensures room { vec_capacity writes.new ≡ vec_capacity writes.old }
-{
-    writes.retain(|write| write.serial() != serial);
+    ghost invariant = { λ awaited. AreKept awaited.newest awaited.frames.items × (SLOTS ≤ vec_capacity awaited.frames) };
 }
 
 /// Each frame is the newest of its datagrams, the last one last.
@@ -245,7 +203,7 @@ impl Awaited {
         Ok(Awaited {
             newest: Newest::new(alloc)?,
             frames: Vec::with_capacity(alloc, SLOTS)?,
-            writes: Vec::with_capacity(alloc, AWAITED_WRITES)?,
+            writes: LastWrites::new(alloc)?,
             forgotten: false,
         })
     }
@@ -276,15 +234,14 @@ impl Awaited {
     }
 
     /// The older writes of which a write of these blocks takes the place go, and the others stay.
-    fn retire(&mut self, again: &[AwaitedBlock])
-        ensures { self.new ≡ record self.old { writes = older_writes again.now self.old } }
+    fn retire(&mut self, again: &[PlacedBlock])
+        ensures { self.new ≡ record self.old { writes = older_writes (map awaited_block again.now) self.old } }
     {
         if self.forgotten {
             self.writes.clear();
-            return;
+        } else {
+            self.writes.write_again(again);
         }
-        write_again(&mut self.writes, again);
-        keep_writes(&mut self.writes);
     }
 
     /// Register blocks, 74 at most, are sent in one frame, and are awaited from now on. Older writes of these blocks aren't
@@ -295,9 +252,8 @@ impl Awaited {
         requires room { length (older_writes (map awaited_block blocks.now) self.old) < AWAITED_WRITES }
         ensures { self.new ≡ wrote serial (map awaited_block blocks.now) self.old }
     {
-        let write = Write::of(serial, blocks);
-        self.retire(write.blocks());
-        self.writes.push_reserved(write);
+        self.retire(blocks);
+        self.writes.push(serial, blocks);
         self.forgotten = false;
     }
 
@@ -306,8 +262,7 @@ impl Awaited {
     pub fn forget(&mut self, station: u16)
         ensures { self.new ≡ forgot station self.old }
     {
-        forget_blocks(&mut self.writes, station);
-        keep_writes(&mut self.writes);
+        self.writes.forget(station);
         self.forgotten = true;
     }
 
@@ -317,7 +272,7 @@ impl Awaited {
         ensures { self.new ≡ ended serial self.old }
     {
         empty(&mut self.frames, serial);
-        end_write(&mut self.writes, serial);
+        self.writes.end(serial);
     }
 
     /// The blocks of the awaited write with a serial, in its order: 74 at most; none where no such write is awaited.
@@ -325,8 +280,8 @@ impl Awaited {
         ensures blocks { result.now ≡ blocks_with serial self.now }
         ensures few { length result.now ≤ FRAME_BLOCKS }
     {
-        match find_write(self.writes.as_slice(), serial) {
-            Some(write) => write.blocks(),
+        match self.writes.find(serial) {
+            Some(blocks) => blocks,
             None => &[],
         }
     }

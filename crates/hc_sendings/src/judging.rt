@@ -13,14 +13,14 @@ ghost use Rattle.hc_events.specs.Steps.{outcome_for, told_of, told_of_block};
 ghost use Rattle.hc_sendings.specs.declared.awaited.TheConstants.{FRAME_DATAGRAMS};
 ghost use Rattle.hc_sendings.specs.Waiting.{IsNamed};
 ghost use Rattle.hc_events.specs.declared.sending.TheConstants.{FRAME_BLOCKS};
-ghost use Rattle.hc_sendings.specs.Judging.{block_due, frame_due, judge_due, judged_due, write_due};
+ghost use Rattle.hc_sendings.specs.Judging.{block_due, frame_due, judge_due, judged_due};
 ghost use Rattle.hc_sendings.specs.Kept.{frame_by};
 ghost use Rattle.hc_sendings.specs.Walk.{head_of, outcomes_in};
 
-use crate::awaited::{Awaited, find_frame, find_write};
+use crate::awaited::{Awaited, find_frame};
 use crate::kept::KeptFrame;
 use crate::newest::Newest;
-use crate::writes::{AwaitedBlock, Write};
+use crate::writes::{AwaitedBlock, any_newest};
 use hc_events::answer::{Arrived, Outcome};
 use hc_events::sending::Named;
 use hc_frames::Command;
@@ -113,23 +113,23 @@ fn judge_blocks(
     Ok(came.next().is_none())
 }
 
-/// What an arrival with a write's serial is for it, as `Awaited::judge` says.
+/// What an arrival with the serial of a write of these blocks is for it, as `Awaited::judge` says.
 fn judge_write(
-    write: &Write,
+    blocks: &[AwaitedBlock],
     arrival: &Returned<'_>,
     outcomes: &mut Vec<Outcome>,
 ) -> Result<Arrived, AllocError>
+    requires few { length blocks.now ≤ FRAME_BLOCKS }
     requires empty { outcomes.old.items ≡ [] }
-    ensures answer { IfOk result (λ arrived. told_with arrived outcomes.new.items ≡ told_of (judged_due arrival.now (write_due write.now))) }
+    ensures answer { IfOk result (λ arrived. told_with arrived outcomes.new.items ≡ told_of (judged_due arrival.now (map block_due blocks.now))) }
     ensures room { OnErr result (vec_capacity outcomes.old < FRAME_DATAGRAMS) }
     ensures capacity { vec_capacity outcomes.old ≤ vec_capacity outcomes.new }
     ensures none { OnErr result (outcomes.new.items ≡ []) }
 {
-    let blocks = write.blocks();
     if blocks.len() == 1 {
         return Ok(judge_one(&blocks[0], arrival));
     }
-    if judge_blocks(blocks, arrival, outcomes)? && write.is_awaited() {
+    if judge_blocks(blocks, arrival, outcomes)? && any_newest(blocks) {
         Ok(Arrived::Written)
     } else {
         Ok(Arrived::Stale)
@@ -236,9 +236,8 @@ impl Awaited {
         ensures capacity { vec_capacity outcomes.old ≤ vec_capacity outcomes.new }
         ensures none { OnErr result (outcomes.new.items ≡ []) }
     {
-        let written = find_write(self.writes.as_slice(), arrival.serial());
-        if let Some(write) = written {
-            return judge_write(write, arrival, outcomes);
+        if let Some(blocks) = self.writes.find(arrival.serial()) {
+            return judge_write(blocks, arrival, outcomes);
         }
         let found = find_frame(&self.newest, self.frames.as_slice(), arrival.serial());
         let Some(frame) = found else {

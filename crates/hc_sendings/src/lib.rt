@@ -7,6 +7,7 @@ pub mod filling;
 mod framing;
 mod judging;
 mod kept;
+mod last_writes;
 mod newest;
 pub mod parts;
 pub mod proposing;

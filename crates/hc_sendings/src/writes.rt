@@ -1,10 +1,11 @@
-//! Register writes as they are kept while they are awaited.
-ghost use Rattle.std.specs.Prelude.{◌≡◌, map};
+//! Register blocks as they are kept while their write is awaited, and a frame of them.
+ghost use Rattle.std.specs.Prelude.{◌≡◌, ◌≤◌, length, map, vec_capacity};
 ghost use Rattle.std.specs.List.{list_any};
-ghost use Rattle.hc_sendings.specs.Waiting.{block_forgotten, is_same, written_again};
+ghost use Rattle.hc_sendings.specs.Waiting.{awaited_block, block_forgotten, is_same, written_again};
 
 use crate::write_frames::PlacedBlock;
-use arrayvec::ArrayVec;
+use hc_events::sending::FRAME_BLOCKS;
+use std::alloc::{AllocError, Global};
 use std::marker::Model;
 
 /// A register block of a write that was sent.
@@ -32,15 +33,15 @@ fn is_same(block: &AwaitedBlock, other: &AwaitedBlock) -> bool
 }
 
 /// Whether a block is one of these.
-fn is_among(block: &AwaitedBlock, blocks: &[AwaitedBlock]) -> bool
-    ensures { result ≡ list_any (is_same block.now) blocks.now }
+fn is_among(block: &AwaitedBlock, placed: &[PlacedBlock]) -> bool
+    ensures { result ≡ list_any (λ other. is_same block.now (awaited_block other)) placed.now }
 {
-    blocks.iter().any(|other| is_same(block, other))
+    placed.iter().any(|other| is_same(block, &other.awaited()))
 }
 
 /// A block of an older write after a write of these blocks.
-fn written_again(block: &AwaitedBlock, again: &[AwaitedBlock]) -> AwaitedBlock
-    ensures { result ≡ written_again again.now block.now }
+fn written_again(block: &AwaitedBlock, again: &[PlacedBlock]) -> AwaitedBlock
+    ensures { result ≡ written_again (map awaited_block again.now) block.now }
 {
     AwaitedBlock {
         newest: block.newest && !is_among(block, again),
@@ -59,8 +60,8 @@ fn forgotten(block: &AwaitedBlock, station: u16) -> AwaitedBlock
 }
 
 /// A write of these blocks is sent: blocks that are among them aren't the newest any more.
-fn write_again(blocks: &mut [AwaitedBlock], again: &[AwaitedBlock])
-    ensures { blocks.new ≡ map (written_again again.now) blocks.old }
+fn write_again(blocks: &mut [AwaitedBlock], again: &[PlacedBlock])
+    ensures { blocks.new ≡ map (written_again (map awaited_block again.now)) blocks.old }
 {
     for block in blocks.iter_mut() {
         *block = written_again(block, again);
@@ -76,73 +77,125 @@ fn forget_blocks(blocks: &mut [AwaitedBlock], station: u16)
     }
 }
 
-/// The serial of a frame of register writes, and its blocks in order: 74 at most, since each has 8 bytes at least, 20
-/// with its header and its working counter, and 1,498 bytes follow the EtherCAT header (ETG.1000.4, 5.3 and 5.4). It owns
-/// no memory.
+/// Whether one of the blocks is the newest.
+pub(crate) fn any_newest(blocks: &[AwaitedBlock]) -> bool
+    ensures { result ≡ list_any (λ block. block.newest) blocks.now }
+{
+    blocks.iter().any(|block| block.newest)
+}
+
+/// Puts these blocks in place of those that are in a list with room for them.
+fn put_blocks(blocks: &mut Vec<AwaitedBlock>, placed: &[PlacedBlock])
+    requires { length placed.now ≤ vec_capacity blocks.old }
+    ensures blocks { blocks.new.items ≡ map awaited_block placed.now }
+    ensures room { vec_capacity blocks.new ≡ vec_capacity blocks.old }
+{
+    blocks.clear();
+    for block in placed {
+        blocks.push_reserved(block.awaited());
+    }
+}
+
+/// A frame of register writes as long as it is awaited: its serial, and its blocks in order, 74 at most, since each has 8
+/// bytes at least, 20 with its header and its working counter, and 1,498 bytes follow the EtherCAT header (ETG.1000.4, 5.3
+/// and 5.4). Contracts see a list of this frame, or of none. Its room is made at the opening.
 #[derive(Debug, Drop)]
 pub(crate) struct Write {
     serial: u64,
-    blocks: ArrayVec<AwaitedBlock, 74>,
+    is_awaited: bool,
+    blocks: Vec<AwaitedBlock>,
 }
 
 impl Model for Write {
+    ghost use Rattle.std.specs.Prelude.{◌≤◌, [], ◌∷◌, if◌then◌else◌, List, length, vec_capacity};
+    ghost use Rattle.hc_events.specs.declared.sending.TheConstants.{FRAME_BLOCKS};
     ghost use Rattle.hc_sendings.specs.Waiting.{AwaitedWrite};
 
-    ghost Value = { AwaitedWrite };
+    ghost Value = { List AwaitedWrite };
 
-    ghost view = { λ write. record { serial = write.serial; blocks = write.blocks.items } };
+    ghost view = { λ write. if write.is_awaited then record { serial = write.serial; blocks = write.blocks.items } ∷ [] else [] };
+
+    ghost invariant = { λ write. (length write.blocks.items ≤ FRAME_BLOCKS) × (FRAME_BLOCKS ≤ vec_capacity write.blocks) };
 }
 
 impl Write {
-    ghost use Rattle.std.specs.Prelude.{◌≡◌, ◌≤◌, length, map};
+    ghost use Rattle.std.specs.Prelude.{◌≡◌, ◌==◌, ◌≤◌, [], ◌∷◌, IfOk, IfSome, filter, find, length, map, not, option_map};
     ghost use Rattle.hc_events.specs.declared.sending.TheConstants.{FRAME_BLOCKS};
     ghost use Rattle.hc_sendings.specs.Waiting.{awaited_block, is_awaited, with_written, write_forgotten};
 
-    /// What is kept of a write of these blocks.
-    pub(crate) fn of(serial: u64, placed: &[PlacedBlock]) -> Write
+    /// None is awaited. `AllocError` where its memory was refused.
+    pub(crate) fn none(alloc: Global) -> Result<Write, AllocError>
+        ensures { IfOk result (λ write. write ≡ []) }
+    {
+        Ok(Write {
+            serial: 0,
+            is_awaited: false,
+            blocks: Vec::with_capacity(alloc, FRAME_BLOCKS)?,
+        })
+    }
+
+    /// Whether none is awaited.
+    pub(crate) fn is_none(&self) -> bool
+        ensures { result ≡ (length self.now == 0) }
+    {
+        !self.is_awaited
+    }
+
+    /// None is awaited any more.
+    pub(crate) fn clear(&mut self)
+        ensures { self.new ≡ [] }
+    {
+        self.is_awaited = false;
+    }
+
+    /// A write of these blocks is awaited from now on.
+    pub(crate) fn put(&mut self, serial: u64, placed: &[PlacedBlock])
         requires { length placed.now ≤ FRAME_BLOCKS }
-        ensures { result ≡ record { serial = serial; blocks = map awaited_block placed.now } }
+        ensures { self.new ≡ record { serial = serial; blocks = map awaited_block placed.now } ∷ [] }
     {
-        let mut blocks = ArrayVec::new();
-        for block in placed {
-            blocks.push(block.awaited());
+        put_blocks(&mut self.blocks, placed);
+        self.serial = serial;
+        self.is_awaited = true;
+    }
+
+    /// The blocks in order, where it has this serial.
+    pub(crate) fn find(&self, serial: u64) -> Option<&[AwaitedBlock]>
+        ensures blocks { option_map (λ blocks. blocks.now) result ≡ option_map (λ write. write.blocks) (find (λ write. write.serial == serial) self.now) }
+        ensures few { IfSome result (λ blocks. length blocks.now ≤ FRAME_BLOCKS) }
+    {
+        if self.is_awaited && self.serial == serial {
+            Some(self.blocks.as_slice())
+        } else {
+            None
         }
-        Write { serial, blocks }
-    }
-
-    /// Its serial.
-    pub(crate) fn serial(&self) -> u64
-        ensures { result ≡ self.now.serial }
-    {
-        self.serial
-    }
-
-    /// Its blocks, in order.
-    pub(crate) fn blocks(&self) -> &[AwaitedBlock]
-        ensures blocks { result.now ≡ self.now.blocks }
-        ensures few { length result.now ≤ FRAME_BLOCKS }
-    {
-        self.blocks.as_slice()
     }
 
     /// A write of these blocks is sent.
-    pub(crate) fn write_again(&mut self, again: &[AwaitedBlock])
-        ensures { self.new ≡ with_written again.now self.old }
+    pub(crate) fn write_again(&mut self, again: &[PlacedBlock])
+        ensures { self.new ≡ filter is_awaited (map (with_written (map awaited_block again.now)) self.old) }
     {
-        write_again(self.blocks.as_mut_slice(), again);
+        if self.is_awaited {
+            write_again(&mut self.blocks, again);
+            self.is_awaited = any_newest(&self.blocks);
+        }
     }
 
     /// The slave with a station address is forgotten.
     pub(crate) fn forget(&mut self, station: u16)
-        ensures { self.new ≡ write_forgotten station self.old }
+        ensures { self.new ≡ filter is_awaited (map (write_forgotten station) self.old) }
     {
-        forget_blocks(self.blocks.as_mut_slice(), station);
+        if self.is_awaited {
+            forget_blocks(&mut self.blocks, station);
+            self.is_awaited = any_newest(&self.blocks);
+        }
     }
 
-    /// Whether one of its blocks is the newest.
-    pub(crate) fn is_awaited(&self) -> bool
-        ensures { result ≡ is_awaited self.now }
+    /// What was sent with a serial was answered.
+    pub(crate) fn end(&mut self, serial: u64)
+        ensures { self.new ≡ filter (λ write. not (write.serial == serial)) self.old }
     {
-        self.blocks.as_slice().iter().any(|block| block.newest)
+        if self.serial == serial {
+            self.is_awaited = false;
+        }
     }
 }

@@ -5,14 +5,12 @@ use Rattle.hc_sendings.proofs.awaited.Awaited.end.Goals as goal
 
 pub returns : goal.returns
 returns c =
-    all-ended c.self.inside.newest c.args.serial c.self.inside.frames.items c.empty.new.frames.items c.self.inside.writes.items c.end_write.new.writes.items c.self.inside.forgotten
-    c.empty.ensures.frames c.end_write.ensures.writes
+    all-ended c.self.inside.newest c.args.serial c.self.inside.frames.items c.empty.new.frames.items c.self.inside.writes c.end.new.self c.self.inside.forgotten
+    c.empty.ensures.frames c.end.ensures
     ∙ ap (ended c.args.serial) c.self.view_is
 
 pub invariant_of-self : goal.invariant_of-self
 invariant_of-self c =
     let room = c.self.invariant.1 in
     let same = c.empty.ensures.room in
-    let writes = c.self.invariant.2 in
-    let still = c.end_write.ensures.room in
-    (kept-ended c.self.inside.newest c.args.serial c.self.inside.frames.items c.empty.new.frames.items c.empty.ensures.frames c.self.invariant.0, omega (arith, room, same), omega (arith, writes, still))
+    (kept-ended c.self.inside.newest c.args.serial c.self.inside.frames.items c.empty.new.frames.items c.empty.ensures.frames c.self.invariant.0, omega (arith, room, same))

@@ -58,7 +58,6 @@ invariant_of-self c =
       subst (AreKept now) (sym c.add_all.ensures.frames)
           (joined-kept before now kept first second more are c.note_all.ensures.places one behind two c.requires.named c.requires.behind.ascend),
       omega (arith, room, same, still, yet),
-      c.self.invariant.2,
     )
 
 pub returns-clause-sent : goal.returns-clause-sent
@@ -74,8 +73,8 @@ returns-clause-sent c =
     let behind : All (Behind more) first = behind-or (newest_of before) kept first more c.make_way.ensures.frames awaited in
     let one : IsPruned (newest_of before) kept first = pruned-or (newest_of before) kept first c.make_way.ensures.frames in
     let two : IsPruned (newest_of now) first second = pruned-or (newest_of now) first second c.make_room.ensures.frames in
-    ap (λ (frames : List KeptFrame). record { frames = alive_at (newest_of now) frames; writes = c.self.inside.writes.items; forgotten = c.self.inside.forgotten }) c.add_all.ensures.frames
-    ∙ joined-told before now kept first second more c.self.inside.writes.items c.self.inside.forgotten are c.note_all.ensures.noted one behind two c.requires.named c.requires.behind.ascend
+    ap (λ (frames : List KeptFrame). record { frames = alive_at (newest_of now) frames; writes = c.self.inside.writes; forgotten = c.self.inside.forgotten }) c.add_all.ensures.frames
+    ∙ joined-told before now kept first second more c.self.inside.writes c.self.inside.forgotten are c.note_all.ensures.noted one behind two c.requires.named c.requires.behind.ascend
     ∙ ap (λ (w : Waiting). all_sent w more) c.self.view_is
 
 pub returns-clause-few : goal.returns-clause-few

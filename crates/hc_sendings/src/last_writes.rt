@@ -1,0 +1,97 @@
+//! The frames of register writes that are awaited: the last one that was sent, and the one before it where that can still be
+//! answered. `Awaited` keeps them.
+use crate::write_frames::PlacedBlock;
+use crate::writes::{AwaitedBlock, Write};
+use std::alloc::{AllocError, Global};
+use std::marker::Model;
+use std::mem;
+
+/// The register writes that are awaited, two at most, in the order in which they were sent. Contracts see the list of them.
+#[derive(Debug, Drop)]
+pub(crate) struct LastWrites {
+    older: Write,
+    last: Write,
+}
+
+impl Model for LastWrites {
+    ghost use Rattle.std.specs.Prelude.{◌++◌, List};
+    ghost use Rattle.hc_sendings.specs.Waiting.{AwaitedWrite};
+
+    ghost Value = { List AwaitedWrite };
+
+    ghost view = { λ writes. writes.older ++ writes.last };
+}
+
+impl LastWrites {
+    ghost use Rattle.std.specs.Prelude.{◌≡◌, ◌==◌, ◌<◌, ◌≤◌, [], ◌∷◌, ◌++◌, IfOk, IfSome, filter, find, length, map, not, option_map};
+    ghost use Rattle.hc_events.specs.declared.sending.TheConstants.{FRAME_BLOCKS};
+    ghost use Rattle.hc_sendings.specs.declared.awaited.TheConstants.{AWAITED_WRITES};
+    ghost use Rattle.hc_sendings.specs.Waiting.{awaited_block, is_awaited, with_written, write_forgotten};
+
+    /// None is awaited. It takes all the memory that it will need: `AllocError` where that was refused.
+    pub(crate) fn new(alloc: Global) -> Result<LastWrites, AllocError>
+        ensures { IfOk result (λ writes. writes ≡ []) }
+    {
+        Ok(LastWrites {
+            older: Write::none(alloc)?,
+            last: Write::none(alloc)?,
+        })
+    }
+
+    /// None is awaited any more.
+    pub(crate) fn clear(&mut self)
+        ensures { self.new ≡ [] }
+    {
+        self.older.clear();
+        self.last.clear();
+    }
+
+    /// A write of these blocks is sent: they aren't the newest of the writes before it, of which those go that are the newest
+    /// of no block.
+    pub(crate) fn write_again(&mut self, again: &[PlacedBlock])
+        ensures { self.new ≡ filter is_awaited (map (with_written (map awaited_block again.now)) self.old) }
+    {
+        self.older.write_again(again);
+        self.last.write_again(again);
+    }
+
+    /// A write of these blocks comes after the one that is awaited, if one is.
+    pub(crate) fn push(&mut self, serial: u64, placed: &[PlacedBlock])
+        requires few { length placed.now ≤ FRAME_BLOCKS }
+        requires room { length self.old < AWAITED_WRITES }
+        ensures { self.new ≡ self.old ++ record { serial = serial; blocks = map awaited_block placed.now } ∷ [] }
+    {
+        if !self.last.is_none() {
+            mem::swap(&mut self.older, &mut self.last);
+        }
+        self.last.put(serial, placed);
+    }
+
+    /// The slave with a station address is forgotten: of its blocks no write is the newest, and those writes go that are the
+    /// newest of no other block.
+    pub(crate) fn forget(&mut self, station: u16)
+        ensures { self.new ≡ filter is_awaited (map (write_forgotten station) self.old) }
+    {
+        self.older.forget(station);
+        self.last.forget(station);
+    }
+
+    /// The write with a serial, if there is one, was answered, and goes.
+    pub(crate) fn end(&mut self, serial: u64)
+        ensures { self.new ≡ filter (λ write. not (write.serial == serial)) self.old }
+    {
+        self.older.end(serial);
+        self.last.end(serial);
+    }
+
+    /// The blocks of the write with a serial, in its order: 74 at most.
+    pub(crate) fn find(&self, serial: u64) -> Option<&[AwaitedBlock]>
+        ensures blocks { option_map (λ blocks. blocks.now) result ≡ option_map (λ write. write.blocks) (find (λ write. write.serial == serial) self.now) }
+        ensures few { IfSome result (λ blocks. length blocks.now ≤ FRAME_BLOCKS) }
+    {
+        match self.older.find(serial) {
+            Some(blocks) => Some(blocks),
+            None => self.last.find(serial),
+        }
+    }
+}
