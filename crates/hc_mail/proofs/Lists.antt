@@ -1,13 +1,11 @@
 -- Lists of images and of what seats know.
-use Rattle.std.proofs.Common.{◌≡◌, ◌≢◌, ℕ, zero, suc, List, [], ◌∷◌, ◌++◌, length, set, sym, refl, ap, ◌∙◌, subst, ⊎_elim, ◌⊎◌, inl, inr, arith, append_assoc, append-nil, Option, Some, None, unwrap_or}
-use Rattle.std.proofs.Common.{◌+◌, ◌≤◌, take, drop}
-use Rattle.std.proofs.lemmas.List.{drop-append-le, length-append, length-drop, length-take-le, take-append-drop, take-append-le}
-use Rattle.std.proofs.Math.Seq.{take-append_seam}
+use Rattle.std.proofs.Common.{rules, ◌≡◌, ◌≢◌, ℕ, zero, suc, List, [], ◌∷◌, ◌++◌, length, set, sym, refl, ap, ◌∙◌, subst, ⊎_elim, ◌⊎◌, inl, inr, arith, append_assoc, append-nil, Option, Some, None}
+use Rattle.std.specs.Prelude.{IsSome}
 use mathlib.Core.Option.{some, some-injective, some-ne-none}
 use lib.ListN.{get_elem?}
 use Rattle.atomic_table.proofs.Lists.{at_set}
 use Rattle.hc_mail.specs.declared.table.Insight.{Insight}
-use Rattle.hc_mail.specs.Images.{Image, blank, last_after, StartsWith, with_front, with_piece}
+use Rattle.hc_mail.specs.Images.{Image, image_in, last_after, StartsWith}
 
 -- a fact of each seat holds after one of them learned something: of that seat, and of the others
 pub others_hold : (P : ℕ → Insight → Type 0) (views : List Insight) (seat : ℕ) (new : Insight) → P seat new
@@ -44,28 +42,7 @@ pub comes_out : (hand xs ys : List (ℕ × Option Image)) (slot other : ℕ) (im
 unfolding value_in
 comes_out hand xs ys slot other image out a b = sym (ap value_in b) ∙ ap value_in a
 
-pub same_image : (x y : Image) (out : Option Image) → out ≡ Some x → out ≡ Some y → x ≡ y
-same_image x y out a b = ap (λ (z : Option Image). unwrap_or z (blank (0, 0))) (sym a ∙ b)
-
--- bytes over some of the first: those after the first stay
-piece_before : (offset : ℕ) (piece first rest : List ℕ) → offset + length piece ≤ length first → with_piece offset piece (first ++ rest) ≡ with_piece offset piece first ++ rest
-piece_before offset piece first rest within =
-    let inside : length piece ≤ length (drop offset first) = subst (λ (n : ℕ). length piece ≤ n) (sym (length-drop offset first)) (omega arith) in
-    ap (λ (l : List ℕ). l ++ with_front piece (drop offset (first ++ rest))) (take-append-le offset first rest (omega arith))
-    ∙ (ap (λ (l : List ℕ). take offset first ++ with_front piece l) (drop-append-le offset first rest (omega arith))
-    ∙ (ap (λ (l : List ℕ). take offset first ++ (piece ++ l)) (drop-append-le (length piece) (drop offset first) rest inside)
-    ∙ (ap (λ (l : List ℕ). take offset first ++ l) (sym (append_assoc piece (drop (length piece) (drop offset first)) rest))
-    ∙ sym (append_assoc (take offset first) (with_front piece (drop offset first)) rest))))
-
-pub length_with_piece : (offset : ℕ) (piece bytes : List ℕ) → offset + length piece ≤ length bytes → length (with_piece offset piece bytes) ≡ length bytes
-length_with_piece offset piece bytes within =
-    let front = length-take-le offset bytes (omega arith) in let back = length-drop offset bytes in let last = length-drop (length piece) (drop offset bytes) in
-    length-append (take offset bytes) (with_front piece (drop offset bytes)) ∙ (ap (λ (n : ℕ). length (take offset bytes) + n) (length-append piece (drop (length piece) (drop offset bytes))) ∙ omega arith)
-
--- the first of the bytes with a piece among them
-pub take_with_piece : (offset n : ℕ) (piece bytes : List ℕ) → n ≤ length bytes → offset + length piece ≤ length (take n bytes)
-    → take n (with_piece offset piece bytes) ≡ with_piece offset piece (take n bytes)
-take_with_piece offset n piece bytes fits within =
-    let first : List ℕ = with_piece offset piece (take n bytes) in let same : length first ≡ n = length_with_piece offset piece (take n bytes) within ∙ length-take-le n bytes fits in
-    ap (λ (l : List ℕ). take n (with_piece offset piece l)) (sym (take-append-drop n bytes)) ∙ (ap (take n) (piece_before offset piece (take n bytes) (drop n bytes) within)
-    ∙ subst (λ (m : ℕ). take m (first ++ drop n bytes) ≡ first) same (take-append_seam first (drop n bytes)))
+-- an end has its image at hand
+pub is_held : (held : Option Image) → IsSome held → held ≡ Some (image_in held)
+is_held None is = search rules
+is_held (Some image) is = refl

@@ -1,40 +1,41 @@
 -- What a mailbox carries.
-use Rattle.std.specs.Prelude.{ℕ, ◌≡◌, List, [], ◌∷◌, ◌++◌, Option, None, Some, length, drop, take, replicate, set, get_or}
+use Rattle.std.specs.Prelude.{ℕ, ◌≡◌, List, [], ◌∷◌, ◌++◌, Option, None, Some, unwrap_or, replicate}
 
--- the most bytes, and how many datagrams, a mailbox has room for
+-- the most bytes and the most datagrams that an image has room for
 abbrev pub Room : Type 0
 Room = ℕ × ℕ
 
--- an input image: its epoch, its bytes, of each datagram the serial that its data answer, and its room
+-- the image of a task: its epoch, what the task reads of its datagrams, of each datagram the serial that its data answer (none where it has no data), the task's outputs, and the room
 pub record Image : Type 0 where
   pub epoch : ℕ
   pub bytes : List ℕ
   pub serials : List (Option ℕ)
+  pub outputs : List ℕ
   pub room : Room
 
--- an image of an epoch with so many zeros, in which no datagram has data
-abbrev pub begun : ℕ → ℕ → Room → Image
-begun epoch size room = record { epoch = epoch; bytes = replicate size 0; serials = replicate room.1 None; room = room }
+-- an image of an epoch without a datagram
+abbrev pub begun : ℕ → Room → Image
+begun epoch room = record { epoch = epoch; bytes = []; serials = []; outputs = []; room = room }
 
 -- what a task sees before an image was sent
 abbrev pub blank : Room → Image
-blank = begun 0 0
+blank = begun 0
 
--- bytes over the first of others
-abbrev pub with_front : List ℕ → List ℕ → List ℕ
-with_front piece bytes = piece ++ drop (length piece) bytes
+-- an image with one datagram more, whose data answer the sending with a serial
+abbrev pub with_data : List ℕ → ℕ → Image → Image
+with_data bytes serial image = record image { bytes = image.bytes ++ bytes; serials = image.serials ++ Some serial ∷ [] }
 
--- bytes over those of others from an offset on
-abbrev pub with_piece : ℕ → List ℕ → List ℕ → List ℕ
-with_piece offset piece bytes = take offset bytes ++ with_front piece (drop offset bytes)
+-- an image with one datagram more, which has no data: so many zeros
+abbrev pub with_zeros : ℕ → Image → Image
+with_zeros size image = record image { bytes = image.bytes ++ replicate size 0; serials = image.serials ++ None ∷ [] }
 
--- an image in which a datagram has data at an offset, with the serial that they answer
-abbrev pub with_data : ℕ → ℕ → List ℕ → ℕ → Image → Image
-with_data datagram offset piece serial image = record image { bytes = with_piece offset piece image.bytes; serials = set image.serials datagram (Some serial) }
+-- an image with more outputs
+abbrev pub with_outputs : List ℕ → Image → Image
+with_outputs outputs image = record image { outputs = image.outputs ++ outputs }
 
--- the serial that the data of a datagram answer; none where it has no data
-abbrev pub serial_in : Image → ℕ → Option ℕ
-serial_in image datagram = get_or image.serials datagram None
+-- the image that an end has at hand; a blank one without room while it has none
+abbrev pub image_in : Option Image → Image
+image_in held = unwrap_or held (blank (0, 0))
 
 -- the last of some images after one
 abbrev pub last_after : Image → List Image → Image

@@ -1,3 +1,4 @@
 pub mod Images
 pub mod Rule
 pub mod Ends
+pub mod Lending

@@ -1,91 +1,49 @@
-//! An input image, as a mailbox carries it.
-ghost use Rattle.std.specs.Prelude.{◌≡◌, ◌≤◌, ◌<◌, ◌+◌, ◌++◌, IfOk, drop, length, replicate, take, None};
-ghost use Rattle.hc_mail.specs.Images.{begun, blank, with_front, with_piece, serial_in, with_data};
+//! The image of a task, as a mailbox carries it.
+ghost use Rattle.std.specs.Prelude.{◌≡◌, ◌≤◌, ◌<◌, ◌+◌, IfOk, length};
+ghost use Rattle.std.specs.Borrow.{sem};
+ghost use Rattle.hc_mail.specs.Images.{begun, blank, with_data, with_outputs, with_zeros};
 
 use std::alloc::{AllocError, Global};
 use std::marker::Model;
 
-/// The input image of a task: its epoch, the task's input bytes, and of each datagram that has data the serial of the sending
-/// that they answer. Its buffers are made once, for the most that it may hold.
+/// The image of a task: its epoch, what the task reads of its datagrams, one after another, of each datagram the serial of the
+/// sending that its data answer, and the task's outputs. It has room from the start for the most that it may hold.
 #[derive(Drop)]
-pub struct InputImage {
+pub struct TaskImage {
     epoch: u32,
-    size: usize,
-    buffer: Vec<u8>,
+    bytes: Vec<u8>,
     serials: Vec<Option<u64>>,
+    outputs: Vec<u8>,
+    // the room, in bytes and in datagrams
+    most_bytes: usize,
+    most_datagrams: usize,
 }
 
-impl Model for InputImage {
-    ghost use Rattle.std.specs.Prelude.{◌≤◌, length, take, vec_len};
+impl Model for TaskImage {
+    ghost use Rattle.std.specs.Prelude.{◌≤◌, vec_capacity};
     ghost use Rattle.hc_mail.specs.Images.{Image};
 
     ghost Value = { Image };
 
-    ghost view = { λ image. record { epoch = image.epoch; bytes = take image.size image.buffer.items; serials = image.serials.items; room = (vec_len image.buffer, vec_len image.serials) } };
+    ghost view = { λ image. record { epoch = image.epoch; bytes = image.bytes.items; serials = image.serials.items; outputs = image.outputs.items; room = (image.most_bytes, image.most_datagrams) } };
 
-    ghost invariant = { λ image. image.size ≤ vec_len image.buffer };
+    ghost invariant = { λ image. (image.most_bytes ≤ vec_capacity image.bytes) × (image.most_datagrams ≤ vec_capacity image.serials) × (image.most_bytes ≤ vec_capacity image.outputs) };
 }
 
-/// Puts bytes over the first of a slice.
-fn put_front(out: &mut [u8], bytes: &[u8])
-    requires { length bytes.now ≤ length out.old }
-    ensures { out.new ≡ with_front bytes.now out.old }
-{
-    out[..bytes.len()].copy_from_slice(bytes);
-}
-
-/// Puts bytes over those of a slice from an offset on.
-fn put_piece(out: &mut [u8], offset: usize, bytes: &[u8])
-    requires { offset + length bytes.now ≤ length out.old }
-    ensures { out.new ≡ with_piece offset bytes.now out.old }
-{
-    let (_, rest) = out.split_at_mut(offset);
-    put_front(rest, bytes);
-}
-
-/// The first bytes of a slice, so many, become zeros.
-fn zero_front(out: &mut [u8], count: usize)
-    requires { count ≤ length out.old }
-    ensures { out.new ≡ with_front (replicate count 0) out.old }
-{
-    out[..count].fill(0);
-}
-
-/// No datagram has data any more.
-fn clear(serials: &mut [Option<u64>])
-    ensures { serials.new ≡ replicate (length serials.old) None }
-{
-    serials.fill(None);
-}
-
-impl InputImage {
-    /// An image of epoch 0 without a byte, with room for so many bytes and for the serials of so many datagrams.
+impl TaskImage {
+    /// An image of epoch 0 without a datagram, with room for so many bytes and datagrams, and for as many bytes of outputs.
     /// `AllocError` where a growth was refused.
-    pub(crate) fn blank(
-        alloc: Global,
-        bytes: usize,
-        datagrams: usize,
-    ) -> Result<InputImage, AllocError>
+    fn blank(alloc: Global, bytes: usize, datagrams: usize) -> Result<TaskImage, AllocError>
         ensures { IfOk result (λ image. image ≡ blank (bytes, datagrams)) }
     {
-        let buffer = Vec::from_elem(alloc, 0u8, bytes)?;
-        let serials = Vec::from_elem(alloc, None, datagrams)?;
-        Ok(InputImage {
+        Ok(TaskImage {
             epoch: 0,
-            size: 0,
-            buffer,
-            serials,
+            bytes: Vec::with_capacity(alloc, bytes)?,
+            serials: Vec::with_capacity(alloc, datagrams)?,
+            outputs: Vec::with_capacity(alloc, bytes)?,
+            most_bytes: bytes,
+            most_datagrams: datagrams,
         })
-    }
-
-    /// An image without buffers. It is put in an image's place for the moment in which that image is exchanged.
-    pub(crate) fn hollow(alloc: Global) -> InputImage {
-        InputImage {
-            epoch: 0,
-            size: 0,
-            buffer: Vec::new(alloc),
-            serials: Vec::new(alloc),
-        }
     }
 
     /// The epoch in which the datagrams got their data.
@@ -95,40 +53,109 @@ impl InputImage {
         self.epoch
     }
 
-    /// The task's input bytes, each datagram's at its offset; zeros where a datagram has no data.
+    /// What the task reads of its datagrams, one after another: as many bytes of each as it has, zeros where it has no data.
     pub fn bytes(&self) -> &[u8]
         ensures { result.now ≡ self.now.bytes }
     {
-        &self.buffer[..self.size]
+        self.bytes.as_slice()
     }
 
-    /// The serial of the sending that the data of a datagram answer; none where it has no data or there is no such datagram.
-    pub fn serial(&self, datagram: u8) -> Option<u64>
-        ensures { result ≡ serial_in self.now datagram }
+    /// Of each datagram the serial of the sending that its data answer; none where it has no data.
+    pub fn serials(&self) -> &[Option<u64>]
+        ensures { result.now ≡ self.now.serials }
     {
-        match self.serials.get(usize::from(datagram)) {
-            Some(serial) => *serial,
-            None => None,
-        }
+        self.serials.as_slice()
     }
 
-    /// The image becomes one of an epoch with so many bytes, all zeros, in which no datagram has data.
-    pub(crate) fn begin(&mut self, epoch: u32, size: usize)
-        requires { size ≤ self.old.room.0 }
-        ensures { self.new ≡ begun epoch size self.old.room }
+    /// The task's outputs.
+    pub fn outputs(&self) -> &[u8]
+        ensures { result.now ≡ self.now.outputs }
     {
-        (self.epoch, self.size) = (epoch, size);
-        zero_front(self.buffer.as_mut_slice(), size);
-        clear(self.serials.as_mut_slice());
+        self.outputs.as_slice()
     }
 
-    /// A datagram gets data at an offset, with the serial of the sending that they answer.
-    pub(crate) fn add(&mut self, datagram: u8, offset: usize, bytes: &[u8], serial: u64)
-        requires named { datagram < length self.old.serials }
-        requires within { offset + length bytes.now ≤ length self.old.bytes }
-        ensures { self.new ≡ with_data datagram offset bytes.now serial self.old }
+    /// The image becomes one of an epoch without a datagram.
+    pub(crate) fn begin(&mut self, epoch: u32)
+        ensures { self.new ≡ begun epoch self.old.room }
     {
-        put_piece(self.buffer.as_mut_slice(), offset, bytes);
-        self.serials[usize::from(datagram)] = Some(serial);
+        self.epoch = epoch;
+        self.bytes.clear();
+        self.serials.clear();
+        self.outputs.clear();
+    }
+
+    /// The next datagram has these data, which answer the sending with this serial.
+    pub(crate) fn add(&mut self, bytes: &[u8], serial: u64)
+        requires bytes { length self.old.bytes + length bytes.now ≤ self.old.room.0 }
+        requires datagrams { length self.old.serials < self.old.room.1 }
+        ensures { self.new ≡ with_data bytes.now serial self.old }
+    {
+        self.bytes.extend_from_slice(bytes).unwrap();
+        self.serials.push_reserved(Some(serial));
+    }
+
+    /// The next datagram, of so many bytes, has no data: they are zeros.
+    pub(crate) fn add_zeros(&mut self, size: usize)
+        requires bytes { length self.old.bytes + size ≤ self.old.room.0 }
+        requires datagrams { length self.old.serials < self.old.room.1 }
+        ensures { self.new ≡ with_zeros size self.old }
+    {
+        let bytes = self.bytes.len() + size;
+        self.bytes.resize(bytes, 0).unwrap();
+        self.serials.push_reserved(None);
+    }
+
+    /// The task has these outputs after those that the image has.
+    pub(crate) fn add_outputs(&mut self, outputs: &[u8])
+        requires { length self.old.outputs + length outputs.now ≤ self.old.room.0 }
+        ensures { self.new ≡ with_outputs outputs.now self.old }
+    {
+        self.outputs.extend_from_slice(outputs).unwrap();
+    }
+}
+
+/// An image in memory of its own: to hand it over moves a pointer, and none of its bytes. Contracts see the image.
+#[derive(Drop)]
+pub struct ImageBox {
+    own: Box<TaskImage>,
+}
+
+impl Model for ImageBox {
+    ghost use Rattle.hc_mail.specs.Images.{Image};
+
+    ghost Value = { Image };
+
+    ghost view = { λ boxed. boxed.own.value };
+}
+
+impl ImageBox {
+    ghost use Rattle.hc_mail.specs.Lending.{LendsBoxed};
+
+    /// A blank image. `AllocError` where a growth was refused.
+    pub(crate) fn blank(
+        alloc: Global,
+        bytes: usize,
+        datagrams: usize,
+    ) -> Result<ImageBox, AllocError>
+        ensures { IfOk result (λ image. image ≡ blank (bytes, datagrams)) }
+    {
+        let image = TaskImage::blank(alloc, bytes, datagrams)?;
+        let own = Box::new(alloc, image)?;
+        Ok(ImageBox { own })
+    }
+
+    /// The image.
+    pub(crate) fn image(&self) -> &TaskImage
+        ensures { result.now ≡ self.now }
+    {
+        &self.own
+    }
+
+    /// The image, lent for writing.
+    pub(crate) fn image_mut(&mut self) -> &mut TaskImage
+        ensures* lent { sem 𝓛 (LendsBoxed self.entry result) }
+        ensures image { result.now ≡ self.old }
+    {
+        &mut self.own
     }
 }

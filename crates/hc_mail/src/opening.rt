@@ -1,11 +1,11 @@
 //! How a mailbox is opened.
 ghost use Rattle.std.specs.Prelude.{◌≡◌, [], IfOk};
 ghost use Rattle.std.specs.Arc.{arc_value};
-ghost use Rattle.hc_mail.specs.Images.{blank};
+ghost use Rattle.hc_mail.specs.Images.{blank, image_in};
 ghost use Rattle.hc_mail.specs.Rule.{IsSized, opener};
 ghost use Rattle.hc_mail.specs.Ends.{reported, seen};
 
-use crate::image::InputImage;
+use crate::image::ImageBox;
 use crate::receiver::ImageReceiver;
 use crate::sender::ImageSender;
 use crate::steps::{Enter, Part, Wait};
@@ -18,7 +18,7 @@ use std::sync::Arc;
 fn lay(alloc: Global, bytes: usize, datagrams: usize) -> Result<(Arc<MailTable>, Place), AllocError>
     ensures { IfOk result (λ made. (made.1.table_id ≡ (arc_value made.0).shared.table_id) × IsSized made.1.table_id × ((arc_value made.0).shared.key ≡ (bytes, datagrams)) × (made.1.me ≡ (opener, []))) }
 {
-    let middle = InputImage::blank(alloc, bytes, datagrams)?;
+    let middle = ImageBox::blank(alloc, bytes, datagrams)?;
     let slots = vec![in alloc; None, Some(middle), None]?;
     match Table::new(alloc, &[1], slots, &(bytes, datagrams)) {
         Ok((table, place)) => Ok((Arc::new(alloc, table)?, place)),
@@ -26,20 +26,20 @@ fn lay(alloc: Global, bytes: usize, datagrams: usize) -> Result<(Arc<MailTable>,
     }
 }
 
-/// Opens a mailbox for images of at most so many bytes and datagrams. It takes all the memory that the mailbox ever needs.
-/// Both ends begin with a blank image. `AllocError` where a growth was refused.
+/// Opens a mailbox for images of at most so many bytes and datagrams, and as many bytes of outputs. It takes all the memory that
+/// the mailbox ever needs. Both ends begin with a blank image. `AllocError` where a growth was refused.
 pub fn open(
     alloc: Global,
     bytes: usize,
     datagrams: usize,
 ) -> Result<(ImageSender, ImageReceiver), AllocError>
     ensures one { IfOk result (λ ends. ends.0.place.table_id ≡ ends.1.place.table_id) }
-    ensures sender { IfOk result (λ ends. (seen ends.0.place ≡ []) × (reported ends.0.place ≡ []) × (ends.0.own ≡ blank (bytes, datagrams))) }
-    ensures receiver { IfOk result (λ ends. (seen ends.1.place ≡ []) × (reported ends.1.place ≡ []) × (ends.1.shown ≡ blank (bytes, datagrams))) }
+    ensures sender { IfOk result (λ ends. (seen ends.0.place ≡ []) × (reported ends.0.place ≡ []) × (image_in ends.0.own ≡ blank (bytes, datagrams))) }
+    ensures receiver { IfOk result (λ ends. (seen ends.1.place ≡ []) × (reported ends.1.place ≡ []) × (image_in ends.1.shown ≡ blank (bytes, datagrams))) }
 {
     let (mail, mut place) = lay(alloc, bytes, datagrams)?;
-    let own = InputImage::blank(alloc, bytes, datagrams)?;
-    let shown = InputImage::blank(alloc, bytes, datagrams)?;
+    let own = ImageBox::blank(alloc, bytes, datagrams)?;
+    let shown = ImageBox::blank(alloc, bytes, datagrams)?;
     let other = Arc::try_clone(&mail)?;
     let shared = &mail.shared;
     let mut second = shared.split_seat::<Part>(&mut place);
@@ -49,15 +49,13 @@ pub fn open(
         mail,
         place,
         slot: 0,
-        own,
-        alloc,
+        own: Some(own),
     };
     let receiver = ImageReceiver {
         mail: other,
         place: second,
         slot: 2,
-        shown,
-        alloc,
+        shown: Some(shown),
     };
     Ok((sender, receiver))
 }

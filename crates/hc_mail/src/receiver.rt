@@ -1,17 +1,15 @@
 //! The task's end, which looks at the newest image.
-ghost use Rattle.std.specs.Prelude.{◌≡◌, ◌<◌};
+ghost use Rattle.std.specs.Prelude.{◌≡◌, ◌<◌, IsSome};
 ghost use Rattle.std.specs.Arc.{arc_value};
 ghost use Rattle.hc_mail.specs.declared.table.Role.TheVariants.{Looks};
-ghost use Rattle.hc_mail.specs.Images.{StartsWith, newest};
+ghost use Rattle.hc_mail.specs.Images.{StartsWith, image_in, newest};
 ghost use Rattle.hc_mail.specs.Rule.{IsSized};
 ghost use Rattle.hc_mail.specs.Ends.{posed, reported, seen};
 
-use crate::image::InputImage;
+use crate::image::{ImageBox, TaskImage};
 use crate::note::{Note, passed};
 use crate::steps::{Find, Learn, Note as MakeNote, Take};
 use crate::table::{MailTable, Place};
-use std::alloc::Global;
-use std::mem;
 use std::sync::Arc;
 
 /// It looks at the newest image of its task, and never waits.
@@ -20,14 +18,14 @@ pub struct ImageReceiver {
     pub(crate) mail: Arc<MailTable>,
     pub place: Place,
     pub(crate) slot: usize,
-    pub shown: InputImage,
-    pub(crate) alloc: Global,
+    pub shown: Option<ImageBox>,
     ghost seated: { place.table_id ≡ (arc_value mail).shared.table_id },
     ghost sized: { IsSized (arc_value mail).shared.table_id },
-    ghost roomy: { shown.room ≡ (arc_value mail).shared.key },
+    ghost held: { IsSome shown },
+    ghost roomy: { (image_in shown).room ≡ (arc_value mail).shared.key },
     ghost small: { slot < 4 },
     ghost looks: { place ≡ posed place (Looks slot) slot },
-    ghost shows: { shown ≡ newest shown.room (seen place) },
+    ghost shows: { image_in shown ≡ newest (image_in shown).room (seen place) },
 }
 
 impl ImageReceiver {
@@ -35,25 +33,27 @@ impl ImageReceiver {
     /// when it looked before, and with all that a note named.
     pub fn look(&mut self)
         ensures later { StartsWith (seen self.new.place) (seen self.old.place) × StartsWith (seen self.new.place) (reported self.old.place) }
-        ensures same { (self.new.place.table_id ≡ self.old.place.table_id) × (self.new.shown.room ≡ self.old.shown.room) × (reported self.new.place ≡ reported self.old.place) }
+        ensures same { (self.new.place.table_id ≡ self.old.place.table_id) × ((image_in self.new.shown).room ≡ (image_in self.old.shown).room) × (reported self.new.place ≡ reported self.old.place) }
     {
         let shared = &self.mail.shared;
         if shared.load::<Find>(&mut self.place, 0) < 4 {
             return;
         }
-        let image = mem::replace(&mut self.shown, InputImage::hollow(self.alloc));
-        shared.exchange(&mut self.place, self.slot, Some(image));
+        shared.exchange(&mut self.place, self.slot, self.shown.take());
         let word = shared.swap::<Take>(&mut self.place, 0, self.slot as u64);
         self.slot = (word % 4) as usize;
-        self.shown = shared.exchange(&mut self.place, self.slot, None).unwrap();
+        self.shown = shared.exchange(&mut self.place, self.slot, None);
     }
 
     /// The newest image at the last look; a blank one where none had been sent.
-    pub fn image(&self) -> &InputImage
-        ensures image { result.now ≡ self.now.shown }
-        ensures newest { result.now ≡ newest self.now.shown.room (seen self.now.place) }
+    pub fn image(&self) -> &TaskImage
+        ensures image { result.now ≡ image_in self.now.shown }
+        ensures newest { result.now ≡ newest (image_in self.now.shown).room (seen self.now.place) }
     {
-        &self.shown
+        match &self.shown {
+            Some(shown) => shown.image(),
+            None => unreachable!(),
+        }
     }
 
     /// Learns from a note of the owner's end: no later look shows an older image than the newest that the note names.

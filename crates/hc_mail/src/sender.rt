@@ -1,67 +1,96 @@
 //! The owner's end, which sends images.
-ghost use Rattle.std.specs.Prelude.{◌≡◌, ◌≤◌, ◌<◌, ◌+◌, ◌++◌, ◌∷◌, [], length};
+ghost use Rattle.std.specs.Prelude.{◌≡◌, ◌≤◌, ◌<◌, ◌+◌, ◌++◌, ◌∷◌, [], IsSome, Some, length};
 ghost use Rattle.std.specs.Arc.{arc_value};
 ghost use Rattle.hc_mail.specs.declared.table.Role.TheVariants.{Sends};
-ghost use Rattle.hc_mail.specs.Images.{StartsWith, begun, with_data};
+ghost use Rattle.hc_mail.specs.Images.{StartsWith, begun, image_in, with_data, with_outputs, with_zeros};
 ghost use Rattle.hc_mail.specs.Rule.{IsSized};
 ghost use Rattle.hc_mail.specs.Ends.{posed, reported, seen};
+ghost use Rattle.hc_mail.specs.Lending.{LendsHeld};
+ghost use Rattle.std.specs.Borrow.{sem};
 
-use crate::image::InputImage;
+use crate::image::ImageBox;
 use crate::note::{Note, passed};
 use crate::steps::{Confirm, Learn, Note as MakeNote, Send};
 use crate::table::{MailTable, Place};
-use std::alloc::Global;
-use std::mem;
 use std::sync::Arc;
 
-/// It sends the images of one task, and never waits. An image is begun, gets the data of its datagrams, and is sent.
+/// It sends the images of one task, and never waits. An image is begun, gets what the task's datagrams have and the task's
+/// outputs, and is sent.
 #[derive(Drop)]
 pub struct ImageSender {
     pub(crate) mail: Arc<MailTable>,
     pub place: Place,
     pub(crate) slot: usize,
-    pub own: InputImage,
-    pub(crate) alloc: Global,
+    pub own: Option<ImageBox>,
     ghost seated: { place.table_id ≡ (arc_value mail).shared.table_id },
     ghost sized: { IsSized (arc_value mail).shared.table_id },
-    ghost roomy: { own.room ≡ (arc_value mail).shared.key },
+    ghost held: { IsSome own },
+    ghost roomy: { (image_in own).room ≡ (arc_value mail).shared.key },
     ghost small: { slot < 4 },
     ghost sends: { place ≡ posed place (Sends slot) slot },
 }
 
+/// The image at hand.
+fn held(own: &mut Option<ImageBox>) -> &mut ImageBox
+    requires { IsSome own.old }
+    ensures* lent { sem 𝓛 (LendsHeld own.entry result) }
+    ensures image { own.old ≡ Some result.now }
+{
+    match own {
+        Some(image) => image,
+        None => unreachable!(),
+    }
+}
+
 impl ImageSender {
-    /// An image of an epoch is begun, with so many bytes, at most those of the opening: all zeros, and no datagram has data.
-    pub fn begin(&mut self, epoch: u32, size: usize)
-        requires { size ≤ self.old.own.room.0 }
-        ensures own { self.new.own ≡ begun epoch size self.old.own.room }
+    /// An image of an epoch is begun, without a datagram.
+    pub fn begin(&mut self, epoch: u32)
+        ensures own { image_in self.new.own ≡ begun epoch (image_in self.old.own).room }
         ensures same { self.new.place ≡ self.old.place }
     {
-        self.own.begin(epoch, size);
+        held(&mut self.own).image_mut().begin(epoch);
     }
 
-    /// A datagram of the image gets data at an offset, with the serial of the sending that they answer. Its number is below
-    /// the count of the opening, and its data lie within the image's bytes.
-    pub fn add(&mut self, datagram: u8, offset: usize, bytes: &[u8], serial: u64)
-        requires named { datagram < length self.old.own.serials }
-        requires within { offset + length bytes.now ≤ length self.old.own.bytes }
-        ensures own { self.new.own ≡ with_data datagram offset bytes.now serial self.old.own }
+    /// The image's next datagram has these data, which answer the sending with this serial. The image has room for them.
+    pub fn add(&mut self, bytes: &[u8], serial: u64)
+        requires bytes { length (image_in self.old.own).bytes + length bytes.now ≤ (image_in self.old.own).room.0 }
+        requires datagrams { length (image_in self.old.own).serials < (image_in self.old.own).room.1 }
+        ensures own { image_in self.new.own ≡ with_data bytes.now serial (image_in self.old.own) }
         ensures same { self.new.place ≡ self.old.place }
     {
-        self.own.add(datagram, offset, bytes, serial);
+        held(&mut self.own).image_mut().add(bytes, serial);
     }
 
-    /// The image is sent. The task's next look shows it, unless a newer one is sent before. The buffer that comes back has an
-    /// older image, or a blank one: `begin` makes the next one.
+    /// The image's next datagram, of so many bytes, has no data: they are zeros. The image has room for them.
+    pub fn add_zeros(&mut self, size: usize)
+        requires bytes { length (image_in self.old.own).bytes + size ≤ (image_in self.old.own).room.0 }
+        requires datagrams { length (image_in self.old.own).serials < (image_in self.old.own).room.1 }
+        ensures own { image_in self.new.own ≡ with_zeros size (image_in self.old.own) }
+        ensures same { self.new.place ≡ self.old.place }
+    {
+        held(&mut self.own).image_mut().add_zeros(size);
+    }
+
+    /// The task has these outputs after those that the image has. The image has room for them.
+    pub fn add_outputs(&mut self, outputs: &[u8])
+        requires { length (image_in self.old.own).outputs + length outputs.now ≤ (image_in self.old.own).room.0 }
+        ensures own { image_in self.new.own ≡ with_outputs outputs.now (image_in self.old.own) }
+        ensures same { self.new.place ≡ self.old.place }
+    {
+        held(&mut self.own).image_mut().add_outputs(outputs);
+    }
+
+    /// The image is sent. The task's next look shows it, unless a newer one is sent before. The image that comes back is an
+    /// older one, or blank: `begin` makes the next one.
     pub fn send(&mut self)
-        ensures sent { seen self.new.place ≡ seen self.old.place ++ self.old.own ∷ [] }
-        ensures same { (self.new.place.table_id ≡ self.old.place.table_id) × (self.new.own.room ≡ self.old.own.room) × (reported self.new.place ≡ reported self.old.place) }
+        ensures sent { seen self.new.place ≡ seen self.old.place ++ image_in self.old.own ∷ [] }
+        ensures same { (self.new.place.table_id ≡ self.old.place.table_id) × ((image_in self.new.own).room ≡ (image_in self.old.own).room) × (reported self.new.place ≡ reported self.old.place) }
     {
-        let image = mem::replace(&mut self.own, InputImage::hollow(self.alloc));
         let shared = &self.mail.shared;
-        shared.exchange(&mut self.place, self.slot, Some(image));
+        shared.exchange(&mut self.place, self.slot, self.own.take());
         let word = shared.swap::<Send>(&mut self.place, 0, self.slot as u64 + 4);
         self.slot = (word % 4) as usize;
-        self.own = shared.exchange(&mut self.place, self.slot, None).unwrap();
+        self.own = shared.exchange(&mut self.place, self.slot, None);
     }
 
     /// A note of what was sent so far, for the task's end to learn.

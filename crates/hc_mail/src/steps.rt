@@ -3,49 +3,49 @@ ghost use Rattle.std.specs.Prelude.{[]};
 ghost use Rattle.hc_mail.specs.Rule.{confirmed, entered, found, insight, sent, took, waited};
 ghost use Rattle.hc_mail.specs.declared.table.Role.TheVariants.{Enters, Rests, Waits};
 
-use crate::image::InputImage;
+use crate::image::ImageBox;
 use crate::table::Insight;
 use atomic_table::{Join, Play, Split};
 
 /// The owner's end takes its slot.
 pub(crate) struct Enter;
 
-impl Play<Option<InputImage>, Insight> for Enter {
+impl Play<Option<ImageBox>, Insight> for Enter {
     ghost then = { entered };
 }
 
 /// The task's end takes its slot.
 pub(crate) struct Wait;
 
-impl Play<Option<InputImage>, Insight> for Wait {
+impl Play<Option<ImageBox>, Insight> for Wait {
     ghost then = { waited };
 }
 
 /// An image is sent.
 pub(crate) struct Send;
 
-impl Play<Option<InputImage>, Insight> for Send {
+impl Play<Option<ImageBox>, Insight> for Send {
     ghost then = { sent };
 }
 
 /// The task's end finds out whether the middle image is newer than its own.
 pub(crate) struct Find;
 
-impl Play<Option<InputImage>, Insight> for Find {
+impl Play<Option<ImageBox>, Insight> for Find {
     ghost then = { found };
 }
 
 /// The newer image is taken.
 pub(crate) struct Take;
 
-impl Play<Option<InputImage>, Insight> for Take {
+impl Play<Option<ImageBox>, Insight> for Take {
     ghost then = { took };
 }
 
 /// The owner's end sees that what a note named was sent here.
 pub(crate) struct Confirm;
 
-impl Play<Option<InputImage>, Insight> for Confirm {
+impl Play<Option<ImageBox>, Insight> for Confirm {
     ghost then = { confirmed };
 }
 

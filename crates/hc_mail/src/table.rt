@@ -1,7 +1,7 @@
 //! The table that both ends share, and what each of them knows. The table has one word and three slots. The word is the number
 //! of the slot in the middle, and 4 more where an image was sent since the last look. The middle slot holds its image; the
 //! slots of the ends are empty, since each end keeps its image beside it.
-use crate::image::InputImage;
+use crate::image::{ImageBox, TaskImage};
 use atomic_table::{Seat, Shared, Table, TableRule};
 use std::alloc::Global;
 
@@ -27,15 +27,15 @@ pub enum Role {
 pub struct Insight {
     pub role: Role,
     /// The images that it sent, or that had been sent when it looked.
-    pub seen: [InputImage; 0],
+    pub seen: [TaskImage; 0],
     /// The images that a note of the other end named.
-    pub reported: [InputImage; 0],
+    pub reported: [TaskImage; 0],
 }
 
 /// The rule of the table, whose key is the mailbox's room.
 pub struct MailRule;
 
-impl TableRule<Option<InputImage>, Insight, (usize, usize)> for MailRule {
+impl TableRule<Option<ImageBox>, Insight, (usize, usize)> for MailRule {
     ghost use Rattle.hc_mail.specs.Rule.{IsMail, opener};
 
     ghost holds = { IsMail };
@@ -43,6 +43,6 @@ impl TableRule<Option<InputImage>, Insight, (usize, usize)> for MailRule {
     ghost first = { λ _. opener };
 }
 
-pub(crate) type MailTable = Table<Option<InputImage>, Insight, (usize, usize), MailRule, Global>;
+pub(crate) type MailTable = Table<Option<ImageBox>, Insight, (usize, usize), MailRule, Global>;
 
-pub(crate) type Place = Seat<Option<InputImage>, Insight>;
+pub(crate) type Place = Seat<Option<ImageBox>, Insight>;

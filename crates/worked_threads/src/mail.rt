@@ -1,7 +1,8 @@
 //! The newest image goes from one thread to another through a mailbox.
 ghost use Rattle.std.specs.Prelude.{◌≡◌};
+ghost use Rattle.hc_mail.specs.Images.{image_in};
 
-use hc_mail::image::InputImage;
+use hc_mail::image::TaskImage;
 use hc_mail::opening::open;
 use hc_mail::receiver::ImageReceiver;
 use hc_mail::sender::ImageSender;
@@ -14,34 +15,35 @@ const SENDINGS: u32 = 2_000;
 /// So often a look is tried.
 const TURNS: u32 = 100_000_000;
 
-/// Sends an image of an epoch with four bytes, of which datagram 1 has the last two: the epoch modulo 251, twice. They answer
-/// the sending whose serial is the epoch.
+/// Sends an image of an epoch with two datagrams of two bytes. The second has data, the epoch modulo 251, twice: they answer the
+/// sending whose serial is the epoch. The same byte is the only output.
 fn send_epoch(sender: &mut ImageSender, epoch: u32)
-    requires { sender.old.own.room ≡ (4, 2) }
-    ensures room { sender.new.own.room ≡ (4, 2) }
+    requires { (image_in sender.old.own).room ≡ (4, 2) }
+    ensures room { (image_in sender.new.own).room ≡ (4, 2) }
     ensures one { sender.new.place.table_id ≡ sender.old.place.table_id }
 {
     let byte = (epoch % 251) as u8;
-    sender.begin(epoch, 4);
-    sender.add(1, 2, &[byte, byte], u64::from(epoch));
+    sender.begin(epoch);
+    sender.add_zeros(2);
+    sender.add(&[byte, byte], u64::from(epoch));
+    sender.add_outputs(&[byte]);
     sender.send();
 }
 
 /// Whether an image is whole: that of an epoch as it was sent, or the blank one.
-fn is_whole(image: &InputImage) -> bool {
+fn is_whole(image: &TaskImage) -> bool {
     let byte = (image.epoch() % 251) as u8;
     if image.epoch() == 0 {
-        return image.bytes().is_empty() && image.serial(1).is_none();
+        return image.bytes().is_empty() && image.serials().is_empty() && image.outputs().is_empty();
     }
     image.bytes() == [0, 0, byte, byte].as_slice()
-        && image.serial(0).is_none()
-        && image.serial(1) == Some(u64::from(image.epoch()))
-        && image.serial(2).is_none()
+        && image.serials() == [None, Some(u64::from(image.epoch()))].as_slice()
+        && image.outputs() == [byte].as_slice()
 }
 
 /// Sends the images of all epochs, one after another.
 fn send_all(mut sender: ImageSender)
-    requires { sender.own.room ≡ (4, 2) }
+    requires { (image_in sender.own).room ≡ (4, 2) }
 {
     for epoch in 1..=SENDINGS {
         send_epoch(&mut sender, epoch);

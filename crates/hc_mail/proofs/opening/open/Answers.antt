@@ -18,6 +18,7 @@ pub invariant_of-sender : goal.invariant_of-sender
 invariant_of-sender c = let now = c.load.ensures.2 in record {
   seated = search rules;
   sized = search rules;
+  held = search rules;
   roomy = search rules;
   small = omega arith;
   sends = is_posed _ _ _ (ap (λ m. m.0.role) now) (ap (λ m. m.1) now);
@@ -27,6 +28,7 @@ pub invariant_of-receiver : goal.invariant_of-receiver
 invariant_of-receiver c = let now = c.load-2.ensures.2 in record {
   seated = search rules;
   sized = search rules;
+  held = search rules;
   roomy = search rules;
   small = omega arith;
   looks = is_posed _ _ _ (ap (λ m. m.0.role) now) (ap (λ m. m.1) now);

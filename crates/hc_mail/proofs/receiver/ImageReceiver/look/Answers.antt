@@ -1,11 +1,11 @@
-use Rattle.std.proofs.Common.{rules, ◌∷◌, ◌%◌, Option, Some, None, arith, subst, ap, sym, ◌∙◌}
+use Rattle.std.proofs.Common.{rules, [], ◌∷◌, ◌%◌, Option, Some, None, arith, subst, ap, sym, ◌∙◌}
 use Rattle.std.specs.Prelude.{IsSome}
 use Rattle.atomic_table.specs.Table.{rest}
 use Rattle.hc_mail.specs.declared.table.Role.TheVariants.{Takes}
-use Rattle.hc_mail.specs.Images.{Image, newest}
+use Rattle.hc_mail.specs.Images.{Image, image_in, newest}
 use Rattle.hc_mail.specs.Rule.{slot_in, in_hand}
 use Rattle.hc_mail.specs.Ends.{Place}
-use Rattle.hc_mail.proofs.Lists.{comes_out, same_image}
+use Rattle.hc_mail.proofs.Lists.{comes_out, is_held}
 use Rattle.hc_mail.proofs.Moves.{finds, takes_newer, is_posed}
 use Rattle.hc_mail.proofs.receiver.ImageReceiver.look.Goals as goal
 
@@ -13,37 +13,37 @@ pub load-requires : goal.load-requires
 load-requires c = let was = c.args.self.now.looks in (search rules, search rules, finds _ _ _ _ _ (ap (λ s. s.me.0.role) was) (ap (λ s. s.me.1) was))
 
 pub invariant_of-self : goal.invariant_of-self
-invariant_of-self c = let same = (c.load.ensures.2.0 c.if-load-lt4.true).0 in let was = c.args.self.now.looks in record {
+invariant_of-self c = let self = c.args.self.now in let same = (c.load.ensures.2.0 c.if-load-lt4.true).0 in let was = self.looks in record {
   seated = search rules;
   sized = search rules;
+  held = search rules;
   roomy = search rules;
   small = search rules;
   looks = is_posed _ _ _ (ap (λ m. m.0.role) same ∙ ap (λ s. s.me.0.role) was) (ap (λ m. m.1) same ∙ ap (λ s. s.me.1) was);
-  shows = c.args.self.now.shows ∙ ap (λ m. newest c.args.self.now.shown.room m.0.seen) (sym same);
+  shows = self.shows ∙ ap (λ m. newest (image_in self.shown).room m.0.seen) (sym same);
 }
 
 pub swap-word-requires : goal.swap-word-requires
-swap-word-requires c = let was = c.args.self.now.looks in let newer = c.load.ensures.2.1 c.if-load-lt4.false in let now = c.exchange.ensures.3 in (
-  search rules,
-  search rules,
-  takes_newer _ _ _ _ _ c.replace-image.result (ap (λ m. m.0.role) now ∙ (ap (λ m. m.0.role) newer ∙ ap (λ (s : Place). Takes (slot_in s.me.1)) was))
-      (ap (λ m. m.1) now ∙ (ap (λ m. (c.args.self.now.slot, Some c.replace-image.result) ∷ rest m.1) newer ∙ ap (λ (s : Place). (c.args.self.now.slot, Some c.replace-image.result) ∷ rest s.me.1) was)) (search rules),
-)
+swap-word-requires c =
+    let self = c.args.self.now in let was = self.looks in let newer = c.load.ensures.2.1 c.if-load-lt4.false in let now = c.exchange.ensures.3 in let held = c.take.ensures.value ∙ is_held self.shown self.held in (
+      search rules,
+      search rules,
+      takes_newer _ _ _ _ _ (image_in self.shown) (ap (λ m. m.0.role) now ∙ (ap (λ m. m.0.role) newer ∙ ap (λ (s : Place). Takes (slot_in s.me.1)) was))
+          (ap (λ m. m.1) now ∙ (ap (λ m. (self.slot, c.take.result) ∷ rest m.1) newer ∙ (ap (λ (s : Place). (self.slot, c.take.result) ∷ rest s.me.1) was ∙ ap (λ (image : Option Image). (self.slot, image) ∷ []) held))) (search rules),
+    )
 
 pub exchange-requires-2 : goal.exchange-requires-2
 exchange-requires-2 c = let got = c.swap-word.ensures.2 in
     (search rules, (Some got.1, ap (λ m. m.1) got.6 ∙ ap (λ m. (c.swap-word.result % 4, Some got.1) ∷ rest m.1) (sym got.6)))
 
-pub unwrap-requires : goal.unwrap-requires
-unwrap-requires c = let got = c.swap-word.ensures.2 in subst (λ (o : Option Image). IsSome o) (sym (comes_out _ _ _ _ _ got.1 _ (ap (λ m. m.1) got.6) c.exchange-2.ensures.2)) (search rules)
-
 pub invariant_of-self-2 : goal.invariant_of-self-2
 invariant_of-self-2 c =
-    let got = c.swap-word.ensures.2 in let out = c.exchange-2.ensures.3 in let same = same_image _ _ _ c.unwrap.ensures (comes_out _ _ _ _ _ got.1 _ (ap (λ m. m.1) got.6) c.exchange-2.ensures.2) in
-    let room = ap (λ (image : Image). image.room) same ∙ got.5 in record {
+    let self = c.args.self.now in let got = c.swap-word.ensures.2 in let out = c.exchange-2.ensures.3 in let back = comes_out _ _ _ _ _ got.1 _ (ap (λ m. m.1) got.6) c.exchange-2.ensures.2 in
+    let same = ap image_in back in let room = ap (λ (image : Image). image.room) same ∙ got.5 in record {
       seated = search rules;
       sized = search rules;
-      roomy = room ∙ (ap (λ m. (in_hand m.1).room) c.exchange.ensures.3 ∙ (ap (λ (image : Image). image.room) c.replace-image.ensures.value ∙ c.args.self.now.roomy));
+      held = subst (λ (image : Option Image). IsSome image) (sym back) (search rules);
+      roomy = room ∙ (ap (λ m. (in_hand m.1).room) c.exchange.ensures.3 ∙ (ap (λ (image : Option Image). (image_in image).room) c.take.ensures.value ∙ self.roomy));
       small = omega arith;
       looks = is_posed _ _ _ (ap (λ m. m.0.role) out ∙ ap (λ m. m.0.role) got.6) (ap (λ m. m.1) out ∙ ap (λ m. (c.swap-word.result % 4, None) ∷ rest m.1) got.6);
       shows = same ∙ (got.4 ∙ (λ t. newest (sym room t) (sym (ap (λ m. m.0.seen) out ∙ ap (λ m. m.0.seen) got.6) t)));

@@ -13,6 +13,7 @@ pub invariant_of-self : goal.invariant_of-self
 invariant_of-self c = let same = c.load.ensures.2.0 in let now = c.join_seat.ensures.2 in let was = c.args.self.now.sends in record {
   seated = search rules;
   sized = search rules;
+  held = search rules;
   roomy = search rules;
   small = search rules;
   sends = is_posed _ _ _ (ap (λ m. m.0.role) same ∙ (ap (λ m. m.0.role) now ∙ ap (λ s. s.me.0.role) was)) (ap (λ m. m.1) same ∙ (ap (λ m. m.1) now ∙ ap (λ s. s.me.1) was));
