@@ -20,14 +20,14 @@ pub struct TaskImage {
 }
 
 impl Model for TaskImage {
-    ghost use Rattle.std.specs.Prelude.{◌≤◌, vec_capacity};
+    ghost use Rattle.std.specs.Prelude.{◌≤◌, vec_capacity, vec_len};
     ghost use Rattle.hc_mail.specs.Images.{Image};
 
     ghost Value = { Image };
 
     ghost view = { λ image. record { epoch = image.epoch; bytes = image.bytes.items; serials = image.serials.items; outputs = image.outputs.items; room = (image.most_bytes, image.most_datagrams) } };
 
-    ghost invariant = { λ image. (image.most_bytes ≤ vec_capacity image.bytes) × (image.most_datagrams ≤ vec_capacity image.serials) × (image.most_bytes ≤ vec_capacity image.outputs) };
+    ghost invariant = { λ image. (vec_len image.bytes ≤ image.most_bytes) × (image.most_bytes ≤ vec_capacity image.bytes) × (vec_len image.serials ≤ image.most_datagrams) × (image.most_datagrams ≤ vec_capacity image.serials) × (vec_len image.outputs ≤ image.most_bytes) × (image.most_bytes ≤ vec_capacity image.outputs) };
 }
 
 impl TaskImage {
@@ -55,21 +55,24 @@ impl TaskImage {
 
     /// What the task reads of its datagrams, one after another: as many bytes of each as it has, zeros where it has no data.
     pub fn bytes(&self) -> &[u8]
-        ensures { result.now ≡ self.now.bytes }
+        ensures bytes { result.now ≡ self.now.bytes }
+        ensures most { length result.now ≤ self.now.room.0 }
     {
         self.bytes.as_slice()
     }
 
     /// Of each datagram the serial of the sending that its data answer; none where it has no data.
     pub fn serials(&self) -> &[Option<u64>]
-        ensures { result.now ≡ self.now.serials }
+        ensures serials { result.now ≡ self.now.serials }
+        ensures most { length result.now ≤ self.now.room.1 }
     {
         self.serials.as_slice()
     }
 
     /// The task's outputs.
     pub fn outputs(&self) -> &[u8]
-        ensures { result.now ≡ self.now.outputs }
+        ensures outputs { result.now ≡ self.now.outputs }
+        ensures most { length result.now ≤ self.now.room.0 }
     {
         self.outputs.as_slice()
     }

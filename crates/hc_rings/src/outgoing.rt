@@ -41,6 +41,15 @@ impl OutgoingPosts {
         Ok(())
     }
 
+    /// Whether the other end is gone. No contract speaks of the answer.
+    pub(crate) fn is_abandoned(&mut self) -> bool
+        ensures ring { SameProducer self.old.ring self.new.ring }
+        ensures sent { sent self.new.ring ≡ sent self.old.ring }
+        ensures places { known_free self.old.ring ≤ known_free self.new.ring }
+    {
+        self.ring.is_abandoned()
+    }
+
     /// Leaves the end, and tells all that went in. `None` where the other end of the ring is gone.
     #[tactic(auto, using(crate::proofs::Items::posts_of_ended, crate::proofs::Items::items_of_ended))]
     pub(crate) fn finish(self) -> Option<PostsEnd>

@@ -45,4 +45,13 @@ impl PostSender {
             Err(buffer) => Err(Full(buffer)),
         }
     }
+
+    /// Whether the receiver is gone: then nobody takes what is posted. No contract speaks of the answer.
+    pub fn is_abandoned(&mut self) -> bool
+        ensures ring { SameSender self.old self.new }
+        ensures posted { (posted self.new ≡ posted self.old) × (held self.new ≡ held self.old) × (handed_out self.new ≡ handed_out self.old) }
+        ensures known { (known_spares self.new ≡ known_spares self.old) × (known_places self.old ≤ known_places self.new) }
+    {
+        self.posts.is_abandoned()
+    }
 }
