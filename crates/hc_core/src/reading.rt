@@ -5,10 +5,11 @@ ghost use Rattle.hc_records.specs.declared.limits.TheConstants.{MOST_DATAGRAMS, 
 ghost use Rattle.hc_records.specs.Lists.{lowest};
 ghost use Rattle.hc_events.specs.declared.answer.Answer.TheVariants as answer;
 ghost use Rattle.hc_events.specs.Owed.{owed_blocks};
-ghost use Rattle.hc_events.specs.Accepted.{IsReachable};
+ghost use Rattle.hc_events.specs.Accepted.{IsReachable, StandsIn};
 ghost use Rattle.hc_events.specs.Ages.{data_serial};
 ghost use Rattle.hc_events.specs.Images.{slot_of};
-ghost use Rattle.hc_events.specs.Points.{epoch_of, next_serial, state_of};
+ghost use Rattle.hc_events.specs.Outputs.{sent_data};
+ghost use Rattle.hc_events.specs.Points.{epoch_of, line_of, next_serial, state_of};
 ghost use Rattle.hc_events.specs.Steps.{Reads, answer_to, read_faults};
 ghost use Rattle.hc_core.specs.LastData.{ShowsLastData};
 
@@ -71,6 +72,17 @@ impl Core {
             return None;
         }
         self.data_serials.get(Task(task), number)
+    }
+
+    /// The output values of a datagram of the present line, lent, as it is sent now: at the place of each output variable
+    /// the bits of its value, and 0 at every other bit. They are as many bytes as the datagram has. It takes no memory.
+    pub fn outputs(&self, task: u8, number: u8) -> &[u8]
+        requires { StandsIn (line_of self.now.past) (task, number) }
+        ensures { result.now ≡ sent_data self.now.past task number }
+    {
+        // a look at the plan tells the core's invariant, by which the outputs have the record's values
+        let _ = &self.plan;
+        self.outputs.bytes(task, number)
     }
 
     /// The image of a task as it is kept.
