@@ -15,7 +15,7 @@ use crate::keeping::Core;
 use hc_events::answer::Answer;
 use hc_events::faults::CoreFault;
 use hc_events::sending::FRAME_BLOCKS;
-use hc_frames::limits::SETUP_SERIAL;
+use hc_frames::limits::{LEAST_FRAME, SETUP_SERIAL};
 use hc_records::items::Items;
 use std::alloc::Global;
 
@@ -121,8 +121,10 @@ impl Core {
         ensures early { IfSome (lowest (write_faults self.old.past (owed_blocks self.old.past))) (λ fault. result ≡ Err fault) }
         ensures unchanged { OnErr result (self.new ≡ self.old) }
     {
-        let (text, _) = self.write_text(alloc, 1)?;
-        Ok(Answer::WriteSent(text))
+        self.can_write()?;
+        let mut text = Vec::from_elem(alloc, 0, usize::from(LEAST_FRAME))?;
+        self.write_into(&mut text)?;
+        Ok(Answer::WriteSent(Items::of(text)))
     }
 
     /// The first owed blocks are sent in one frame, as many as it holds, with the next serial. Refused as `write` is.

@@ -1,5 +1,5 @@
 -- A register block has 8 or 16 bytes, so that the frame that writes it has 60: zeros fill it up.
-use Rattle.std.proofs.Common.{◌≡◌, ◌≤◌, ℕ, Bool, false, List, [], ◌∷◌, get_or, Some, rules}
+use Rattle.std.proofs.Common.{◌≡◌, ◌<◌, ◌≤◌, ℕ, Bool, false, List, [], ◌∷◌, arith, get_or, length, Some, rules}
 use Rattle.std.specs.Prelude.{All, nat_lt, slice_get}
 use Rattle.std.specs.List.{enumerate_from}
 use Rattle.std.proofs.lemmas.Bool.{le-ltb}
@@ -40,6 +40,17 @@ first-size blocks all = search (rules, All-head)
 
 write-fits : (past : Record) → write_size (owed_blocks past) ≤ 60
 write-fits past = first-size (owed_blocks past) (All-filter (is_owed past) Has (line_blocks (line_of past)) (line_has (line_of past)))
+
+least-size : (blocks : List LineBlock) → 0 < length blocks → 60 ≤ write_size blocks
+least-size [] some = absurd (omega (arith, some))
+least-size (block ∷ blocks) some = search rules
+
+-- the frame of the first owed block has 60 bytes
+pub write-sized : (past : Record) → 0 < length (owed_blocks past) → write_size (owed_blocks past) ≡ 60
+write-sized past some =
+    let most = write-fits past in
+    let least = least-size (owed_blocks past) some in
+    omega (arith, most, least)
 
 same-fault : (none spent room : Bool) (needed : ℕ) → room ≡ false
     → lowest ((none, NothingOwed) ∷ (spent, SerialsSpent) ∷ (room, Room needed) ∷ []) ≡ lowest ((none, NothingOwed) ∷ (spent, SerialsSpent) ∷ [])
