@@ -7,11 +7,15 @@ mod changer;
 #[cfg(test)]
 mod crowded;
 #[cfg(test)]
+mod docking;
+#[cfg(test)]
 mod dropped;
 #[cfg(test)]
 mod fates;
 #[cfg(test)]
 mod gates;
+#[cfg(test)]
+mod giving_up;
 #[cfg(test)]
 mod growths;
 #[cfg(test)]
