@@ -128,7 +128,7 @@ fn shown<R: Wait>(
 }
 
 /// Cycle by cycle, in which the axis is at 1, 2 and so on, and posts where it is. It sees each position in its own cycle, and its
-/// outputs are those that it posted in the cycle before, but for a post of the epoch before an edit. In front of the first cycle
+/// outputs are those that it posted in the cycle before, but for a post of the epoch before an edit. Before the first cycle
 /// the axis' four blocks are written. A tool docks by one frame of writes; one that has no contact, by two frames before it is
 /// given up. A cycle takes a frame: both datagrams share it.
 const ROWS: [(Tool, Shown); 9] = [
