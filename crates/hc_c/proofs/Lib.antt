@@ -1,6 +1,7 @@
 mod Arrives
 mod Asked
 mod Boxed
+mod BoxedEnd
 mod Images
 mod InFrame
 mod Offset

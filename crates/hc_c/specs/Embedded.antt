@@ -1,4 +1,4 @@
--- What an open handle holds, as contracts see it: `core`, the core's two records, `untold`, the changes that were taken from it and that C wasn't told yet, `most_changes`, how many changes are kept at most until C asks for them, and `counts`, how often each datagram was sent and what arrivals were for it; of `spare` and `calls` contracts see nothing.
+-- What an open handle holds, as contracts see it: `core`, the core's two records, `untold`, the changes that were taken from it and that C wasn't told yet, `most_changes`, how many changes are kept at most until C asks for them, `counts`, how often each datagram was sent and what arrivals were for it, and `ends`, the owner's ends of the tasks' seats; of `spare` and `calls` contracts see nothing.
 use Rattle.std.specs.Prelude.{ℕ, ◌+◌, ◌-◌, Bool, false, not, nat_eq, nat_lt, if◌then◌else◌, List, length, Option, Some, None}
 use Rattle.hc_events.specs.Entries.{Record}
 use Rattle.hc_events.specs.Sendings.{Frame}

@@ -21,3 +21,9 @@ pub mod Locations
 pub mod Counts
 pub mod Offsets
 pub mod Shares
+pub mod SeatRoom
+pub mod SeatImages
+pub mod Seats
+pub mod TakenPosts
+pub mod HeldSeat
+pub mod LendingEnd

@@ -1,5 +1,5 @@
 -- What opening the project of a text gives.
-use Rattle.std.specs.Prelude.{ℕ, ◌+◌, List, [], Option, Some, None, Result, Ok, Err}
+use Rattle.std.specs.Prelude.{ℕ, ◌+◌, List, [], Option, Some, None, Result, Ok, Err, replicate}
 use Rattle.hc_records.specs.declared.records.Group.{Group}
 use Rattle.hc_records.specs.declared.faults.ProjectFault.{ProjectFault}
 use Rattle.hc_records.specs.Edits.{crowded_task}
@@ -8,11 +8,16 @@ use Rattle.hc_records.specs.ProjectFault.{project_fault_number}
 use Rattle.hc_events.specs.Accepted.{just_opened}
 use Rattle.hc_c.specs.Counts.{fresh_counts}
 use Rattle.hc_c.specs.declared.embedded.Embedded.{Embedded}
+use Rattle.hc_c.specs.declared.seat.ends.OwnerEnds.{OwnerEnds}
 use Rattle.hc_c.specs.declared.numbers.TheConstants.{CROWDED, DONE, PROJECT}
 
--- a core in which nothing has happened, with no change to tell, nothing counted and no call that runs; who opens it says how many changes are kept at most
+-- no task has a seat
+abbrev pub no_ends : OwnerEnds
+no_ends = record { by_task = replicate 8 None }
+
+-- a core in which nothing has happened, with no change to tell, nothing counted, no seat and no call that runs; who opens it says how many changes are kept at most
 abbrev pub fresh : ℕ → List Group → Embedded
-fresh most groups = record { core = record { past = just_opened groups; taken = just_opened groups }; untold = []; most_changes = most; counts = fresh_counts; spare = tt; calls = record { count = tt } }
+fresh most groups = record { core = record { past = just_opened groups; taken = just_opened groups }; untold = []; most_changes = most; counts = fresh_counts; ends = no_ends; spare = tt; calls = record { count = tt } }
 
 -- it, where the text is a project
 abbrev pub opened_by : ℕ → Result (List Group) ProjectFault → Option Embedded

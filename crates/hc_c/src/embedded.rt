@@ -3,12 +3,13 @@ ghost use Rattle.std.specs.Prelude.{◌≡◌};
 
 use crate::calls::Calls;
 use crate::counting::Counts;
+use crate::seat::ends::OwnerEnds;
 use crate::spare::Spare;
 use crate::untold::Untold;
 use hc_core::keeping::Core;
 
-/// A core, the changes that were taken from it and that C wasn't told yet, what was counted, lists that its calls use
-/// again, and the calls that run.
+/// A core, the changes that were taken from it and that C wasn't told yet, what was counted, the owner's ends of the tasks'
+/// seats, lists that its calls use again, and the calls that run.
 pub struct Embedded {
     /// The core.
     pub core: Core,
@@ -18,6 +19,8 @@ pub struct Embedded {
     pub most_changes: u32,
     /// How often each datagram was sent, and what arrivals were for it.
     pub counts: Counts,
+    /// The owner's ends of the tasks' seats.
+    pub ends: OwnerEnds,
     /// The lists.
     pub spare: Spare,
     /// The calls.
@@ -31,6 +34,7 @@ impl Drop for Embedded {
             untold: _,
             most_changes: _,
             counts: _,
+            ends: _,
             spare: _,
             calls: _,
         } = self;

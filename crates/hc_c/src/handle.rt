@@ -5,7 +5,7 @@ ghost use Rattle.std.specs.declared.option.Option.TheVariants.{None, Some};
 ghost use Rattle.hc_c.specs.Held.{embedded_coded, in_box, owns_embedded};
 ghost use Rattle.hc_c.specs.declared.embedded.Embedded.{Embedded};
 
-mod unboxed;
+pub mod unboxed;
 
 use crate::embedded::Embedded;
 use crate::numbers::{BUSY, CLOSED};
@@ -146,7 +146,7 @@ impl Handle {
 }
 
 /// What may go to another thread.
-fn crosses<T: Send>(it: T) -> T
+pub fn crosses<T: Send>(it: T) -> T
     ensures { result ≡ it }
 {
     it

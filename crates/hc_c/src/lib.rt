@@ -26,6 +26,7 @@ mod posting;
 mod previewing;
 mod reading;
 mod runs;
+mod seat;
 mod sending;
 mod sharing;
 mod slave;

@@ -35,6 +35,9 @@ pub const IS_INPUT: u8 = 105;
 /// The value needs more bits than there are.
 pub const TOO_WIDE: u8 = 106;
 
+/// Four posts of the seat wait.
+pub const NO_SPARE: u8 = 107;
+
 /// The numbers of a project's faults, 1 to 12, count from here.
 pub const PROJECT: u8 = 200;
 

@@ -10,6 +10,7 @@ use crate::counting::Counts;
 use crate::embedded::Embedded;
 use crate::handle::Handle;
 use crate::numbers::{CROWDED, DONE, MEMORY, PROJECT};
+use crate::seat::ends::OwnerEnds;
 use crate::spare::Spare;
 use crate::untold::Untold;
 use hc_core::keeping::Core;
@@ -50,6 +51,7 @@ fn open_project(
         untold: Untold::nothing(alloc),
         most_changes,
         counts,
+        ends: OwnerEnds::none(),
         spare,
         calls: Calls::none(),
     };

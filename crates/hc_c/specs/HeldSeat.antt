@@ -1,0 +1,26 @@
+-- What C's handle of a seat owns: what a box of the task's end owns, or nothing.
+use base.Fml.{Fml, ftrue}
+use base.Stored.{Coded}
+use denote.RawPtr.{Ptr}
+use Rattle.std.specs.Box.Ownership.{box_owns}
+use Rattle.std.specs.Coded.{coded_option}
+use Rattle.std.specs.Global.{Global}
+use Rattle.std.specs.declared.option.Option.{Option}
+use Rattle.std.specs.declared.option.Option.TheVariants.{None, Some}
+use Rattle.std_alloc.specs.declared.boxed.Box.{Box}
+use Rattle.std_heap.specs.contracts.GlobalAllocator.TheImpl.{ghosts}
+use Rattle.hc_c.specs.contracts.seat.ends.TaskEnd.{the_row}
+
+-- where there is an end, its memory with the right to free it
+abbrev pub owns_end : Global → Ptr → Option the_row.Denot → Fml
+owns_end alloc at None = ftrue
+owns_end alloc at (Some value) = box_owns (ghosts.dealloc_token alloc) the_row at value
+
+-- how the logic stores it
+abbrev pub end_coded : Coded (Option the_row.Denot)
+end_coded = coded_option the_row.coded
+
+-- what is in a box, if there is one
+abbrev pub in_box : Option (Box the_row.Denot Global) → Option the_row.Denot
+in_box None = None
+in_box (Some own) = Some own.value

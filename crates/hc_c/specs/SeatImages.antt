@@ -1,0 +1,70 @@
+-- What the owner of a line shows a task's seat.
+use Rattle.std.specs.Prelude.{◌≡◌, ℕ, ◌+◌, List, [], ◌∷◌, ◌++◌, Option, None, Some, length, map, take, option_map, unwrap_or}
+use Rattle.std.specs.List.{range_with_len}
+use Rattle.hc_places.specs.declared.table.Datagram.{Datagram}
+use Rattle.hc_events.specs.Ages.{data_serial}
+use Rattle.hc_events.specs.Entries.{Record}
+use Rattle.hc_events.specs.Images.{slot_of}
+use Rattle.hc_events.specs.Outputs.{sent_data}
+use Rattle.hc_events.specs.Points.{epoch_of}
+use Rattle.hc_mail.specs.Images.{Image}
+use Rattle.hc_mail.specs.Ends.{reported, seen}
+use Rattle.hc_c.specs.Looks.{part_at}
+use Rattle.hc_c.specs.Reads.{data_or_zeros, datagrams_of, image_from}
+use Rattle.hc_c.specs.SeatRoom.{image_room}
+use Rattle.hc_c.specs.declared.seat.ends.OwnerEnd.{OwnerEnd}
+
+-- the serial of the sending that a datagram's data answer; none where it has no data
+abbrev pub serial_shown : Option (List ℕ) → Option ℕ → Option ℕ
+serial_shown slot serial = option_map (λ _. unwrap_or serial 0) slot
+
+-- that of each of so many datagrams of a task, from a number on
+abbrev pub serials_shown : Record → ℕ → ℕ → ℕ → List (Option ℕ)
+serials_shown past task number count = map (λ d. serial_shown (slot_of past task d) (data_serial past task d)) (range_with_len number count)
+
+-- the data with which a task's datagrams, from a number on, would be sent now, one after another
+abbrev pub sent_from : Record → ℕ → ℕ → List Datagram → List ℕ
+sent_from past task number [] = []
+sent_from past task number (datagram ∷ datagrams) = sent_data past task number ++ sent_from past task (number + 1) datagrams
+
+-- the outputs of a task, as they would be sent now: they come first in its image
+abbrev pub outputs_of : Record → ℕ → List ℕ
+outputs_of past task = take (part_at past task).0 (sent_from past task 0 (datagrams_of past task))
+
+-- what a task's seat is shown: what the task reads of its datagrams, the serials that their data answer, and the task's outputs
+abbrev pub image_shown : Record → ℕ → Image
+image_shown past task = record {
+  epoch = epoch_of past;
+  bytes = image_from past task 0 (datagrams_of past task);
+  serials = serials_shown past task 0 (length (datagrams_of past task));
+  outputs = outputs_of past task;
+  room = image_room;
+}
+
+-- the image with one datagram more: what the task reads of it, and the serial that its data answer
+abbrev pub with_slot : ℕ → Option (List ℕ) → Option ℕ → Image → Image
+with_slot size slot serial image = record image { bytes = image.bytes ++ data_or_zeros size slot; serials = image.serials ++ serial_shown slot serial ∷ [] }
+
+-- the image with these datagrams of a task, from a number on
+abbrev pub with_slots : Record → ℕ → ℕ → List Datagram → Image → Image
+with_slots past task number datagrams image =
+    record image { bytes = image.bytes ++ image_from past task number datagrams; serials = image.serials ++ serials_shown past task number (length datagrams) }
+
+-- one image more was shown to a task's seat; what it posted is as it was
+pub record Shows (past : Record) (task : ℕ) (old new : OwnerEnd) : Type 0 where
+  pub shown : seen new.images.place ≡ seen old.images.place ++ image_shown past task ∷ []
+  pub reported : reported new.images.place ≡ reported old.images.place
+  pub one_mail : new.images.place.table_id ≡ old.images.place.table_id
+  pub posts : new.posts ≡ old.posts
+
+-- so it was to the task's seat, if it has one
+abbrev pub ShowsEnd : Record → ℕ → Option OwnerEnd → Option OwnerEnd → Type 0
+ShowsEnd past task None None = Unit {0}
+ShowsEnd past task (Some old) (Some new) = Shows past task old new
+ShowsEnd past task old new = ⊥
+
+-- and to the seats of all tasks, the first of which has this number
+abbrev pub ShowsAll : Record → ℕ → List (Option OwnerEnd) → List (Option OwnerEnd) → Type 0
+ShowsAll past task [] [] = Unit {0}
+ShowsAll past task (old ∷ olds) (new ∷ news) = ShowsEnd past task old new × ShowsAll past (task + 1) olds news
+ShowsAll past task olds news = ⊥

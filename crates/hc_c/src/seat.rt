@@ -1,0 +1,10 @@
+//! Seats: a task's thread reads and posts while another thread, the owner, has the line. The owner shows images and takes posts;
+//! nobody waits.
+
+pub mod ends;
+mod handle;
+mod opening;
+mod posting;
+mod showing;
+mod taking;
+mod viewing;

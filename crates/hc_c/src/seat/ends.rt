@@ -1,0 +1,43 @@
+//! The two ends of a task's seat.
+ghost use Rattle.std.specs.Prelude.{◌≡◌, None, replicate};
+ghost use Rattle.hc_mail.specs.Images.{image_in};
+ghost use Rattle.hc_rings.specs.Ring.{PostsEach};
+ghost use Rattle.hc_c.specs.SeatRoom.{image_room};
+
+use hc_mail::receiver::ImageReceiver;
+use hc_mail::sender::ImageSender;
+use hc_rings::{PostReceiver, PostSender};
+
+/// The owner's end: it sends images and takes posts.
+#[derive(Drop)]
+pub struct OwnerEnd {
+    pub images: ImageSender,
+    pub posts: PostReceiver,
+    ghost roomy: { (image_in images.own).room ≡ image_room },
+}
+
+/// The task's end: it looks at images and posts.
+#[derive(Drop)]
+pub struct TaskEnd {
+    pub images: ImageReceiver,
+    pub posts: PostSender,
+    ghost roomy: { (image_in images.shown).room ≡ image_room },
+    ghost posts_each: { PostsEach posts },
+}
+
+/// The owner's end of the seat of each task, 0 to 7; none where the task has no seat.
+#[derive(Drop)]
+pub struct OwnerEnds {
+    pub by_task: [Option<OwnerEnd>; 8],
+}
+
+impl OwnerEnds {
+    /// No task has a seat.
+    pub fn none() -> OwnerEnds
+        ensures { result.by_task ≡ replicate 8 None }
+    {
+        OwnerEnds {
+            by_task: [None, None, None, None, None, None, None, None],
+        }
+    }
+}

@@ -1,0 +1,123 @@
+//! What C keeps of a seat between two calls.
+ghost use Rattle.std.specs.Prelude.{◌≡◌, IsSome, is_some};
+ghost use Rattle.std.specs.declared.option.Option.{Option};
+ghost use Rattle.std.specs.declared.option.Option.TheVariants.{None, Some};
+ghost use Rattle.hc_c.specs.HeldSeat.{end_coded, in_box, owns_end};
+ghost use Rattle.hc_c.specs.declared.seat.ends.TaskEnd.{TaskEnd};
+
+use crate::handle::crosses;
+use crate::handle::unboxed::Unboxed;
+use crate::seat::ends::TaskEnd;
+use std::alloc::Global;
+use std::marker::Model;
+use std::mem;
+
+/// A task's end by where it lies in memory, or none. Its type names no other type of ours, so that C may have it.
+#[repr(C)]
+#[derive(Drop)]
+pub struct SeatHolding {
+    at: *mut u8,
+    alloc: Global,
+    pub ghost value: { Option TaskEnd } by { end_coded },
+}
+
+impl Model for SeatHolding {
+    ghost also_owns = { λ holding. owns_end holding.alloc holding.at holding.value };
+}
+
+impl SeatHolding {
+    ghost use types.Logic.{sem};
+    ghost use Rattle.hc_c.specs.LendingEnd.{LendsEnd};
+
+    fn nothing(alloc: Global) -> SeatHolding
+        ensures { result.value ≡ None }
+    {
+        SeatHolding {
+            at: std::ptr::null_mut(),
+            alloc,
+        }
+    }
+
+    fn of(own: Unboxed<TaskEnd, Global>) -> SeatHolding
+        ensures { result.value ≡ Some own.value }
+    {
+        let Unboxed { at, alloc } = own;
+        SeatHolding {
+            at: at as *mut u8,
+            alloc,
+        }
+    }
+
+    fn into_unboxed(self) -> Unboxed<TaskEnd, Global>
+        requires { IsSome self.value }
+        ensures { self.value ≡ Some result.value }
+    {
+        let SeatHolding { at, alloc } = self;
+        Unboxed {
+            at: at as *mut TaskEnd,
+            alloc,
+        }
+    }
+
+    /// The task's end, where it lies: no word of the handle is written.
+    pub fn end_mut(&mut self) -> &mut TaskEnd
+        requires { IsSome self.old.value }
+        ensures* writes_back { sem 𝓛 (LendsEnd self.entry result) }
+        ensures value { self.old.value ≡ Some result.now }
+    {
+        unsafe { &mut *(self.at as *mut TaskEnd) }
+    }
+}
+
+/// What C keeps of a seat: zeros where none is open.
+#[repr(C)]
+#[derive(Drop)]
+pub struct SeatHandle {
+    is_open: bool,
+    pub holding: SeatHolding,
+    ghost same: { is_open ≡ is_some holding.value },
+}
+
+impl SeatHandle {
+    /// The handle of an open seat.
+    pub fn of(own: Box<TaskEnd, Global>) -> SeatHandle
+        ensures { result.holding.value ≡ Some own.value }
+    {
+        SeatHandle {
+            is_open: true,
+            holding: SeatHolding::of(Unboxed::of(own)),
+        }
+    }
+
+    /// Whether a seat is open.
+    pub fn is_open(&self) -> bool
+        ensures { result ≡ is_some self.now.holding.value }
+    {
+        self.is_open
+    }
+
+    /// The task's end, if the seat is open; the handle is then closed.
+    pub fn take(&mut self, alloc: Global) -> Option<Box<TaskEnd, Global>>
+        ensures taken { in_box result ≡ self.old.holding.value }
+        ensures closed { self.new.holding.value ≡ None }
+    {
+        let closed = SeatHandle {
+            is_open: false,
+            holding: SeatHolding::nothing(alloc),
+        };
+        let was = mem::replace(self, closed);
+        if was.is_open {
+            Some(was.holding.into_unboxed().into_box())
+        } else {
+            None
+        }
+    }
+}
+
+/// The end that a seat's handle holds may go to another thread between two calls, and its memory may be given back there: its
+/// type is `Send`.
+pub fn end_crosses(own: Box<TaskEnd, Global>) -> Box<TaskEnd, Global>
+    ensures { result ≡ own }
+{
+    crosses(own)
+}

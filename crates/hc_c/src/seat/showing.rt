@@ -1,0 +1,134 @@
+//! The owner shows each seat what its task reads.
+ghost use Rattle.std.specs.Prelude.{◌≡◌, ◌≢◌, ◌+◌, ◌≤◌, ◌<◌, IfSome, None, length, take};
+ghost use Rattle.std.specs.Option.{option_copied};
+ghost use Rattle.hc_records.specs.declared.limits.TheConstants.{MOST_DATAGRAMS, TASKS};
+ghost use Rattle.hc_records.specs.Image.{datagram_count, task_places};
+ghost use Rattle.hc_events.specs.Points.{line_of};
+ghost use Rattle.hc_mail.specs.Images.{image_in, with_outputs};
+ghost use Rattle.hc_c.specs.Embedded.{past_of};
+ghost use Rattle.hc_c.specs.Pieces.{HaveLengths};
+ghost use Rattle.hc_c.specs.Reads.{image_size};
+ghost use Rattle.hc_c.specs.SeatImages.{ShowsAll, ShowsEnd, Shows, sent_from, with_slot, with_slots};
+ghost use Rattle.hc_c.specs.Seats.{ShowsLine};
+ghost use Rattle.hc_c.specs.declared.numbers.TheConstants.{BUSY, CLOSED};
+
+use crate::handle::Handle;
+use crate::numbers::DONE;
+use crate::seat::ends::OwnerEnd;
+use hc_core::keeping::Core;
+use hc_mail::sender::ImageSender;
+use hc_places::table::Datagram;
+use hc_records::limits::TASKS;
+
+/// The image's next datagram is one of so many bytes, with its data, if it has some, and the serial that they answer.
+fn add_slot(images: &mut ImageSender, slot: Option<&[u8]>, serial: Option<u64>, size: usize)
+    requires fits { IfSome (option_copied slot) (λ bytes. length bytes ≡ size) }
+    requires bytes { length (image_in images.old.own).bytes + size ≤ (image_in images.old.own).room.0 }
+    requires datagrams { length (image_in images.old.own).serials < (image_in images.old.own).room.1 }
+    ensures own { image_in images.new.own ≡ with_slot size (option_copied slot.entry) serial (image_in images.old.own) }
+    ensures same { images.new.place ≡ images.old.place }
+{
+    match slot {
+        Some(bytes) => images.add(bytes, serial.unwrap_or(0)),
+        None => images.add_zeros(size),
+    }
+}
+
+/// The image's next datagrams are these of a task, the first of which has this number. A task has 16 datagrams at most, so deep
+/// is this recursion.
+fn add_slots(
+    core: &Core,
+    task: u8,
+    number: u8,
+    datagrams: &[Datagram],
+    images: &mut ImageSender,
+)
+    requires task { task < TASKS }
+    requires few { number + length datagrams.now ≤ MOST_DATAGRAMS }
+    requires lengths { HaveLengths (line_of core.now.past) task number datagrams.now }
+    requires bytes { length (image_in images.old.own).bytes + image_size datagrams.now ≤ (image_in images.old.own).room.0 }
+    requires room { length (image_in images.old.own).serials + length datagrams.now ≤ (image_in images.old.own).room.1 }
+    ensures own { image_in images.new.own ≡ with_slots core.now.past task number datagrams.now (image_in images.old.own) }
+    ensures same { images.new.place ≡ images.old.place }
+{
+    let Some((first, rest)) = datagrams.split_first() else {
+        return;
+    };
+    let slot = core.data(task, number);
+    let serial = core.data_serial(task, number);
+    add_slot(images, slot, serial, usize::from(first.length));
+    add_slots(core, task, number + 1, rest, images);
+}
+
+/// The image gets so many of the bytes with which these datagrams of a task would be sent. So deep is this recursion too.
+fn add_outputs(
+    core: &Core,
+    task: u8,
+    number: u8,
+    datagrams: &[Datagram],
+    size: usize,
+    images: &mut ImageSender,
+)
+    requires count { number + length datagrams.now ≡ datagram_count (task_places task (line_of core.now.past)) }
+    requires few { number + length datagrams.now ≤ MOST_DATAGRAMS }
+    requires lengths { HaveLengths (line_of core.now.past) task number datagrams.now }
+    requires room { length (image_in images.old.own).outputs + image_size datagrams.now ≤ (image_in images.old.own).room.0 }
+    ensures own { image_in images.new.own ≡ with_outputs (take size (sent_from core.now.past task number datagrams.now)) (image_in images.old.own) }
+    ensures same { images.new.place ≡ images.old.place }
+{
+    let Some((_, rest)) = datagrams.split_first() else {
+        return;
+    };
+    let sent = core.outputs(task, number);
+    let own = sent.len().min(size);
+    images.add_outputs(&sent[..own]);
+    add_outputs(core, task, number + 1, rest, size - own, images);
+}
+
+/// Shows a task's seat what the task reads, and its outputs.
+fn show_end(core: &Core, task: u8, end: &mut OwnerEnd)
+    requires { task < TASKS }
+    ensures { Shows core.now.past task end.old end.new }
+{
+    let plan = core.plan();
+    let places = plan.places();
+    let datagrams = places.datagrams(task);
+    let (outputs, _) = places.part(task);
+    let images = &mut end.images;
+    images.begin(plan.epoch());
+    add_slots(core, task, 0, datagrams, images);
+    add_outputs(core, task, 0, datagrams, usize::from(outputs), images);
+    images.send();
+}
+
+/// Shows the seat of each task, the first of which has this number. There are eight tasks, so deep is this recursion.
+fn show_all(core: &Core, task: u8, ends: &mut [Option<OwnerEnd>])
+    requires { task + length ends.old ≤ TASKS }
+    ensures { ShowsAll core.now.past task ends.old ends.new }
+{
+    let Some((first, rest)) = ends.split_first_mut() else {
+        return;
+    };
+    if let Some(end) = first {
+        show_end(core, task, end);
+    }
+    show_all(core, task + 1, rest);
+}
+
+/// Shows the seat of each task what the task reads now, as `zangjulf_read` tells it, and its outputs, as they would be sent now.
+/// `DONE`; `BUSY` or `CLOSED`, and nothing is shown. It waits for nobody and takes no memory.
+#[unsafe(no_mangle)]
+pub extern "C" fn zangjulf_show(handle: &mut Handle) -> u8
+    ensures shown { result ≡ DONE → IfSome handle.old.holding.value (λ old. IfSome handle.new.holding.value (ShowsLine old)) }
+    ensures unchanged { result ≢ DONE → handle.new.holding.value ≡ handle.old.holding.value }
+    ensures closed { handle.old.holding.value ≡ None → result ≡ CLOSED }
+    ensures told { IfSome handle.old.holding.value (λ old. result ≢ BUSY → result ≡ DONE) }
+{
+    if let Err(number) = handle.begin_change() {
+        return number;
+    }
+    let own = handle.holding.line_mut();
+    show_all(&own.core, 0, &mut own.ends.by_task);
+    own.calls.end_change();
+    DONE
+}

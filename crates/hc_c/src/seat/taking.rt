@@ -1,0 +1,104 @@
+//! The owner takes what tasks posted at their seats.
+ghost use Rattle.std.specs.Prelude.{◌≡◌, ◌≢◌, ◌+◌, ◌^◌, ◌<◌, ◌≤◌, IfSome, None, length};
+ghost use Rattle.hc_records.specs.declared.limits.TheConstants.{TASKS};
+ghost use Rattle.hc_events.specs.Steps.{answer_to, entries_after};
+ghost use Rattle.hc_rings.specs.declared.posts.TheConstants.{POSTS_WAITING};
+ghost use Rattle.hc_c.specs.TakenPosts.{TakesAll, TakesEnd, TakesFrom, TakesPosts, event_of, is_posted};
+ghost use Rattle.hc_c.specs.declared.numbers.TheConstants.{BUSY, CLOSED};
+
+use crate::handle::Handle;
+use crate::numbers::DONE;
+use crate::seat::ends::OwnerEnd;
+use hc_core::keeping::Core;
+use hc_records::limits::TASKS;
+use hc_rings::{POSTS_WAITING, PostBuffer, PostReceiver};
+
+/// Of which tasks' seats posts were taken, as C is told it: bit t is task t's.
+#[repr(C)]
+#[derive(Clone, Copy)]
+pub struct TakenPosts {
+    /// One at least was accepted.
+    accepted: u8,
+    /// One at least was refused, and left nothing.
+    refused: u8,
+}
+
+/// Hands the core a task's post, and answers whether it was accepted.
+fn is_accepted(core: &mut Core, task: u8, post: &PostBuffer) -> bool
+    ensures core { core.new ≡ record core.old { past = entries_after core.old.past (event_of task post.now) } }
+    ensures told { is_posted (answer_to core.old.past (event_of task post.now)) ≡ result }
+{
+    match core.post(task, post.epoch(), post.bytes()) {
+        Ok(()) => true,
+        Err(_) => false,
+    }
+}
+
+/// Hands the core posts of a ring, so many at most: whether one was accepted, and whether one was refused. So deep is this
+/// recursion, four at most.
+fn take_some(core: &mut Core, task: u8, ring: &mut PostReceiver, most: u32) -> (bool, bool)
+    requires { most ≤ POSTS_WAITING }
+    ensures { TakesFrom task most core.old core.new ring.old ring.new result }
+{
+    if most == 0 {
+        return (false, false);
+    }
+    let Some(post) = ring.take() else {
+        return (false, false);
+    };
+    let own = is_accepted(core, task, &post);
+    ring.give_back(post);
+    let (accepted, refused) = take_some(core, task, ring, most - 1);
+    (own || accepted, !own || refused)
+}
+
+/// Hands the core what waits of a task's seat, if it has one.
+fn take_end(core: &mut Core, task: u8, end: &mut Option<OwnerEnd>) -> (bool, bool)
+    ensures { TakesEnd task core.old core.new end.old end.new result }
+{
+    match end {
+        Some(end) => take_some(core, task, &mut end.posts, POSTS_WAITING as u32),
+        None => (false, false),
+    }
+}
+
+/// Hands the core what waits of each task's seat, the first of which has this number. There are eight, so deep is this recursion.
+fn take_all(core: &mut Core, task: u8, ends: &mut [Option<OwnerEnd>]) -> TakenPosts
+    requires { task + length ends.old ≤ TASKS }
+    ensures taken { TakesAll task core.old core.new ends.old ends.new result.accepted result.refused }
+    ensures below { (result.accepted < 2 ^ length ends.old) × (result.refused < 2 ^ length ends.old) }
+{
+    let Some((first, rest)) = ends.split_first_mut() else {
+        return TakenPosts {
+            accepted: 0,
+            refused: 0,
+        };
+    };
+    let (accepted, refused) = take_end(core, task, first);
+    let others = take_all(core, task + 1, rest);
+    TakenPosts {
+        accepted: u8::from(accepted) + 2 * others.accepted,
+        refused: u8::from(refused) + 2 * others.refused,
+    }
+}
+
+/// The owner takes the posts that wait, at most four of each task's seat, and hands each to the core as `zangjulf_post` does: task
+/// 0's first, and those of a task in the order in which they were posted. One that was made for another epoch than the present
+/// one is refused, and leaves nothing. `DONE`, and `taken` tells of which tasks posts were accepted and refused; `BUSY` or
+/// `CLOSED`, and `taken` is as it was. Each buffer goes back to its seat. What is posted meanwhile may be left for the next call.
+/// It waits for nobody and takes no memory.
+#[unsafe(no_mangle)]
+pub extern "C" fn zangjulf_take_posts(handle: &mut Handle, taken: &mut TakenPosts) -> u8
+    ensures taken { result ≡ DONE → IfSome handle.old.holding.value (λ old. IfSome handle.new.holding.value (TakesPosts taken.new old)) }
+    ensures told { IfSome handle.old.holding.value (λ old. result ≢ BUSY → result ≡ DONE) }
+    ensures unchanged { result ≢ DONE → (handle.new.holding.value ≡ handle.old.holding.value) × (taken.new ≡ taken.old) }
+    ensures closed { handle.old.holding.value ≡ None → result ≡ CLOSED }
+{
+    if let Err(number) = handle.begin_change() {
+        return number;
+    }
+    let own = handle.holding.line_mut();
+    *taken = take_all(&mut own.core, 0, &mut own.ends.by_task);
+    own.calls.end_change();
+    DONE
+}
