@@ -2,10 +2,12 @@ mod Arrives
 mod Asked
 mod Boxed
 mod BoxedEnd
+mod Crossing
 mod Images
 mod InFrame
 mod Offset
 mod Refusals
 mod Returned
 mod Rooms
+mod Showing
 mod Taken

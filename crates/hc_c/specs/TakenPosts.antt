@@ -1,5 +1,6 @@
 -- What is taken of the posts of tasks' seats.
-use Rattle.std.specs.Prelude.{◌≡◌, ℕ, ◌+◌, ◌*◌, ◌≤◌, ◌<◌, Bool, true, false, not, if◌then◌else◌, List, [], ◌∷◌, ◌++◌, Option, None, Some, length, list_any, map}
+use Rattle.std.specs.Prelude.{◌≡◌, ℕ, ◌+◌, ◌*◌, ◌≤◌, ◌<◌, Bool, true, false, not, if◌then◌else◌, List, [], ◌∷◌, ◌++◌, Option, None, Some, length, map}
+use Rattle.std.specs.List.{list_any}
 use Rattle.hc_events.specs.declared.answer.Answer.{Answer}
 use Rattle.hc_events.specs.declared.answer.Answer.TheVariants as answer
 use Rattle.hc_events.specs.Entries.{Record}
@@ -17,11 +18,12 @@ use Rattle.hc_c.specs.declared.seat.taking.TakenPosts.{TakenPosts}
 abbrev pub event_of : ℕ → Post → Step
 event_of task post = Posts task post.epoch post.bytes
 
--- the post was accepted, and it was refused
+-- the post was accepted
 abbrev pub is_posted : Answer → Bool
 is_posted answer.Posted = true
 is_posted other = false
 
+-- it was refused
 abbrev pub is_refused : Answer → Bool
 is_refused told = not (is_posted told)
 
@@ -36,8 +38,8 @@ pub record AreTaken (most : ℕ) (old new : PostReceiver) (posts : List Post) : 
 -- these posts of a task became events of the core, in order: whether one of them was accepted, and whether one was refused
 pub record AreJudged (task : ℕ) (before after : CoreState) (posts : List Post) (accepted refused : Bool) : Type 0 where
   pub core : after ≡ record before { past = entries_after_all before.past (map (event_of task) posts) }
-  pub accepted : accepted ≡ list_any is_posted (answers_to before.past (map (event_of task) posts))
-  pub refused : refused ≡ list_any is_refused (answers_to before.past (map (event_of task) posts))
+  pub any_accepted : accepted ≡ list_any is_posted (answers_to before.past (map (event_of task) posts))
+  pub any_refused : refused ≡ list_any is_refused (answers_to before.past (map (event_of task) posts))
 
 -- some posts of a ring, so many at most, were taken and judged
 abbrev pub TakesFrom : ℕ → ℕ → CoreState → CoreState → PostReceiver → PostReceiver → Bool × Bool → Type 0

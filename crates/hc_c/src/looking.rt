@@ -84,7 +84,7 @@ fn datagram_at(core: &Core, task: u8, number: u8) -> Option<LineDatagram>
 }
 
 /// The bytes of a task's outputs and inputs in the present line.
-fn part_at(core: &Core, task: u8) -> (u16, u16)
+pub fn part_at(core: &Core, task: u8) -> (u16, u16)
     ensures { result ≡ part_at core.now.past task }
 {
     core.plan().places().part(task)

@@ -1,5 +1,5 @@
 //! The two ends of a task's seat.
-ghost use Rattle.std.specs.Prelude.{◌≡◌, None, replicate};
+ghost use Rattle.std.specs.Prelude.{◌≡◌};
 ghost use Rattle.hc_mail.specs.Images.{image_in};
 ghost use Rattle.hc_rings.specs.Ring.{PostsEach};
 ghost use Rattle.hc_c.specs.SeatRoom.{image_room};
@@ -32,9 +32,12 @@ pub struct OwnerEnds {
 }
 
 impl OwnerEnds {
+    ghost use Rattle.std.specs.Prelude.{◌≡◌};
+    ghost use Rattle.hc_c.specs.Opening.{no_ends};
+
     /// No task has a seat.
     pub fn none() -> OwnerEnds
-        ensures { result.by_task ≡ replicate 8 None }
+        ensures { result ≡ no_ends }
     {
         OwnerEnds {
             by_task: [None, None, None, None, None, None, None, None],

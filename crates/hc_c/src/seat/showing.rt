@@ -13,6 +13,7 @@ ghost use Rattle.hc_c.specs.Seats.{ShowsLine};
 ghost use Rattle.hc_c.specs.declared.numbers.TheConstants.{BUSY, CLOSED};
 
 use crate::handle::Handle;
+use crate::looking::part_at;
 use crate::numbers::DONE;
 use crate::seat::ends::OwnerEnd;
 use hc_core::keeping::Core;
@@ -60,6 +61,17 @@ fn add_slots(
     add_slots(core, task, number + 1, rest, images);
 }
 
+/// The first bytes, so many at most.
+fn front(bytes: &[u8], size: usize) -> &[u8]
+    ensures { result.now ≡ take size bytes.now }
+{
+    if bytes.len() <= size {
+        bytes
+    } else {
+        &bytes[..size]
+    }
+}
+
 /// The image gets so many of the bytes with which these datagrams of a task would be sent. So deep is this recursion too.
 fn add_outputs(
     core: &Core,
@@ -80,9 +92,9 @@ fn add_outputs(
         return;
     };
     let sent = core.outputs(task, number);
-    let own = sent.len().min(size);
-    images.add_outputs(&sent[..own]);
-    add_outputs(core, task, number + 1, rest, size - own, images);
+    images.add_outputs(front(sent, size));
+    let left = size.saturating_sub(sent.len());
+    add_outputs(core, task, number + 1, rest, left, images);
 }
 
 /// Shows a task's seat what the task reads, and its outputs.
@@ -93,7 +105,7 @@ fn show_end(core: &Core, task: u8, end: &mut OwnerEnd)
     let plan = core.plan();
     let places = plan.places();
     let datagrams = places.datagrams(task);
-    let (outputs, _) = places.part(task);
+    let (outputs, _) = part_at(core, task);
     let images = &mut end.images;
     images.begin(plan.epoch());
     add_slots(core, task, 0, datagrams, images);
