@@ -11,3 +11,4 @@ mod Returned
 mod Rooms
 mod Showing
 mod Taken
+mod TakenBits

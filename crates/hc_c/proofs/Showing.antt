@@ -40,6 +40,12 @@ slot_added size slot serial before after fits same = (
   ap (λ (image : Image). image.room) same,
 )
 
+-- the first of a list's elements are no more than all
+pub take_short : (size : ℕ) (bytes : List ℕ) → length (take size bytes) ≤ length bytes
+take_short zero bytes = omega arith
+take_short (suc n) [] = omega arith
+take_short (suc n) (byte ∷ bytes) = let less = take_short n bytes in omega (arith, less)
+
 -- the first of two lists' elements are the first of the one, and then those of the other
 pub take_joined : (size : ℕ) (first rest : List ℕ) → take size first ++ take (size - length first) rest ≡ take size (first ++ rest)
 take_joined zero first rest = let none : zero - length first ≡ 0 = omega arith in ap (λ (n : ℕ). take n rest) none

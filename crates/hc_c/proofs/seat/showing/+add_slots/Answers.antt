@@ -27,9 +27,5 @@ add_slots-requires t c =
     let added = slot_added c.from.result slot c.data_serial-serial.result (image_in c.args.images.now.own) (image_in c.add_slot.new.images.own) fits c.add_slot.ensures.own in
     let long = added.0 in let more = added.1 in let bytes = ap (λ (room : Room). room.0) added.2 in let datagrams = ap (λ (room : Room). room.1) added.2 in (
       search rules,
-      c.requires.task,
-      omega (arith, few, c.requires.few),
-      lengths.1,
-      omega (arith, long, bytes, sizes, c.from.ensures, c.requires.bytes),
-      omega (arith, more, datagrams, few, c.requires.room),
+      (c.requires.task, (omega (arith, few, c.requires.few), (lengths.1, (omega (arith, long, bytes, sizes, c.from.ensures, c.requires.bytes), omega (arith, more, datagrams, few, c.requires.room))))),
     )

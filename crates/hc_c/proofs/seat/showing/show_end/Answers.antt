@@ -1,5 +1,8 @@
 use Rattle.std.proofs.Common.{◌∙◌, List, [], ◌∷◌, ◌++◌, ap, arith, length}
-use Rattle.hc_records.specs.Line.{State}
+use Rattle.hc_records.specs.Image.{datagram_count, task_places}
+use Rattle.hc_records.specs.Line.{State, line}
+use Rattle.hc_places.specs.Table.{Table, datagrams_in}
+use Rattle.hc_sendings.proofs.lemmas.Listed.{listed-count}
 use Rattle.hc_mail.specs.Ends.{Place, reported, seen}
 use Rattle.hc_mail.specs.Images.{Image, Room, image_in}
 use Rattle.hc_c.proofs.Images.{listed-here, listed-lengths}
@@ -15,6 +18,28 @@ add_slots-requires-clause-bytes c =
     let own = c.begin.ensures.own in
     let none = ap (λ (image : Image). length image.bytes) own in
     let room = ap (λ (image : Image). image.room.0) own in
+    let roomy = ap (λ (it : Room). it.0) c.args.end.now.roomy in
+    let most = sizes-most c.datagrams-datagrams.result.now c.datagrams-datagrams.ensures.ranges in
+    omega (arith, none, room, roomy, most, c.datagrams-datagrams.ensures.few)
+
+pub add_outputs-requires-clause-count : goal.add_outputs-requires-clause-count
+add_outputs-requires-clause-count c =
+    let plan = c.plan-plan.result.now in
+    let are = c.datagrams-datagrams.ensures.datagrams ∙ ap (λ (it : Table). datagrams_in it c.args.task) c.places-places.ensures.table in
+    let count = listed-count plan c.args.task c.datagrams-datagrams.result.now c.places-places.ensures.kept are in
+    let here = ap (λ (state : State). datagram_count (task_places c.args.task (line state))) c.plan-plan.ensures.state in
+    omega (arith, count, here)
+
+pub add_outputs-requires-clause-lengths : goal.add_outputs-requires-clause-lengths
+add_outputs-requires-clause-lengths c =
+    listed-lengths c.args.core.now.past c.plan-plan.result.now c.places-places.result.now c.args.task c.datagrams-datagrams.result.now c.plan-plan.ensures.state c.places-places.ensures.kept c.places-places.ensures.table c.datagrams-datagrams.ensures.datagrams
+
+pub add_outputs-requires-clause-room : goal.add_outputs-requires-clause-room
+add_outputs-requires-clause-room c =
+    let own = c.begin.ensures.own in
+    let slots = c.add_slots.ensures.own in
+    let none = ap (λ (image : Image). length image.outputs) slots ∙ ap (λ (image : Image). length image.outputs) own in
+    let room = ap (λ (image : Image). image.room.0) slots ∙ ap (λ (image : Image). image.room.0) own in
     let roomy = ap (λ (it : Room). it.0) c.args.end.now.roomy in
     let most = sizes-most c.datagrams-datagrams.result.now c.datagrams-datagrams.ensures.ranges in
     omega (arith, none, room, roomy, most, c.datagrams-datagrams.ensures.few)
