@@ -1,5 +1,5 @@
 -- How the image that a seat is shown comes of a task's datagrams, one after another.
-use Rattle.std.proofs.Common.{◌≡◌, ℕ, zero, suc, ◌+◌, ◌-◌, ◌*◌, ◌≤◌, ◌∙◌, List, [], ◌∷◌, ◌++◌, length, take, Option, Some, None, ap, arith}
+use Rattle.std.proofs.Common.{◌≡◌, ℕ, zero, suc, ◌+◌, ◌-◌, ◌*◌, ◌≤◌, ◌∙◌, List, [], ◌∷◌, ◌++◌, length, take, Option, Some, None, append_assoc, ap, sym, arith}
 use Rattle.std.specs.Prelude.{All, IfSome}
 use Rattle.std.proofs.lemmas.List.{length-append, length-replicate}
 use Rattle.std.proofs.lemmas.List.Elements.{All-head, All-tail}
@@ -53,6 +53,14 @@ take_joined (suc n) [] rest = let all : suc n - 0 ≡ suc n = omega arith in ap 
 take_joined (suc n) (x ∷ first) rest =
     let less : suc n - suc (length first) ≡ n - length first = omega arith in
     ap (λ (l : List ℕ). x ∷ l) (ap (λ (m : ℕ). take n first ++ take m rest) less ∙ take_joined n first rest)
+
+-- an image that gets the first of a datagram's outputs, and then the first of the others', has the first of all
+pub outputs_joined : (size left : ℕ) (sent front rest all : List ℕ) (image : Image) → front ≡ take size sent → left ≡ size - length sent → all ≡ sent ++ rest
+    → with_outputs (take left rest) (with_outputs front image) ≡ with_outputs (take size all) image
+outputs_joined size left sent front rest all image is_front is_left are =
+    let whole : front ++ take left rest ≡ take size all = (λ t. is_front t ++ take (is_left t) rest) ∙ (take_joined size sent rest ∙ ap (take size) (sym are)) in
+    let joined = append_assoc image.outputs front (take left rest) ∙ ap (λ (l : List ℕ). image.outputs ++ l) whole in
+    λ t. record image { outputs = joined t }
 
 -- an image that is begun and has all datagrams of a task, and then its outputs, is what the task's seat is shown
 pub shown_image : (past : Record) (task epoch outputs : ℕ) (datagrams : List Datagram) (room : Room) (first second third : Image) → first ≡ begun epoch room → second ≡ with_slots past task 0 datagrams first

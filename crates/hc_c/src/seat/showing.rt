@@ -37,13 +37,7 @@ fn add_slot(images: &mut ImageSender, slot: Option<&[u8]>, serial: Option<u64>, 
 
 /// The image's next datagrams are these of a task, the first of which has this number. A task has 16 datagrams at most, so deep
 /// is this recursion.
-fn add_slots(
-    core: &Core,
-    task: u8,
-    number: u8,
-    datagrams: &[Datagram],
-    images: &mut ImageSender,
-)
+fn add_slots(core: &Core, task: u8, number: u8, datagrams: &[Datagram], images: &mut ImageSender)
     requires task { task < TASKS }
     requires few { number + length datagrams.now ≤ MOST_DATAGRAMS }
     requires lengths { HaveLengths (line_of core.now.past) task number datagrams.now }

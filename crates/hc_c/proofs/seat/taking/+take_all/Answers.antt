@@ -9,8 +9,7 @@ returns-clause-taken t c =
     let others = c.take_all-others.result in
     let accepted = c.from.result + 2 * others.accepted in
     let refused = c.from-2.result + 2 * others.refused in
-    subst (λ (ends : List (Option OwnerEnd)). TakesAll c.args.task c.args.core.now c.take_all-others.new.core ends (c.take_end-accepted.new.end ∷ c.take_all-others.new.ends) accepted refused) (sym c.in-Some.ensures.cases.0)
-    (
+    subst (λ (ends : List (Option OwnerEnd)). TakesAll c.args.task c.args.core.now c.take_all-others.new.core ends (c.take_end-accepted.new.end ∷ c.take_all-others.new.ends) accepted refused) (sym c.in-Some.ensures.cases.0) (
       c.take_end-accepted.new.core,
       c.take_end-accepted.result,
       (others.accepted, others.refused),
