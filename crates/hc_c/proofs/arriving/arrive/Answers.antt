@@ -1,7 +1,7 @@
 use Rattle.std.proofs.Common.{◌≡◌, ◌∙◌, Bool, ℕ, List, Option, ap, cond, length, refl, sym, subst}
 use Rattle.std.specs.Prelude.{All, is_some}
 use Rattle.std.proofs.lemmas.Bool.{false≢true}
-use Rattle.hc_frames.specs.Arrived.{Placed, Reading, placed_from, reading_of}
+use Rattle.hc_frames.specs.Arrived.{Placed, Reading, placed_from}
 use Rattle.hc_places.specs.Table.{Table, table_of}
 use Rattle.hc_records.specs.Line.{line}
 use Rattle.hc_events.specs.declared.answer.Outcome as core
@@ -17,7 +17,7 @@ use Rattle.hc_c.specs.Lists.{put}
 use Rattle.hc_c.specs.Returned.{IsInFrame, counted_as, told_arrival, told_as}
 use Rattle.hc_c.proofs.Arrives.{IsDone, done-told, memory-told, refused-told}
 use Rattle.hc_c.proofs.InFrame.{in-frame}
-use Rattle.hc_c.proofs.Taken.{fault-adds, fault-number, fault-other, none-fits, none-kept, past-taken, refused-memory, refused-other, settled-taken, taken-number, taken-other}
+use Rattle.hc_c.proofs.Taken.{fault-number, fault-other, none-kept, past-taken, refused-memory, refused-other, settled-taken, taken-number, taken-other}
 use Rattle.hc_c.proofs.arriving.arrive.Goals as goal
 
 pub returns-in-Err-clause-told : goal.returns-in-Err-clause-told

@@ -1,7 +1,6 @@
 use Rattle.std.proofs.Common.{◌∙◌, Bool, ap, arith, cond, sym, refl}
 use Rattle.hc_groups.specs.Edits.{own_fault}
 use Rattle.hc_events.specs.Points.{state_of}
-use Rattle.hc_c.specs.declared.editing.Cost.{Cost}
 use Rattle.hc_c.specs.Edits.{edit_number, is_full_for}
 use Rattle.hc_c.specs.Embedded.{past_of}
 use Rattle.hc_c.proofs.Refusals.{not_accepted, not_done, not_memory, own-accepted, own-refused, same_fault}

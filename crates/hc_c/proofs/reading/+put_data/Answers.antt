@@ -1,7 +1,5 @@
-use Rattle.std.proofs.Common.{◌≡◌, ◌+◌, ◌<◌, ◌≤◌, ◌∙◌, List, ap, arith, length, rules, subst, sym}
-use Rattle.std.specs.Prelude.{IfSome}
+use Rattle.std.proofs.Common.{◌∙◌, ap, arith, length, subst}
 use Rattle.std.specs.Option.{option_copied}
-use Rattle.hc_places.specs.declared.table.Datagram.{Datagram}
 use Rattle.hc_events.specs.Points.{line_of}
 use Rattle.hc_c.specs.Pieces.{HaveLengths}
 use Rattle.hc_c.proofs.Images.{slot-fits}
