@@ -16,7 +16,7 @@
  * `zangjulf_open` and `zangjulf_close` take the line's memory and give it back, and never answer ZANGJULF_BUSY: the program
  * itself sees to it that no other call with the handle runs then. A handle may move from one thread to another between two
  * calls where one happens before the other, as by a lock, a join, or an atomic that is released and acquired.
- * docs/use/EMBEDDING.md says what of this is proved.
+ * docs/use/EMBEDDING.md says what of this is proved. Seats, below, are for a thread of each task beside the line's.
  *
  * Slices. A pointer and a length stand for so many elements, which the call reads, or writes where the pointer isn't const,
  * and never looks beyond. A slice of length 0 may be NULL (tested, and not proved); no other pointer is.
@@ -104,6 +104,7 @@ extern "C" {
     ANSWER(WRITTEN, 104, "an arrival answered a frame of several register writes") \
     ANSWER(IS_INPUT, 105, "the variable is an input: no value is put into it") \
     ANSWER(TOO_WIDE, 106, "the value needs more bits than there are") \
+    ANSWER(NO_SPARE, 107, "four posts of the seat wait") \
     ANSWER(PROJECT_NOT_TOML, 201, "the text is no TOML document in UTF-8") \
     ANSWER(PROJECT_MISSING_FIELD, 202, "a needed key is absent, or a value is of another kind") \
     ANSWER(PROJECT_OUT_OF_RANGE, 203, "a value is outside its range") \
@@ -504,6 +505,76 @@ struct zangjulf_change {
  * shorter than `change->size`, and the same change is told again; or ZANGJULF_CLOSED. Unless it is done `out` is as it was.
  * Takes no memory. */
 uint8_t zangjulf_next_change(struct zangjulf *handle, uint8_t *out, size_t length, struct zangjulf_change *change);
+
+/* Seats: a task's thread reads and posts while another thread, the owner, has the line. Nobody waits, and only
+ * `zangjulf_seat_open` takes memory. The owner makes the calls that take a `struct zangjulf *`. A seat belongs to one thread at a
+ * time: its calls may run while calls with the line or with other seats run, and the program sees to it that no two calls with
+ * one seat do; none of them answers ZANGJULF_BUSY. A seat may move to another thread as a handle may.
+ *
+ * Line and seats may be closed in any order and by their own threads at the same time; the last one frees what they share. A seat
+ * whose line is closed, or opened anew, goes on viewing what was shown last, and its posts are answered ZANGJULF_CLOSED. */
+
+/* A task's seat, or none. It is set to zeros before its first call, as a line's handle is. Its fields are the library's own. */
+struct zangjulf_seat {
+    bool is_open;
+    void *at;
+};
+
+/* The owner opens the seat of a task, 0 to 7, in place of what `seat` held; several tasks may have one, each its own. A task has
+ * one seat at a time: one that it had before is as a seat whose line is closed, and what was posted there and not taken is
+ * dropped. ZANGJULF_DONE; 8; ZANGJULF_MEMORY; or ZANGJULF_CLOSED. Unless it is done line and seat are as they were. Takes
+ * memory, all that the seat and its part of the line ever need. */
+uint8_t zangjulf_seat_open(struct zangjulf *handle, uint8_t task, struct zangjulf_seat *seat);
+
+/* Frees what the seat holds; it is closed then, and may be opened anew. Posts that weren't taken yet can still be taken. Also a
+ * closed seat may be closed. */
+void zangjulf_seat_close(struct zangjulf_seat *seat);
+
+/* The owner shows each seat what its task reads now: what `zangjulf_read` would answer, and the outputs that would be sent now.
+ * A seat's next view takes it, unless a newer one is shown before. ZANGJULF_DONE, also where there is no seat; or
+ * ZANGJULF_CLOSED. Takes no memory. */
+uint8_t zangjulf_show(struct zangjulf *handle);
+
+/* An image that a seat views. */
+struct zangjulf_view {
+    uint32_t epoch; /* whose places the data are in */
+    size_t size;    /* the bytes of the task's image, at most 23,776 */
+    size_t outputs; /* its output bytes, which come first: so many a post has */
+    uint16_t has;   /* bit d: datagram d has data in this epoch */
+};
+
+/* The seat takes the newest image that was shown, or keeps the one that it has where none is newer; it never goes back to an
+ * older one. The image is whole: all of it was shown by one call. Its data stand in `out` as after `zangjulf_read`, each
+ * datagram's at its offset, and bytes of a datagram without data are 0; `serials` has of each of 16 datagrams the serial of the
+ * sending that its data answer, 0 where it has none or the task has fewer, as many as there is room for. Before anything was
+ * shown the image is of epoch 0 and has no bytes. ZANGJULF_DONE; 29 where `out` is shorter than the image, which ZANGJULF_IMAGE
+ * bytes never are: the seat has taken the image, and outputs and posts are of it; or ZANGJULF_CLOSED. Unless it is done all that
+ * is handed in is as it was. Takes no memory. */
+uint8_t zangjulf_seat_view(struct zangjulf_seat *seat, uint8_t *out, size_t length, uint64_t *serials, size_t room,
+                           struct zangjulf_view *view);
+
+/* The outputs of the image that the seat took last, as they were to be sent when it was shown: `view->outputs` bytes at the
+ * front of `out`, so that a task changes some of them and posts all. ZANGJULF_DONE; 29 where `out` is shorter; or
+ * ZANGJULF_CLOSED. Unless it is done `out` is as it was. Nothing changes. Takes no memory. */
+uint8_t zangjulf_seat_outputs(const struct zangjulf_seat *seat, uint8_t *out, size_t length);
+
+/* The seat posts all outputs of its task for an epoch, which is that of the image that it took last. The post waits until the
+ * owner takes it; posts of a seat keep their order. ZANGJULF_DONE; 15 where that image is of another epoch; 16 where it has
+ * another number of outputs; ZANGJULF_NO_SPARE where four posts of the seat wait; or ZANGJULF_CLOSED, where the seat is closed or
+ * its line is. Unless it is done nothing is posted. Takes no memory. */
+uint8_t zangjulf_seat_post(struct zangjulf_seat *seat, uint32_t epoch, const uint8_t *bytes, size_t length);
+
+/* What became of the posts that were taken. */
+struct zangjulf_taken {
+    uint8_t accepted; /* bit t: a post of task t was accepted */
+    uint8_t refused;  /* bit t: a post of task t was refused, and left nothing */
+};
+
+/* The owner takes the posts that wait, at most four of each seat: task 0's first, and those of a task in the order in which they
+ * were posted. Each is judged and done as by `zangjulf_post`; one that is refused was made for another epoch than the present one.
+ * ZANGJULF_DONE, also where none waits; or ZANGJULF_CLOSED. What is posted meanwhile may be left for the next call. Takes no
+ * memory. */
+uint8_t zangjulf_take_posts(struct zangjulf *handle, struct zangjulf_taken *taken);
 
 /* Bits of bytes that the caller keeps, counted from the least significant bit of the first byte. None takes memory. */
 
