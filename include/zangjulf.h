@@ -545,11 +545,11 @@ struct zangjulf_view {
 
 /* The seat takes the newest image that was shown, or keeps the one that it has where none is newer; it never goes back to an
  * older one. The image is whole: all of it was shown by one call. Its data stand in `out` as after `zangjulf_read`, each
- * datagram's at its offset, and bytes of a datagram without data are 0; `serials` has of each of 16 datagrams the serial of the
- * sending that its data answer, 0 where it has none or the task has fewer, as many as there is room for. Before anything was
- * shown the image is of epoch 0 and has no bytes. ZANGJULF_DONE; 29 where `out` is shorter than the image, which ZANGJULF_IMAGE
- * bytes never are: the seat has taken the image, and outputs and posts are of it; or ZANGJULF_CLOSED. Unless it is done all that
- * is handed in is as it was. Takes no memory. */
+ * datagram's at its offset, and bytes of a datagram without data are 0; `serials` has of each of the task's datagrams the serial
+ * of the sending that its data answer, 0 where it has none, as many as there is room for. Before anything was shown the image is
+ * of epoch 0 and has no bytes. ZANGJULF_DONE; 29 where `out` is shorter than the image, which ZANGJULF_IMAGE bytes never are: the
+ * seat has taken the image, and outputs and posts are of it; or ZANGJULF_CLOSED. Unless it is done all that is handed in is as it
+ * was. Takes no memory. */
 uint8_t zangjulf_seat_view(struct zangjulf_seat *seat, uint8_t *out, size_t length, uint64_t *serials, size_t room,
                            struct zangjulf_view *view);
 
