@@ -1,6 +1,6 @@
 /* A cycle takes no memory: 10,000 cycles of one task and of eight, each with posts, a sending, the arrival of what was sent, a
- * read and look-ups, are counted once three cycles have run. It ends with status 1 where one of them took or grew memory, or
- * isn't answered as it should be. */
+ * read and look-ups, and the same by seats, are counted once three cycles have run. It ends with status 1 where one of them took or
+ * grew memory, or isn't answered as it should be. */
 #include <stdio.h>
 #include <stdlib.h>
 #include <string.h>
@@ -82,20 +82,41 @@ static void cycle(struct zangjulf *line, const uint8_t *tasks, size_t count, uin
     }
 }
 
+/* Each task's seat views what was shown, and posts its outputs with another value; the owner takes all. */
+static void cycle_of_seats(struct zangjulf *line, struct zangjulf_seat *seats, size_t count, uint32_t value) {
+    struct zangjulf_view view;
+    struct zangjulf_taken taken;
+    uint64_t serials[ZANGJULF_DATAGRAMS];
+    uint8_t image[ZANGJULF_IMAGE], outputs[4];
+    expect(zangjulf_show(line), ZANGJULF_DONE, "show");
+    for (size_t i = 0; i < count; i++) {
+        expect(zangjulf_seat_view(&seats[i], image, sizeof image, serials, ZANGJULF_DATAGRAMS, &view), ZANGJULF_DONE, "seat_view");
+        expect(view.has == 1 && image[4] == 7, 1, "a view");
+        expect(zangjulf_seat_outputs(&seats[i], outputs, sizeof outputs), ZANGJULF_DONE, "seat_outputs");
+        memcpy(outputs, &value, sizeof outputs);
+        expect(zangjulf_seat_post(&seats[i], view.epoch, outputs, view.outputs), ZANGJULF_DONE, "seat_post");
+    }
+    expect(zangjulf_take_posts(line, &taken), ZANGJULF_DONE, "take_posts");
+    expect(taken.accepted == (1u << count) - 1 && !taken.refused, 1, "posts");
+}
+
 int main(void) {
     static const uint8_t tasks[ZANGJULF_TASKS] = {0, 1, 2, 3, 4, 5, 6, 7};
+    struct zangjulf_seat seats[ZANGJULF_TASKS] = {{0}};
     char text[8192];
     uint8_t crowded;
     for (size_t count = 1; count <= ZANGJULF_TASKS; count += ZANGJULF_TASKS - 1) {
         struct zangjulf line = {0};
         expect(zangjulf_open(&line, (const uint8_t *)text, write_project(text, sizeof text), 0, &crowded), ZANGJULF_DONE, "open");
         program(&line);
-        for (uint32_t i = 0; i < FIRST; i++) cycle(&line, tasks, count, i);
+        for (uint8_t i = 0; i < count; i++) expect(zangjulf_seat_open(&line, i, &seats[i]), ZANGJULF_DONE, "seat_open");
+        for (uint32_t i = 0; i < FIRST; i++) cycle(&line, tasks, count, i), cycle_of_seats(&line, seats, count, i);
         long before = taken;
-        for (uint32_t i = 0; i < CYCLES; i++) cycle(&line, tasks, count, i);
+        for (uint32_t i = 0; i < CYCLES; i++) cycle(&line, tasks, count, i), cycle_of_seats(&line, seats, count, i);
         printf("steady: %d cycles of %zu tasks took or grew memory %ld times\n", CYCLES, count, taken - before);
         if (taken != before) return 1;
         zangjulf_close(&line);
+        for (size_t i = 0; i < count; i++) zangjulf_seat_close(&seats[i]);
     }
     return live != 0;
 }
