@@ -25,7 +25,7 @@
 #define MACHINE 1 /* an output of 4 bits, an input of 3 */
 #define OUTPUTS 14
 #define INPUTS 12
-#define MOST_GROWTH 64 /* KiB */
+#define MOST_GROWTH 128 /* KiB: the system counts memory in pieces */
 
 /* A task's thread: its seat, its turn in nanoseconds, what it viewed last, and what it did. */
 struct worker {

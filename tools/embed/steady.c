@@ -85,7 +85,7 @@ static void cycle(struct zangjulf *line, const uint8_t *tasks, size_t count, uin
 /* Each task's seat views what was shown, and posts its outputs with another value; the owner takes all. */
 static void cycle_of_seats(struct zangjulf *line, struct zangjulf_seat *seats, size_t count, uint32_t value) {
     struct zangjulf_view view;
-    struct zangjulf_taken taken;
+    struct zangjulf_taken posts;
     uint64_t serials[ZANGJULF_DATAGRAMS];
     uint8_t image[ZANGJULF_IMAGE], outputs[4];
     expect(zangjulf_show(line), ZANGJULF_DONE, "show");
@@ -96,8 +96,8 @@ static void cycle_of_seats(struct zangjulf *line, struct zangjulf_seat *seats, s
         memcpy(outputs, &value, sizeof outputs);
         expect(zangjulf_seat_post(&seats[i], view.epoch, outputs, view.outputs), ZANGJULF_DONE, "seat_post");
     }
-    expect(zangjulf_take_posts(line, &taken), ZANGJULF_DONE, "take_posts");
-    expect(taken.accepted == (1u << count) - 1 && !taken.refused, 1, "posts");
+    expect(zangjulf_take_posts(line, &posts), ZANGJULF_DONE, "take_posts");
+    expect(posts.accepted == (1u << count) - 1 && !posts.refused, 1, "posts");
 }
 
 int main(void) {
