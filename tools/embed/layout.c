@@ -39,6 +39,13 @@ static void of_frames(void) {
     FIELD(zangjulf_change, size);
 }
 
+static void of_seats(void) {
+    STRUCT(zangjulf_seat), FIELD(zangjulf_seat, is_open), FIELD(zangjulf_seat, at);
+    STRUCT(zangjulf_view), FIELD(zangjulf_view, epoch), FIELD(zangjulf_view, size), FIELD(zangjulf_view, outputs);
+    FIELD(zangjulf_view, has);
+    STRUCT(zangjulf_taken), FIELD(zangjulf_taken, accepted), FIELD(zangjulf_taken, refused);
+}
+
 static void of_faults(void) {
     STRUCT(zangjulf_spot), FIELD(zangjulf_spot, group), FIELD(zangjulf_spot, slave), FIELD(zangjulf_spot, area);
     FIELD(zangjulf_spot, pdo), FIELD(zangjulf_spot, item), FIELD(zangjulf_spot, alias), FIELD(zangjulf_spot, station);
@@ -50,6 +57,7 @@ static void of_faults(void) {
 int main(void) {
     of_the_line();
     of_frames();
+    of_seats();
     of_faults();
     return 0;
 }

@@ -213,8 +213,53 @@ pub struct Image<'a> {
 impl Image<'_> {
     /// The serial of the sending that a datagram's data answer; none where it has no data in this epoch.
     pub fn serial(&self, datagram: u8) -> Option<u64> {
-        let serial = self.serials.get(usize::from(datagram))?;
-        (self.has >> datagram & 1 == 1).then_some(*serial)
+        serial_in(self.has, &self.serials, datagram)
+    }
+}
+
+/// An image that a seat views.
+#[derive(Clone, Copy, Debug, PartialEq, Eq)]
+pub struct View<'a> {
+    /// The epoch whose places the data are in.
+    pub epoch: u32,
+    /// The data of each datagram, at its offset; zeros where it has none.
+    pub bytes: &'a [u8],
+    /// The task's output bytes, which come first: as many bytes as a post has.
+    pub outputs: usize,
+    pub(crate) has: u16,
+    pub(crate) serials: [u64; 16],
+}
+
+impl View<'_> {
+    /// The serial of the sending that a datagram's data answer; none where it has no data in this epoch.
+    pub fn serial(&self, datagram: u8) -> Option<u64> {
+        serial_in(self.has, &self.serials, datagram)
+    }
+}
+
+/// The serial of a datagram's data, none where it has none.
+fn serial_in(has: u16, serials: &[u64; 16], datagram: u8) -> Option<u64> {
+    let serial = serials.get(usize::from(datagram))?;
+    (has >> datagram & 1 == 1).then_some(*serial)
+}
+
+/// What became of the posts that were taken.
+#[repr(C)]
+#[derive(Clone, Copy, Debug, Default, PartialEq, Eq)]
+pub struct Taken {
+    pub(crate) accepted: u8,
+    pub(crate) refused: u8,
+}
+
+impl Taken {
+    /// Whether a post of a task was accepted.
+    pub fn is_accepted(&self, task: u8) -> bool {
+        task < 8 && self.accepted >> task & 1 == 1
+    }
+
+    /// Whether a post of a task was refused.
+    pub fn is_refused(&self, task: u8) -> bool {
+        task < 8 && self.refused >> task & 1 == 1
     }
 }
 

@@ -86,6 +86,7 @@ faults! {
     Nothing = 100, "there is no such thing";
     IsInput = 105, "the variable is an input: no value is put into it";
     TooWide = 106, "the value needs more bits than there are";
+    NoSpare = 107, "four posts of the seat wait";
     ProjectNotToml = 201, "the text is no TOML document in UTF-8";
     ProjectMissingField = 202, "a needed key is absent, or a value is of another kind";
     ProjectOutOfRange = 203, "a value is outside its range";

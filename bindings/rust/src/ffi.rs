@@ -1,6 +1,6 @@
 //! What include/zangjulf.h declares, word for word.
 
-use crate::{Block, Cost, Counters, Datagram, OwedBlock, Part};
+use crate::{Block, Cost, Counters, Datagram, OwedBlock, Part, Taken};
 
 /// The number of the binary interface that is declared here.
 pub const ABI: u32 = 0;
@@ -11,6 +11,23 @@ pub const ABI: u32 = 0;
 pub struct Handle {
     pub is_open: bool,
     pub at: *mut u8,
+}
+
+/// A task's seat, or none: zeros before its first call.
+#[repr(C)]
+#[derive(Debug)]
+pub struct SeatHandle {
+    pub is_open: bool,
+    pub at: *mut u8,
+}
+
+#[repr(C)]
+#[derive(Default)]
+pub struct View {
+    pub epoch: u32,
+    pub size: usize,
+    pub outputs: usize,
+    pub has: u16,
 }
 
 #[repr(C)]
@@ -185,6 +202,20 @@ extern "C" {
     ) -> u8;
     pub fn zangjulf_counters(handle: *const Handle, task: u8, datagram: u8, counters: *mut Counters) -> u8;
     pub fn zangjulf_next_change(handle: *mut Handle, out: *mut u8, length: usize, change: *mut Change) -> u8;
+    pub fn zangjulf_seat_open(handle: *mut Handle, task: u8, seat: *mut SeatHandle) -> u8;
+    pub fn zangjulf_seat_close(seat: *mut SeatHandle);
+    pub fn zangjulf_show(handle: *mut Handle) -> u8;
+    pub fn zangjulf_seat_view(
+        seat: *mut SeatHandle,
+        out: *mut u8,
+        length: usize,
+        serials: *mut u64,
+        room: usize,
+        view: *mut View,
+    ) -> u8;
+    pub fn zangjulf_seat_outputs(seat: *const SeatHandle, out: *mut u8, length: usize) -> u8;
+    pub fn zangjulf_seat_post(seat: *mut SeatHandle, epoch: u32, bytes: *const u8, length: usize) -> u8;
+    pub fn zangjulf_take_posts(handle: *mut Handle, taken: *mut Taken) -> u8;
     pub fn zangjulf_get_bits(bytes: *const u8, length: usize, bit: usize, bits: u8, value: *mut u64) -> u8;
     pub fn zangjulf_put_bits(bytes: *mut u8, length: usize, bit: usize, bits: u8, value: u64) -> u8;
     pub fn zangjulf_put_value(handle: *const Handle, variable: u32, value: u64, outputs: *mut u8, length: usize) -> u8;

@@ -1,6 +1,6 @@
 //! Where structs have their fields: as in the header, by what tools/embed/layout.c prints into the file that ZANGJULF_LAYOUT names.
 
-use crate::{ffi, Block, Cost, Counters, Datagram, OwedBlock, Part};
+use crate::{ffi, Block, Cost, Counters, Datagram, OwedBlock, Part, Taken};
 use std::mem::{offset_of, size_of};
 
 /// The first three columns of a struct's lines; of the struct itself its bytes.
@@ -29,6 +29,9 @@ fn declared() -> Vec<String> {
         lines!("zangjulf_image", ffi::Image, epoch datagrams size has),
         lines!("zangjulf_counters", Counters, sent good wrong again),
         lines!("zangjulf_change", ffi::Change, kind task datagram size),
+        lines!("zangjulf_seat", ffi::SeatHandle, is_open at),
+        lines!("zangjulf_view", ffi::View, epoch size outputs has),
+        lines!("zangjulf_taken", Taken, accepted refused),
         lines!("zangjulf_spot", ffi::Spot, group slave area pdo item alias station key),
         lines!("zangjulf_location", ffi::Location, line column place first),
     ]

@@ -1,8 +1,9 @@
 //! Zangjulf's core from plain Rust: the configuration and process image of an EtherCAT line that changes while it runs.
 //!
 //! Each call is one of the C library (`include/zangjulf.h`), which is proved; this crate adds names and types, and no
-//! thread, clock or socket. A [`Line`] is changed by one thread at a time, and may move between threads. Only opening a line
-//! takes memory of Rust's own; what calls answer is lent from the caller's slices or from the line.
+//! thread, clock or socket. A [`Line`] is changed by one thread at a time, and may move between threads. A [`Seat`] is for a task's
+//! thread beside it. Only opening a line takes memory of Rust's own; what calls answer is lent from the caller's slices or from the
+//! line.
 
 mod answers;
 mod editing;
@@ -13,17 +14,19 @@ mod ffi;
 mod layout;
 mod line;
 mod locating;
+mod seat;
 mod slave;
 mod values;
 
 pub use answers::{
     Block, BlockOutcome, BlockOutcomeKind, Change, Cost, Counters, Datagram, Dir, Edit, Image, Outcome, OutcomeKind, OwedBlock,
-    Part, Place, Write, Writes,
+    Part, Place, Taken, View, Write, Writes,
 };
 pub use exchange::{Arrival, BlockOutcomes, Frames, Outcomes, Written};
 pub use faults::Fault;
 pub use line::Line;
 pub use locating::{locate, Key, Location, Spot};
+pub use seat::Seat;
 pub use slave::Slave;
 pub use values::{alias_read, get_bits, is_mine, put_bits, station_write};
 
