@@ -79,6 +79,65 @@ def refusals(text):
     raises(zangjulf.Misused, zangjulf.get_bits, b"", 0, 1)
 
 
+def seats(text):
+    line = zangjulf.Line(text)
+    raises(zangjulf.NoSuchTask, line.seat, 8)
+    seat = line.seat(1)
+    for copied in (copy.copy, copy.deepcopy, pickle.dumps):
+        raises(TypeError, copied, seat)
+    assert seat.view() == zangjulf.View(0, b"", 0, {}) and seat.outputs() == b""
+    line.post(1, 0, b"\5")
+    line.show()
+    assert seat.view() == zangjulf.View(0, b"\0\0", 1, {})
+    outputs = seat.outputs()
+    assert outputs == b"\5"
+    raises(zangjulf.StalePost, seat.post, 1, outputs)
+    raises(zangjulf.PostLength, seat.post, 0, b"")
+    raises(ValueError, seat.post, -1, outputs)
+    for value in range(4):
+        seat.post(0, bytes([value]))
+    raises(zangjulf.NoSpare, seat.post, 0, outputs)
+    assert line.take_posts() == zangjulf.Taken([1], [])
+    seat.post(0, outputs)
+    line.connect(100)
+    assert line.take_posts() == zangjulf.Taken([], [1])
+    other = line.seat(1)
+    raises(zangjulf.Closed, seat.post, 0, outputs)
+    line.show()
+    assert seat.view().epoch == 0 and other.view().epoch == 1 and other.outputs()[0] == 3
+    line.close()
+    raises(zangjulf.Closed, line.show)
+    assert other.view().epoch == 1
+    raises(zangjulf.Closed, other.post, 1, other.outputs())
+    with seat, other:
+        pass
+    raises(zangjulf.Closed, seat.view)
+
+
+def a_task_has_a_seat(text):
+    """A task's thread posts by its seat while the owner takes and shows: what it views never goes back."""
+    with zangjulf.Line(text) as line, line.seat(1) as seat:
+        line.show()
+        viewed = []
+
+        def work():
+            while not viewed or viewed[-1] < 15:
+                view = seat.view()
+                outputs = seat.outputs()
+                viewed.append(outputs[0])
+                try:
+                    seat.post(view.epoch, bytes([min(outputs[0] + 1, 15)]))
+                except zangjulf.NoSpare:
+                    pass
+
+        task = threading.Thread(target=work)
+        task.start()
+        while task.is_alive():
+            line.take_posts()
+            line.show()
+        assert viewed == sorted(viewed) and set(viewed) == set(range(16))
+
+
 def threads_share_a_line(text):
     """Two threads with one line: no call meets another one."""
     with zangjulf.Line(text) as line:
@@ -101,5 +160,7 @@ faults_are_those_of_the_header()
 for layout in sys.argv[2:]:
     structs_are_those_of_the_header(Path(layout))
 refusals(project)
+seats(project)
+a_task_has_a_seat(project)
 threads_share_a_line(project)
 print("refusals: all as written")

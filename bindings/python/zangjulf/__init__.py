@@ -6,26 +6,27 @@
 
 Each method is a call of the C library (include/zangjulf.h). What the library refuses is raised as an exception with the fault's
 name, as `zangjulf.Unprogrammed`; nothing changed then. A number that the library's type doesn't hold is a `ValueError`. Calls hold
-Python's lock, so that threads may share a line: their calls come one after the other. A line is neither copied nor pickled. Bytes
+Python's lock, so that threads may share a line or a seat: their calls come one after the other. Neither is copied or pickled. Bytes
 are handed in as `bytes`, `bytearray` or `memoryview`, without a copy where they can be written; frames come as `bytes`.
 """
 
 from .answers import (
     Arrival, Arrived, Block, BlockOutcome, BlockOutcomeKind, Cost, Counters, Datagram, Good, Image, Location, Outcome,
-    OutcomeKind, OwedBlock, Part, Place, Spot, Swapped,
+    OutcomeKind, OwedBlock, Part, Place, Spot, Swapped, Taken, View,
 )
 from .faults import (
     FAULTS, Fault, FrameFault, ProjectFault,
     UnknownAlias, AlreadyPresent, NotPresent, Mandatory, UnknownStation, Absent, NoSuchArea, NoSuchTask, UnknownPdo,
     RepeatedPdo, AreaTooBig, TooManyDatagrams, EpochsSpent, StalePost, PostLength, Unprogrammed, NothingOwed,
     SerialsSpent, Short, NotEtherCat, BadType, BadLength, Circulating, MoreFollows, UnknownCommand, IndexMismatch,
-    Memory, Room, AliasTaken, StationTaken, VariableTaken, TooManyGroups, TooManySlaves, Nothing, IsInput, TooWide,
+    Memory, Room, AliasTaken, StationTaken, VariableTaken, TooManyGroups, TooManySlaves, Nothing, IsInput, TooWide, NoSpare,
     ProjectNotToml, ProjectMissingField, ProjectOutOfRange, ProjectRepeatedAlias, ProjectRepeatedStation,
     ProjectRepeatedSyncManager, ProjectOverlappingAreas, ProjectRepeatedVariable, ProjectUnknownPdo,
     ProjectAreaTooBig, ProjectNotOneGroup, ChangesFull, Busy, Misused, Closed,
 )
-from .library import library_path, library_version
-from .line import FRAMES, IMAGE, Line
+from .library import IMAGE, library_path, library_version
+from .line import FRAMES, Line
+from .seat import Seat
 from .slave import SLAVE_MEMORY, Slave
 from .values import OTHER_SOURCE, alias_read, get_bits, is_mine, locate, put_bits, station_write
 from .version import VERSION as __version__
@@ -35,13 +36,13 @@ __all__ = [
     "BlockOutcome", "BlockOutcomeKind", "Busy", "ChangesFull", "Circulating", "Closed", "Cost", "Counters", "Datagram",
     "EpochsSpent", "FAULTS", "FRAMES",
     "Fault", "FrameFault", "Good", "IMAGE", "Image", "IndexMismatch", "IsInput", "Line", "Location", "Mandatory",
-    "Memory", "Misused", "MoreFollows", "NoSuchArea", "NoSuchTask", "NotEtherCat", "NotPresent", "Nothing",
+    "Memory", "Misused", "MoreFollows", "NoSpare", "NoSuchArea", "NoSuchTask", "NotEtherCat", "NotPresent", "Nothing",
     "NothingOwed", "OTHER_SOURCE", "Outcome", "OutcomeKind", "OwedBlock", "Part", "Place", "PostLength",
     "ProjectAreaTooBig", "ProjectFault", "ProjectMissingField", "ProjectNotOneGroup", "ProjectNotToml",
     "ProjectOutOfRange", "ProjectOverlappingAreas", "ProjectRepeatedAlias", "ProjectRepeatedStation",
     "ProjectRepeatedSyncManager", "ProjectRepeatedVariable", "ProjectUnknownPdo", "RepeatedPdo", "Room",
-    "SLAVE_MEMORY", "SerialsSpent", "Short", "Slave", "Spot", "StalePost", "StationTaken", "Swapped",
+    "SLAVE_MEMORY", "Seat", "SerialsSpent", "Short", "Slave", "Spot", "StalePost", "StationTaken", "Swapped", "Taken",
     "TooManyDatagrams", "TooManyGroups", "TooManySlaves", "TooWide", "UnknownAlias", "UnknownCommand", "UnknownPdo",
-    "UnknownStation", "Unprogrammed", "VariableTaken", "__version__", "alias_read", "get_bits", "is_mine",
+    "UnknownStation", "Unprogrammed", "VariableTaken", "View", "__version__", "alias_read", "get_bits", "is_mine",
     "library_path", "library_version", "locate", "put_bits", "station_write",
 ]

@@ -133,6 +133,24 @@ class Image(NamedTuple):
     serials: list[int | None]
 
 
+class View(NamedTuple):
+    """An image that a seat views: the epoch whose places the data are in, the data of all datagrams at their offsets, zeros where
+    there are none, how many of the bytes are outputs, which come first, and of each datagram with data the serial of the sending that
+    they answer."""
+
+    epoch: int
+    data: bytes
+    outputs: int
+    serials: dict[int, int]
+
+
+class Taken(NamedTuple):
+    """What became of the posts that were taken: the tasks of which one was accepted, and those of which one was refused."""
+
+    accepted: list[int]
+    refused: list[int]
+
+
 class Counters(NamedTuple):
     """How often a datagram was sent, and what arrivals were for it, since the line was opened."""
 

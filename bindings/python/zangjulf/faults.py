@@ -274,6 +274,13 @@ class TooWide(Fault):
     text = "the value needs more bits than there are"
 
 
+class NoSpare(Fault):
+    """Four posts of the seat wait."""
+
+    number = 107
+    text = "four posts of the seat wait"
+
+
 class ProjectNotToml(ProjectFault):
     """The text is no TOML document in UTF-8."""
 

@@ -14,9 +14,27 @@ SHARED_OBJECT = "libzangjulf.so"
 #: the number of the binary interface that is declared here
 ABI = 0
 
+#: the most datagrams of a task
+DATAGRAMS = 16
+
+#: bytes in which any task's image has room
+IMAGE = DATAGRAMS * 1486
+
 
 class Handle(ctypes.Structure):
     _fields_ = [("is_open", c_bool), ("at", c_void_p)]
+
+
+class Seat(ctypes.Structure):
+    _fields_ = [("is_open", c_bool), ("at", c_void_p)]
+
+
+class View(ctypes.Structure):
+    _fields_ = [("epoch", c_uint32), ("size", c_size_t), ("outputs", c_size_t), ("has", c_uint16)]
+
+
+class Taken(ctypes.Structure):
+    _fields_ = [("accepted", c_uint8), ("refused", c_uint8)]
 
 
 class Place(ctypes.Structure):
@@ -127,6 +145,16 @@ LINE_CALLS: dict[str, tuple[Any, ...]] = {
     "next_change": (*_SLICE, POINTER(Change)),
     "put_value": (c_uint32, c_uint64, *_SLICE),
     "get_value": (c_uint32, *_SLICE, POINTER(c_uint64)),
+    "seat_open": (c_uint8, POINTER(Seat)),
+    "show": (),
+    "take_posts": (POINTER(Taken),),
+}
+
+#: what each call of a seat takes after the seat
+SEAT_CALLS: dict[str, tuple[Any, ...]] = {
+    "seat_view": (*_SLICE, POINTER(c_uint64), c_size_t, POINTER(View)),
+    "seat_outputs": _SLICE,
+    "seat_post": (c_uint32, *_SLICE),
 }
 
 #: what each call without a line takes
@@ -166,10 +194,14 @@ def _load() -> ctypes.PyDLL:
     for name, arguments in LINE_CALLS.items():
         call = getattr(found, f"zangjulf_{name}")
         call.argtypes, call.restype = (POINTER(Handle), *arguments), c_uint8
+    for name, arguments in SEAT_CALLS.items():
+        call = getattr(found, f"zangjulf_{name}")
+        call.argtypes, call.restype = (POINTER(Seat), *arguments), c_uint8
     for name, arguments in CALLS.items():
         call = getattr(found, f"zangjulf_{name}")
         call.argtypes, call.restype = arguments, c_uint8
     found.zangjulf_close.argtypes, found.zangjulf_close.restype = (POINTER(Handle),), None
+    found.zangjulf_seat_close.argtypes, found.zangjulf_seat_close.restype = (POINTER(Seat),), None
     found.zangjulf_is_mine.argtypes, found.zangjulf_is_mine.restype = _SLICE, c_bool
     found.zangjulf_version.argtypes, found.zangjulf_version.restype = (POINTER(c_uint32),) * 3, None
     return found

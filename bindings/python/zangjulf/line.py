@@ -9,15 +9,15 @@ from typing import Any, TypeVar, Union
 from . import library as c
 from .answers import (
     Arrival, Arrived, Block, BlockOutcome, BlockOutcomeKind, Cost, Counters, Datagram, Good, Image, Outcome, OutcomeKind, OwedBlock,
-    Part, Place, Swapped,
+    Part, Place, Swapped, Taken,
 )
 from .faults import FAULTS
+from .seat import Seat
 
 FRAMES = 128 * 1514
-IMAGE = 16 * 1486
 
-#: the most datagrams of a frame, and of a task
-_OUTCOMES, _DATAGRAMS = 115, 16
+#: the most datagrams of a frame
+_OUTCOMES = 115
 #: the faults that come with a number
 _DETAILED = (12, 17, 29)
 
@@ -243,8 +243,8 @@ class Line:
 
     def read(self, task: int) -> Image:
         """What a task reads. `NoSuchTask`."""
-        serials, it = (c_uint64 * _DATAGRAMS)(), c.Image()
-        self._done(self._call("read", task, *c.slice_of(self._out), serials, _DATAGRAMS, byref(it)), it.size)
+        serials, it = (c_uint64 * c.DATAGRAMS)(), c.Image()
+        self._done(self._call("read", task, *c.slice_of(self._out), serials, c.DATAGRAMS, byref(it)), it.size)
         known = [serials[d] if it.has >> d & 1 else None for d in range(it.datagrams)]
         return Image(it.epoch, bytes(self._out[: it.size]), known)
 
@@ -257,6 +257,23 @@ class Line:
     def changes(self) -> list[Good | Swapped]:
         """All changes that were not taken yet."""
         return list(iter(self.next_change, None))
+
+    def seat(self, task: int) -> Seat:
+        """Opens the seat of a task; one that it had before goes on viewing what it was shown, and posts no more. `NoSuchTask`,
+        `Memory`."""
+        return Seat(self, task)
+
+    def show(self) -> None:
+        """Shows each seat what its task reads now, and the outputs that would be sent now."""
+        self._done(self._call("show"))
+
+    def take_posts(self) -> Taken:
+        """Takes the posts of seats that wait, task 0's first, and does each as `post` does. One that was made for another epoch is
+        refused, and leaves nothing."""
+        it = c.Taken()
+        self._done(self._call("take_posts", byref(it)))
+        accepted, refused = ([task for task in range(8) if mask >> task & 1] for mask in (it.accepted, it.refused))
+        return Taken(accepted, refused)
 
     def put_value(self, variable: int, value: int, outputs: bytearray | memoryview) -> None:
         """Puts a value into a task's outputs, at the variable's place in the present line. `Nothing` where the line has no place
