@@ -1,18 +1,19 @@
 #!/bin/sh
 # Builds the library, its header and its bindings, and calls it from C, with the address and the undefined behaviour
 # sanitizer, from C++, Rust and Python: players play examples/*.in, and what they print is compared with *.out, byte for byte.
-# The C callers also try what a caller may do wrong, each growth of memory refused in turn, and two million drawn calls. The cycle
-# of docs/use/EMBEDDING.md and the examples in the pages of the Rust crate are run. What drawn calls are answered is compared, byte
-# for byte, with what the program hotline prints of the same commands; the comparison is shown wrong programs, wrong libraries and
-# wrong models, and must find each. The library is installed below a folder, and programs outside the repository find it: in C by
+# The C callers also try what a caller may do wrong, each growth of memory refused in turn, seats that are closed in every order and
+# ten million images that are shown at full speed, and two million drawn calls. The cycle of docs/use/EMBEDDING.md and the examples
+# in the pages of the Rust crate are run. What drawn calls are answered is compared, byte for byte, with what the program hotline
+# prints of the same commands; the comparison is shown wrong programs, wrong libraries and wrong models, and must find each. The
+# library is installed below a folder, and programs outside the repository find it: in C by
 # pkg-config and by CMake, in Rust by cargo, in Python by pip. Each target of tools/release.sh is packed, and plays the examples
 # on the processor that it is made for. A master and its slaves run for five seconds where a network namespace can be made, and
 # tshark reads their capture; where none can be made, that is said. What is missing is named, and counts as failed:
 # tools/embed.packages has the Debian packages. The last line is 'N passed, M failed'. A word after its name is a program to be
 # compared with in place of the built hotline.
 #
-# tools/embed.sh --short, of which the gate makes use, takes the callers alone, with 20,000 drawn calls: what gcc, g++, cargo and
-# Python can see, in some two minutes over a built library.
+# tools/embed.sh --short, of which the gate makes use, takes the callers alone, with 20,000 drawn calls, a tenth of the orders and a
+# tenth of the images: what gcc, g++, cargo and Python can see, in some three minutes over a built library.
 set -u
 cd "$(dirname "$0")/.."
 scratch=$(mktemp -d)
@@ -23,8 +24,12 @@ trap 'rm -rf "$scratch"' EXIT
 . tools/embed/drawn.sh
 . tools/embed/outside.sh
 calls=2000000
+shows=10000000
+every=1
 if [ "${1:-}" = --short ]; then
     calls=20000
+    shows=1000000
+    every=10
     shift
 fi
 hotline=${1:-crates/hotline/out/hotline}
@@ -52,8 +57,17 @@ read_malformed() {
     tell $? "tshark marks no malformed frame"
 }
 
+# soak: 100,000 cycles with a thread for each task, in which only openings and edits take memory
+soak() {
+    alone=-Wl,--wrap=malloc,--wrap=realloc,--wrap=zangjulf_open,--wrap=zangjulf_seat_open,--wrap=zangjulf_connect,--wrap=zangjulf_disconnect
+    gcc -std=c11 -O2 $warnings -pthread -Iinclude examples/master/tasks.c examples/master/tool.c examples/master/wire.c \
+        tools/embed/edits_alone.c $alone build/libzangjulf.a -o "$scratch/soak" &&
+        timeout 120 "$scratch/soak" examples/own_tasks.toml 100000 5000 >"$scratch/printed"
+    tell_said $? "100,000 cycles with a thread for each task"
+}
+
 # masters: a master and its slaves, two processes, for five seconds; one that changes its tool with one frame of register
-# writes; then the first in Python
+# writes; one with a thread for each task; then the first in Python
 masters() {
     timeout 60 "$scratch/master" examples/tool_changer.toml 5 1000 "$scratch/master.pcap"
     status=$?
@@ -61,6 +75,9 @@ masters() {
     tell $status "the master"
     timeout 60 "$scratch/docking" examples/own_tasks.toml 5 1000 "$scratch/docking.pcap"
     tell $? "a tool that is changed with one frame"
+    timeout 60 "$scratch/tasks" examples/own_tasks.toml 5000 1000 "$scratch/tasks.pcap" >"$scratch/printed"
+    tell_said $? "a thread for each task"
+    soak
     ! { has tshark && has text2pcap; } || { read_capture master; read_capture docking; read_malformed; }
     timeout 60 unshare -n python3 examples/master/master.py examples/tool_changer.toml 5
     tell $? "the master in Python"
@@ -70,7 +87,7 @@ tools/version.sh >"$scratch/printed"
 tell_said $? "the version is told in two ways"
 tools/library.sh >"$scratch/printed" 2>&1
 tell_said $? "the library isn't built" || { finish; exit 1; }
-! { has gcc && has g++; } || { header; callers_in_c $calls; }
+! { has gcc && has g++; } || { header; callers_in_c $calls; callers_of_seats $shows $every; }
 ! has cargo || callers_in_rust
 ! has python3 || callers_in_python
 if [ $calls -lt 2000000 ]; then

@@ -11,15 +11,15 @@ compiled() {
 
 # compiled_fuzz WORDS..: the caller that draws, likewise, over the plain model or the one that `model` names
 compiled_fuzz() {
-    compiled fuzz -Itools/embed tools/embed/draws.c tools/embed/growths.c "${model:-tools/embed/model.c}" tools/embed/news.c \
-        tools/embed/words.c $wrapped "$@"
+    compiled fuzz -Itools/embed tools/embed/draws.c tools/embed/growths.c tools/embed/judge.c "${model:-tools/embed/model.c}" \
+        tools/embed/news.c tools/embed/seated.c tools/embed/words.c $wrapped "$@"
 }
 
-# edges LABEL FLAGS..: what a caller may do wrong
+# edges CALLER LABEL FLAGS..: what a caller may do wrong
 edges() {
-    label=$1
-    shift
-    compiled edges "$@" && timeout 60 "$scratch/edges" examples/tool_changer.toml >"$scratch/printed"
+    wrong=$1 label=$2
+    shift 2
+    compiled "$wrong" "$@" && timeout 60 "$scratch/$wrong" examples/tool_changer.toml >"$scratch/printed"
     tell_said $? "$label"
 }
 
@@ -28,6 +28,14 @@ threads() {
     label=$1
     shift
     compiled threads -D_POSIX_C_SOURCE=200809L -pthread "$@" && timeout 60 "$scratch/threads" examples/tool_changer.toml >"$scratch/printed" 2>&1
+    tell_said $? "$label"
+}
+
+# seats_at_speed SHOWS LABEL FLAGS..: an owner that shows so often and two tasks, at full speed
+seats_at_speed() {
+    shows=$1 label=$2
+    shift 2
+    compiled seat_threads -pthread "$@" && timeout 300 "$scratch/seat_threads" "$shows" >"$scratch/printed" 2>&1
     tell_said $? "$label"
 }
 
@@ -47,23 +55,41 @@ header() {
     tell $? "the archive exports more than the header's calls"
 }
 
+# master NAME FILES..: an example of a master over raw frames
+master() {
+    name=$1
+    shift
+    gcc -std=c11 -O2 $warnings -pthread -Iinclude "examples/master/$name.c" examples/master/wire.c "$@" build/libzangjulf.a -o "$scratch/$name"
+    tell $? "the example $name isn't built"
+}
+
+# callers_of_seats SHOWS EVERY: callers that do wrong, a line and eight seats that are closed in every so many-th order, and so many
+# images that are shown at full speed
+callers_of_seats() {
+    edges seats "C callers of seats that do wrong" -fsanitize=address,undefined
+    edges seats "growths refused to a C caller of seats" -DWRAPPED tools/embed/growths.c $wrapped
+    compiled closings -fsanitize=address,undefined && timeout 1200 "$scratch/closings" "$2" >"$scratch/printed" 2>&1
+    tell_said $? "a line and eight seats that are closed"
+    seats_at_speed "$1" "tasks at full speed" -O2
+    seats_at_speed 100000 "tasks at full speed, under the address sanitizer" -fsanitize=address,undefined
+}
+
 # callers_in_c CALLS: players, callers that do wrong, the page's cycle, and so many drawn calls
 callers_in_c() {
     compiled play tools/embed/words.c -fsanitize=address,undefined
     tell $? "the C player isn't built"
     play C "$scratch/play"
-    edges "C callers that do wrong" -fsanitize=address,undefined
-    edges "growths refused to a C caller" -DWRAPPED tools/embed/growths.c $wrapped
+    edges edges "C callers that do wrong" -fsanitize=address,undefined
+    edges edges "growths refused to a C caller" -DWRAPPED tools/embed/growths.c $wrapped
     compiled steady tools/embed/growths.c $wrapped && timeout 60 "$scratch/steady" >"$scratch/printed"
     tell_said $? "a cycle that takes memory"
     threads "threads that meet at one handle" -O2
     threads "threads that meet at one handle, under the address sanitizer" -fsanitize=address,undefined
     compiled_fuzz && timeout 900 "$scratch/fuzz" examples/tool_changer.toml "$1" 1 >"$scratch/printed"
     tell_said $? "$1 drawn calls from C"
-    gcc -std=c11 -O2 $warnings -Iinclude examples/master/master.c examples/master/wire.c build/libzangjulf.a -o "$scratch/master"
-    tell $? "the master isn't built"
-    gcc -std=c11 -O2 $warnings -Iinclude examples/master/docking.c examples/master/wire.c build/libzangjulf.a -o "$scratch/docking"
-    tell $? "the master that changes its tool with one frame isn't built"
+    master master
+    master docking examples/master/tool.c
+    master tasks examples/master/tool.c
     gcc -std=c11 -g -O1 $warnings -fsanitize=address,undefined -Iinclude examples/cycle/cycle.c build/libzangjulf.a -o "$scratch/cycle" &&
         timeout 60 "$scratch/cycle" examples/tool_changer.toml >"$scratch/printed" && diff examples/cycle/cycle.out "$scratch/printed"
     tell_said $? "the cycle of docs/use/EMBEDDING.md: < is written, > is printed"

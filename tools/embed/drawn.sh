@@ -66,10 +66,11 @@ compare_drawn() {
         tell $? "drawn calls don't find the wrong $name"
     done
     # what the program has no command for is found by the model alone
-    for name in next_writes next_writes=2 next_writes=3 arrive=3; do
+    for name in next_writes next_writes=2 next_writes=3 arrive=3 seat_open seat_close show seat_view seat_view=2 seat_view=3 seat_view=4 \
+        seat_outputs seat_post seat_post=2 seat_post=3 seat_post=4 take_posts take_posts=2; do
         compiled_fuzz tools/embed/wrong.c -DWRONG_$name -Wl,--wrap=zangjulf_${name%=*}
         tell $? "the wrong $name isn't built"
-        ! (timeout 300 "$scratch/fuzz" examples/tool_changer.in 30000 3 >"$scratch/printed") 2>/dev/null
+        ! (timeout 300 "$scratch/fuzz" examples/tool_changer.in 100000 3 >"$scratch/printed") 2>/dev/null
         tell $? "drawn calls don't find the wrong $name"
     done
     wrong_models

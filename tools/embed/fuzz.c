@@ -1,9 +1,10 @@
 /* Draws calls of the C library: any order, any numbers, any bytes, handles that are open and closed, slices of any length,
  * each of which ends where a page that can't be touched begins, growths that are refused. It ends with status 1 at an answer
  * that include/zangjulf.h doesn't allow, at a slice that was written though the call was refused, at an outcome, an age, a
- * counter, an owed block or a frame of register writes that isn't the plain model's (model.h), at bits that aren't those taken
- * one by one, at a change that isn't the next of what happened, at a line that is full of changes and isn't answered so, or the
- * other way round, and where memory is live once all handles are closed.
+ * counter, an owed block or a frame of register writes that isn't the plain model's (model.h), at an image, outputs or a post of a
+ * seat that isn't its model's (seated.h), at bits that aren't those taken one by one, at a change that isn't the next of what
+ * happened, at a line that is full of changes and isn't answered so, or the other way round, and where memory is live once all
+ * handles are closed.
  *
  *     fuzz PROJECT CALLS SEED [FOLDER [declare]]
  *
@@ -18,10 +19,11 @@
 #include <stdlib.h>
 #include <string.h>
 
-#include "draws.h"
 #include "growths.h"
+#include "judge.h"
 #include "model.h"
 #include "news.h"
+#include "seated.h"
 #include "words.h"
 
 #define LINES 3
@@ -29,39 +31,15 @@
 #define KEPT 8
 #define MOST_SCRIPT 3000000 /* the program reads 4,194,304 bytes at most */
 
-static unsigned long calls, commands;
-static const char *call = "";
+static unsigned long commands;
+static struct guarded texts, counts, words;
 
-static void fail(const char *what, unsigned number) {
-    printf("fuzz: call %lu, %s: %s, answer %u\n", calls, call, what, number);
-    exit(1);
-}
-
-static struct guarded texts, outs, ins, counts, words;
-
-/* A slice to be written, filled so that a write of a refused call is seen. */
-static uint8_t *fresh(size_t size) { return memset(last(&outs, size), 0xa5, size); }
-
-static void expect_untouched(const uint8_t *out, size_t size, unsigned number) {
-    for (size_t i = 0; i < size; i++)
-        if (out[i] != 0xa5) fail("a refused call wrote into its slice", number);
-}
-
-/* One of the allowed answers; 255 just of a closed handle. */
-static unsigned long answers[256];
-
-static void expect(unsigned number, bool was_open, const char *allowed) {
-    answers[number]++;
-    if ((number == ZANGJULF_CLOSED) == was_open) fail("closed handles and 255", number);
-    if (number == ZANGJULF_CLOSED) return;
-    if (!memchr(allowed, (int)number, strlen(allowed + 1) + 1)) fail("not an answer of this call", number);
-}
-
-/* A handle, its model, how many changes it keeps and which it has, frames that it sent, most of them as its slaves made of them,
- * and where its commands and their answers are written, or NULL. */
+/* A handle, its model, its seats, how many changes it keeps and which it has, frames that it sent, most of them as its slaves made of
+ * them, and where its commands and their answers are written, or NULL. */
 struct line {
     struct zangjulf handle;
     struct model model;
+    struct owner owner;
     struct news news;
     uint32_t most_changes;
     uint8_t kept[KEPT][ZANGJULF_FRAME];
@@ -158,6 +136,7 @@ static void opening(struct line *line) {
     bool is_fault = number == ZANGJULF_TOO_MANY_DATAGRAMS || number == ZANGJULF_MEMORY || (number > 200 && number <= ZANGJULF_PROJECT_AREA_TOO_BIG);
     if (line->handle.is_open != !number || (number && !is_fault)) fail("an opening", number);
     model_opened(&line->model);
+    owner_left(&line->owner);
     begin_script(line, moved, size, number, task);
 }
 
@@ -172,6 +151,7 @@ static void closing(struct line *line) {
     zangjulf_close(&line->handle);
     end_script(line);
     forget_news(&line->news);
+    owner_left(&line->owner);
 }
 
 static void telling(struct line *line, bool was_open) {
@@ -508,7 +488,8 @@ static void editing(struct line *line, bool was_open) {
 static void call_once(struct line *line) {
     bool was_open = line->handle.is_open;
     left = below(12) ? -1 : (long)below(6);
-    switch (below(was_open ? 2000 : 20) ? below(10) : 10) {
+    switch (below(was_open ? 2000 : 20) ? below(14) : 14) {
+    case 10: case 11: case 12: case 13: draw_seat_call(&line->handle, &line->owner, folder); break;
     case 0:
         if (below(folder ? 150 : 3)) call = "telling", telling(line, was_open);
         else call = "forget", forgetting(line, was_open);
@@ -547,6 +528,7 @@ int main(int count, char **arguments) {
     for (calls = 0; calls < most; calls++) call_once(&lines[below(LINES)]);
     left = -1;
     for (int i = 0; i < LINES; i++) closing(&lines[i]);
+    close_seats();
     if (live != before) fail("memory is live after the last close", (unsigned)(live - before));
     printf("fuzz: %lu calls drawn, %lu of them written as commands; answers:", calls, commands);
     for (unsigned i = 0; i < 256; i++)

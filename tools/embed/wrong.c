@@ -190,3 +190,111 @@ uint8_t __wrap_zangjulf_put_bits(uint8_t *bytes, size_t length, size_t bit, uint
     return (uint8_t)number;
 }
 #endif
+
+#ifdef WRONG_seat_open /* a seat of another task */
+uint8_t __real_zangjulf_seat_open(struct zangjulf *handle, uint8_t task, struct zangjulf_seat *seat);
+uint8_t __wrap_zangjulf_seat_open(struct zangjulf *handle, uint8_t task, struct zangjulf_seat *seat) {
+    return __real_zangjulf_seat_open(handle, task < ZANGJULF_TASKS ? task ^ 1 : task, seat);
+}
+#endif
+
+#ifdef WRONG_seat_close /* a seat that is never freed */
+void __wrap_zangjulf_seat_close(struct zangjulf_seat *seat) {
+    seat->is_open = false;
+    seat->at = NULL;
+}
+#endif
+
+#ifdef WRONG_show /* a showing that is dropped */
+uint8_t __real_zangjulf_show(struct zangjulf *handle);
+uint8_t __wrap_zangjulf_show(struct zangjulf *handle) {
+    static unsigned shown;
+    return handle->is_open && ++shown % 20 == 0 ? ZANGJULF_DONE : __real_zangjulf_show(handle);
+}
+#endif
+
+/* data where there are none; an age of another sending; an image of two epochs; a seat that goes back to an image that it had */
+#ifdef WRONG_seat_view
+uint8_t __real_zangjulf_seat_view(struct zangjulf_seat *seat, uint8_t *out, size_t length, uint64_t *serials, size_t room, struct zangjulf_view *view);
+uint8_t __wrap_zangjulf_seat_view(struct zangjulf_seat *seat, uint8_t *out, size_t length, uint64_t *serials, size_t room, struct zangjulf_view *view) {
+    unsigned number = __real_zangjulf_seat_view(seat, out, length, serials, room, view);
+    if (number || !view->size) return (uint8_t)number;
+#if WRONG_seat_view == 2
+    if (room) serials[0] += view->has & 1;
+#elif WRONG_seat_view == 3
+    static struct zangjulf_view before;
+    struct zangjulf_view now = *view;
+    if (view->epoch == before.epoch + 1) view->epoch = before.epoch;
+    before = now;
+#elif WRONG_seat_view == 4
+    static struct zangjulf_view before;
+    static uint8_t image[ZANGJULF_IMAGE];
+    static void *at;
+    bool is_back = seat->at == at && view->size == before.size && view->epoch == before.epoch;
+    struct zangjulf_view now = *view;
+    at = seat->at;
+    for (size_t i = 0; i < now.size; i++) {
+        uint8_t byte = out[i];
+        if (is_back) out[i] = image[i];
+        image[i] = byte;
+    }
+    before = now;
+#else
+    view->has |= 1;
+#endif
+    return (uint8_t)number;
+}
+#endif
+
+#ifdef WRONG_seat_outputs /* a byte of other outputs */
+uint8_t __real_zangjulf_seat_outputs(const struct zangjulf_seat *seat, uint8_t *out, size_t length);
+uint8_t __wrap_zangjulf_seat_outputs(const struct zangjulf_seat *seat, uint8_t *out, size_t length) {
+    static uint8_t before;
+    unsigned number = __real_zangjulf_seat_outputs(seat, out, length);
+    if (number || !length) return (uint8_t)number;
+    uint8_t byte = out[0];
+    out[0] = before;
+    before = byte;
+    return (uint8_t)number;
+}
+#endif
+
+/* a seat that posts though it or its line is closed; a post for another epoch; a post that is dropped; a post that is made twice */
+#ifdef WRONG_seat_post
+uint8_t __real_zangjulf_seat_post(struct zangjulf_seat *seat, uint32_t epoch, const uint8_t *bytes, size_t length);
+uint8_t __wrap_zangjulf_seat_post(struct zangjulf_seat *seat, uint32_t epoch, const uint8_t *bytes, size_t length) {
+#if WRONG_seat_post == 2
+    unsigned number = __real_zangjulf_seat_post(seat, epoch, bytes, length);
+    return number == ZANGJULF_STALE_POST && epoch ? __real_zangjulf_seat_post(seat, epoch - 1, bytes, length) : (uint8_t)number;
+#elif WRONG_seat_post == 3
+    static unsigned posted;
+    return seat->is_open && ++posted % 20 == 0 ? ZANGJULF_DONE : __real_zangjulf_seat_post(seat, epoch, bytes, length);
+#elif WRONG_seat_post == 4
+    static unsigned posted;
+    unsigned number = __real_zangjulf_seat_post(seat, epoch, bytes, length);
+    if (!number && ++posted % 2 == 0) __real_zangjulf_seat_post(seat, epoch, bytes, length);
+    return (uint8_t)number;
+#else
+    unsigned number = __real_zangjulf_seat_post(seat, epoch, bytes, length);
+    return number == ZANGJULF_CLOSED ? ZANGJULF_DONE : (uint8_t)number;
+#endif
+}
+#endif
+
+#ifdef WRONG_take_posts /* posts that are refused are told as accepted; posts that are left */
+uint8_t __real_zangjulf_take_posts(struct zangjulf *handle, struct zangjulf_taken *taken);
+uint8_t __wrap_zangjulf_take_posts(struct zangjulf *handle, struct zangjulf_taken *taken) {
+#if WRONG_take_posts == 2
+    static unsigned asked;
+    if (handle->is_open && ++asked % 20 == 0) {
+        *taken = (struct zangjulf_taken){0, 0};
+        return ZANGJULF_DONE;
+    }
+    return __real_zangjulf_take_posts(handle, taken);
+#else
+    unsigned number = __real_zangjulf_take_posts(handle, taken);
+    if (!number) *taken = (struct zangjulf_taken){taken->accepted | taken->refused, 0};
+    return (uint8_t)number;
+#endif
+}
+#endif
