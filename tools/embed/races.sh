@@ -1,8 +1,9 @@
 #!/bin/sh
 # Looks for races in the library's own code: gcc's thread sanitizer sees only what it has instrumented, and the library is made
 # by the kit. So the kit's clang is stood in for by a script that also keeps the LLVM module of the library; the module is
-# instrumented and linked with tools/embed/threads.c, which must run with no report. Then the same with the order of the
-# library's atomic steps taken away, which must be reported. It builds over the libraries that `rt lib` has left in crates/.
+# instrumented and linked with two callers, which must run with no report: threads that meet at one handle (threads.c), and tasks at
+# their seats (seat_threads.c). Then the same with the order of the library's atomic steps taken away, which must be reported. It
+# builds over the libraries that `rt lib` has left in crates/.
 #   tools/embed/races.sh
 set -eu
 cd "$(dirname "$0")/../.."
@@ -50,11 +51,19 @@ for form in ordered unordered; do
     $clang -fsanitize=thread -O1 -fPIC -c -x ir "$scratch/$form.ll" -o "$scratch/$form.o"
     objcopy --redefine-sym __tsan_memcpy=memcpy --redefine-sym __tsan_memmove=memmove --redefine-sym __tsan_memset=memset \
         "$scratch/$form.o"
-    gcc -std=c11 -D_POSIX_C_SOURCE=200809L -O1 -g -pthread -fsanitize=thread -Iinclude "${CALLER:-tools/embed/threads.c}" \
-        "$scratch/$form.o" "$kit/c/liblibc_c.a" -o "$scratch/$form"
+    for caller in threads seat_threads; do
+        gcc -std=c11 -D_POSIX_C_SOURCE=200809L -O1 -g -pthread -fsanitize=thread -Iinclude "tools/embed/$caller.c" \
+            "$scratch/$form.o" "$kit/c/liblibc_c.a" -o "$scratch/$form.$caller"
+    done
 done
-timeout 120 "$scratch/ordered" examples/tool_changer.toml || { echo "races: reported"; exit 1; }
-timeout 120 "$scratch/unordered" examples/tool_changer.toml >"$scratch/reports" 2>&1 || true
-count=$(grep -c 'WARNING: ThreadSanitizer' "$scratch/reports" || true)
-echo "races: none in the library; without the order of its atomic steps $count are reported"
-[ "$count" -gt 0 ]
+
+# races CALLER WORD: none with the orders, and some without
+races() {
+    timeout 300 "$scratch/ordered.$1" "$2" || { echo "races: $1 is reported"; exit 1; }
+    timeout 300 "$scratch/unordered.$1" "$2" >"$scratch/reports" 2>&1 || true
+    count=$(grep -c 'WARNING: ThreadSanitizer' "$scratch/reports" || true)
+    echo "races: $1, none in the library; without the order of its atomic steps $count are reported"
+    [ "$count" -gt 0 ]
+}
+races threads examples/tool_changer.toml
+races seat_threads 100000
