@@ -75,7 +75,7 @@ masters() {
     tell $status "the master"
     timeout 60 "$scratch/docking" examples/own_tasks.toml 5 1000 "$scratch/docking.pcap"
     tell $? "a tool that is changed with one frame"
-    timeout 60 "$scratch/tasks" examples/own_tasks.toml 5000 1000 "$scratch/tasks.pcap" >"$scratch/printed"
+    timeout 60 "$scratch/tasks" examples/own_tasks.toml 5000 1000 >"$scratch/printed"
     tell_said $? "a thread for each task"
     soak
     ! { has tshark && has text2pcap; } || { read_capture master; read_capture docking; read_malformed; }

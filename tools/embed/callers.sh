@@ -68,7 +68,7 @@ master() {
 callers_of_seats() {
     edges seats "C callers of seats that do wrong" -fsanitize=address,undefined
     edges seats "growths refused to a C caller of seats" -DWRAPPED tools/embed/growths.c $wrapped
-    compiled closings -fsanitize=address,undefined && timeout 1200 "$scratch/closings" "$2" >"$scratch/printed" 2>&1
+    compiled closings -fsanitize=address,undefined && timeout 2400 "$scratch/closings" "$2" >"$scratch/printed" 2>&1
     tell_said $? "a line and eight seats that are closed"
     seats_at_speed "$1" "tasks at full speed" -O2
     seats_at_speed 100000 "tasks at full speed, under the address sanitizer" -fsanitize=address,undefined

@@ -1,5 +1,5 @@
-/* What is linked is what the header says: asked from C++ for its version and its binary interface. It ends with status 1 where
- * one of them is another than the header's. */
+/* What is linked is what the header says: asked from C++ for its version and its binary interface, and a line and a seat that are
+ * closed. It ends with status 1 where one of the answers is another than the header's. */
 #include <cstdio>
 
 #include "zangjulf.h"
@@ -9,5 +9,9 @@ int main() {
     zangjulf_version(&major, &minor, &patch);
     std::printf("zangjulf %u.%u.%u, binary interface %u\n", major, minor, patch, zangjulf_abi());
     bool is_same = major == ZANGJULF_VERSION_MAJOR && minor == ZANGJULF_VERSION_MINOR && patch == ZANGJULF_VERSION_PATCH;
-    return !(is_same && zangjulf_abi() == ZANGJULF_ABI);
+    zangjulf line{};
+    zangjulf_seat seat{};
+    bool is_closed = zangjulf_seat_open(&line, 0, &seat) == ZANGJULF_CLOSED && zangjulf_seat_post(&seat, 0, nullptr, 0) == ZANGJULF_CLOSED;
+    zangjulf_seat_close(&seat);
+    return !(is_same && is_closed && zangjulf_abi() == ZANGJULF_ABI);
 }
