@@ -73,5 +73,12 @@ compare_drawn() {
         ! (timeout 300 "$scratch/fuzz" examples/tool_changer.in 100000 3 >"$scratch/printed") 2>/dev/null
         tell $? "drawn calls don't find the wrong $name"
     done
+    # and so is, by tasks at full speed, an image that goes back, outputs that are torn, and a post that is dropped
+    for name in seat_view=4 seat_outputs seat_post=3; do
+        compiled seat_threads -O2 -pthread tools/embed/wrong.c -DWRONG_$name -Wl,--wrap=zangjulf_${name%=*}
+        tell $? "the wrong $name isn't built"
+        ! (timeout 60 "$scratch/seat_threads" 100001 >"$scratch/printed") 2>/dev/null
+        tell $? "tasks at full speed don't find the wrong $name"
+    done
     wrong_models
 }
