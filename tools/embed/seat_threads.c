@@ -2,8 +2,8 @@
  * says; in each eighth turn the frame is sent, and comes back with the number as its inputs. The task views: each image must be whole,
  * its inputs must be of the last eighth turn before its outputs, and it is never older than the image before. In task 1 the thread
  * posts numbers, and the owner takes them: the outputs that it views must be whole, and never go back. Each number is 512 bytes
- * long. At the end the last number that was shown is viewed, and the last one that was posted is put out. It ends with status 1 at the
- * first image or answer that can't be. */
+ * long. At the end the last number that was shown is viewed, and the last one that was posted is put out. Then lines are closed by
+ * their owners while the tasks use and close their seats. It ends with status 1 at the first image or answer that can't be. */
 #include <pthread.h>
 #include <stdatomic.h>
 #include <stdio.h>
@@ -15,6 +15,7 @@
 #define EXPECT(fact) ((fact) ? (void)0 : fail(__LINE__, #fact))
 #define WORDS 64
 #define BYTES (8 * WORDS)
+#define CLOSINGS 200
 
 static void fail(int line, const char *fact) {
     printf("seat_threads.c:%d: not so: %s\n", line, fact);
@@ -152,6 +153,33 @@ static void open_line(void) {
     for (uint8_t i = 0; i < 2; i++) EXPECT(view(&seats[i], &none, !i) == 0);
 }
 
+/* A task that uses its seat and closes it, whatever its owner does: its posts are taken, wait, or find no line. */
+static void *leaves(void *given) {
+    struct zangjulf_seat *seat = given;
+    struct count count = {0};
+    uint8_t outputs[BYTES] = {0}, answer = ZANGJULF_DONE;
+    for (int i = 0; i < 20; i++) {
+        view(seat, &count, seat == &seats[0]);
+        uint8_t next = zangjulf_seat_post(seat, 0, outputs, sizeof outputs);
+        EXPECT(next == ZANGJULF_DONE || next == ZANGJULF_NO_SPARE || next == ZANGJULF_CLOSED);
+        EXPECT(answer != ZANGJULF_CLOSED || next == ZANGJULF_CLOSED);
+        answer = next;
+    }
+    zangjulf_seat_close(seat);
+    return NULL;
+}
+
+/* The line is closed at the same time. */
+static void close_at_once(void) {
+    pthread_t threads[2];
+    struct zangjulf_taken taken;
+    open_line();
+    for (int i = 0; i < 2; i++) EXPECT(!pthread_create(&threads[i], NULL, leaves, &seats[i]));
+    for (int i = 0; i < 10; i++) EXPECT(zangjulf_take_posts(&line, &taken) == ZANGJULF_DONE && zangjulf_show(&line) == ZANGJULF_DONE);
+    zangjulf_close(&line);
+    for (int i = 0; i < 2; i++) EXPECT(!pthread_join(threads[i], NULL));
+}
+
 int main(int count, char **words) {
     struct count counts[2] = {{0}};
     pthread_t threads[2];
@@ -169,5 +197,6 @@ int main(int count, char **words) {
            (unsigned long long)counts[0].images, (unsigned long long)counts[1].posts, (unsigned long long)counts[1].full);
     zangjulf_close(&line);
     for (int i = 0; i < 2; i++) zangjulf_seat_close(&seats[i]);
+    for (int i = 0; i < CLOSINGS; i++) close_at_once();
     return !(counts[0].images && counts[1].posts);
 }
