@@ -1,6 +1,6 @@
 /* Times a showing, and a showing with its view, beside a plain triple buffer with the same duties, of a task with one datagram:
  *
- *     bench BYTES                 nanoseconds of both sides, medians of 21 rounds; the plain side is timed before and after
+ *     bench BYTES                 nanoseconds of both sides, by the quiet rounds; the plain side is timed before and after
  *     bench BYTES count SIDE N    N showings and views of a side, for counting instructions: line or plain
  *
  * Half of the bytes are outputs. First both sides show the same image, and the views are compared. */
@@ -13,8 +13,9 @@
 #include "plain.h"
 #include "zangjulf.h"
 
-#define ROUNDS 21
-#define CALLS 100000
+#define ROUNDS 2001
+#define CALLS 500
+#define QUIET (ROUNDS / 20) /* so many rounds are quicker than the one that counts: nothing else ran in it */
 
 static struct zangjulf line;
 static struct zangjulf_seat seat;
@@ -125,21 +126,21 @@ static int by_size(const void *a, const void *b) {
     return (x > y) - (x < y);
 }
 
-static double median(double *times) {
+static double quiet(double *times) {
     qsort(times, ROUNDS, sizeof *times, by_size);
-    return times[ROUNDS / 2];
+    return times[QUIET];
 }
 
 /* The rounds of both sides. */
 static void tell(const char *what, void (*own)(void), void (*plainly)(void)) {
-    double times[ROUNDS], before[ROUNDS], after[ROUNDS];
+    static double times[ROUNDS], before[ROUNDS], after[ROUNDS];
     for (int round = 0; round < ROUNDS; round++) {
         before[round] = timed(plainly);
         times[round] = timed(own);
         after[round] = timed(plainly);
     }
-    double line_time = median(times), first = median(before), second = median(after), plain_time = (first + second) / 2;
-    printf("%5zu bytes, %s: %6.1f ns, plain %6.1f and %6.1f ns: %5.2f times, %6.1f ns more\n", size, what, line_time, first, second, line_time / plain_time, line_time - plain_time);
+    double line_time = quiet(times), first = quiet(before), second = quiet(after), plain_time = (first + second) / 2;
+    printf("%zu bytes, %s: %6.1f ns, plain %6.1f and %6.1f ns: %5.2f times, %6.1f ns more\n", size, what, line_time, first, second, line_time / plain_time, line_time - plain_time);
 }
 
 int main(int count, char **words) {
