@@ -544,7 +544,7 @@ struct zangjulf_view {
 };
 
 /* The seat takes the newest image that was shown, or keeps the one that it has where none is newer; it never goes back to an
- * older one. The image is whole: all of it was shown by one call. Its data stand in `out` as after `zangjulf_read`, each
+ * older one. The image is whole: all of it was shown by one call. Its data are in `out` as after `zangjulf_read`, each
  * datagram's at its offset, and bytes of a datagram without data are 0; `serials` has of each of the task's datagrams the serial
  * of the sending that its data answer, 0 where it has none, as many as there is room for. Before anything was shown the image is
  * of epoch 0 and has no bytes. ZANGJULF_DONE; 29 where `out` is shorter than the image, which ZANGJULF_IMAGE bytes never are: the

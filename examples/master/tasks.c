@@ -66,7 +66,7 @@ static uint32_t number_of(const struct worker *worker, const uint8_t *bytes, siz
     return number;
 }
 
-/* Takes the newest image, and the outputs that stood with it. Epochs and serials never go back. */
+/* Takes the newest image, and the outputs that were shown with it. Epochs and serials never go back. */
 static void view(struct worker *worker) {
     uint64_t serial = 0;
     uint32_t epoch = worker->view.epoch;

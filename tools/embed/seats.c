@@ -1,4 +1,4 @@
-/* Seats, in one thread: what each call answers, what stands after it, and what a caller may do wrong or unluckily: closed seats and
+/* Seats, in one thread: what each call answers, what is there after it, and what a caller may do wrong or unluckily: closed seats and
  * lines, slices that are too short, posts for another epoch, a fifth post, a task that gets another seat. It is given the project of
  * the tool changer, and ends with status 1 at the first answer that isn't the one that include/zangjulf.h tells. Growths are
  * refused where it is linked with --wrap=malloc, --wrap=realloc and --wrap=free, and WRAPPED is defined. */
