@@ -1,4 +1,5 @@
-/* Times a showing, and a showing with its view, beside a plain triple buffer with the same duties, of a task with one datagram:
+/* Times a showing, and a showing with its view, beside a plain triple buffer, of a task with one datagram; and beside one that finds
+ * out, as each call with a line does, whether another call runs:
  *
  *     bench BYTES                 nanoseconds of both sides, by the quiet rounds; the plain side is timed before and after
  *     bench BYTES count SIDE N    N showings and views of a side, for counting instructions: line or plain
@@ -38,7 +39,8 @@ static void done(uint8_t answer, const char *call) {
 /* So many bytes of an area, in entries of at most 64 bits, 64 of them in a PDO. */
 static size_t write_area(char *text, size_t room, const char *way, unsigned number, size_t bytes) {
     unsigned entries = (unsigned)(bytes + 7) / 8;
-    size_t at = (size_t)snprintf(text, room, "[[slave.area]]\nsm = %u\ndir = \"%s\"\nphys = 0x%u000\ntask = 0\nassigned = [0, %s]\npdo = [", number, way, 1 + number, entries > 64 ? "1" : "");
+    size_t at = (size_t)snprintf(text, room, "[[slave.area]]\nsm = %u\ndir = \"%s\"\nphys = 0x%u000\ntask = 0\nassigned = [0, %s]\npdo = [", number, way,
+                                 1 + number, entries > 64 ? "1" : "");
     for (unsigned i = 0; i < entries; i++, bytes -= bytes < 8 ? bytes : 8) {
         if (i % 64 == 0) at += (size_t)snprintf(text + at, room - at, "%s{ index = %u, entries = [", i ? "] }, " : "", i / 64);
         at += (size_t)snprintf(text + at, room - at, "[%u, %u],", 1 + i + 1000 * number, bytes < 8 ? 8 * (unsigned)bytes : 64);
@@ -88,14 +90,27 @@ static void show_line(void) { done(zangjulf_show(&line), "show"); }
 
 static void show_plain(void) { plain_show(&plain); }
 
+static void show_alone(void) {
+    if (!plain_show_alone(&plain)) give_up("plain_show_alone");
+}
+
 static void by_line(void) {
     show_line();
     done(zangjulf_seat_view(&seat, image, sizeof image, serials, DATAGRAMS, &view), "seat_view");
 }
 
+static void view_plain(void) {
+    if (!plain_view(plain.seats[0], plain_out, sizeof plain_out, plain_serials, DATAGRAMS, &told)) give_up("plain_view");
+}
+
 static void by_plain(void) {
     show_plain();
-    if (!plain_view(plain.seats[0], plain_out, sizeof plain_out, plain_serials, DATAGRAMS, &told)) give_up("plain_view");
+    view_plain();
+}
+
+static void by_alone(void) {
+    show_alone();
+    view_plain();
 }
 
 static void compare(void) {
@@ -153,7 +168,9 @@ int main(int count, char **words) {
     compare();
     if (count == 2) {
         tell("a showing", show_line, show_plain);
+        tell("a showing, the plain one alone with its line", show_line, show_alone);
         tell("a showing with its view", by_line, by_plain);
+        tell("a showing with its view, the plain one alone with its line", by_line, by_alone);
         return 0;
     }
     void (*side)(void) = strcmp(words[3], "line") ? by_plain : by_line;

@@ -41,6 +41,14 @@ void plain_show(struct plain_line *line) {
     }
 }
 
+bool plain_show_alone(struct plain_line *line) {
+    uint64_t none = 0;
+    if (!atomic_compare_exchange_strong(&line->calls, &none, (uint64_t)1 << 63)) return false;
+    plain_show(line);
+    atomic_fetch_sub(&line->calls, (uint64_t)1 << 63);
+    return true;
+}
+
 bool plain_view(struct plain_seat *seat, uint8_t *out, size_t length, uint64_t *serials, size_t room, struct plain_view *view) {
     if (atomic_load(&seat->word) >= 4) seat->shown = atomic_exchange(&seat->word, seat->shown) % 4;
     const struct plain_image *image = &seat->images[seat->shown];

@@ -40,6 +40,7 @@ struct plain_line {
     size_t datagrams[TASKS], outputs[TASKS];
     struct plain_datagram of[TASKS][DATAGRAMS];
     struct plain_seat *seats[TASKS];
+    _Alignas(64) _Atomic uint64_t calls; /* those that run: a change is the highest bit */
 };
 
 struct plain_view {
@@ -53,6 +54,9 @@ void plain_open(struct plain_line *line, uint8_t task, size_t room);
 
 /* Each seat is shown what its task reads, and its outputs. */
 void plain_show(struct plain_line *line);
+
+/* The same, as a call with a line does it that finds out whether another one runs; false where one does. */
+bool plain_show_alone(struct plain_line *line);
 
 /* The newest image, as zangjulf_seat_view tells it; false where `out` is too short. */
 bool plain_view(struct plain_seat *seat, uint8_t *out, size_t length, uint64_t *serials, size_t room, struct plain_view *view);
