@@ -1,8 +1,9 @@
 //! The instructions of a call at 8 slaves: of an event that `step` serves, of the event's own call, and of the plain core.
 
 use crate::{ARRIVE_ALONE, FILL, POST_OUTPUTS, READ_IMAGE, SEND, SEND_ALONE, SEND_AND_ARRIVE, WRITE_AND_ARRIVE};
-use crate::{Case, Opened, Timed, frames_of, line, opened, plain, proved, ready, sixty};
+use crate::{Case, Opened, Timed, frames_of, line, opened, owing, plain, proved, ready, sixty};
 use crate::{OWN_ARRIVE_ALONE, OWN_READ_IMAGE, OWN_SEND, OWN_SEND_AND_ARRIVE, STEP_POST};
+use crate::{OWN_WRITES_AND_ARRIVE, WRITES_AND_ARRIVE};
 
 /// How many calls are counted, behind as many that aren't.
 const CALLS: u32 = 40;
@@ -12,6 +13,14 @@ struct Row {
     case: Case,
     step: Option<u8>,
     own: Option<u8>,
+}
+
+/// All of 104 owed blocks are written and answered, in one round, since none is owed then.
+fn writes() -> Row {
+    let name = "104 writes in two frames, with their answers";
+    let timed = Timed { kind: WRITES_AND_ARRIVE, task: 0, calls: 1 };
+    let case = Case { name, timed, without: None, frame: Vec::new(), bytes: 0, rounds: 1, turns: 0 };
+    Row { case, step: Some(WRITES_AND_ARRIVE), own: Some(OWN_WRITES_AND_ARRIVE) }
 }
 
 /// A row whose kind in the plain core is this one.
@@ -47,7 +56,8 @@ fn for_each(is_wanted: &dyn Fn(&str) -> bool, mut find: impl FnMut(&Opened, &Row
     let (mut used, unwritten) = (ready(line::line(8)), opened(line::line(8)));
     let rows = rows(&mut used);
     let write = row("write with its answer", 0, &[], WRITE_AND_ARRIVE, Some(WRITE_AND_ARRIVE), None);
-    let all = rows.iter().map(|row| (&used, row)).chain([(&unwritten, &write)]);
+    let (writes, owing) = (writes(), owing(104));
+    let all = rows.iter().map(|row| (&used, row)).chain([(&unwritten, &write), (&owing, &writes)]);
     all.filter(|(_, row)| is_wanted(row.case.name)).for_each(|(opened, row)| find(opened, row));
 }
 
@@ -58,7 +68,7 @@ fn played(row: &Row) -> Vec<(u8, bool)> {
     kinds.map(|kind| (kind, true)).chain(plain.map(|kind| (kind, false))).collect()
 }
 
-/// Plays two rounds of all rows for who counts the instructions between two readings of the clock.
+/// Plays the rounds of all rows for who counts the instructions between two readings of the clock.
 pub fn count(is_wanted: &dyn Fn(&str) -> bool) {
     for_each(is_wanted, |opened, row| {
         for (kind, is_proved) in played(row) {
@@ -73,9 +83,10 @@ pub fn tell(totals: &mut impl Iterator<Item = f64>, is_wanted: &dyn Fn(&str) -> 
     println!("\n| Instructions of a call, 8 slaves | By `step` | By its own call | To it | Of plain Rust | To it |");
     println!("|---|---|---|---|---|---|");
     for_each(is_wanted, |_, row| {
-        // a total behind each of the four readings: the last is that of the second round
+        // a total after each reading, two of them a round: the last is that of the last round
+        let (readings, calls) = (2 * row.case.rounds, f64::from(row.case.timed.calls));
         let mut each = |is_there: bool| match is_there {
-            true => totals.by_ref().take(4).last().map(|total| total / f64::from(CALLS)),
+            true => totals.by_ref().take(readings).last().map(|total| total / calls),
             false => None,
         };
         let (step, own) = (each(row.step.is_some()), each(row.own.is_some()));

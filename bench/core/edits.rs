@@ -118,6 +118,7 @@ impl Core {
         }
         self.frames.clear();
         self.write = None;
+        self.writes.blocks.clear();
         self.fresh.fill(false);
         let Report { epoch, recut, moved, edit, tasks, rows, .. } = report;
         self.changes.push(Change::Swapped { edit, tasks, rows });

@@ -67,6 +67,8 @@ const OWN_SEND: u8 = 9;
 const OWN_SEND_AND_ARRIVE: u8 = 10;
 const OWN_ARRIVE_ALONE: u8 = 11;
 const OWN_READ_IMAGE: u8 = 12;
+const WRITES_AND_ARRIVE: u8 = 13;
+const OWN_WRITES_AND_ARRIVE: u8 = 14;
 
 unsafe extern "C" {
     fn core_told(
@@ -203,6 +205,28 @@ fn send_and_put(core: &mut Core, list: u8, frame: &mut [u8], places: &[u32]) -> 
     sent
 }
 
+/// All owed blocks are written, as many in a frame as it holds, and answered. Whether they were.
+fn write_all(core: &mut Core) -> bool {
+    while core.owed() > 0 {
+        let (Answer::WriteSent(mut frame) | Answer::WritesSent(mut frame)) = core.send_writes() else {
+            return false;
+        };
+        let mut at = 16;
+        loop {
+            let (counter, more) = (at + 10 + usize::from(frame[at + 6]), frame[at + 7]);
+            frame[counter] = 1;
+            if more < 0x80 {
+                break;
+            }
+            at = counter + 2;
+        }
+        if !matches!(core.arrive(&frame), Answer::WriteDone | Answer::Written(_)) {
+            return false;
+        }
+    }
+    true
+}
+
 /// What is timed, once, in the plain core: whether the answer is the one that is looked for.
 fn once(core: &mut Core, timed: &Timed, frame: &mut [u8], places: &[u32]) -> bool {
     match timed.kind {
@@ -223,6 +247,7 @@ fn once(core: &mut Core, timed: &Timed, frame: &mut [u8], places: &[u32]) -> boo
             frame[26 + size] = 1;
             matches!(core.arrive(&frame), Answer::WriteDone)
         }
+        WRITES_AND_ARRIVE => write_all(core),
         POST_OUTPUTS => matches!(core.post(timed.task, core.epoch(), frame), Answer::Posted),
         FILL => {
             core.preview_into(timed.task, black_box(frame));
@@ -383,6 +408,13 @@ fn tell_calls(turns: usize, is_wanted: &dyn Fn(&str) -> bool) {
             tell("2,048", large_case, &ratios(&large, large_case), &base);
         }
     }
+}
+
+/// A line of 8 slaves of which so many blocks are owed.
+fn owing(blocks: u32) -> Opened {
+    let mut opened = opened(line::line(8));
+    opened.script.write_until(blocks);
+    opened
 }
 
 /// Prints the rows of register writes.

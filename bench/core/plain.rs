@@ -27,6 +27,8 @@ pub enum Outcome {
     Inputs { task: u8, datagram: u8 },
     WrongCount { expected: u16, got: u16 },
     Stale,
+    Done,
+    Missed,
 }
 
 pub enum Answer {
@@ -34,7 +36,9 @@ pub enum Answer {
     Posted,
     Sent(Vec<Vec<u8>>),
     WriteSent(Vec<u8>),
+    WritesSent(Vec<u8>),
     Answered(Vec<Outcome>),
+    Written(Vec<Outcome>),
     WriteDone,
     WriteMissed,
     Stale,
@@ -71,6 +75,14 @@ struct Write {
     address: u32,
 }
 
+/// A frame of several register writes under way: its serial, and its blocks with their addresses; none of them where no such
+/// frame is. A block that was written again since is answered by that write alone.
+#[derive(Default)]
+struct Writes {
+    serial: u64,
+    blocks: Vec<(usize, u32, bool)>,
+}
+
 /// A register block of a slave, as the line has it and as the slave is known to have it.
 #[derive(Clone, Copy, Default)]
 struct Kept {
@@ -85,6 +97,7 @@ pub struct Core {
     newest: [u64; SLOTS],
     frames: Vec<Sending>,
     write: Option<Write>,
+    writes: Writes,
     fresh: [bool; SLOTS],
     image: Vec<[u8; ROOM]>,
     sent: Vec<[u8; ROOM]>,
@@ -135,6 +148,7 @@ impl Core {
             newest: [NEVER; SLOTS],
             frames: Vec::with_capacity(SLOTS),
             write: None,
+            writes: Writes::default(),
             fresh: [false; SLOTS],
             image: vec![[0; ROOM]; SLOTS],
             sent: vec![[0; ROOM]; SLOTS],
@@ -285,6 +299,17 @@ impl Core {
         Some(64 * at + self.owed[at].trailing_zeros() as usize)
     }
 
+    /// The first owed block of those from one on.
+    fn owed_from(&self, first: usize) -> Option<usize> {
+        let word = self.owed.get(first / 64)? >> (first % 64);
+        if word != 0 {
+            return Some(first + word.trailing_zeros() as usize);
+        }
+        let at = first / 64 + 1;
+        let at = at + self.owed.get(at..)?.iter().position(|word| *word != 0)?;
+        Some(64 * at + self.owed[at].trailing_zeros() as usize)
+    }
+
     #[inline(never)]
     pub fn send_write(&mut self) -> Answer {
         let Some(n) = self.first_owed() else {
@@ -302,7 +327,51 @@ impl Core {
         kept.known = None;
         self.write = Some(Write { serial: self.serial, block: n, address });
         self.serial += 1;
+        if let Some(older) = self.writes.blocks.iter_mut().find(|older| older.0 == n) {
+            older.2 = false;
+        }
         Answer::WriteSent(text)
+    }
+
+    /// The first owed blocks, as many as a frame holds. Those that are under way are among them.
+    #[inline(never)]
+    pub fn send_writes(&mut self) -> Answer {
+        if self.owed_count == 0 {
+            return Answer::Refused(18);
+        }
+        if self.serial >= SETUP_SERIAL {
+            return Answer::Refused(19);
+        }
+        let mut text = Vec::with_capacity(1514);
+        text.extend_from_slice(&[0; 16]);
+        self.writes.serial = self.serial;
+        self.writes.blocks.clear();
+        let (mut last, mut next) = (0, self.first_owed());
+        while let Some(n) = next {
+            let kept = &mut self.blocks[n];
+            let bytes = kept.block.bytes();
+            if text.len() + 12 + bytes.len() > 1514 {
+                break;
+            }
+            if last > 0 {
+                text[last + 7] |= 0x80;
+            }
+            last = text.len();
+            let address = u32::from(kept.station) | u32::from(kept.block.register) << 16;
+            add_datagram(&mut text, 5, self.serial, address, bytes);
+            kept.known = None;
+            self.writes.blocks.push((n, address, true));
+            next = self.owed_from(n + 1);
+        }
+        finish(&mut text, self.serial);
+        self.write = None;
+        self.serial += 1;
+        if let [(block, address, _)] = self.writes.blocks[..] {
+            self.writes.blocks.clear();
+            self.write = Some(Write { serial: self.writes.serial, block, address });
+            return Answer::WriteSent(text);
+        }
+        Answer::WritesSent(text)
     }
 
     fn answer_write(&mut self, region: &[u8], block: usize, address: u32) -> Answer {
@@ -321,6 +390,40 @@ impl Core {
         kept.known = Some(kept.block);
         self.set_owed(block, false);
         Answer::WriteDone
+    }
+
+    fn answer_writes(&mut self, region: &[u8]) -> Answer {
+        let mut outcomes = Vec::with_capacity(self.writes.blocks.len());
+        let mut rest = region;
+        for (block, address, is_newest) in &self.writes.blocks {
+            let Some((head, size, counter, behind)) = reader::part_of(rest) else {
+                return Answer::Stale;
+            };
+            let own = u32::from_le_bytes([head[2], head[3], head[4], head[5]]);
+            if head[0] != 5 || own != *address || size != self.blocks[*block].block.bytes().len() {
+                return Answer::Stale;
+            }
+            outcomes.push(match (is_newest, counter) {
+                (false, _) => Outcome::Stale,
+                (true, 1) => Outcome::Done,
+                (true, _) => Outcome::Missed,
+            });
+            rest = behind;
+        }
+        if !rest.is_empty() || self.writes.blocks.iter().all(|(_, _, is_newest)| !is_newest) {
+            return Answer::Stale;
+        }
+        let mut blocks = std::mem::take(&mut self.writes.blocks);
+        for ((block, ..), outcome) in blocks.iter().zip(&outcomes) {
+            if let Outcome::Done = outcome {
+                let kept = &mut self.blocks[*block];
+                kept.known = Some(kept.block);
+                self.set_owed(*block, false);
+            }
+        }
+        blocks.clear();
+        self.writes.blocks = blocks;
+        Answer::Written(outcomes)
     }
 
     /// What the datagrams of a frame are that came back; none where they aren't those of the frame.
@@ -358,6 +461,9 @@ impl Core {
         {
             let (block, address) = (write.block, write.address);
             return self.answer_write(region, block, address);
+        }
+        if self.writes.serial == serial && !self.writes.blocks.is_empty() {
+            return self.answer_writes(region);
         }
         let place = self.frames.partition_point(|frame| frame.serial < serial);
         let Some(frame) = self.frames.get(place).filter(|frame| frame.serial == serial) else {

@@ -12,6 +12,7 @@ pub const WRITE: u8 = 2;
 pub const ARRIVE: u8 = 3;
 pub const READ: u8 = 4;
 pub const EDIT: u8 = 5;
+pub const WRITES: u8 = 6;
 
 /// The lists of tasks that are sent.
 pub const LISTS: [&[u8]; 5] = [&[0], &[1], &[2], &[3, 4, 5, 6, 7], &[7, 1, 0]];
@@ -97,6 +98,7 @@ impl Script {
             POST => core.post(asked.task, asked.epoch, bytes),
             TASKS => core.send(LISTS[usize::from(asked.task)]),
             WRITE => core.send_write(),
+            WRITES => core.send_writes(),
             ARRIVE => core.arrive(bytes),
             EDIT => core.edit(&asked.edit.edit().expect("an edit")),
             _ => core.read(asked.task),
@@ -105,7 +107,7 @@ impl Script {
         self.is_refused = matches!(answer, Answer::Refused(_));
         self.sent = match &mut answer {
             Answer::Sent(frames) => std::mem::take(frames),
-            Answer::WriteSent(frame) => vec![std::mem::take(frame)],
+            Answer::WriteSent(frame) | Answer::WritesSent(frame) => vec![std::mem::take(frame)],
             _ => Vec::new(),
         };
         let (from, size) = (self.bytes.len() as u32, bytes.len() as u32);
@@ -119,13 +121,18 @@ impl Script {
         self.add(Asked { kind: ARRIVE, ..Asked::default() }, &frame);
     }
 
-    /// All owed blocks are written.
-    pub fn write_all(&mut self) {
-        while self.core.owed() > 0 {
+    /// Owed blocks are written until so many are left.
+    pub fn write_until(&mut self, left: u32) {
+        while self.core.owed() > left {
             self.add(Asked { kind: WRITE, ..Asked::default() }, &[]);
             let sent = std::mem::take(&mut self.sent);
             self.answer(&sent[0]);
         }
+    }
+
+    /// All owed blocks are written.
+    pub fn write_all(&mut self) {
+        self.write_until(0);
     }
 
     /// Every task is posted, each byte unlike its neighbours.
@@ -150,7 +157,7 @@ impl Script {
         self.add(Asked { kind: EDIT, edit, ..Asked::default() }, &[]);
     }
 
-    /// Plays drawn events: posts, sendings, writes, arrivals good, late, doubled, cut, changed or with another counter,
+    /// Plays drawn events: posts, sendings, writes of one block and of several, arrivals good, late, doubled, cut, changed or with another counter,
     /// reads and edits, some of which are refused.
     pub fn draw(&mut self, count: usize) {
         let mut draws = Draws(1);
@@ -168,7 +175,8 @@ impl Script {
                     let bytes: Vec<u8> = (0..size).map(|_| draw(256) as u8).collect();
                     self.add(Asked { kind: POST, task, epoch, ..none }, &bytes);
                 }
-                20..55 if owes => self.add(Asked { kind: WRITE, ..none }, &[]),
+                20..40 if owes => self.add(Asked { kind: WRITE, ..none }, &[]),
+                40..55 if owes => self.add(Asked { kind: WRITES, ..none }, &[]),
                 20..45 => self.add(Asked { kind: TASKS, task: draw(5) as u8, ..none }, &[]),
                 45..48 => self.add(Asked { kind: WRITE, ..none }, &[]),
                 48..90 if !flying.is_empty() => {
@@ -181,7 +189,8 @@ impl Script {
                             frame[at] ^= 1 << draw(8);
                         }
                         2 => {
-                            let at = starts(&frame)[0];
+                            let all = starts(&frame);
+                            let at = all[draw(all.len())];
                             let size = usize::from(u16::from_le_bytes([frame[at + 6], frame[at + 7]]) & 0x7ff);
                             frame[at + 10 + size] ^= 1;
                         }

@@ -16,8 +16,14 @@ fn told_of_outcome(told: u64, outcome: &Outcome) -> u64 {
         Outcome::Inputs { task, datagram } => (1, u64::from(*task), u64::from(*datagram)),
         Outcome::WrongCount { expected, got } => (2, u64::from(*expected), u64::from(*got)),
         Outcome::Stale => return told_of(told, 3),
+        Outcome::Done => return told_of(told, 4),
+        Outcome::Missed => return told_of(told, 5),
     };
     told_of(told_of(told_of(told, kind), one), other)
+}
+
+fn told_of_outcomes(told: u64, outcomes: &[Outcome]) -> u64 {
+    outcomes.iter().fold(told_of(told, outcomes.len() as u64), told_of_outcome)
 }
 
 fn told_of_answer(told: u64, answer: &Answer) -> u64 {
@@ -31,10 +37,9 @@ fn told_of_answer(told: u64, answer: &Answer) -> u64 {
             frames.iter().fold(told, |told, frame| told_of_bytes(told, frame))
         }
         Answer::WriteSent(frame) => told_of_bytes(told_of(told, 14), frame),
-        Answer::Answered(outcomes) => {
-            let told = told_of(told_of(told, 15), outcomes.len() as u64);
-            outcomes.iter().fold(told, told_of_outcome)
-        }
+        Answer::WritesSent(frame) => told_of_bytes(told_of(told, 22), frame),
+        Answer::Answered(outcomes) => told_of_outcomes(told_of(told, 15), outcomes),
+        Answer::Written(outcomes) => told_of_outcomes(told_of(told, 23), outcomes),
         Answer::WriteDone => told_of(told, 16),
         Answer::WriteMissed => told_of(told, 17),
         Answer::Stale => told_of(told, 18),

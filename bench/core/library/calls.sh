@@ -64,7 +64,7 @@ ghost use Rattle.hc_core.specs.Proposed.{IsProposal};
 use crate::answers::{told_of_answer, told_of_changes};
 use crate::bytes::{bytes_from, put_serial};
 use crate::clock::nanoseconds;
-use crate::cores::{opened, send, write_and_take};
+use crate::cores::{opened, own_write_all_and_take, send, write_all_and_take, write_and_take};
 use crate::edits_asked::{EditAsked, edit_of};
 use crate::told::told_of;
 use hc_core::keeping::Core;
@@ -98,6 +98,8 @@ const READ: u8 = 4;
 
 const EDIT: u8 = 5;
 
+const WRITES: u8 = 6;
+
 /// An edit is carried out.
 fn edit(alloc: Global, core: &mut Core, asked: &EditAsked) -> Answer {
     match edit_of(alloc, asked) {
@@ -116,6 +118,7 @@ fn serve(alloc: Global, core: &mut Core, asked: &Asked, bytes: &[u8]) -> Answer 
         POST => post(alloc, core, asked.task, asked.epoch, own),
         TASKS => send(alloc, core, asked.task),
         WRITE => core.step(alloc, Event::SendWrite),
+        WRITES => core.step(alloc, Event::SendWrites),
         ARRIVE => core.step(alloc, Event::Arrive(own)),
         EDIT => edit(alloc, core, &asked.edit),
         _ => core.step(alloc, Event::Read(asked.task)),
@@ -192,6 +195,10 @@ const OWN_SEND_AND_ARRIVE: u8 = 10;
 const OWN_ARRIVE_ALONE: u8 = 11;
 
 const OWN_READ_IMAGE: u8 = 12;
+
+const WRITES_AND_ARRIVE: u8 = 13;
+
+const OWN_WRITES_AND_ARRIVE: u8 = 14;
 
 /// A sending, whose serial is put into the frame that will come back.
 fn send_and_put(
@@ -320,6 +327,7 @@ fn own_once(
             let told = own_arrive(alloc, core, frame);
             u64::from(matches!(told, Some(Arrived::Stale)))
         }
+        OWN_WRITES_AND_ARRIVE => u64::from(own_write_all_and_take(alloc, core)),
         OWN_READ_IMAGE => {
             u64::from(matches!(core.read(alloc, timed.task), Ok(Answer::Image { .. })))
         }
@@ -351,6 +359,7 @@ fn once(
             ))
         }
         WRITE_AND_ARRIVE => u64::from(write_and_take(alloc, core)),
+        WRITES_AND_ARRIVE => u64::from(write_all_and_take(alloc, core)),
         STEP_POST => {
             let epoch = core.plan().epoch();
             u64::from(matches!(
