@@ -231,7 +231,8 @@ def main(top, write):
         faults["edits"] += unfound(renamed, place, text)
     changed = sum(text != tree.sources[place].text or moves[place] != place for place, text in texts.items())
     for kind in ("names", "edits"):
-        print("\n".join(faults[kind]))
+        for fault in faults[kind]:
+            print(fault)
     print(f"{changed} files, {len(concerned)} identifiers, {sum(moves[place] != place for place in moves)} files move")
     if write:
         for place in tree.sources:
