@@ -65,6 +65,8 @@ class Renamer:
 
     def of_segments(self, source, segments, is_ghost):
         """A path of a `use`, segment by segment."""
+        if segments[0] in source.inner:
+            return self.of_segments(source, ["crate", *segments], is_ghost)[1:]
         begun = 1 if is_ghost and segments[0] == "Rattle" else 0
         crate = source.crate if segments[begun] in ("crate", "self", "super") else segments[begun]
         if crate not in self.tree.below:
@@ -161,6 +163,12 @@ def collisions(renamer, source):
     for name in source.declared:
         by_name[renamer.of_token(source, name, "", source.kind == ".antt")].add(name)
     yield from ((f"{name} (items)", sorted(olds)) for name, olds in by_name.items() if len(olds) > 1)
+    if source.kind == ".rt":
+        by_letters = defaultdict(set)
+        for name, olds in by_name.items():
+            by_letters[name.lower()] |= olds
+        apart = ((name, olds) for name, olds in by_letters.items() if len({old.lower() for old in olds}) > 1)
+        yield from ((f"{name} (but for case)", sorted(olds)) for name, olds in apart)
 
 
 def renamed_edit(renamer, place, text):

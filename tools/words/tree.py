@@ -70,6 +70,7 @@ class Source:
         self.module = ".".join(place.with_suffix("").parts)
         self.code, self.ghost, self.aliases, self.external = {}, {}, {}, set()
         bare = plain(text, self.kind)
+        self.inner = set(re.findall(r"\bmod[ ]+(\w+)", bare)) if self.kind == ".rt" else set()
         for match in re.finditer(USE[self.kind], bare, re.M):
             self.add_use(match.group(0), crates)
         pattern = TOP if self.kind == ".antt" else ITEM
@@ -95,6 +96,8 @@ class Source:
             segments = segments[1:]
         if segments[0] in ("crate", "self", "super"):
             return self.crate, ".".join(segments[1:-1]), segments[-1]
+        if segments[0] in self.inner:
+            return self.crate, ".".join(segments[:-1]), segments[-1]
         if segments[0] in crates and len(segments) > 1:
             return segments[0], ".".join(segments[1:-1]), segments[-1]
         return None
