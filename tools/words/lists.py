@@ -26,6 +26,11 @@ def like(new, old):
     return new
 
 
+def is_in(place, scope):
+    """Whether a file is the one of a scope, lies in its folder, or has its name."""
+    return place == scope or place.startswith(f"{scope}/") or place.endswith(f"/{scope}")
+
+
 class Renames:
     """What renames.txt and exceptions.txt say. A crate is None for text that belongs to no crate."""
 
@@ -47,12 +52,16 @@ class Renames:
     def at_place(self, place, name):
         """What a name becomes in a file, by the lines for this file or its folder; none where there is no such line."""
         for scope in self.placed:
-            if place.startswith(scope) and name in self.lists["name"][scope]:
+            if is_in(place, scope) and name in self.lists["name"][scope]:
                 return self.lists["name"][scope][name]
         return None
 
     def is_exception(self, crate, name):
         return (crate, name) in self.stays or ("*", name) in self.stays
+
+    def is_exception_at(self, place, name):
+        """Whether an identifier stays in a file: by a line for the file, its folder or its name."""
+        return any(stays == name and is_in(place, scope) for scope, stays in self.stays if "/" in scope or "." in scope)
 
     def of_part(self, crate, part):
         """A whole part between hyphens: by its own line, else word by word."""

@@ -39,7 +39,7 @@ class Renamer:
     def of_token(self, source, name, before, is_ghost):
         """What an identifier of a file becomes; `before` is the text in front of it."""
         place = f"{source.crate}/{source.place}"
-        if self.renames.is_exception(place, name):
+        if self.renames.is_exception_at(place, name):
             return name
         if self.renames.at_place(place, name):
             return self.renames.at_place(place, name)
