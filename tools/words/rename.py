@@ -13,7 +13,7 @@ from collections import defaultdict
 from pathlib import Path
 
 from lists import Renames
-from tree import COMMENT, IDENTIFIER, STRING, USE, Tree, ghost_spans, imports_in
+from tree import COMMENT, IDENTIFIER, OUTSIDE, STRING, USE, Tree, ghost_spans
 
 CAPTURE = re.compile(r"\{([a-z_]\w*)(?=[:}])")
 
@@ -69,7 +69,7 @@ class Renamer:
             return self.of_segments(source, ["crate", *segments], is_ghost)[1:]
         begun = 1 if is_ghost and segments[0] == "Rattle" else 0
         crate = source.crate if segments[begun] in ("crate", "self", "super") else segments[begun]
-        if crate not in self.tree.below:
+        if crate not in self.tree.below or crate == OUTSIDE:
             return segments
         inner = segments[begun + 1:]
         if not inner:
@@ -207,6 +207,20 @@ def unfound(texts, place, text):
             now[file] = now[file].replace(old, rest, 1)
 
 
+def forbidden_lines(tree, renamer):
+    """The identifiers that go, each with the crates that have it no longer, or *, and with what comes."""
+    news = defaultdict(lambda: defaultdict(set))
+    for source in tree.sources.values():
+        note = lambda old, new: news[old.split(".")[-1]][source.crate].add(new.split(".")[-1])
+        renamer.text_of(source, source.text, note)
+    yield "# Identifiers that went, the crates that may not have them any more, and what came. rename.py writes it."
+    for old in sorted(news):
+        gone = sorted(crate for crate, new in news[old].items() if old not in new)
+        if gone:
+            crates = "*" if len(gone) == len(news[old]) else ",".join(gone)
+            yield f"{old} {crates} {','.join(sorted(set().union(*news[old].values()) - {old}))}"
+
+
 def undeclared(tree):
     """The imports of a tree that nothing declares, of modules that are files there."""
     for source in tree.sources.values():
@@ -243,6 +257,7 @@ def main(top, write):
             print(fault)
     print(f"{changed} files, {len(concerned)} identifiers, {sum(moves[place] != place for place in moves)} files move")
     if write:
+        Path(__file__).with_name("forbidden.txt").write_text("\n".join(forbidden_lines(tree, renamer)) + "\n")
         for place in tree.sources:
             (top / "crates" / place).unlink()
         for place, text in {**renamed, **edits}.items():

@@ -17,6 +17,7 @@ TOP = re.compile(
     re.M,
 )
 ITEM = re.compile(r"\b(?:fn|struct|enum|trait|type|const|static|mod)[ ]+([A-Za-z_]\w*)")
+OUTSIDE = "outside"  # the crate of code that is no crate's of this repository
 BOUND = re.compile(r"(?<![.:\w])([A-Za-z_]\w*)")
 
 
@@ -95,7 +96,7 @@ class Source:
         if is_ghost and segments[0] == "Rattle":
             segments = segments[1:]
         if segments[0] in ("crate", "self", "super"):
-            return self.crate, ".".join(segments[1:-1]), segments[-1]
+            return None if self.crate == OUTSIDE else (self.crate, ".".join(segments[1:-1]), segments[-1])
         if segments[0] in self.inner:
             return self.crate, ".".join(segments[:-1]), segments[-1]
         if segments[0] in crates and len(segments) > 1:
