@@ -213,11 +213,12 @@ def forbidden_lines(tree, renamer):
     for source in tree.sources.values():
         note = lambda old, new: news[old.split(".")[-1]][source.crate].add(new.split(".")[-1])
         renamer.text_of(source, source.text, note)
+    come = {crate: {name for new in news.values() for name in new.get(crate, ())} for crate in tree.crates}
     yield "# Identifiers that went, the crates that may not have them any more, and what came. rename.py writes it."
     for old in sorted(news):
-        gone = sorted(crate for crate, new in news[old].items() if old not in new)
+        gone = sorted(crate for crate in news[old] if old not in come[crate])
         if gone:
-            crates = "*" if len(gone) == len(news[old]) else ",".join(gone)
+            crates = "*" if not any(old in names for names in come.values()) else ",".join(gone)
             yield f"{old} {crates} {','.join(sorted(set().union(*news[old].values()) - {old}))}"
 
 
