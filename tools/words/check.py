@@ -12,7 +12,7 @@ from pathlib import Path
 
 from lists import Renames, lines_of
 from prose import comments, paragraphs
-from tree import COMMENT, IDENTIFIER, STRING, Source, Tree
+from tree import COMMENT, IDENTIFIER, STRING, USE, Source, Tree
 
 MOST_TWINS = 20
 MOST_CHAINS = 2.5  # in 1,000 words
@@ -31,10 +31,11 @@ def read_forbidden():
 
 
 def old_names(source, forbidden, renames):
-    """The identifiers of a file, outside of comments and strings, that went."""
+    """The identifiers of a file that went, outside of comments, strings and `use` lines: what these bring in is named below."""
     place = f"{source.crate}/{source.place}"
     blank = lambda match: re.sub(r"[^\n]", " ", match.group(0))
-    for number, line in enumerate(re.sub(f"{COMMENT[source.kind]}|{STRING}", blank, source.text).split("\n"), 1):
+    bare = re.sub(f"{COMMENT[source.kind]}|{STRING}|{USE[source.kind]}", blank, source.text, flags=re.M)
+    for number, line in enumerate(bare.split("\n"), 1):
         for name in IDENTIFIER.findall(line):
             if forbidden.get(name, set()) & {"*", source.crate} and not renames.is_exception_at(place, name):
                 yield f"{place}:{number}: {name}"
