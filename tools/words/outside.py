@@ -46,8 +46,11 @@ class Outside:
 
     def of_name(self, page, name, hints):
         """A name on a page, by the crates that the page speaks of, nearest first."""
-        if name not in self.seen:
+        if name not in self.seen or self.renamer.renames.is_exception_at(str(page), name):
             return name
+        own = self.renamer.renames.at_place(str(page), name)
+        if own:
+            return own
         for crate in [crate for crate in hints if crate in self.homes[name]] + hints:
             news = self.seen[name].get(crate, set())
             if len(news) == 1:
