@@ -19,6 +19,7 @@ FENCE = re.compile(r"(?:<!-- quoted: (?P<quoted>\S+) -->\n)?```(?P<kind>\w*)\n(?
 CODE = re.compile(r"(?<!`)`([^`\n]+)`(?!`)")
 CRATE = re.compile(r"\b(hc_\w+|worked_\w+)\b")
 HERE = re.compile(r"(?P<head>[^\n]*<<-?\s*'?(?P<mark>\w+)'?[^\n]*\n)(?P<text>.*?\n)(?P=mark)\n", re.S)
+FIELD = re.compile(r"(?m)(^ {2,}|record \{ |; )([a-z_]\w*)(?= = )")
 ENDINGS = (".md", ".sh", ".py", ".rs", ".rattle", ".c", ".h", ".cpp", ".in")
 
 
@@ -137,7 +138,8 @@ class Outside:
             return of_known(source, name, before, is_ghost) if is_ours else name
 
         renamer.of_token = of_token
-        return renamer.text_of(source, code)
+        new = renamer.text_of(source, code)
+        return FIELD.sub(lambda field: field.group(1) + self.of_name(place, field.group(2), []), new) if ending == ".antt" else new
 
 
 def main(top, write):
