@@ -1,8 +1,9 @@
 """Checks the words of the repository: identifiers that were renamed, words of specs with two meanings, and the prose of comments.
 
-    python3 tools/words/check.py [TREE]
+    python3 tools/words/check.py [--clauses]
 
 A finding is printed, a line each; a mistake of each kind is planted, and must be found. The last line is 'N passed, M failed'.
+With --clauses it checks nothing, and lists the clauses over 160 characters, the longest first.
 """
 
 import re
@@ -17,6 +18,8 @@ from tree import COMMENT, IDENTIFIER, STRING, USE, Source, Tree
 MOST_TWINS = 20
 MOST_CHAINS = 2.5  # in 1,000 words
 MOST_EXCEPTIONS = 40
+MOST_CHARACTERS = 160
+CLAUSE = re.compile(r"^[ \t]*((?:ensures|requires)\*?(?: \w+)?) \{", re.M)
 UNWANTED = re.compile(r"\b(?:of which|that of|behind which|told|stands(?! for)|want of memory|is answered that)\b", re.I)
 PREPOSITION = "in|by|to|for|at|from|with|on|under|over|after|before|of|behind|between|through|beside"
 CHAIN = re.compile(rf"\b(?:(?:{PREPOSITION}) (?:which|whose|whom)|that of|those of)\b", re.I)
@@ -98,6 +101,19 @@ def found_in(tree):
     yield [f"{exceptions} exceptions"] if exceptions > MOST_EXCEPTIONS else []
 
 
+def long_clauses(tree):
+    """The clauses over 160 characters, on one line or several, as (characters, place, clause)."""
+    for place, source in tree.sources.items():
+        for match in CLAUSE.finditer(source.text) if source.kind == ".rt" else ():
+            depth, end = 1, match.end()
+            while depth:
+                depth += (source.text[end] == "{") - (source.text[end] == "}")
+                end += 1
+            clause = re.sub(r"\s+", " ", source.text[match.end():end - 1]).strip()
+            if len(clause) > MOST_CHARACTERS:
+                yield len(clause), f"{place}:{source.text[:match.start()].count(chr(10)) + 1}", f"{match.group(1)} {clause}"
+
+
 def is_spec(place):
     """Whether a file has words of specs; worked examples are no words."""
     return place.parts[1] == "specs" and not place.stem.startswith("Worked")
@@ -118,8 +134,13 @@ def planted():
     yield "many chains", chains_in_a_thousand(["the part of which " + "word " * 96]) == 10.0
 
 
-def main(top):
-    outcomes = list(found_in(Tree(top)))
+def main(words):
+    tree = Tree(Path(__file__).resolve().parents[2])
+    if words == ["--clauses"]:
+        for characters, place, clause in sorted(long_clauses(tree), reverse=True):
+            print(f"{characters} {place} {clause}")
+        return 0
+    outcomes = list(found_in(tree))
     outcomes += [[] if is_found else [f"planted and not judged rightly: {mistake}"] for mistake, is_found in planted()]
     for findings in outcomes:
         for finding in findings:
@@ -130,4 +151,4 @@ def main(top):
 
 
 if __name__ == "__main__":
-    sys.exit(main(Path(sys.argv[1]) if len(sys.argv) > 1 else Path(__file__).resolve().parents[2]))
+    sys.exit(main(sys.argv[1:]))

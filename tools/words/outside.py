@@ -12,7 +12,7 @@ from collections import defaultdict
 from pathlib import Path
 
 from lists import Renames
-from rename import Renamer
+from renamer import Renamer
 from tree import IDENTIFIER, OUTSIDE, Source, Tree
 
 FENCE = re.compile(r"(?:<!-- quoted: (?P<quoted>\S+) -->\n)?```(?P<kind>\w*)\n(?P<text>.*?)```", re.S)

@@ -1,6 +1,7 @@
 """The repository's source files: which crate and module each is, what it declares, and where it has its names from."""
 
 import re
+from copy import copy
 from functools import lru_cache
 
 IDENTIFIER = re.compile(r"[A-Za-z_][A-Za-z0-9_]*(?:-[A-Za-z0-9][A-Za-z0-9_]*)*")
@@ -103,6 +104,10 @@ class Source:
             return segments[0], ".".join(segments[1:-1]), segments[-1]
         return None
 
+    def externals(self):
+        """The names that it has from outside of this repository."""
+        return {name for names in (self.code, self.ghost) for name, origin in names.items() if origin is None}
+
 
 class Tree:
     """All crates' files, by their place in the tree."""
@@ -122,10 +127,23 @@ class Tree:
                 self.sources[place] = Source(crate, place.relative_to(crate), path.read_text(), self.below)
             elif path.suffix == ".edit":
                 self.edits.append(place)
+        self.gather()
+
+    def gather(self):
+        """The modules, and the names of each crate's text, once the sources are there."""
         self.modules = {(source.crate, source.module): source for source in self.sources.values()}
         self.names = {crate: set() for crate in self.crates}
         for source in self.sources.values():
-            self.names[source.crate] |= set(BOUND.findall(plain(source.text, source.kind))) - source_externals(source)
+            self.names[source.crate] |= set(BOUND.findall(plain(source.text, source.kind))) - source.externals()
+
+    def with_texts(self, texts):
+        """The tree with these files in place of its own."""
+        other = copy(self)
+        places = [place for place in texts if place.suffix in (".rt", ".antt")]
+        crates = {place: place.parts[0] for place in places}
+        other.sources = {place: Source(crates[place], place.relative_to(crates[place]), texts[place], self.below) for place in places}
+        other.gather()
+        return other
 
     @lru_cache(None)
     def closure(self, crate):
@@ -150,7 +168,3 @@ class Tree:
             if further != "own":
                 return further and self.home(further, depth + 1)
         return origin
-
-
-def source_externals(source):
-    return {name for names in (source.code, source.ghost) for name, origin in names.items() if origin is None}
