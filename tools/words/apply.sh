@@ -15,6 +15,7 @@
 #    check.py, lists.py, prose.py, tree.py, exceptions.txt and forbidden.txt.
 set -eu
 cd "$(dirname "$0")/../.."
+python3 -B tools/words/rename.py .
 python3 -B tools/words/rename.py . --forbidden >tools/words/forbidden.new
 python3 -B tools/words/prose.py . --write
 python3 -B tools/words/outside.py . --write
