@@ -77,7 +77,11 @@ class Renamer:
         if crate not in self.tree.below or crate == OUTSIDE or not inner:
             return segments
         last = self.of_origin((crate, ".".join(inner[:-1]), inner[-1]))
-        return segments[:begun] + [self.renames.of_name(crate, part) for part in inner[:-1]] + [last]
+        return segments[:begun] + [self.of_folder(crate, part) for part in inner[:-1]] + [last]
+
+    def of_folder(self, crate, part):
+        """A part of a path; that of a function in a cycle of calls begins with a plus."""
+        return IDENTIFIER.sub(lambda match: self.of_member(crate, match.group(0)), part) if "+" in part else self.renames.of_name(crate, part)
 
     def of_use(self, source, line):
         """A `use` with its names renamed, in the form that it has."""
@@ -99,7 +103,7 @@ class Renamer:
         separator = "." if is_ghost else "::"
         word, _, alias = (part.strip() for part in piece.strip().partition(" as "))
         segments = [part for part in word.split(separator) if part]
-        if any(not re.match(r"#?[A-Za-z_]", part) for part in segments):
+        if any(not re.match(r"[#+]?[A-Za-z_]", part) for part in segments):
             return piece, base
         new = separator.join(self.of_segments(source, base + segments, is_ghost)[len(base):])
         new += separator if word.endswith(separator) else ""
