@@ -1,4 +1,4 @@
-"""Changes sentences and phrases of comments and docstrings, as prose.txt and phrases.txt beside it say.
+"""Changes sentences and phrases of comments, docstrings and pages, as prose.txt, phrases.txt and pages.txt beside it say.
 
     python3 tools/words/prose.py TREE [--write]
 
@@ -94,8 +94,27 @@ def changed_text(prose, text, kind):
     return "\n".join(lines), count
 
 
+def changed_pages(top):
+    """The pages that pages.txt changes, with their new text; what it doesn't find is printed."""
+    pairs, found = list(pairs_of("pages.txt")), set()
+    for path in sorted(top.rglob("*.md")):
+        if not {"out", ".git", "target"} & set(path.relative_to(top).parts):
+            old = new = path.read_text()
+            for goes, comes in pairs:
+                found |= {goes} if goes in new else set()
+                new = new.replace(goes, comes)
+            if new != old:
+                yield path, new
+    for goes, _ in pairs:
+        if goes not in found:
+            print(f"not found on a page: {goes}")
+
+
 def main(top, write):
     prose, files, count = Prose(), 0, 0
+    for path, text in list(changed_pages(top)):
+        if write:
+            path.write_text(text)
     for path in sorted((top / "crates").rglob("*")):
         if path.suffix in MARK and "out" not in path.parts:
             text = path.read_text()
