@@ -2,7 +2,7 @@
 
 import re
 
-from tree import COMMENT, IDENTIFIER, OUTSIDE, STRING, USE, ghost_spans
+from tree import COMMENT, IDENTIFIER, OUTSIDE, STRING, USE, field_places, ghost_spans
 
 CAPTURE = re.compile(r"\{([a-z_]\w*)(?=[:}])")
 QUALIFIER = re.compile(r"(?<![\w.:])([A-Za-z_]\w*)(?:\.|::)$")
@@ -50,6 +50,12 @@ class Renamer:
         if source.kind == ".antt" and name in source.declared and name not in names:
             return self.of_declared(source, name)
         return self.renames.of_name(source.crate, name)
+
+    def of_field(self, source, name):
+        """A field that a record is declared or made with, whatever has its name beside it."""
+        place = f"{source.crate}/{source.place}"
+        own = name if self.renames.is_exception_at(place, name) else self.renames.at_place(place, name)
+        return own or self.of_member(source.crate, name)
 
     def of_qualified(self, source, name, before, is_ghost):
         """A name after a point or a path."""
@@ -113,9 +119,10 @@ class Renamer:
     def text_of(self, source, text, note=lambda old, new: None):
         """A text of a file with its identifiers renamed. `note` gets each old and new identifier, with a module's alias before it."""
         spans = ghost_spans(text) if source.kind == ".rt" else []
+        fields = field_places(text)
 
-        def of_name(name, before, is_ghost):
-            new = self.of_token(source, name, before, is_ghost)
+        def of_name(name, before, is_ghost, is_field=False):
+            new = self.of_field(source, name) if is_field else self.of_token(source, name, before, is_ghost)
             alias = QUALIFIER.search(before)
             head = f"{alias.group(1)}." if alias and alias.group(1) in source.aliases else ""
             note(head + name, head + new)
@@ -130,7 +137,7 @@ class Renamer:
             if match.lastgroup == "use":
                 return self.of_use(source, whole)
             is_ghost = source.kind == ".antt" or any(first <= match.start() < last for first, last in spans)
-            return of_name(whole, text[max(0, match.start() - BEFORE):match.start()], is_ghost)
+            return of_name(whole, text[max(0, match.start() - BEFORE):match.start()], is_ghost, match.start() in fields)
 
         return token_pattern(source.kind).sub(of_match, text)
 

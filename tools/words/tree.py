@@ -12,6 +12,9 @@ USE = {
     ".antt": r"^[ \t]*(?:pub[ ]+)?use[ ][^\n]*",
 }
 GHOST = re.compile(r"\b(?:ensures|requires|ghost|invariant)\b[^{};\n]*\{")
+RECORD = re.compile(r"^(?:(?:pub|abbrev)[ ]+)*record[ ][^\n]*(?:\n(?:[ \t][^\n]*|(?=\n)))*", re.M)
+FIELD = re.compile(r"^[ ]{2,4}(?:pub[ ]+)?([A-Za-z_]\w*)[ ]*:", re.M)
+LITERAL = re.compile(r"\brecord\b[^{};=\n]*\{")
 TOP = re.compile(
     r"^(?:[ ]{2,4}(?=pub|[A-Z]|abbrev|[a-z][\w-]*[ ]*:))?(?:(?:abbrev|unfoldable|opaque|pub|data|record|open)[ ]+)*"
     r"([A-Za-z_]\w*(?:-[A-Za-z0-9]\w*)*)[ \t]*(?:[:({]|$)",
@@ -62,6 +65,31 @@ def ghost_spans(text):
             end += 1
         spans.append((match.end(), end))
     return spans
+
+
+def field_places(text):
+    """Where a text of specs or proofs names fields of a record: where it declares one, and where it makes one."""
+    places = set()
+    for block in RECORD.finditer(text):
+        places |= {block.start() + field.start(1) for field in FIELD.finditer(block.group(0))}
+    for literal in LITERAL.finditer(text):
+        places |= set(entries_of(text, literal.end()))
+    return places
+
+
+def entries_of(text, place):
+    """Where the names of a record's fields stand, from its brace on."""
+    depth, begins = 1, True
+    while place < len(text) and depth:
+        name = IDENTIFIER.match(text, place) if begins and depth == 1 else None
+        if name:
+            if re.match(r"\s*=(?!=)", text[name.end():name.end() + 40]):
+                yield place
+            begins, place = False, name.end()
+            continue
+        depth += (text[place] in "{(") - (text[place] in "})")
+        begins = (begins and text[place].isspace()) or (text[place] == ";" and depth == 1)
+        place += 1
 
 
 class Source:
