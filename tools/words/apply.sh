@@ -12,7 +12,8 @@
 # 4. Commit. Prove the crates from the lowest up (`rt lib`, then `rt must-fail`: each refusal is read, since a name that is gone also
 #    refuses). Where a proof breaks, a line of exceptions.txt or renames.txt is at fault more often than the proof: a name of the
 #    toolchain's that looks like ours. Undo the commit, mend the list, apply again: what is proved stays proved.
-# 5. `tools/words.sh` goes into .ci/run, behind tools/definitions.sh, and into docs/house/GATE.md. Then all of this folder goes but
+# 5. clauses.txt has shorter forms of clauses of more than 160 characters, to be proved crate by crate.
+# 6. `tools/words.sh` goes into .ci/run, behind tools/definitions.sh, and into docs/house/GATE.md. Then all of this folder goes but
 #    check.py, lists.py, prose.py, tree.py, exceptions.txt and forbidden.txt.
 set -eu
 cd "$(dirname "$0")/../.."
