@@ -7,7 +7,8 @@
 //! often memory grew.
 //!
 //! Words after the program's name: `few` for a short run, `declare` for declared groups alone, any other one for the edits
-//! whose names have it.
+//! whose names have it. With `count` the edits are played for who counts the instructions between two readings of the clock,
+//! and `counts` prints these.
 
 mod asked;
 mod declaring;
@@ -201,9 +202,48 @@ fn tell_nanoseconds(name: &str, slaves: usize, times: &Times, edits: &[usize]) {
     }
 }
 
+/// Plays two rounds of each line, for who counts instructions.
+fn count() {
+    for line in SLAVES.map(Line::new) {
+        proved(&line, 2);
+        plain(&line, 2);
+    }
+}
+
+/// The totals of so many edits: each has one of what is before it, and then its own.
+fn counted(totals: &mut impl Iterator<Item = f64>, edits: usize) -> Vec<f64> {
+    let mut next = || totals.nth(1).expect("a total");
+    (0..edits).map(|_| next()).collect()
+}
+
+/// Prints the instructions of each edit in the second round, by the totals between readings of the clock.
+fn tell_counts(totals: &str) {
+    let mut totals = totals.lines().map(|total| total.trim().parse().expect("a total"));
+    println!("| Edit | Slaves | Instructions | Of plain Rust | Ratio |");
+    println!("|---|---|---|---|---|");
+    for line in SLAVES.map(Line::new) {
+        compare_line(&line);
+        let own = counted(&mut totals, line.asked(2).len()).split_off(line.asked(1).len());
+        let edits = line.round.asked.len() - 1;
+        let plain = counted(&mut totals, 2 * edits).split_off(edits);
+        for case in &line.round.cases {
+            let mean = |counts: &[f64]| case.edits.iter().map(|edit| counts[*edit]).sum::<f64>() / case.edits.len() as f64;
+            let (own, plain) = (mean(&own), mean(&plain));
+            println!("| {} | {} | {own:.0} | {plain:.0} | {:.1} |", case.name, line.slaves, own / plain);
+        }
+    }
+}
+
 fn main() {
     let words: Vec<String> = std::env::args().skip(1).collect();
     let few = words.iter().any(|word| word == "few");
+    if words.iter().any(|word| word == "count") {
+        return count();
+    }
+    if words.iter().any(|word| word == "counts") {
+        let path = std::env::var_os("COUNTS").expect("the file of the totals");
+        return tell_counts(&std::fs::read_to_string(path).expect("totals"));
+    }
     if words.iter().any(|word| word == "declare") {
         return declaring::tell(if few { 1 } else { 9 });
     }

@@ -271,4 +271,12 @@ build "$bench" rt lib
 plain "$here/main.rs" -o "$scratch/bench" \
     -L "$bench/out" -l static=edits_bench -C link-arg="$kit/c/liblibc_c.a" \
     -C link-arg=-Wl,--wrap=malloc,--wrap=calloc,--wrap=realloc,--wrap=clock_gettime
+# With the word `counts` the instructions of each edit: callgrind ends a part of its counts where the clock is read.
+if [ "${1:-}" = counts ]; then
+    valgrind --tool=callgrind --combine-dumps=yes --dump-before=__wrap_clock_gettime \
+        --callgrind-out-file="$scratch/parts" "$scratch/bench" count > "$scratch/valgrind.txt" 2>&1 \
+        || { cat "$scratch/valgrind.txt"; exit 1; }
+    sed -n 's/^totals: //p' "$scratch/parts" > "$scratch/counts"
+    export COUNTS="$scratch/counts"
+fi
 "$scratch/bench" "$@"

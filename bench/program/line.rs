@@ -51,15 +51,17 @@ pub fn project() -> String {
     text
 }
 
-/// The text of a project of 2,048 slaves with eight areas each, the n-th in the n-th task: 3 MB, with names that nobody
-/// reads.
-pub fn large_project() -> String {
+/// The text of a project of 2,048 slaves with eight areas each, the n-th in the n-th task: 3 MB with names that nobody
+/// reads, else 2 MB.
+pub fn large_project(has_names: bool) -> String {
     let mut text = String::new();
     for slave in 0..2048 {
         writeln!(text, "[[slave]]\nstation = {}", station(slave)).expect("memory");
         for area in 0..AREAS {
             add_area(&mut text, area, area, AREAS * slave + area + 1);
-            writeln!(text, "name = \"area {area} of the slave {slave}, both counted from 0\"").expect("memory");
+            if has_names {
+                writeln!(text, "name = \"area {area} of the slave {slave}, both counted from 0\"").expect("memory");
+            }
         }
     }
     text

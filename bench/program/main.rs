@@ -1,5 +1,5 @@
 //! The program beside plain Rust that answers the same commands, and beside the TOML reader alone: `bench HOTLINE PLAIN READER`
-//! with the paths of the three programs.
+//! with the paths of the three programs. With one word it prints the large project, with names where the word is `named`.
 //!
 //! First the answers to all commands are compared byte by byte. A cycle is the difference of two runs; what is printed is
 //! ratios of medians of runs that are taken in turns, the plain one twice, of one long run of each, and what was resident.
@@ -135,13 +135,17 @@ fn time_cycles(program: &str, plain: &str) {
 
 /// Tells what a project takes to be read and opened.
 fn time_opening(program: &str, reader: &str) {
-    let text = large_project();
+    let text = large_project(true);
     let taken = medians([&|| run(program, &text).0, &|| run(reader, &text).0, &|| run(reader, &text).0]);
     tell(&format!("a project of {} bytes, read and opened, beside the TOML reader", text.len()), taken);
 }
 
 fn main() {
     let words: Vec<String> = std::env::args().skip(1).collect();
+    if let [word] = &words[..] {
+        print!("{}", large_project(word == "named"));
+        return;
+    }
     let [program, plain, reader] = &words[..] else {
         panic!("usage: bench HOTLINE PLAIN READER");
     };

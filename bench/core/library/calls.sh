@@ -10,11 +10,11 @@ use Rattle.std.proofs.lemmas.Bool.{and_parts, ltb-true, ltb-false}
 use Rattle.std.proofs.lemmas.List.Elements.{All-cons, All-nil}
 use Rattle.hc_records.specs.Image.{datagram_count, task_places}
 use Rattle.hc_frames.specs.declared.limits.TheConstants.{SETUP_SERIAL}
-use Rattle.hc_events.specs.Accepted.{StandsIn}
+use Rattle.hc_events.specs.Accepted.{IsInLine}
 use Rattle.hc_events.specs.Calls.{preview}
-use Rattle.hc_events.specs.Entries.{Record}
+use Rattle.hc_events.specs.Entries.{History}
 use Rattle.hc_events.specs.Points.{line_of, next_serial}
-use Rattle.hc_events.specs.Sendings.{Frame, alone, length_of}
+use Rattle.hc_events.specs.Sendings.{Frame, frame_of_one, line_data_length}
 use Rattle.hc_events.specs.Steps.{has_serials}
 use Rattle.hc_events.proofs.lemmas.Frames.{alone-counted}
 use Rattle.hc_core.specs.Filled.{CanBeFilled}
@@ -23,11 +23,11 @@ not_true : (b : Bool) → not b ≡ true → b ≡ false
 not_true false e = refl
 not_true true e = cc
 
-is_filled : (past : Record) (task d : ℕ) (frame : Frame) (can : Bool) → can ≡ (nat_lt d (datagram_count (task_places task (line_of past))) && has_serials past 1)
-    → cond can (Some (alone (next_serial past) (task, d) (length_of (line_of past) (task, d)))) None ≡ Some frame → CanBeFilled past frame
+is_filled : (past : History) (task d : ℕ) (frame : Frame) (can : Bool) → can ≡ (nat_lt d (datagram_count (task_places task (line_of past))) && has_serials past 1)
+    → cond can (Some (frame_of_one (next_serial past) (task, d) (line_data_length (line_of past) (task, d)))) None ≡ Some frame → CanBeFilled past frame
 is_filled past task d frame false is e = cc
 is_filled past task d frame true is e =
-    let one = alone (next_serial past) (task, d) (length_of (line_of past) (task, d)) in
+    let one = frame_of_one (next_serial past) (task, d) (line_data_length (line_of past) (task, d)) in
     let same : one ≡ frame = cc in
     let count = datagram_count (task_places task (line_of past)) in
     let parts = and_parts (nat_lt d count) (has_serials past 1) (sym is) in
@@ -35,12 +35,12 @@ is_filled past task d frame true is e =
     let left : next_serial past + 1 ≤ SETUP_SERIAL = ltb-false SETUP_SERIAL (next_serial past + 1) (not_true (nat_lt SETUP_SERIAL (next_serial past + 1)) parts.1) in
     subst (CanBeFilled past) same
     (record {
-      stands = All-cons (StandsIn (line_of past)) (task, d) [] inside (All-nil (StandsIn (line_of past)));
+      is_placed = All-cons (IsInLine (line_of past)) (task, d) [] inside (All-nil (IsInLine (line_of past)));
       counted = alone-counted (line_of past) (next_serial past) (task, d);
       serial = omega (arith, left);
     })
 
-pub preview_filled : (past : Record) (task d : ℕ) (frame : Frame) → preview past task d ≡ Some frame → CanBeFilled past frame
+pub preview_filled : (past : History) (task d : ℕ) (frame : Frame) → preview past task d ≡ Some frame → CanBeFilled past frame
 preview_filled past task d frame e = is_filled past task d frame (nat_lt d (datagram_count (task_places task (line_of past))) && has_serials past 1) refl e
 END_OF_PROOF
 cat > "$1/src/lib.rt" <<'END_OF_CODE'
@@ -57,7 +57,7 @@ mod plans;
 mod told;
 
 ghost use Rattle.std.specs.Prelude.{◌≡◌, All, OnOk, length};
-ghost use Rattle.hc_events.specs.Sendings.{size_of};
+ghost use Rattle.hc_events.specs.Sendings.{sent_frame_size};
 ghost use Rattle.hc_core.specs.Filled.{CanBeFilled};
 ghost use Rattle.hc_core.specs.Proposed.{IsProposal};
 
@@ -222,8 +222,8 @@ fn take_answer(alloc: Global, core: &mut Core, frame: &[u8]) -> u64 {
 
 /// One of the lists of tasks is proposed.
 fn propose(core: &Core, list: u8, frames: &mut Vec<Sending>) -> Result<(), CoreFault>
-    ensures present { OnOk result (IsProposal core.now.past frames.new.items) }
-    ensures filled { OnOk result (All (CanBeFilled core.now.past) frames.new.items) }
+    ensures present { OnOk result (IsProposal core.now.history frames.new.items) }
+    ensures filled { OnOk result (All (CanBeFilled core.now.history) frames.new.items) }
 {
     match list {
         0 => core.propose_into(&[0], frames),
@@ -234,7 +234,7 @@ fn propose(core: &Core, list: u8, frames: &mut Vec<Sending>) -> Result<(), CoreF
 
 /// The text of a frame.
 fn text(alloc: Global, core: &Core, frame: &Sending) -> Result<Items<u8>, AllocError>
-    requires { CanBeFilled core.now.past frame.now }
+    requires { CanBeFilled core.now.history frame.now }
 {
     let mut text = Vec::from_elem(alloc, 0, frame.size())?;
     core.fill(frame, &mut text);
@@ -243,7 +243,7 @@ fn text(alloc: Global, core: &Core, frame: &Sending) -> Result<Items<u8>, AllocE
 
 /// The texts of frames.
 fn texts(alloc: Global, core: &Core, frames: &[Sending]) -> Result<Items<Items<u8>>, AllocError>
-    requires { All (CanBeFilled core.now.past) frames.now }
+    requires { All (CanBeFilled core.now.history) frames.now }
 {
     let mut texts = Vec::with_capacity(alloc, frames.len())?;
     for frame in frames {
@@ -279,8 +279,8 @@ fn own_take_answer(alloc: Global, core: &mut Core, frame: &[u8]) -> u64 {
 
 /// Writes a frame into a slice of its size, so many times.
 fn fill(core: &Core, frame: &Sending, calls: u32, out: &mut [u8])
-    requires frame { CanBeFilled core.now.past frame.now }
-    requires exact { length out.old ≡ size_of frame.now }
+    requires frame { CanBeFilled core.now.history frame.now }
+    requires exact { length out.old ≡ sent_frame_size frame.now }
     ensures { length out.new ≡ length out.old }
 {
     for _ in 0..calls {

@@ -5,7 +5,7 @@ cat > "$1/src/timing.rt" <<'END_OF_CODE'
 //! Calls, timed in rounds by a clock inside.
 ghost use Rattle.std.specs.Prelude.{◌≡◌, ◌≤◌, ◌++◌, drop, length};
 ghost use Rattle.hc_core.specs.Filled.{CanBeFilled};
-ghost use Rattle.hc_events.specs.Sendings.{size_of};
+ghost use Rattle.hc_events.specs.Sendings.{sent_frame_size};
 ghost use Rattle.hc_events.specs.Steps.{sent_text};
 ghost use Rattle.hc_machine.specs.declared.limits.TheConstants.{MEMORY_BYTES};
 
@@ -149,9 +149,9 @@ fn block(core: &Core, station: u16, out: &mut [u8]) -> u64 {
 
 /// Fills a frame at the front of a slice that has room for it.
 fn fill_frame(core: &Core, frame: &Sending, out: &mut [u8])
-    requires can { CanBeFilled core.now.past frame.now }
-    requires room { size_of frame.now ≤ length out.old }
-    ensures { out.new ≡ sent_text core.now.past frame.now ++ drop (size_of frame.now) out.old }
+    requires can { CanBeFilled core.now.history frame.now }
+    requires room { sent_frame_size frame.now ≤ length out.old }
+    ensures { out.new ≡ sent_text core.now.history frame.now ++ drop (sent_frame_size frame.now) out.old }
 {
     let (front, _) = out.split_at_mut(frame.size());
     core.fill(frame, front);

@@ -116,7 +116,7 @@ cat > "$1/src/rounds.rt" <<'END_OF_CODE'
 //! Rounds of publishings, each change published by itself.
 ghost use Rattle.std.specs.Prelude.{◌≡◌, ◌++◌, ◌∷◌, [], IfSome, reverse};
 ghost use Rattle.hc_events.specs.Changes.{AreLegal};
-ghost use Rattle.hc_publish.specs.Board.{origin_of};
+ghost use Rattle.hc_publish.specs.PublishedState.{origin_of};
 ghost use Rattle.publish_bench.specs.Lines.{LeadsTo};
 ghost use Rattle.publish_bench.specs.Lists.{all_of};
 
@@ -283,17 +283,17 @@ use Rattle.hc_records.specs.declared.records.Group.{Group}
 use Rattle.hc_records.specs.Line.{State, opened}
 use Rattle.hc_events.specs.declared.change.Change.{Change}
 use Rattle.hc_events.specs.Changes.{AreLegal, AreLegalFrom}
-use Rattle.hc_events.specs.NewsLaws.{state_behind}
+use Rattle.hc_events.specs.UpdatesLaws.{state_after_changes}
 use Rattle.hc_events.proofs.lemmas.Views.{changes-lead_on, legal-joined, legal-parts}
-use Rattle.hc_publish.specs.Board.{Board, origin_of}
+use Rattle.hc_publish.specs.PublishedState.{PublishedState, origin_of}
 use Rattle.publish_bench.specs.Lines.{LeadsTo}
 use Rattle.publish_bench.specs.Lists.{Follows, all_of}
 
 -- one change more
-pub follows_on : (s old new : State) (changes : List Change) (change : Change) → Follows s changes old → AreLegalFrom old (change ∷ []) → state_behind old (change ∷ []) ≡ new → Follows s (changes ++ change ∷ []) new
+pub follows_on : (s old new : State) (changes : List Change) (change : Change) → Follows s changes old → AreLegalFrom old (change ∷ []) → state_after_changes old (change ∷ []) ≡ new → Follows s (changes ++ change ∷ []) new
 follows_on s old new changes change h one next = record {
   legal = legal-joined s changes (change ∷ []) h.legal (subst (λ t. AreLegalFrom t (change ∷ [])) (sym h.leads) one);
-  leads = (changes-lead_on changes (change ∷ [])).state s ∙ (ap (λ t. state_behind t (change ∷ [])) h.leads ∙ next);
+  leads = (changes-lead_on changes (change ∷ [])).state s ∙ (ap (λ t. state_after_changes t (change ∷ [])) h.leads ∙ next);
 }
 
 -- the last of a list is the first of the list turned round
@@ -312,17 +312,17 @@ all_next all next whole turned rest c grown e first =
     ap (λ w. w ++ rest) grown ∙ (append_assoc all (c ∷ []) rest ∙ (ap (λ w. all ++ w) (sym first) ∙ e))
 
 -- a publisher that was given what follows leads to where that leads
-pub leads_all : (p q : Board) (changes : List Change) (old new : State) → LeadsTo p old → Follows old changes new → origin_of q ≡ origin_of p → all_of q ≡ all_of p ++ changes → LeadsTo q new
+pub leads_all : (p q : PublishedState) (changes : List Change) (old new : State) → LeadsTo p old → Follows old changes new → origin_of q ≡ origin_of p → all_of q ≡ all_of p ++ changes → LeadsTo q new
 leads_all p q changes old new h f origin all =
     let groups = (origin_of p).groups in
     record {
       legal = subst (λ o. AreLegal o.groups (all_of q)) (sym origin) (subst (AreLegal groups) (sym all) (legal-joined (opened groups) (all_of p) changes h.legal (subst (λ s. AreLegalFrom s changes) (sym h.leads) f.legal)));
-      leads = ap (λ o. state_behind (opened o.groups) (all_of q)) origin
-          ∙ (ap (state_behind (opened groups)) all ∙ ((changes-lead_on (all_of p) changes).state (opened groups) ∙ (ap (λ s. state_behind s changes) h.leads ∙ f.leads)));
+      leads = ap (λ o. state_after_changes (opened o.groups) (all_of q)) origin
+          ∙ (ap (state_after_changes (opened groups)) all ∙ ((changes-lead_on (all_of p) changes).state (opened groups) ∙ (ap (λ s. state_after_changes s changes) h.leads ∙ f.leads)));
     }
 
 -- so what follows may be published
-pub legal_all : (p : Board) (changes : List Change) (old new : State) → LeadsTo p old → Follows old changes new → AreLegal (origin_of p).groups (all_of p ++ changes)
+pub legal_all : (p : PublishedState) (changes : List Change) (old new : State) → LeadsTo p old → Follows old changes new → AreLegal (origin_of p).groups (all_of p ++ changes)
 legal_all p changes old new h f =
     legal-joined (opened (origin_of p).groups) (all_of p) changes h.legal (subst (λ s. AreLegalFrom s changes) (sym h.leads) f.legal)
 END_OF_PROOF
@@ -393,7 +393,7 @@ END_OF_PROOF
 cat > "$1/proofs/rounds/publish_all/Invariants.antt" <<'END_OF_PROOF'
 use Rattle.std.proofs.Common.{◌≡◌, ◌++◌, vec_len}
 use Rattle.std.specs.Prelude.{reverse}
-use Rattle.hc_publish.specs.Board.{origin_of}
+use Rattle.hc_publish.specs.PublishedState.{origin_of}
 use Rattle.publish_bench.specs.Lists.{all_of}
 use Rattle.publish_bench.proofs.rounds.publish_all.Given as goal
 
@@ -417,7 +417,7 @@ use Rattle.std.proofs.Common.{◌≡◌, ◌++◌, ap, subst, sym, ◌∙◌}
 use Rattle.std.specs.Prelude.{reverse}
 use Rattle.std.proofs.lemmas.List.{reverse-reverse}
 use Rattle.hc_events.specs.Changes.{AreLegal}
-use Rattle.hc_publish.specs.Board.{origin_of}
+use Rattle.hc_publish.specs.PublishedState.{origin_of}
 use Rattle.publish_bench.specs.Lists.{all_of}
 use Rattle.publish_bench.proofs.Following.{leads_all, legal_all}
 use Rattle.publish_bench.proofs.rounds.play.Goals as goal

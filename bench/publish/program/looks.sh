@@ -5,7 +5,7 @@ mkdir -p "$1/proofs/looks/learn_often" "$1/proofs/looks/time_last" "$1/proofs/lo
 cat > "$1/src/looks.rt" <<'END_OF_CODE'
 //! Rounds of views and of notes.
 ghost use Rattle.std.specs.Prelude.{◌≡◌, IfSome};
-ghost use Rattle.hc_publish.specs.Board.{origin_of};
+ghost use Rattle.hc_publish.specs.PublishedState.{origin_of};
 ghost use Rattle.hc_publish.specs.Seats.{seat_origin};
 
 use crate::asked::Given;
@@ -338,13 +338,13 @@ END_OF_PROOF
 cat > "$1/proofs/looks/time_last/Answers.antt" <<'END_OF_PROOF'
 use Rattle.std.proofs.Common.{IfSome, subst, sym, ◌∙◌}
 use Rattle.std.proofs.lemmas.List.Elements.{All-pop}
-use Rattle.hc_publish.specs.Board.{origin_of}
-use Rattle.hc_publish.specs.Seats.{IsFresh}
+use Rattle.hc_publish.specs.PublishedState.{origin_of}
+use Rattle.hc_publish.specs.Seats.{SeatIsAtOpening}
 use Rattle.publish_bench.proofs.looks.time_last.Goals as goal
 
 pub time_learning-sum-requires : goal.time_learning-sum-requires
 time_learning-sum-requires g c =
-    let P = IsFresh (origin_of c.in_ok-plan.publisher) in
+    let P = SeatIsAtOpening (origin_of c.in_ok-plan.publisher) in
     let popped = All-pop P _ _ c.pop.result c.pop.ensures.items c.in_ok-plan.ensures.seats in
     (subst (λ r. IfSome r P) c.in-Some.is popped.1).1 ∙ sym c.play-done.ensures.origin
 END_OF_PROOF

@@ -78,7 +78,7 @@ bits_of-ReplacesRun old new ys at n run len within whole is r =
             let there : at + (k - at) ≡ k = omega arith in
             ap (bit_of new) (sym there) ∙ r.inside (k - at) (omega arith)
             ∙ sym (ap (λ i. get_or (with_run (bits_of old) at ys) i 0) (sym there) ∙ with_run-inside (bits_of old) ys at (k - at) room (omega arith) ∙ is (k - at) (omega arith))
-        | inr past ↦ r.after k past ∙ sym (with_run-after (bits_of old) ys at k room (omega arith) ∙ get_or-bits_of old k)
+        | inr history ↦ r.after k history ∙ sym (with_run-after (bits_of old) ys at k room (omega arith) ∙ get_or-bits_of old k)
       ]
     ])
 

@@ -69,8 +69,8 @@ mask-after w at n k h p =
     ap (λ x. bit_at x k) (mask_whole w at n h) ∙ bit_at-shl_from (2 ^ n - 1) at k (omega arith) ∙ bit_at_ones_above n (k - at) (omega arith)
 
 -- a number without the bits of a mask
-masked-kept : (w : Width) (byte mask k : ℕ) → mask < 2 ^ bits w → k < bits w → bit_at mask k ≡ 0 → bit_at (bit_and byte (bit_not w mask)) k ≡ bit_at byte k
-masked-kept w byte mask k m low z = bit_at-and_one byte (bit_not w mask) k (bit_at_not w mask k m low ∙ ap (λ x. 1 - x) z)
+masked-unchanged : (w : Width) (byte mask k : ℕ) → mask < 2 ^ bits w → k < bits w → bit_at mask k ≡ 0 → bit_at (bit_and byte (bit_not w mask)) k ≡ bit_at byte k
+masked-unchanged w byte mask k m low z = bit_at-and_one byte (bit_not w mask) k (bit_at_not w mask k m low ∙ ap (λ x. 1 - x) z)
 
 masked-cleared : (w : Width) (byte mask k : ℕ) → mask < 2 ^ bits w → k < bits w → bit_at mask k ≡ 1 → bit_at (bit_and byte (bit_not w mask)) k ≡ 0
 masked-cleared w byte mask k m low one = bit_at-and_zero byte (bit_not w mask) k (bit_at_not w mask k m low ∙ ap (λ x. 1 - x) one)
@@ -90,12 +90,12 @@ replaced_in-inside w byte at n part k h fits p = bit_at-or_right _ (part * 2 ^ a
 
 pub replaced_in-before : (w : Width) (byte at n part k : ℕ) → at + n ≤ bits w → part < 2 ^ n → k < at → bit_at (replaced_in w byte at n part) k ≡ bit_at byte k
 replaced_in-before w byte at n part k h fits p = bit_at-or_left _ (part * 2 ^ at % 2 ^ bits w) k (bit_at byte k)
-    (masked-kept w byte _ k (mask-lt w at n) (omega arith) (mask-before w at n k h p))
+    (masked-unchanged w byte _ k (mask-lt w at n) (omega arith) (mask-before w at n k h p))
     (ap (λ x. bit_at x k) (moved_whole w at n part h fits) ∙ bit_at-shl_below part at k p)
 
 pub replaced_in-after : (w : Width) (byte at n part k : ℕ) → at + n ≤ bits w → part < 2 ^ n → at + n ≤ k → k < bits w → bit_at (replaced_in w byte at n part) k ≡ bit_at byte k
 replaced_in-after w byte at n part k h fits p low = bit_at-or_left _ (part * 2 ^ at % 2 ^ bits w) k (bit_at byte k)
-    (masked-kept w byte _ k (mask-lt w at n) low (mask-after w at n k h p))
+    (masked-unchanged w byte _ k (mask-lt w at n) low (mask-after w at n k h p))
     (ap (λ x. bit_at x k) (moved_whole w at n part h fits) ∙ bit_at-shl_from part at k (omega arith) ∙ bit_at_above part n (k - at) fits (omega arith))
 
 -- a part put above the bits that a number has

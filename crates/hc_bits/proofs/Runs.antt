@@ -1,4 +1,4 @@
--- Bits of a slice by the byte in which they stand, and runs of bits that are replaced in turn.
+-- Bits of a slice by the byte where they are, and runs of bits that are replaced in turn.
 use Rattle.std.proofs.Common.{rules, ◌≡◌, ◌≢◌, ℕ, ◌+◌, ◌-◌, ◌*◌, ◌/◌, ◌%◌, ◌<◌, ◌≤◌, List, length, get_or, set, take, drop, get_or-set_same, get_or-set_other, refl, sym, ◌∙◌, ap, arith, inl, inr}
 use borrow.Rule.Slice.PartMut.{put_mid}
 use Rattle.std.specs.Int.{bit_at, to_le_bytes, from_le_bytes, w64}
@@ -28,9 +28,9 @@ bit_of-same_byte xs ys i j k m same e =
     bit_of-byte xs (i + k / 8) (k % 8) m (omega arith) (omega arith) ∙ ap (λ b. bit_at b (k % 8)) same
     ∙ sym (bit_of-byte ys (j + k / 8) (k % 8) (8 * j + k) (omega arith) (omega arith))
 
-pub bit_of-kept : (xs ys : List ℕ) (k : ℕ) → get_or xs (k / 8) 0 ≡ get_or ys (k / 8) 0 → bit_of xs k ≡ bit_of ys k
+pub bit_of-unchanged : (xs ys : List ℕ) (k : ℕ) → get_or xs (k / 8) 0 ≡ get_or ys (k / 8) 0 → bit_of xs k ≡ bit_of ys k
 unfolding bit_of
-bit_of-kept xs ys k same = ap (λ b. bit_at b (k % 8)) same
+bit_of-unchanged xs ys k same = ap (λ b. bit_at b (k % 8)) same
 
 -- a run of bits replaced within byte i
 pub ReplacesRun-set : (bytes : List ℕ) (i b at n place : ℕ) (run : ℕ → ℕ) → i < length bytes → at + n ≤ 8 → 8 * i + at ≡ place
@@ -41,18 +41,18 @@ pub ReplacesRun-set : (bytes : List ℕ) (i b at n place : ℕ) (run : ℕ → �
 ReplacesRun-set bytes i b at n place run within low e inside before after =
     let new : (j k : ℕ) → j < 8 → 8 * i + j ≡ k → bit_of (set bytes i b) k ≡ bit_at b j =
     λ j k h p. bit_of-byte (set bytes i b) i j k h p ∙ ap (λ x. bit_at x j) (get_or-set_same bytes i b 0 within) in
-    let kept : (j k : ℕ) → j < 8 → 8 * i + j ≡ k → bit_at b j ≡ bit_at (get_or bytes i 0) j → bit_of (set bytes i b) k ≡ bit_of bytes k =
+    let unchanged : (j k : ℕ) → j < 8 → 8 * i + j ≡ k → bit_at b j ≡ bit_at (get_or bytes i 0) j → bit_of (set bytes i b) k ≡ bit_of bytes k =
     λ j k h p same. new j k h p ∙ same ∙ sym (bit_of-byte bytes i j k h p) in
     let other : (k : ℕ) → k / 8 ≢ i → bit_of (set bytes i b) k ≡ bit_of bytes k =
-    λ k ne. bit_of-kept (set bytes i b) bytes k (get_or-set_other bytes i (k / 8) b 0 ne) in
+    λ k ne. bit_of-unchanged (set bytes i b) bytes k (get_or-set_other bytes i (k / 8) b 0 ne) in
     record {
       inside = λ k h. new (at + k) (place + k) (omega arith) (omega arith) ∙ inside k h;
       before = λ k h. elim (cases_eq (k / 8) i) [
-        | inl same ↦ kept (k - 8 * i) k (omega arith) (omega arith) (before (k - 8 * i) (omega arith))
+        | inl same ↦ unchanged (k - 8 * i) k (omega arith) (omega arith) (before (k - 8 * i) (omega arith))
         | inr ne ↦ other k ne
       ];
       after = λ k h. elim (cases_eq (k / 8) i) [
-        | inl same ↦ kept (k - 8 * i) k (omega arith) (omega arith) (after (k - 8 * i) (omega arith) (omega arith))
+        | inl same ↦ unchanged (k - 8 * i) k (omega arith) (omega arith) (after (k - 8 * i) (omega arith) (omega arith))
         | inr ne ↦ other k ne
       ];
     }
@@ -100,8 +100,8 @@ pub ReplacesRun-put : (old ys : List ℕ) (a n : ℕ) → a + n ≤ length old �
 ReplacesRun-put old ys a n h e = record {
   inside = λ k p. bit_of-same_byte (put_mid a n old ys) ys a 0 k (8 * a + k) (put_mid-inside old ys a n (k / 8) h e (omega arith) ∙ ap (λ i. get_or ys i 0) (let z : k / 8 ≡ 0 + k / 8 = omega arith in z)) refl
       ∙ ap (bit_of ys) (let z : 8 * 0 + k ≡ k = omega arith in z);
-  before = λ k p. bit_of-kept (put_mid a n old ys) old k (put_mid-before old ys a n (k / 8) h e (omega arith));
-  after = λ k p. bit_of-kept (put_mid a n old ys) old k (put_mid-after old ys a n (k / 8) h e (omega arith));
+  before = λ k p. bit_of-unchanged (put_mid a n old ys) old k (put_mid-before old ys a n (k / 8) h e (omega arith));
+  after = λ k p. bit_of-unchanged (put_mid a n old ys) old k (put_mid-after old ys a n (k / 8) h e (omega arith));
 }
 
 -- the bits of a part of a slice
@@ -128,7 +128,7 @@ pub bit_at-from_le_bytes : (xs : List ℕ) (word k : ℕ) → length xs ≡ 8 �
 bit_at-from_le_bytes xs word k len small is h =
     sym (bit_of-to_le_bytes word k h) ∙ ap (λ bytes. bit_of bytes k) (le_bytes_8 xs word len small is)
 
--- a word with a run replaced, written where it stood
+-- a word with a run replaced, written where it was
 module _ (old new : List ℕ) (first at place n word was : ℕ) (run : ℕ → ℕ) (is : 8 * first + place ≡ at) (room : place + n ≤ 64) (put : ReplacesRun old new (8 * first) 64 (bit_at word))
     (known : (k : ℕ) → k < 64 → bit_at was k ≡ bit_of old (8 * first + k)) where
   stays : (k : ℕ) → 8 * first ≤ k → k < 8 * first + 64 → bit_at word (k - 8 * first) ≡ bit_at was (k - 8 * first) → bit_of new k ≡ bit_of old k

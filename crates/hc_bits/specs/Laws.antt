@@ -24,8 +24,8 @@ PutsWhatIsRead = (old new : List ℕ) (at n value : ℕ) → value < 2 ^ n → R
     → number_of (run_of (bits_of new) at n) ≡ value
 
 -- slices with the same list of bits are the same bytes
-abbrev pub BitsTellBytes : Type 0
-BitsTellBytes = (xs ys : List ℕ) → AreBytes xs → AreBytes ys → bits_of xs ≡ bits_of ys → xs ≡ ys
+abbrev pub BitsSayBytes : Type 0
+BitsSayBytes = (xs ys : List ℕ) → AreBytes xs → AreBytes ys → bits_of xs ≡ bits_of ys → xs ≡ ys
 
 -- slices of the same length whose bits are the same, place by place, are the same bytes
 abbrev pub SameBitsAreSameBytes : Type 0
@@ -36,11 +36,11 @@ SameBitsAreSameBytes = (xs ys : List ℕ) → AreBytes xs → AreBytes ys → le
 abbrev pub ZerosHaveNoBits : Type 0
 ZerosHaveNoBits = (n k : ℕ) → bit_of (replicate n 0) k ≡ 0
 
--- the bits of two slices joined are those of the first, and behind them those of the second
+-- the bits of two slices joined are the first's, and after them those of the second
 abbrev pub JoinedBitsFollow : Type 0
 JoinedBitsFollow = (xs ys : List ℕ) (k : ℕ) → (k < 8 * length xs → bit_of (xs ++ ys) k ≡ bit_of xs k) × (bit_of (xs ++ ys) (8 * length xs + k) ≡ bit_of ys k)
 
--- the bits of a slice's first n bytes are its own, and those of the bytes behind them stand 8 * n bits further on in it
+-- the bits of a slice's first n bytes are its own, and those of the bytes after them are 8 * n bits further on in it
 abbrev pub PartsKeepBits : Type 0
 PartsKeepBits = (xs : List ℕ) (n k : ℕ) → (k < 8 * n → bit_of (take n xs) k ≡ bit_of xs k) × (bit_of (drop n xs) k ≡ bit_of xs (8 * n + k))
 

@@ -1,4 +1,4 @@
-//! Runs of bits within one byte, from which the runs over several bytes are made.
+//! Runs of bits within one byte. The runs over several bytes are made from them.
 
 ghost use Rattle.std.specs.Prelude.{◌≡◌, ℕ, ◌+◌, ◌-◌, ◌^◌, ◌<◌, ◌≤◌};
 ghost use Rattle.std.specs.Int.{bit_at};

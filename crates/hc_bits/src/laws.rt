@@ -1,8 +1,8 @@
 //! Laws of the contracts: what is said bit by bit is a reading, a replacement and a copy of a part of the
-//! slice's list of bits; and where the bits of a slice and of its parts stand. The functions do nothing; their
+//! slice's list of bits; and where the bits of a slice and of its parts are. The functions do nothing; their
 //! contracts are the laws.
 
-ghost use Rattle.hc_bits.specs.Laws.{BitsTellBytes, CopiesIntoList, DisjointRunsCommute, JoinedBitsFollow, PartsKeepBits, PutsIntoList, PutsWhatIsRead, ReadsList, SameBitsAreSameBytes, ZerosHaveNoBits};
+ghost use Rattle.hc_bits.specs.Laws.{BitsSayBytes, CopiesIntoList, DisjointRunsCommute, JoinedBitsFollow, PartsKeepBits, PutsIntoList, PutsWhatIsRead, ReadsList, SameBitsAreSameBytes, ZerosHaveNoBits};
 
 /// What `get_bits` answers is the number that the run's part of the list of bits spells.
 pub fn reading_takes_list()
@@ -25,8 +25,8 @@ pub fn put_is_read_back()
 {}
 
 /// Slices of the same bits are the same bytes, so nothing of a slice escapes its list of bits.
-pub fn bits_tell_bytes()
-    ensures { BitsTellBytes }
+pub fn bits_say_bytes()
+    ensures { BitsSayBytes }
 {}
 
 /// Slices of the same length whose bits are the same, place by place, are the same bytes.
@@ -39,12 +39,12 @@ pub fn zeros_have_no_bits()
     ensures { ZerosHaveNoBits }
 {}
 
-/// The bits of two slices joined are those of the first, and behind them those of the second.
+/// The bits of two slices joined are the first's, and after them those of the second.
 pub fn joined_bits_follow()
     ensures { JoinedBitsFollow }
 {}
 
-/// The bits of a slice's first bytes are its own, and so are those of the bytes behind them, further on.
+/// The bits of a slice's first bytes are its own, and so are those of the bytes after them, further on.
 pub fn parts_keep_bits()
     ensures { PartsKeepBits }
 {}

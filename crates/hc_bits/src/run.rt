@@ -197,10 +197,10 @@ pub fn put_bits(bytes: &mut [u8], at: usize, n: usize, value: u64)
     }
 }
 
-/// Replaces the `n` bits of `to` from bit `at2` on by the `n` bits of `from` from bit `at` on. Every other
-/// bit stays.
+/// Replaces the `n` bits of `to` from bit `at2` on by the `n` bits of `from` from bit `at` on. Every other bit
+/// stays.
 ///
-/// Both runs lie in their slices, and `n` has no other bound. Every such call copies. Runs that stand alike in
+/// Both runs lie in their slices, and `n` has no other bound. Every such call copies. Runs that are alike in
 /// their bytes go by a copy of memory, and others by words of 64 bits and by bytes.
 pub fn copy_bits(from: &[u8], at: usize, to: &mut [u8], at2: usize, n: usize)
     requires from_within { at + n ≤ 8 * length from.now }

@@ -12,7 +12,7 @@ use Rattle.hc_bitsum.specs.declared.sum.Sum.TheVariants.{Empty}
 use Rattle.hc_bitsum.specs.Branch.{AreForks, AreRowSums}
 use Rattle.hc_bitsum.specs.Rows.{IsRow, part, row_areas}
 use Rattle.hc_bitsum.specs.Slots.{bits_at, key_at, set_at}
-use Rattle.hc_bitsum.specs.Sums.{joined, sum_of}
+use Rattle.hc_bitsum.specs.Sums.{sums_joined, sum_of}
 use Rattle.hc_bitsum.proofs.Parts.{length-part, part-one, part-same, part-split}
 use Rattle.hc_bitsum.proofs.Read.{bits-back, bits-front}
 use Rattle.hc_bitsum.proofs.Shape.{set_at-back, set_at-front}
@@ -67,13 +67,13 @@ pub leaves-put : (dir : Dir) (rows : List (List ℕ)) (sums : List Sum) (r : ℕ
 leaves-put dir rows sums r own nodes inside others is i h some =
     grind (arith, nat_tests, get_or-set_same, get_or-set_other)
 
--- the forks that don't stand above a node stay
+-- the forks that aren't above a node stay
 pub forks-stay : (last : ℕ) (sums : List Sum) (node : ℕ) (own : Sum) → AreForks (λ k. Unit {0}) last sums → last ≤ node → AreForks (λ k. k ≢ node / 2) last (set sums node own)
-forks-stay last sums node own forks behind k some less other = grind (arith, get_or-set_other)
+forks-stay last sums node own forks after_it k some less other = grind (arith, get_or-set_other)
 
 -- a fork is made anew
 pub forks-put : (last : ℕ) (sums : List Sum) (node : ℕ) → AreForks (λ k. k ≢ node) last sums → 1 ≤ node → node < length sums
-    → AreForks (λ k. k ≢ node / 2) last (set sums node (joined (get_or sums (2 * node) Empty) (get_or sums (2 * node + 1) Empty)))
+    → AreForks (λ k. k ≢ node / 2) last (set sums node (sums_joined (get_or sums (2 * node) Empty) (get_or sums (2 * node + 1) Empty)))
 forks-put last sums node forks top inside k some less other =
     grind (arith, nat_tests, get_or-set_same, get_or-set_other)
 
@@ -84,7 +84,7 @@ leaves-stay dir rows sums node own leaves above i h some = grind (arith, get_or-
 
 -- from some forks to fewer
 pub fewer-forks : (last : ℕ) (sums : List Sum) (node : ℕ) → AreForks (λ k. k ≢ node) last sums → AreForks (λ k. node < k) last sums
-fewer-forks last sums node forks k some less behind = forks k some less (omega arith)
+fewer-forks last sums node forks k some less after_it = forks k some less (omega arith)
 
 bits-row : (dir : Dir) (place j : ℕ) (row : List ℕ) → j < length row → get_or row j 0 ≡ bits_at j (row_areas dir place row)
 bits-row dir place j [] h = absurd (omega arith)
@@ -112,7 +112,7 @@ bits-part dir rows at each h =
     ∙ ap (λ n. bits_at n (part dir rows 0 r ++ (part dir rows r 1 ++ part dir rows (r + 1) rest))) place
     ∙ ap (bits_at at) (sym (split dir rows r rest all))
 
--- the areas from a place of the rows on: the rest of a row, and the rows behind it
+-- the areas from a place of the rows on: the rest of a row, and the rows after it
 pub drop-part : (dir : Dir) (rows : List (List ℕ)) (at : ℕ) → All IsRow rows → at < 8 * length rows
     → drop at (part dir rows 0 (length rows))
     ≡ drop (at % 8) (row_areas dir (8 * (at / 8)) (get_or rows (at / 8) [])) ++ part dir rows (at / 8 + 1) (length rows - (at / 8 + 1))

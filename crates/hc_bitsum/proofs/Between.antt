@@ -6,7 +6,7 @@ use Rattle.hc_records.specs.declared.keys.Key.{Key}
 use Rattle.hc_records.specs.TaskList.{Keyed}
 use Rattle.hc_bitsum.specs.declared.branch.Branch.{Branch}
 use Rattle.hc_bitsum.specs.declared.sum.Sum.TheVariants.{Empty}
-use Rattle.hc_bitsum.specs.Branch.{IsBranch, slots_of}
+use Rattle.hc_bitsum.specs.Branch.{IsBranch, branch_slots}
 use Rattle.hc_bitsum.specs.Filling.{areas_between}
 use Rattle.hc_bitsum.specs.Rows.{part}
 use Rattle.hc_bitsum.specs.Slots.{bits_at, key_at, stretch}
@@ -22,12 +22,12 @@ sum-none (area ∷ areas) is = grind (arith, sum-none areas)
 
 -- the areas with a width up to a place, and then one more, or a row without any
 
-pub wide-one : (branch : Branch) (first at : ℕ) (old now next : List Keyed) → IsBranch branch → first ≤ at → at < length (slots_of branch).areas
-    → now ≡ old ++ filter has_width (stretch first at (slots_of branch).areas)
-    → next ≡ now ++ filter has_width ((key_at branch.dir at, bits_at at (slots_of branch).areas) ∷ [])
-    → next ≡ old ++ filter has_width (stretch first (at + 1) (slots_of branch).areas)
+pub wide-one : (branch : Branch) (first at : ℕ) (old now next : List Keyed) → IsBranch branch → first ≤ at → at < length (branch_slots branch).areas
+    → now ≡ old ++ filter has_width (stretch first at (branch_slots branch).areas)
+    → next ≡ now ++ filter has_width ((key_at branch.dir at, bits_at at (branch_slots branch).areas) ∷ [])
+    → next ≡ old ++ filter has_width (stretch first (at + 1) (branch_slots branch).areas)
 wide-one branch first at old now next is low within so_far added =
-    let areas = (slots_of branch).areas in
+    let areas = (branch_slots branch).areas in
     let one : List Keyed = (key_at branch.dir at, bits_at at areas) ∷ [] in
     let so_far' : List Keyed = filter has_width (stretch first at areas) in
     let more : filter has_width (stretch first (at + 1) areas) ≡ so_far' ++ filter has_width one =
@@ -35,11 +35,11 @@ wide-one branch first at old now next is low within so_far added =
     added ∙ ap (λ (xs : List Keyed). xs ++ filter has_width one) so_far ∙ append_assoc old so_far' (filter has_width one) ∙ ap (λ (xs : List Keyed). old ++ xs) (sym more)
 
 pub wide-row : (branch : Branch) (first at index : ℕ) (old now : List Keyed) → IsBranch branch → first ≤ at → at ≡ 8 * index → index < length branch.rows.items
-    → now ≡ old ++ filter has_width (stretch first at (slots_of branch).areas)
+    → now ≡ old ++ filter has_width (stretch first at (branch_slots branch).areas)
     → filter has_width (part branch.dir branch.rows.items index 1) ≡ []
-    → now ≡ old ++ filter has_width (stretch first (at + 8) (slots_of branch).areas)
+    → now ≡ old ++ filter has_width (stretch first (at + 8) (branch_slots branch).areas)
 wide-row branch first at index old now is low at-row within so_far blank =
-    let areas = (slots_of branch).areas in
+    let areas = (branch_slots branch).areas in
     let dir = branch.dir in
     let rows = branch.rows.items in
     let one : index + 1 - index ≡ 1 = omega arith in

@@ -6,13 +6,13 @@ use Rattle.std.proofs.lemmas.List.{get_or-replicate, length-replicate}
 use Rattle.std.proofs.lemmas.List.Elements.{All-append, All-cons, All-get_or, All-head, All-nil, All-replicate, All-tail, All-weaker}
 use Rattle.hc_records.specs.declared.records.Dir.{Dir}
 use Rattle.hc_records.specs.TaskList.{Keyed}
-use Rattle.hc_bitsum.specs.Places.{IsPlaced, KeepsSlaves, StandFrom}
+use Rattle.hc_bitsum.specs.Places.{IsOfSlave, KeepsSlaves, AreFrom}
 use Rattle.hc_bitsum.specs.declared.sum.Sum.TheVariants.{Empty}
 use Rattle.hc_bitsum.specs.Branch.{AreSums}
 use Rattle.hc_bitsum.specs.Rows.{IsRow, blank_slots, part, row_areas}
 use Rattle.hc_bitsum.specs.Tree.{has_width}
 use Rattle.hc_bitsum.proofs.Nodes.{eight}
-use Rattle.hc_bitsum.proofs.Parts.{length-part, narrow-part, stand-part}
+use Rattle.hc_bitsum.proofs.Parts.{length-part, narrow-part, are_placed-part}
 
 -- an area of no bits
 abbrev IsNone : Keyed → Type 0
@@ -52,19 +52,19 @@ blank-none dir levels first more within =
 pub blank-empty : (dir : Dir) (levels : ℕ) → filter has_width (blank_slots dir levels).areas ≡ []
 blank-empty dir levels = none-wide (part dir (blank_rows levels) 0 (2 ^ levels)) (blank-none dir levels 0 (2 ^ levels) (omega arith))
 
-pub blank-keeps : (dir : Dir) (slaves levels : ℕ) → slaves ≤ 2 ^ levels → levels ≤ 11 → KeepsSlaves dir slaves (blank_slots dir levels)
-blank-keeps dir slaves levels room low =
+pub blank-stays : (dir : Dir) (slaves levels : ℕ) → slaves ≤ 2 ^ levels → levels ≤ 11 → KeepsSlaves dir slaves (blank_slots dir levels)
+blank-stays dir slaves levels room low =
     let many = blank-many levels in
     let each = blank-each levels in
     let size = length-part dir (blank_rows levels) 0 (2 ^ levels) each (omega arith) in
     let wide : 2 ^ (levels + 3) ≡ 8 * 2 ^ levels = ap (λ n. 2 ^ n) (omega arith) ∙ eight levels in
     let front : 8 * 0 ≡ 0 = omega arith in
     record {
-      keys = subst (λ p. StandFrom dir p (part dir (blank_rows levels) 0 (2 ^ levels))) front (stand-part dir (blank_rows levels) 0 (2 ^ levels) each (omega arith));
+      keys = subst (λ p. AreFrom dir p (part dir (blank_rows levels) 0 (2 ^ levels))) front (are_placed-part dir (blank_rows levels) 0 (2 ^ levels) each (omega arith));
       room = omega arith;
       shape = record { many = size ∙ sym wide; low = omega arith; narrow = narrow-part dir (blank_rows levels) 0 (2 ^ levels) each (omega arith) };
       places =
-          All-weaker IsNone (IsPlaced slaves) (λ area none wide. absurd (grind (arith, nat_tests))) (part dir (blank_rows levels) 0 (2 ^ levels))
+          All-weaker IsNone (IsOfSlave slaves) (λ area none wide. absurd (grind (arith, nat_tests))) (part dir (blank_rows levels) 0 (2 ^ levels))
           (blank-none dir levels 0 (2 ^ levels) (omega arith));
     }
 

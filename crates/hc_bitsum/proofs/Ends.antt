@@ -9,8 +9,8 @@ use Rattle.hc_records.specs.Packing.{next_byte}
 use Rattle.hc_bitsum.specs.declared.filled.Filled.{Filled}
 use Rattle.hc_bitsum.specs.declared.sum.Sum.{Sum}
 use Rattle.hc_bitsum.specs.declared.sum.Sum.TheVariants.{Empty, Run}
-use Rattle.hc_bitsum.specs.Filling.{with_area, with_areas}
-use Rattle.hc_bitsum.specs.Sums.{end_from, ended, ends_by, joined, start_at, sum_of, sum_of_area}
+use Rattle.hc_bitsum.specs.Filling.{filled_with_area, filled_with_areas}
+use Rattle.hc_bitsum.specs.Sums.{end_from, filled_by_run, ends_by, sums_joined, start_at, sum_of, sum_of_area}
 
 -- whole bytes before the start move the end by as much
 end_from-bytes : (ends : List ℕ) (q x : ℕ) → end_from ends (8 * q + x) ≡ 8 * q + end_from ends x
@@ -56,7 +56,7 @@ ends_by-same f g h =
     let a = h 0 in let b = h 1 in let c = h 2 in let d = h 3 in let e = h 4 in let i = h 5 in let j = h 6 in let k = h 7 in
     cc
 
-pub joined-assoc : (a b c : Sum) → joined (joined a b) c ≡ joined a (joined b c)
+pub joined-assoc : (a b c : Sum) → sums_joined (sums_joined a b) c ≡ sums_joined a (sums_joined b c)
 joined-assoc Empty b c = refl
 joined-assoc (Run f l e) Empty c = refl
 joined-assoc (Run f l e) (Run g m d) Empty = refl
@@ -65,12 +65,12 @@ joined-assoc (Run f l e) (Run g m d) (Run h n k) =
     ap (λ y. end_from k (start_at (is_turn m h) y)) (end_from-both e d (is_turn l g) bit)
     ∙ sym (end_from-both d k (is_turn m h) (start_at (is_turn l g) (end_from e bit)))))
 
-pub joined-Empty : (a : Sum) → joined a Empty ≡ a
+pub joined-Empty : (a : Sum) → sums_joined a Empty ≡ a
 joined-Empty Empty = refl
 joined-Empty (Run f l e) = refl
 
 -- a join fills a datagram as the one run and then the other
-ended-joined : (a b : Sum) (filled : Filled) → ended (joined a b) filled ≡ ended b (ended a filled)
+ended-joined : (a b : Sum) (filled : Filled) → filled_by_run (sums_joined a b) filled ≡ filled_by_run b (filled_by_run a filled)
 ended-joined Empty b filled = refl
 ended-joined (Run f l e) Empty filled = refl
 ended-joined (Run f l e) (Run g m d) filled =
@@ -85,26 +85,26 @@ area-bit false true bits bit = let e = ends_by-at (λ p. next_byte p + bits) (bi
 area-bit false false bits bit = let e = ends_by-at (λ p. p + bits) (bit % 8) (omega arith) in omega arith
 
 area-by : (none turns wide : Bool) (dir : Dir) (bits : ℕ) (filled : Filled) → is_turn filled.last dir ≡ turns
-    → ended (if none then Empty else Run dir dir (ends_by (λ p. (if wide then next_byte p else p) + bits))) filled
+    → filled_by_run (if none then Empty else Run dir dir (ends_by (λ p. (if wide then next_byte p else p) + bits))) filled
     ≡ (if none then filled else record { bit = (if wide || turns then next_byte filled.bit else filled.bit) + bits; last = dir })
 area-by true turns wide dir bits filled h = refl
 area-by false turns wide dir bits filled h =
     rw h (ap (λ y. let r : Filled = record { bit = y; last = dir } in r) (area-bit turns wide bits filled.bit))
 
-ended-area : (area : Keyed) (filled : Filled) → ended (sum_of_area area.0.dir area.1) filled ≡ with_area filled area
+ended-area : (area : Keyed) (filled : Filled) → filled_by_run (sum_of_area area.0.dir area.1) filled ≡ filled_with_area filled area
 ended-area area filled = area-by (area.1 == 0) (is_turn filled.last area.0.dir) (nat_le 8 area.1) area.0.dir area.1 filled refl
 
-pub ended-sum_of : (areas : List Keyed) (filled : Filled) → ended (sum_of areas) filled ≡ with_areas filled areas
+pub ended-sum_of : (areas : List Keyed) (filled : Filled) → filled_by_run (sum_of areas) filled ≡ filled_with_areas filled areas
 ended-sum_of [] filled = refl
 ended-sum_of (area ∷ areas) filled =
     ended-joined (sum_of_area area.0.dir area.1) (sum_of areas) filled
-    ∙ ap (ended (sum_of areas)) (ended-area area filled)
-    ∙ ended-sum_of areas (with_area filled area)
+    ∙ ap (filled_by_run (sum_of areas)) (ended-area area filled)
+    ∙ ended-sum_of areas (filled_with_area filled area)
 
-pub sum_of-append : (xs ys : List Keyed) → sum_of (xs ++ ys) ≡ joined (sum_of xs) (sum_of ys)
+pub sum_of-append : (xs ys : List Keyed) → sum_of (xs ++ ys) ≡ sums_joined (sum_of xs) (sum_of ys)
 sum_of-append [] ys = refl
 sum_of-append (x ∷ xs) ys =
-    ap (joined (sum_of_area x.0.dir x.1)) (sum_of-append xs ys) ∙ sym (joined-assoc (sum_of_area x.0.dir x.1) (sum_of xs) (sum_of ys))
+    ap (sums_joined (sum_of_area x.0.dir x.1)) (sum_of-append xs ys) ∙ sym (joined-assoc (sum_of_area x.0.dir x.1) (sum_of xs) (sum_of ys))
 
 area-le : (none byte : Bool) (area : Keyed) (filled : Filled)
     → filled.bit ≤ (let r : Filled = (if none then filled else record { bit = (if byte then next_byte filled.bit else filled.bit) + area.1; last = area.0.dir }) in r.bit)
@@ -113,12 +113,12 @@ area-le false true area filled = omega arith
 area-le false false area filled = omega arith
 
 -- an area takes nothing back
-pub with_area-le : (filled : Filled) (area : Keyed) → filled.bit ≤ (with_area filled area).bit
+pub with_area-le : (filled : Filled) (area : Keyed) → filled.bit ≤ (filled_with_area filled area).bit
 with_area-le filled area = area-le (area.1 == 0) (nat_le 8 area.1 || is_turn filled.last area.0.dir) area filled
 
 -- an end never falls when an area is appended
-pub ended-le : (sum : Sum) (dir : Dir) (bits : ℕ) (filled : Filled) → (ended sum filled).bit ≤ (ended (joined sum (sum_of_area dir bits)) filled).bit
+pub ended-le : (sum : Sum) (dir : Dir) (bits : ℕ) (filled : Filled) → (filled_by_run sum filled).bit ≤ (filled_by_run (sums_joined sum (sum_of_area dir bits)) filled).bit
 ended-le sum dir bits filled =
     let area : Keyed = ((let key : Key = record { dir = dir; rank = 0; area = 0 } in key), bits) in
-    let more : ended (joined sum (sum_of_area dir bits)) filled ≡ with_area (ended sum filled) area = ended-joined sum (sum_of_area dir bits) filled ∙ ended-area area (ended sum filled) in
-    rw more (with_area-le (ended sum filled) area)
+    let more : filled_by_run (sums_joined sum (sum_of_area dir bits)) filled ≡ filled_with_area (filled_by_run sum filled) area = ended-joined sum (sum_of_area dir bits) filled ∙ ended-area area (filled_by_run sum filled) in
+    rw more (with_area-le (filled_by_run sum filled) area)

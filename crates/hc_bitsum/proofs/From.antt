@@ -12,29 +12,29 @@ use Rattle.hc_records.specs.SpanLaws.{areas_from}
 use Rattle.hc_records.specs.TaskList.{Keyed}
 use Rattle.hc_bitsum.specs.declared.filled.Filled.{Filled}
 use Rattle.hc_bitsum.specs.declared.row.Fit.TheVariants.{Found}
-use Rattle.hc_bitsum.specs.Filling.{with_area}
+use Rattle.hc_bitsum.specs.Filling.{filled_with_area}
 use Rattle.hc_bitsum.specs.Search.{first_beyond, key_or_end, scan}
 use Rattle.hc_bitsum.specs.Slots.{key_at}
 use Rattle.hc_bitsum.specs.Tree.{has_width}
-use Rattle.hc_bitsum.specs.Places.{StandFrom}
-use Rattle.hc_bitsum.proofs.Listed.{before-not, before-place, drops-by, keeps-by}
+use Rattle.hc_bitsum.specs.Places.{AreFrom}
+use Rattle.hc_bitsum.proofs.Listed.{before-not, before-place, drops-by, stays-by}
 
 beyond-by : (fits : Bool) (room : ℕ) (filled : Filled) (x : Keyed) (xs : List Keyed) → key_or_end (scan room filled xs) ≡ first_beyond room filled xs
     → key_or_end (if fits then scan room filled xs else Found x.0) ≡ (if fits then first_beyond room filled xs else x.0)
 beyond-by fits room filled x xs rest = grind arith
 
--- a scan tells the first area that would end past the room
+-- a scan gives the first area that would end past the room
 pub scan-beyond : (room : ℕ) (filled : Filled) (xs : List Keyed) → key_or_end (scan room filled xs) ≡ first_beyond room filled xs
 scan-beyond room filled [] = refl
 scan-beyond room filled (x ∷ xs) =
-    let next = with_area filled x in
+    let next = filled_with_area filled x in
     beyond-by (nat_le next.bit room) room next x xs (scan-beyond room next xs)
 
 -- the areas of a list that don't come before a key
 abbrev list_from : Key → List Keyed → List Keyed
 list_from key list = filter (λ area. not (is_before area.0 key)) list
 
--- a key that doesn't come before another is that one or comes behind it
+-- a key that doesn't come before another is that one or comes after it
 pub reached-by : (before : Bool) (a b : Key) → is_before a b ≡ before → not before ≡ is_within b a
 reached-by before a b test = grind arith
 
@@ -54,37 +54,37 @@ pub scan-wide : (room : ℕ) (filled : Filled) (xs : List Keyed) → filled.bit 
 scan-wide room filled [] h = refl
 scan-wide room filled (x ∷ xs) h = wide-by (has_width x) room filled x xs refl h (λ next fits. scan-wide room next xs fits)
 
--- the areas of one direction from a key on are those behind the ones before its place
+-- the areas of one direction from a key on are those after the ones before its place
 
-all-from : (dir : Dir) (place behind : ℕ) (areas : List Keyed) → StandFrom dir behind areas → place ≤ behind
+all-from : (dir : Dir) (place after_it : ℕ) (areas : List Keyed) → AreFrom dir after_it areas → place ≤ after_it
     → list_from (key_at dir place) (filter has_width areas) ≡ filter has_width areas
-all-from dir place behind [] stand h = refl
-all-from dir place behind (area ∷ areas) stand h =
-    grind (arith, keeps-by, before-not, all-from dir place (behind + 1) areas stand.1 (omega arith))
+all-from dir place after_it [] are_placed h = refl
+all-from dir place after_it (area ∷ areas) are_placed h =
+    grind (arith, stays-by, before-not, all-from dir place (after_it + 1) areas are_placed.1 (omega arith))
 
 gone-by : (wide : Bool) (p : Keyed → Bool) (x : Keyed) (xs : List Keyed) → p x ≡ false → filter p (if wide then x ∷ xs else xs) ≡ filter p xs
 gone-by wide p x xs own = grind arith
 
-wide-drop : (dir : Dir) (place skip : ℕ) (areas : List Keyed) → StandFrom dir place areas
+wide-drop : (dir : Dir) (place skip : ℕ) (areas : List Keyed) → AreFrom dir place areas
     → filter has_width (drop skip areas) ≡ list_from (key_at dir (place + skip)) (filter has_width areas)
-wide-drop dir place zero areas stand = grind (arith, all-from)
-wide-drop dir place (suc skip) [] stand = refl
-wide-drop dir place (suc skip) (area ∷ areas) stand =
-    grind (arith, gone-by, before-place, wide-drop dir (place + 1) skip areas stand.1)
+wide-drop dir place zero areas are_placed = grind (arith, all-from)
+wide-drop dir place (suc skip) [] are_placed = refl
+wide-drop dir place (suc skip) (area ∷ areas) are_placed =
+    grind (arith, gone-by, before-place, wide-drop dir (place + 1) skip areas are_placed.1)
 
-inputs-from : (place behind : ℕ) (areas : List Keyed) → StandFrom In behind areas → list_from (key_at Out place) (filter has_width areas) ≡ filter has_width areas
-inputs-from place behind [] stand = refl
-inputs-from place behind (area ∷ areas) stand =
-    keeps-by (has_width area) (λ other. not (is_before other.0 (key_at Out place))) area (filter has_width areas) (rw stand.0 refl) (inputs-from place (behind + 1) areas stand.1)
+inputs-from : (place after_it : ℕ) (areas : List Keyed) → AreFrom In after_it areas → list_from (key_at Out place) (filter has_width areas) ≡ filter has_width areas
+inputs-from place after_it [] are_placed = refl
+inputs-from place after_it (area ∷ areas) are_placed =
+    stays-by (has_width area) (λ other. not (is_before other.0 (key_at Out place))) area (filter has_width areas) (rw are_placed.0 refl) (inputs-from place (after_it + 1) areas are_placed.1)
 
-outputs-from : (place behind : ℕ) (areas : List Keyed) → StandFrom Out behind areas → list_from (key_at In place) (filter has_width areas) ≡ []
-outputs-from place behind [] stand = refl
-outputs-from place behind (area ∷ areas) stand =
-    drops-by (has_width area) (λ other. not (is_before other.0 (key_at In place))) area (filter has_width areas) (rw stand.0 refl) (outputs-from place (behind + 1) areas stand.1)
+outputs-from : (place after_it : ℕ) (areas : List Keyed) → AreFrom Out after_it areas → list_from (key_at In place) (filter has_width areas) ≡ []
+outputs-from place after_it [] are_placed = refl
+outputs-from place after_it (area ∷ areas) are_placed =
+    drops-by (has_width area) (λ other. not (is_before other.0 (key_at In place))) area (filter has_width areas) (rw are_placed.0 refl) (outputs-from place (after_it + 1) areas are_placed.1)
 
 -- in both directions
 
-output-listed : (place : ℕ) (outputs inputs : List Keyed) → StandFrom Out 0 outputs → StandFrom In 0 inputs → place < length outputs
+output-listed : (place : ℕ) (outputs inputs : List Keyed) → AreFrom Out 0 outputs → AreFrom In 0 inputs → place < length outputs
     → filter has_width (drop place (outputs ++ inputs)) ≡ list_from (key_at Out place) (filter has_width (outputs ++ inputs))
 output-listed place outputs inputs out into h =
     let here : 0 + place ≡ place = omega arith in
@@ -96,12 +96,12 @@ output-listed place outputs inputs out into h =
     ∙ filter-append (λ area. not (is_before area.0 (key_at Out place))) (filter has_width outputs) (filter has_width inputs)
     ∙ ap (λ xs. list_from (key_at Out place) (filter has_width outputs) ++ xs) (inputs-from place 0 inputs into))
 
-pub output-from : (place : ℕ) (outputs inputs : List Keyed) → StandFrom Out 0 outputs → StandFrom In 0 inputs → place < length outputs
+pub output-from : (place : ℕ) (outputs inputs : List Keyed) → AreFrom Out 0 outputs → AreFrom In 0 inputs → place < length outputs
     → filter has_width (drop place (outputs ++ inputs)) ≡ areas_from (key_at Out place) (filter has_width (outputs ++ inputs))
 output-from place outputs inputs out into h =
     output-listed place outputs inputs out into h ∙ list-areas (key_at Out place) (filter has_width (outputs ++ inputs))
 
-input-listed : (place : ℕ) (outputs inputs : List Keyed) → StandFrom Out 0 outputs → StandFrom In 0 inputs
+input-listed : (place : ℕ) (outputs inputs : List Keyed) → AreFrom Out 0 outputs → AreFrom In 0 inputs
     → filter has_width (drop place inputs) ≡ list_from (key_at In place) (filter has_width (outputs ++ inputs))
 input-listed place outputs inputs out into =
     let here : 0 + place ≡ place = omega arith in
@@ -111,16 +111,16 @@ input-listed place outputs inputs out into =
     ∙ filter-append (λ area. not (is_before area.0 (key_at In place))) (filter has_width outputs) (filter has_width inputs)
     ∙ ap (λ xs. xs ++ list_from (key_at In place) (filter has_width inputs)) (outputs-from place 0 outputs out))
 
-pub input-from : (place : ℕ) (outputs inputs : List Keyed) → StandFrom Out 0 outputs → StandFrom In 0 inputs
+pub input-from : (place : ℕ) (outputs inputs : List Keyed) → AreFrom Out 0 outputs → AreFrom In 0 inputs
     → filter has_width (drop place inputs) ≡ areas_from (key_at In place) (filter has_width (outputs ++ inputs))
 input-from place outputs inputs out into =
     input-listed place outputs inputs out into ∙ list-areas (key_at In place) (filter has_width (outputs ++ inputs))
 
-start-from : (dir : Dir) (behind : ℕ) (areas : List Keyed) → StandFrom dir behind areas → list_from START (filter has_width areas) ≡ filter has_width areas
-start-from dir behind [] stand = refl
-start-from dir behind (area ∷ areas) stand =
-    grind (arith, keeps-by, start-from dir (behind + 1) areas stand.1)
+start-from : (dir : Dir) (after_it : ℕ) (areas : List Keyed) → AreFrom dir after_it areas → list_from START (filter has_width areas) ≡ filter has_width areas
+start-from dir after_it [] are_placed = refl
+start-from dir after_it (area ∷ areas) are_placed =
+    grind (arith, stays-by, start-from dir (after_it + 1) areas are_placed.1)
 
-pub all-from_start : (outputs inputs : List Keyed) → StandFrom Out 0 outputs → StandFrom In 0 inputs
+pub all-from_start : (outputs inputs : List Keyed) → AreFrom Out 0 outputs → AreFrom In 0 inputs
     → filter has_width (outputs ++ inputs) ≡ areas_from START (filter has_width (outputs ++ inputs))
 all-from_start outputs inputs out into = grind (arith, list-areas, filter-append, start-from)

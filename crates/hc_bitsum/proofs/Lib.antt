@@ -5,7 +5,7 @@ pub mod Scan
 pub mod Listed
 pub mod Halves
 pub mod From
-pub mod Kept
+pub mod Unchanged
 pub mod Read
 pub mod Run
 pub mod Parts

@@ -3,10 +3,10 @@ use Rattle.std.specs.Prelude.{All}
 use Rattle.std.proofs.Common.{◌≡◌, ℕ, zero, suc, ◌+◌, ◌*◌, ◌<◌, ◌≤◌, List, [], ◌∷◌, ◌++◌, length, get_or, refl, sym, ap, ◌∙◌, arith, append_assoc, append-nil, length-append}
 use Rattle.std.proofs.lemmas.List.Elements.{All-nil, All-cons, All-head, All-tail, All-append, All-get_or}
 use Rattle.hc_records.specs.declared.records.Dir.{Dir}
-use Rattle.hc_bitsum.specs.Places.{StandFrom}
+use Rattle.hc_bitsum.specs.Places.{AreFrom}
 use Rattle.hc_bitsum.specs.Rows.{IsRow, part, row_areas}
 use Rattle.hc_bitsum.specs.Slots.{IsNarrow}
-use Rattle.hc_bitsum.proofs.Listed.{StandFrom-append}
+use Rattle.hc_bitsum.proofs.Listed.{AreFrom-append}
 
 pub length-row : (dir : Dir) (place : ℕ) (row : List ℕ) → length (row_areas dir place row) ≡ length row
 length-row dir place [] = refl
@@ -17,9 +17,9 @@ narrow-row dir place [] all = All-nil IsNarrow
 narrow-row dir place (bits ∷ row) all =
     grind (arith, All-cons, All-head, All-tail, narrow-row dir (place + 1) row (All-tail (λ b. b ≤ 11888) bits row all))
 
-stand-row : (dir : Dir) (place : ℕ) (row : List ℕ) → StandFrom dir place (row_areas dir place row)
-stand-row dir place [] = tt
-stand-row dir place (bits ∷ row) = (refl, stand-row dir (place + 1) row)
+are_placed-row : (dir : Dir) (place : ℕ) (row : List ℕ) → AreFrom dir place (row_areas dir place row)
+are_placed-row dir place [] = tt
+are_placed-row dir place (bits ∷ row) = (refl, are_placed-row dir (place + 1) row)
 
 pub part-split : (dir : Dir) (rows : List (List ℕ)) (first x y : ℕ) → part dir rows first (x + y) ≡ part dir rows first x ++ part dir rows (first + x) y
 part-split dir rows first zero y = let none : first + 0 ≡ first = omega arith in let all : 0 + y ≡ y = omega arith in rw (none, all) refl
@@ -48,10 +48,10 @@ narrow-part dir rows first (suc more) each h =
     All-append IsNarrow (row_areas dir (8 * first) row) (part dir rows (first + 1) more)
     (narrow-row dir (8 * first) row (row-of rows first each (omega arith)).narrow) (narrow-part dir rows (first + 1) more each (omega arith))
 
-pub stand-part : (dir : Dir) (rows : List (List ℕ)) (first more : ℕ) → All IsRow rows → first + more ≤ length rows → StandFrom dir (8 * first) (part dir rows first more)
-stand-part dir rows first zero each h = tt
-stand-part dir rows first (suc more) each h =
-    grind (arith, length-row, row-of, StandFrom-append, stand-row, stand-part dir rows (first + 1) more each (omega arith))
+pub are_placed-part : (dir : Dir) (rows : List (List ℕ)) (first more : ℕ) → All IsRow rows → first + more ≤ length rows → AreFrom dir (8 * first) (part dir rows first more)
+are_placed-part dir rows first zero each h = tt
+are_placed-part dir rows first (suc more) each h =
+    grind (arith, length-row, row-of, AreFrom-append, are_placed-row, are_placed-part dir rows (first + 1) more each (omega arith))
 
 -- rows that agree have the same areas
 pub part-same : (dir : Dir) (rows others : List (List ℕ)) (first more : ℕ)

@@ -1,4 +1,4 @@
--- The width of an area is that of its key in the list.
+-- An area has the width of its key in the list.
 use Rattle.std.specs.Prelude.{All, filter}
 use Rattle.std.proofs.Common.{◌≡◌, ℕ, zero, suc, ◌+◌, ◌<◌, ◌≤◌, Bool, true, false, List, [], ◌∷◌, ◌++◌, length, refl, sym, ap, subst, ◌∙◌, arith, if◌then◌else◌}
 use Rattle.std.proofs.lemmas.Bool.Decides.{nat_tests}
@@ -13,31 +13,31 @@ use Rattle.hc_records.proofs.lemmas.KeyOrder.{before-other, other-sym, same_key-
 use Rattle.hc_records.proofs.lemmas.Spans.{width-absent, width-here, width-skip}
 use Rattle.hc_bitsum.specs.Slots.{IsNarrow, bits_at, key_at}
 use Rattle.hc_bitsum.specs.Tree.{HasPlace, has_width}
-use Rattle.hc_bitsum.specs.Places.{StandFrom}
+use Rattle.hc_bitsum.specs.Places.{AreFrom}
 use Rattle.hc_bitsum.proofs.Listed.{before-place}
-use Rattle.hc_bitsum.proofs.lemmas.Lacking.{LacksKey, lacks-before, lacks-behind}
+use Rattle.hc_bitsum.proofs.lemmas.Lacking.{LacksKey, lacks-before, lacks-after_it}
 
--- the areas behind a place have other keys
-others-behind : (dir : Dir) (place behind : ℕ) (areas : List Keyed) → StandFrom dir behind areas → place < behind → LacksKey (key_at dir place) areas
-others-behind dir place behind [] stand h = All-nil (λ area. same_key area.0 (key_at dir place) ≡ false)
-others-behind dir place behind (area ∷ areas) stand h =
+-- the areas after a place have other keys
+others-after_it : (dir : Dir) (place after_it : ℕ) (areas : List Keyed) → AreFrom dir after_it areas → place < after_it → LacksKey (key_at dir place) areas
+others-after_it dir place after_it [] are_placed h = All-nil (λ area. same_key area.0 (key_at dir place) ≡ false)
+others-after_it dir place after_it (area ∷ areas) are_placed h =
     All-cons (λ other. same_key other.0 (key_at dir place) ≡ false) area areas
-    (ap (λ (key : Key). same_key key (key_at dir place)) stand.0 ∙ before-other (key_at dir place) (key_at dir behind) (before-place dir place behind h))
-    (others-behind dir place (behind + 1) areas stand.1 (omega arith))
+    (ap (λ (key : Key). same_key key (key_at dir place)) are_placed.0 ∙ before-other (key_at dir place) (key_at dir after_it) (before-place dir place after_it h))
+    (others-after_it dir place (after_it + 1) areas are_placed.1 (omega arith))
 
 -- inputs have other keys than outputs
 
-inputs-lack : (place behind : ℕ) (areas : List Keyed) → StandFrom In behind areas → LacksKey (key_at Out place) areas
-inputs-lack place behind [] stand = All-nil (λ area. same_key area.0 (key_at Out place) ≡ false)
-inputs-lack place behind (area ∷ areas) stand =
+inputs-lack : (place after_it : ℕ) (areas : List Keyed) → AreFrom In after_it areas → LacksKey (key_at Out place) areas
+inputs-lack place after_it [] are_placed = All-nil (λ area. same_key area.0 (key_at Out place) ≡ false)
+inputs-lack place after_it (area ∷ areas) are_placed =
     All-cons (λ other. same_key other.0 (key_at Out place) ≡ false) area areas
-    (ap (λ (key : Key). same_key key (key_at Out place)) stand.0) (inputs-lack place (behind + 1) areas stand.1)
+    (ap (λ (key : Key). same_key key (key_at Out place)) are_placed.0) (inputs-lack place (after_it + 1) areas are_placed.1)
 
-outputs-lack : (place behind : ℕ) (areas : List Keyed) → StandFrom Out behind areas → LacksKey (key_at In place) areas
-outputs-lack place behind [] stand = All-nil (λ area. same_key area.0 (key_at In place) ≡ false)
-outputs-lack place behind (area ∷ areas) stand =
+outputs-lack : (place after_it : ℕ) (areas : List Keyed) → AreFrom Out after_it areas → LacksKey (key_at In place) areas
+outputs-lack place after_it [] are_placed = All-nil (λ area. same_key area.0 (key_at In place) ≡ false)
+outputs-lack place after_it (area ∷ areas) are_placed =
     All-cons (λ other. same_key other.0 (key_at In place) ≡ false) area areas
-    (ap (λ (key : Key). same_key key (key_at In place)) stand.0) (outputs-lack place (behind + 1) areas stand.1)
+    (ap (λ (key : Key). same_key key (key_at In place)) are_placed.0) (outputs-lack place (after_it + 1) areas are_placed.1)
 
 -- in one direction
 
@@ -51,35 +51,35 @@ there-by : (wide : Bool) (area : Keyed) (areas : List Keyed) (key : Key) (bits :
 there-by true area areas key bits other rest = width-skip area areas key other ∙ rest
 there-by false area areas key bits other rest = rest
 
-width-at : (dir : Dir) (place at : ℕ) (areas : List Keyed) → StandFrom dir place areas → at < length areas
+width-at : (dir : Dir) (place at : ℕ) (areas : List Keyed) → AreFrom dir place areas → at < length areas
     → width_in (filter has_width areas) (key_at dir (place + at)) ≡ bits_at at areas
-width-at dir place at [] stand h = absurd (omega arith)
-width-at dir place zero (area ∷ areas) stand h =
+width-at dir place at [] are_placed h = absurd (omega arith)
+width-at dir place zero (area ∷ areas) are_placed h =
     let here : place + 0 ≡ place = omega arith in
     let key = key_at dir place in
-    rw here (here-by (has_width area) area (filter has_width areas) key refl stand.0
+    rw here (here-by (has_width area) area (filter has_width areas) key refl are_placed.0
     (width-absent (filter has_width areas) key
-    (All-filter has_width (λ other. same_key other.0 key ≡ false) areas (others-behind dir place (place + 1) areas stand.1 (omega arith)))))
-width-at dir place (suc at) (area ∷ areas) stand h =
+    (All-filter has_width (λ other. same_key other.0 key ≡ false) areas (others-after_it dir place (place + 1) areas are_placed.1 (omega arith)))))
+width-at dir place (suc at) (area ∷ areas) are_placed h =
     let there : place + suc at ≡ place + 1 + at = omega arith in
     let key = key_at dir (place + 1 + at) in
     rw there (there-by (has_width area) area (filter has_width areas) key (bits_at at areas)
-    (ap (λ (k : Key). same_key k key) stand.0 ∙ other-sym key (key_at dir place) (before-other (key_at dir place) key (before-place dir place (place + 1 + at) (omega arith))))
-    (width-at dir (place + 1) at areas stand.1 (omega arith)))
+    (ap (λ (k : Key). same_key k key) are_placed.0 ∙ other-sym key (key_at dir place) (before-other (key_at dir place) key (before-place dir place (place + 1 + at) (omega arith))))
+    (width-at dir (place + 1) at areas are_placed.1 (omega arith)))
 
 -- in both
 
-pub width-output : (at : ℕ) (outputs inputs : List Keyed) → StandFrom Out 0 outputs → StandFrom In 0 inputs → at < length outputs
+pub width-output : (at : ℕ) (outputs inputs : List Keyed) → AreFrom Out 0 outputs → AreFrom In 0 inputs → at < length outputs
     → bits_at at outputs ≡ width_in (filter has_width (outputs ++ inputs)) (key_at Out at)
 width-output at outputs inputs out into h =
     let here : 0 + at ≡ at = omega arith in
     let key = key_at Out at in
     sym (ap (λ (list : List Keyed). width_in list key) (filter-append has_width outputs inputs)
-    ∙ lacks-behind (filter has_width outputs) (filter has_width inputs) key (All-filter has_width (λ other. same_key other.0 key ≡ false) inputs (inputs-lack at 0 inputs into))
+    ∙ lacks-after_it (filter has_width outputs) (filter has_width inputs) key (All-filter has_width (λ other. same_key other.0 key ≡ false) inputs (inputs-lack at 0 inputs into))
     ∙ ap (λ (n : ℕ). width_in (filter has_width outputs) (key_at Out n)) (sym here)
     ∙ width-at Out 0 at outputs out h)
 
-pub width-input : (at : ℕ) (outputs inputs : List Keyed) → StandFrom Out 0 outputs → StandFrom In 0 inputs → at < length inputs
+pub width-input : (at : ℕ) (outputs inputs : List Keyed) → AreFrom Out 0 outputs → AreFrom In 0 inputs → at < length inputs
     → bits_at at inputs ≡ width_in (filter has_width (outputs ++ inputs)) (key_at In at)
 width-input at outputs inputs out into h =
     let here : 0 + at ≡ at = omega arith in
@@ -95,7 +95,7 @@ bits-narrow at [] all = omega arith
 bits-narrow zero (area ∷ areas) all = All-head IsNarrow area areas all
 bits-narrow (suc at) (area ∷ areas) all = bits-narrow at areas (All-tail IsNarrow area areas all)
 
--- of two rows one behind the other
+-- of two rows one after the other
 
 pub bits-front : (xs ys : List Keyed) (at : ℕ) → at < length xs → bits_at at xs ≡ bits_at at (xs ++ ys)
 bits-front [] ys at h = absurd (omega arith)

@@ -4,7 +4,7 @@ use Rattle.std.proofs.Common.{◌≡◌, ℕ, ◌+◌, ◌^◌, ◌<◌, ◌≤�
 use Rattle.std.proofs.Math.Pow.{pow_mono}
 use Rattle.std.proofs.lemmas.List.Elements.{All-head, All-tail, All-cons, All-append}
 use Rattle.hc_records.specs.TaskList.{Keyed}
-use Rattle.hc_bitsum.specs.Sums.{sum_of, joined, EndsBelow}
+use Rattle.hc_bitsum.specs.Sums.{sum_of, sums_joined, EndsBelow}
 use Rattle.hc_bitsum.specs.Slots.{Slots, IsNarrow, IsShaped, set_at, with_bits}
 use Rattle.hc_bitsum.proofs.Ends.{sum_of-append}
 use Rattle.hc_bitsum.proofs.Room.{EndsBelow-sum_of}
@@ -39,7 +39,7 @@ set_at-back [] ys at bits = ap (λ n. set_at n bits ys) (omega arith)
 set_at-back (x ∷ xs) ys at bits = grind (arith, set_at-back xs ys at bits)
 
 -- two parts in a row end low, whatever their heights
-pub both-low : (left right : Slots) → IsShaped left → IsShaped right → EndsBelow (2 ^ 31) (joined (sum_of left.areas) (sum_of right.areas))
+pub both-low : (left right : Slots) → IsShaped left → IsShaped right → EndsBelow (2 ^ 31) (sums_joined (sum_of left.areas) (sum_of right.areas))
 both-low left right p q =
     let l = few left p in
     let r = few right q in

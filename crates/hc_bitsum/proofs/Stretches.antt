@@ -11,19 +11,19 @@ use Rattle.hc_records.specs.SpanLaws.{areas_from}
 use Rattle.hc_records.specs.TaskList.{Keyed}
 use Rattle.hc_bitsum.specs.declared.branch.Branch.{Branch}
 use Rattle.hc_bitsum.specs.declared.filled.Filled.{Filled}
-use Rattle.hc_bitsum.specs.Branch.{IsBranch, slots_of}
-use Rattle.hc_bitsum.specs.Filling.{areas_between, with_area, with_areas}
-use Rattle.hc_bitsum.specs.Places.{StandFrom}
+use Rattle.hc_bitsum.specs.Branch.{IsBranch, branch_slots}
+use Rattle.hc_bitsum.specs.Filling.{areas_between, filled_with_area, filled_with_areas}
+use Rattle.hc_bitsum.specs.Places.{AreFrom}
 use Rattle.hc_bitsum.specs.Rows.{part}
 use Rattle.hc_bitsum.specs.Slots.{IsNarrow, bits_at, key_at, stretch}
 use Rattle.hc_bitsum.specs.Tree.{has_width}
 use Rattle.hc_bitsum.proofs.From.{reached-by}
 use Rattle.hc_bitsum.proofs.lemmas.Fillings.{with_areas-append}
-use Rattle.hc_bitsum.proofs.Parts.{length-part, part-split, stand-part}
+use Rattle.hc_bitsum.proofs.Parts.{length-part, part-split, are_placed-part}
 use Rattle.hc_bitsum.proofs.Room.{with_areas-few}
 use Rattle.hc_bitsum.proofs.Scan.{with_areas-le}
 
--- a stretch and the one behind it
+-- a stretch and the one after it
 
 abbrev no-areas : List Keyed
 no-areas = []
@@ -54,47 +54,47 @@ stretch-split first mid end xs low high =
     ∙ take-add (mid - first) (end - mid) (drop first xs)
     ∙ ap (λ ys. stretch first mid xs ++ take (end - mid) ys) (drop-more first (mid - first) xs ∙ ap (λ n. drop n xs) there)
 
--- they fill a datagram one behind the other
+-- they fill a datagram one after the other
 pub filled-on : (filled : Filled) (first mid end : ℕ) (xs : List Keyed) → first ≤ mid → mid ≤ end
-    → with_areas (with_areas filled (stretch first mid xs)) (stretch mid end xs) ≡ with_areas filled (stretch first end xs)
+    → filled_with_areas (filled_with_areas filled (stretch first mid xs)) (stretch mid end xs) ≡ filled_with_areas filled (stretch first end xs)
 filled-on filled first mid end xs low high =
-    sym (ap (with_areas filled) (stretch-split first mid end xs low high) ∙ with_areas-append filled (stretch first mid xs) (stretch mid end xs))
+    sym (ap (filled_with_areas filled) (stretch-split first mid end xs low high) ∙ with_areas-append filled (stretch first mid xs) (stretch mid end xs))
 
 -- the first of them fills it no further
 pub filled-low : (filled : Filled) (first mid end : ℕ) (xs : List Keyed) → first ≤ mid → mid ≤ end
-    → (with_areas filled (stretch first mid xs)).bit ≤ (with_areas filled (stretch first end xs)).bit
+    → (filled_with_areas filled (stretch first mid xs)).bit ≤ (filled_with_areas filled (stretch first end xs)).bit
 filled-low filled first mid end xs low high =
     let same = ap (λ (r : Filled). r.bit) (filled-on filled first mid end xs low high) in
-    let more = with_areas-le (stretch mid end xs) (with_areas filled (stretch first mid xs)) in
+    let more = with_areas-le (stretch mid end xs) (filled_with_areas filled (stretch first mid xs)) in
     omega arith
 
 -- one more area
 
-drop-at : (dir : Dir) (place at : ℕ) (xs : List Keyed) → StandFrom dir place xs → at < length xs → drop at xs ≡ (key_at dir (place + at), bits_at at xs) ∷ drop (at + 1) xs
-drop-at dir place at [] stand h = absurd (omega arith)
-drop-at dir place zero (x ∷ xs) stand h =
+drop-at : (dir : Dir) (place at : ℕ) (xs : List Keyed) → AreFrom dir place xs → at < length xs → drop at xs ≡ (key_at dir (place + at), bits_at at xs) ∷ drop (at + 1) xs
+drop-at dir place at [] are_placed h = absurd (omega arith)
+drop-at dir place zero (x ∷ xs) are_placed h =
     let here : place + 0 ≡ place = omega arith in
-    rw here (ap (λ (key : Key). (key, x.1) ∷ xs) stand.0)
-drop-at dir place (suc at) (x ∷ xs) stand h =
+    rw here (ap (λ (key : Key). (key, x.1) ∷ xs) are_placed.0)
+drop-at dir place (suc at) (x ∷ xs) are_placed h =
     let there : place + suc at ≡ place + 1 + at = omega arith in
     let more : suc at + 1 ≡ suc (at + 1) = omega arith in
-    rw (there, more) (drop-at dir (place + 1) at xs stand.1 (omega arith))
+    rw (there, more) (drop-at dir (place + 1) at xs are_placed.1 (omega arith))
 
-pub stretch-one : (dir : Dir) (first at : ℕ) (xs : List Keyed) → StandFrom dir 0 xs → first ≤ at → at < length xs
+pub stretch-one : (dir : Dir) (first at : ℕ) (xs : List Keyed) → AreFrom dir 0 xs → first ≤ at → at < length xs
     → stretch first (at + 1) xs ≡ stretch first at xs ++ (key_at dir at, bits_at at xs) ∷ []
-stretch-one dir first at xs stand low h =
+stretch-one dir first at xs are_placed low h =
     let one : at + 1 - at ≡ suc zero = omega arith in
     let here : 0 + at ≡ at = omega arith in
     stretch-split first at (at + 1) xs low (omega arith)
     ∙ ap (λ n. stretch first at xs ++ take n (drop at xs)) one
-    ∙ ap (λ ys. stretch first at xs ++ take (suc zero) ys) (drop-at dir 0 at xs stand h)
+    ∙ ap (λ ys. stretch first at xs ++ take (suc zero) ys) (drop-at dir 0 at xs are_placed h)
     ∙ ap (λ n. stretch first at xs ++ (key_at dir n, bits_at at xs) ∷ []) here
 
-pub filled-one : (dir : Dir) (filled end : Filled) (first at : ℕ) (xs : List Keyed) → StandFrom dir 0 xs → first ≤ at → at < length xs
-    → end ≡ with_area (with_areas filled (stretch first at xs)) (key_at dir at, bits_at at xs) → end ≡ with_areas filled (stretch first (at + 1) xs)
-filled-one dir filled end first at xs stand low h is =
+pub filled-one : (dir : Dir) (filled end : Filled) (first at : ℕ) (xs : List Keyed) → AreFrom dir 0 xs → first ≤ at → at < length xs
+    → end ≡ filled_with_area (filled_with_areas filled (stretch first at xs)) (key_at dir at, bits_at at xs) → end ≡ filled_with_areas filled (stretch first (at + 1) xs)
+filled-one dir filled end first at xs are_placed low h is =
     is
-    ∙ sym (ap (with_areas filled) (stretch-one dir first at xs stand low h)
+    ∙ sym (ap (filled_with_areas filled) (stretch-one dir first at xs are_placed low h)
     ∙ with_areas-append filled (stretch first at xs) ((key_at dir at, bits_at at xs) ∷ []))
 
 pub stretch-none : (first end : ℕ) (xs : List Keyed) → end ≤ first → stretch first end xs ≡ []
@@ -103,15 +103,15 @@ stretch-none first end xs h =
     ap (λ n. take n (drop first xs)) none
 
 -- the keys of a branch's areas
-pub branch-keys : (branch : Branch) → IsBranch branch → StandFrom branch.dir 0 (slots_of branch).areas
-branch-keys branch is = stand-part branch.dir branch.rows.items 0 (length branch.rows.items) is.each (omega arith)
+pub branch-keys : (branch : Branch) → IsBranch branch → AreFrom branch.dir 0 (branch_slots branch).areas
+branch-keys branch is = are_placed-part branch.dir branch.rows.items 0 (length branch.rows.items) is.each (omega arith)
 
-pub branch-size : (branch : Branch) → IsBranch branch → length (slots_of branch).areas ≡ 8 * length branch.rows.items
+pub branch-size : (branch : Branch) → IsBranch branch → length (branch_slots branch).areas ≡ 8 * length branch.rows.items
 branch-size branch is = length-part branch.dir branch.rows.items 0 (length branch.rows.items) is.each (omega arith)
 
 -- the areas of some rows
 pub part-stretch : (branch : Branch) (first end : ℕ) → IsBranch branch → first ≤ end → end ≤ length branch.rows.items
-    → part branch.dir branch.rows.items first (end - first) ≡ stretch (8 * first) (8 * end) (slots_of branch).areas
+    → part branch.dir branch.rows.items first (end - first) ≡ stretch (8 * first) (8 * end) (branch_slots branch).areas
 part-stretch branch first end is low high =
     let dir = branch.dir in
     let rows = branch.rows.items in
@@ -137,12 +137,12 @@ part-stretch branch first end is low high =
 
 -- a datagram that is filled up to some rows, and then by these
 pub rows-filled : (branch : Branch) (filled head : Filled) (first row end : ℕ) → IsBranch branch → first ≤ 8 * row → row ≤ end → end ≤ length branch.rows.items
-    → head ≡ with_areas filled (stretch first (8 * row) (slots_of branch).areas)
-    → with_areas head (part branch.dir branch.rows.items row (end - row)) ≡ with_areas filled (stretch first (8 * end) (slots_of branch).areas)
+    → head ≡ filled_with_areas filled (stretch first (8 * row) (branch_slots branch).areas)
+    → filled_with_areas head (part branch.dir branch.rows.items row (end - row)) ≡ filled_with_areas filled (stretch first (8 * end) (branch_slots branch).areas)
 rows-filled branch filled head first row end is low order within before =
-    let areas = (slots_of branch).areas in
-    ap (λ (f : Filled). with_areas f (part branch.dir branch.rows.items row (end - row))) before
-    ∙ ap (with_areas (with_areas filled (stretch first (8 * row) areas))) (part-stretch branch row end is order within)
+    let areas = (branch_slots branch).areas in
+    ap (λ (f : Filled). filled_with_areas f (part branch.dir branch.rows.items row (end - row))) before
+    ∙ ap (filled_with_areas (filled_with_areas filled (stretch first (8 * row) areas))) (part-stretch branch row end is order within)
     ∙ filled-on filled first (8 * row) (8 * end) areas low (omega arith)
 
 -- areas between two keys
@@ -177,32 +177,32 @@ between-by false true place first end from until area areas l h from-test until-
     ∙ sym (ap (λ n. take n (drop (first - place) (area ∷ areas))) many
     ∙ ap (λ n. take (suc (end - (place + 1))) (drop n (area ∷ areas))) skip)
 between-by false false place first end from until area areas l h from-test until-test rest =
-    let past : end ≤ place = grind (arith, nat_tests) in
+    let history : end ≤ place = grind (arith, nat_tests) in
     let none : end - place - (first - place) ≡ 0 = omega arith in
     let left : end - (place + 1) - (first - (place + 1)) ≡ 0 = omega arith in
     one-between true false from until area areas (sym (reached-by false area.0 from from-test)) until-test
     ∙ rest ∙ ap (λ n. take n (drop (first - (place + 1)) areas)) left
     ∙ sym (ap (λ n. take n (drop (first - place) (area ∷ areas))) none)
 
--- where places tell which keys come before two others, the areas between these are a stretch
-between-stretch : (dir : Dir) (place first end : ℕ) (from until : Key) (xs : List Keyed) → StandFrom dir place xs
+-- where places say which keys come before two others, the areas between these are a stretch
+between-stretch : (dir : Dir) (place first end : ℕ) (from until : Key) (xs : List Keyed) → AreFrom dir place xs
     → ((p : ℕ) → p < place + length xs → is_before (key_at dir p) from ≡ nat_lt p first)
     → ((p : ℕ) → p < place + length xs → is_before (key_at dir p) until ≡ nat_lt p end)
     → areas_between from until xs ≡ stretch (first - place) (end - place) xs
-between-stretch dir place first end from until [] stand low high = sym (take-none (end - place - (first - place)) (first - place))
-between-stretch dir place first end from until (area ∷ areas) stand low high =
+between-stretch dir place first end from until [] are_placed low high = sym (take-none (end - place - (first - place)) (first - place))
+between-stretch dir place first end from until (area ∷ areas) are_placed low high =
     between-by (nat_lt place first) (nat_lt place end) place first end from until area areas refl refl
-    (ap (λ (key : Key). is_before key from) stand.0 ∙ low place (omega arith))
-    (ap (λ (key : Key). is_before key until) stand.0 ∙ high place (omega arith))
-    (between-stretch dir (place + 1) first end from until areas stand.1 (λ p h. low p (omega arith)) (λ p h. high p (omega arith)))
+    (ap (λ (key : Key). is_before key from) are_placed.0 ∙ low place (omega arith))
+    (ap (λ (key : Key). is_before key until) are_placed.0 ∙ high place (omega arith))
+    (between-stretch dir (place + 1) first end from until areas are_placed.1 (λ p h. low p (omega arith)) (λ p h. high p (omega arith)))
 
 -- of a branch
 pub branch-between : (branch : Branch) (rows first end : ℕ) (from until : Key) → IsBranch branch → rows ≡ length branch.rows.items
     → ((p : ℕ) → p < 8 * rows → is_before (key_at branch.dir p) from ≡ nat_lt p first)
     → ((p : ℕ) → p < 8 * rows → is_before (key_at branch.dir p) until ≡ nat_lt p end)
-    → areas_between from until (slots_of branch).areas ≡ stretch first end (slots_of branch).areas
+    → areas_between from until (branch_slots branch).areas ≡ stretch first end (branch_slots branch).areas
 branch-between branch rows first end from until is many low high =
-    let areas = (slots_of branch).areas in
+    let areas = (branch_slots branch).areas in
     let size = branch-size branch is in
     let skip : first - 0 ≡ first = omega arith in
     let most : end - 0 ≡ end = omega arith in
@@ -211,13 +211,13 @@ branch-between branch rows first end from until is many low high =
 
 -- in both directions, of the areas with a width
 
-wide-by : (wide : Bool) (x : Keyed) (xs : List Keyed) (filled : Filled) → has_width x ≡ wide → ((next : Filled) → with_areas next (filter has_width xs) ≡ with_areas next xs)
-    → with_areas filled (if wide then x ∷ filter has_width xs else filter has_width xs) ≡ with_areas (with_area filled x) xs
-wide-by true x xs filled e rest = rest (with_area filled x)
+wide-by : (wide : Bool) (x : Keyed) (xs : List Keyed) (filled : Filled) → has_width x ≡ wide → ((next : Filled) → filled_with_areas next (filter has_width xs) ≡ filled_with_areas next xs)
+    → filled_with_areas filled (if wide then x ∷ filter has_width xs else filter has_width xs) ≡ filled_with_areas (filled_with_area filled x) xs
+wide-by true x xs filled e rest = rest (filled_with_area filled x)
 wide-by false x xs filled e rest = let none : (x.1 == 0) ≡ true = grind (arith, nat_tests) in rw none (rest filled)
 
 -- an area without a width fills nothing
-filled-wide : (filled : Filled) (xs : List Keyed) → with_areas filled (filter has_width xs) ≡ with_areas filled xs
+filled-wide : (filled : Filled) (xs : List Keyed) → filled_with_areas filled (filter has_width xs) ≡ filled_with_areas filled xs
 filled-wide filled [] = refl
 filled-wide filled (x ∷ xs) = wide-by (has_width x) x xs filled refl (λ next. filled-wide next xs)
 
@@ -243,26 +243,26 @@ between-append from until xs ys =
     ∙ filter-append (λ area. is_before area.0 until) (areas_from from xs) (areas_from from ys)
 
 pub filled-both : (from until : Key) (filled : Filled) (outputs inputs : List Keyed)
-    → with_areas (with_areas filled (areas_between from until outputs)) (areas_between from until inputs)
-    ≡ with_areas filled (areas_between from until (filter has_width (outputs ++ inputs)))
+    → filled_with_areas (filled_with_areas filled (areas_between from until outputs)) (areas_between from until inputs)
+    ≡ filled_with_areas filled (areas_between from until (filter has_width (outputs ++ inputs)))
 filled-both from until filled outputs inputs =
-    sym (ap (with_areas filled) (between-wide from until (outputs ++ inputs))
+    sym (ap (filled_with_areas filled) (between-wide from until (outputs ++ inputs))
     ∙ filled-wide filled (areas_between from until (outputs ++ inputs))
-    ∙ ap (with_areas filled) (between-append from until outputs inputs)
+    ∙ ap (filled_with_areas filled) (between-append from until outputs inputs)
     ∙ with_areas-append filled (areas_between from until outputs) (areas_between from until inputs))
 
 -- they end low
 
-kept-few : (passes : Bool) (x : Keyed) (kept xs : List Keyed) → length kept ≤ length xs → length (if passes then x ∷ kept else kept) ≤ suc (length xs)
-kept-few true x kept xs rest = omega arith
-kept-few false x kept xs rest = omega arith
+unchanged-few : (passes : Bool) (x : Keyed) (unchanged xs : List Keyed) → length unchanged ≤ length xs → length (if passes then x ∷ unchanged else unchanged) ≤ suc (length xs)
+unchanged-few true x unchanged xs rest = omega arith
+unchanged-few false x unchanged xs rest = omega arith
 
 fewer-by : (p : Keyed → Bool) (xs : List Keyed) → length (filter p xs) ≤ length xs
 fewer-by p [] = omega arith
-fewer-by p (x ∷ xs) = kept-few (p x) x (filter p xs) xs (fewer-by p xs)
+fewer-by p (x ∷ xs) = unchanged-few (p x) x (filter p xs) xs (fewer-by p xs)
 
 pub filled-few : (from until : Key) (filled : Filled) (xs : List Keyed) → All IsNarrow xs
-    → (with_areas filled (areas_between from until xs)).bit ≤ filled.bit + 11895 * length xs
+    → (filled_with_areas filled (areas_between from until xs)).bit ≤ filled.bit + 11895 * length xs
 filled-few from until filled xs narrow =
     let few = fewer-by (λ area. is_within from area.0) xs in
     let fewer = fewer-by (λ area. is_before area.0 until) (areas_from from xs) in

@@ -6,7 +6,7 @@ use Rattle.std.proofs.lemmas.Nat.{pow-add}
 use Rattle.hc_records.specs.declared.records.Dir.{Dir}
 use Rattle.hc_bitsum.specs.declared.sum.Sum.{Sum}
 use Rattle.hc_bitsum.specs.declared.sum.Sum.TheVariants.{Empty}
-use Rattle.hc_bitsum.specs.Branch.{AreForks, AreRowSums, IsNode, first_of}
+use Rattle.hc_bitsum.specs.Branch.{AreForks, AreRowSums, IsNode, first_row_of}
 use Rattle.hc_bitsum.specs.Rows.{part}
 use Rattle.hc_bitsum.specs.Sums.{sum_of}
 use Rattle.hc_bitsum.proofs.Ends.{sum_of-append}
@@ -22,7 +22,7 @@ double-next i s = grind arith
 pub more-by : (i s : ℕ) → (i + 1) * s ≡ i * s + s
 more-by i s = grind arith
 
--- what a node at an index of its level stands for, where the forks below it stand
+-- what a node at an index of its level stands for, where the forks below it are
 at-index : (dir : Dir) (rows : List (List ℕ)) (sums : List Sum) (above height depth i : ℕ) → length rows ≡ 2 ^ (height + depth)
     → AreRowSums (λ j. Unit {0}) dir rows sums → AreForks (λ k. above < k) (length rows) sums → i < 2 ^ depth → above < 2 ^ depth + i
     → get_or sums (2 ^ depth + i) Empty ≡ sum_of (part dir rows (i * 2 ^ height) (2 ^ height))
@@ -49,7 +49,7 @@ at-index dir rows sums above (suc height) depth i many leaves forks h low =
 -- what a node stands for
 pub node-sum : (dir : Dir) (rows : List (List ℕ)) (sums : List Sum) (above levels height node : ℕ) → length rows ≡ 2 ^ levels
     → AreRowSums (λ j. Unit {0}) dir rows sums → AreForks (λ k. above < k) (length rows) sums → IsNode levels height node → above < node
-    → get_or sums node Empty ≡ sum_of (part dir rows (first_of levels height node) (2 ^ height))
+    → get_or sums node Empty ≡ sum_of (part dir rows (first_row_of levels height node) (2 ^ height))
 node-sum dir rows sums above levels height node many leaves forks is low =
     let depth = levels - height in
     let all : length rows ≡ 2 ^ (height + depth) = many ∙ ap (λ n. 2 ^ n) (omega arith) in
@@ -61,7 +61,7 @@ pub level : (levels height : ℕ) → height ≤ levels → 2 ^ (levels - height
 level levels height h = sym (pow-add 2 (levels - height) height) ∙ ap (λ n. 2 ^ n) (omega arith)
 
 -- it stands for some of the rows
-pub node-within : (levels height node : ℕ) → IsNode levels height node → first_of levels height node + 2 ^ height ≤ 2 ^ levels
+pub node-within : (levels height node : ℕ) → IsNode levels height node → first_row_of levels height node + 2 ^ height ≤ 2 ^ levels
 node-within levels height node is =
     let high = is.high in
     let all = level levels height high in
@@ -88,7 +88,7 @@ left-node levels height node some is = grind (arith, down)
 pub right-node : (levels height node : ℕ) → 0 < height → IsNode levels height node → IsNode levels (height - 1) (2 * node + 1)
 right-node levels height node some is = grind (arith, down)
 
-left-first : (levels height node : ℕ) → 0 < height → IsNode levels height node → first_of levels (height - 1) (2 * node) ≡ first_of levels height node
+left-first : (levels height node : ℕ) → 0 < height → IsNode levels height node → first_row_of levels (height - 1) (2 * node) ≡ first_row_of levels height node
 left-first levels height node some is =
     let high = is.high in
     let more = down levels height some high in
@@ -97,7 +97,7 @@ left-first levels height node some is =
     ap (λ n. n * 2 ^ (height - 1)) twice ∙ double i (2 ^ (height - 1)) ∙ ap (λ n. i * n) (sym (halves height some))
 
 right-first : (levels height node : ℕ) → 0 < height → IsNode levels height node
-    → first_of levels (height - 1) (2 * node + 1) ≡ first_of levels height node + 2 ^ (height - 1)
+    → first_row_of levels (height - 1) (2 * node + 1) ≡ first_row_of levels height node + 2 ^ (height - 1)
 right-first levels height node some is =
     let high = is.high in
     let more = down levels height some high in
@@ -107,8 +107,8 @@ right-first levels height node some is =
 
 -- the areas of a node are those of the two below it
 pub node-parts : (dir : Dir) (rows : List (List ℕ)) (levels height node : ℕ) → 0 < height → IsNode levels height node
-    → part dir rows (first_of levels height node) (2 ^ height)
-    ≡ part dir rows (first_of levels (height - 1) (2 * node)) (2 ^ (height - 1)) ++ part dir rows (first_of levels (height - 1) (2 * node + 1)) (2 ^ (height - 1))
+    → part dir rows (first_row_of levels height node) (2 ^ height)
+    ≡ part dir rows (first_row_of levels (height - 1) (2 * node)) (2 ^ (height - 1)) ++ part dir rows (first_row_of levels (height - 1) (2 * node + 1)) (2 ^ (height - 1))
 node-parts dir rows levels height node some is =
     grind (arith, halves, part-split, left-first, right-first)
 
@@ -123,16 +123,16 @@ up-node levels height node less is = grind (arith, up)
 pub next-node : (levels height node : ℕ) → height < levels → node % 2 ≡ 0 → IsNode levels height node → IsNode levels height (node + 1)
 next-node levels height node less even is = omega arith
 
-pub next-first : (levels height node : ℕ) → IsNode levels height node → first_of levels height (node + 1) ≡ first_of levels height node + 2 ^ height
+pub next-first : (levels height node : ℕ) → IsNode levels height node → first_row_of levels height (node + 1) ≡ first_row_of levels height node + 2 ^ height
 next-first levels height node is =
     let i = node - 2 ^ (levels - height) in
     let next : node + 1 - 2 ^ (levels - height) ≡ i + 1 = omega arith in
     ap (λ n. n * 2 ^ height) next ∙ more-by i (2 ^ height)
 
--- how many rows stand before the one behind a node
+-- how many rows are before the one after a node
 
 pub up-left : (levels height node : ℕ) → height < levels → node % 2 ≡ 0 → IsNode levels height node
-    → first_of levels (height + 1) (node / 2) + 2 ^ (height + 1) ≡ first_of levels height node + 2 ^ height + 2 ^ height
+    → first_row_of levels (height + 1) (node / 2) + 2 ^ (height + 1) ≡ first_row_of levels height node + 2 ^ height + 2 ^ height
 up-left levels height node less even is =
     let from = is.from in
     let more = up levels height less in
@@ -144,7 +144,7 @@ up-left levels height node less even is =
     omega arith
 
 pub up-right : (levels height node : ℕ) → height < levels → node % 2 ≡ 1 → IsNode levels height node
-    → first_of levels (height + 1) (node / 2) + 2 ^ (height + 1) ≡ first_of levels height node + 2 ^ height
+    → first_row_of levels (height + 1) (node / 2) + 2 ^ (height + 1) ≡ first_row_of levels height node + 2 ^ height
 up-right levels height node less odd is =
     let from = is.from in
     let more = up levels height less in
@@ -160,7 +160,7 @@ up-right levels height node less odd is =
 pub root-node : (levels : ℕ) → IsNode levels levels 1
 root-node levels = grind arith
 
-pub root-first : (levels : ℕ) → first_of levels levels 1 ≡ 0
+pub root-first : (levels : ℕ) → first_row_of levels levels 1 ≡ 0
 root-first levels = grind arith
 
 -- a node has a number, and below the last level one in the first half

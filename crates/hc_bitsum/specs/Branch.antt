@@ -7,19 +7,19 @@ use Rattle.hc_bitsum.specs.declared.sum.Sum.{Sum}
 use Rattle.hc_bitsum.specs.declared.sum.Sum.TheVariants.{Empty}
 use Rattle.hc_bitsum.specs.Rows.{IsRow, part}
 use Rattle.hc_bitsum.specs.Slots.{Slots}
-use Rattle.hc_bitsum.specs.Sums.{joined, sum_of}
+use Rattle.hc_bitsum.specs.Sums.{sums_joined, sum_of}
 
 -- the areas of all rows of a branch in their order, those of 0 bits too, under its direction's keys from place 0 on; the height is three more than its levels
-abbrev pub slots_of : Branch → Slots
-slots_of branch = record { height = branch.levels + 3; areas = part branch.dir branch.rows.items 0 (length branch.rows.items) }
+abbrev pub branch_slots : Branch → Slots
+branch_slots branch = record { height = branch.levels + 3; areas = part branch.dir branch.rows.items 0 (length branch.rows.items) }
 
--- the sums of some rows stand in the last level
+-- the sums of some rows are in the last level
 abbrev pub AreRowSums : (ℕ → Type 0) → Dir → List (List ℕ) → List Sum → Type 0
 AreRowSums Some dir rows sums = (i : ℕ) → i < length rows → Some i → get_or sums (length rows + i) Empty ≡ sum_of (part dir rows i 1)
 
 -- some nodes above the last level have the sum of the two below them
 abbrev pub AreForks : (ℕ → Type 0) → ℕ → List Sum → Type 0
-AreForks Some last sums = (k : ℕ) → 1 ≤ k → k < last → Some k → get_or sums k Empty ≡ joined (get_or sums (2 * k) Empty) (get_or sums (2 * k + 1) Empty)
+AreForks Some last sums = (k : ℕ) → 1 ≤ k → k < last → Some k → get_or sums k Empty ≡ sums_joined (get_or sums (2 * k) Empty) (get_or sums (2 * k + 1) Empty)
 
 -- of n rows, node n + i is the sum of row i, from 0, and each node k from 1 to n - 1 the join of nodes 2k and 2k + 1
 pub record AreSums (dir : Dir) (rows : List (List ℕ)) (sums : List Sum) : Type 0 where
@@ -34,20 +34,20 @@ pub record IsBranch (branch : Branch) : Type 0 where
   pub each : All IsRow branch.rows.items
   pub are : AreSums branch.dir branch.rows.items branch.sums.items
 
--- a node that stands so high above the last level
+-- a node that is so high above the last level
 pub record IsNode (levels height node : ℕ) : Type 0 where
   pub high : height ≤ levels
   pub from : 2 ^ (levels - height) ≤ node
   pub below : node < 2 * 2 ^ (levels - height)
 
 -- the first row below a node, of those that it stands for
-abbrev pub first_of : ℕ → ℕ → ℕ → ℕ
-first_of levels height node = (node - 2 ^ (levels - height)) * 2 ^ height
+abbrev pub first_row_of : ℕ → ℕ → ℕ → ℕ
+first_row_of levels height node = (node - 2 ^ (levels - height)) * 2 ^ height
 
 -- the areas that a node stands for
 abbrev pub node_areas : Branch → ℕ → ℕ → List Keyed
-node_areas branch height node = part branch.dir branch.rows.items (first_of branch.levels height node) (2 ^ height)
+node_areas branch height node = part branch.dir branch.rows.items (first_row_of branch.levels height node) (2 ^ height)
 
 -- the areas from a row on
-abbrev pub areas_behind : Branch → ℕ → List Keyed
-areas_behind branch row = part branch.dir branch.rows.items row (length branch.rows.items - row)
+abbrev pub areas_after : Branch → ℕ → List Keyed
+areas_after branch row = part branch.dir branch.rows.items row (length branch.rows.items - row)

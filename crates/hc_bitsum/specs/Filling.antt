@@ -1,4 +1,4 @@
--- How areas fill a datagram, one behind another, whatever its room (this project's profile).
+-- How areas fill a datagram, one after another, whatever its room (this project's profile).
 use Rattle.std.specs.Prelude.{◌+◌, ◌==◌, if◌then◌else◌, List, [], ◌∷◌, filter}
 use Rattle.hc_records.specs.declared.keys.Key.{Key}
 use Rattle.hc_records.specs.Keys.{is_before}
@@ -11,15 +11,15 @@ use Rattle.hc_bitsum.specs.declared.filled.Filled.{Filled}
 abbrev pub front_of : Filled → Front
 front_of filled = record { datagram = 0; bit = filled.bit; last = filled.last }
 
--- an area behind what fills the datagram; one of no bits takes no place
-abbrev pub with_area : Filled → Keyed → Filled
-with_area filled area =
+-- an area after what fills the datagram; one of no bits takes no place
+abbrev pub filled_with_area : Filled → Keyed → Filled
+filled_with_area filled area =
     if area.1 == 0 then filled else record { bit = beginning (front_of filled) area + area.1; last = area.0.dir }
 
--- the areas of a list behind it, in their order
-abbrev pub with_areas : Filled → List Keyed → Filled
-with_areas filled [] = filled
-with_areas filled (area ∷ areas) = with_areas (with_area filled area) areas
+-- the areas of a list after it, in their order
+abbrev pub filled_with_areas : Filled → List Keyed → Filled
+filled_with_areas filled [] = filled
+filled_with_areas filled (area ∷ areas) = filled_with_areas (filled_with_area filled area) areas
 
 -- the areas of a list from one key on and before another
 abbrev pub areas_between : Key → Key → List Keyed → List Keyed

@@ -5,17 +5,17 @@ use Rattle.hc_records.specs.TaskList.{Keyed}
 use Rattle.hc_bitsum.specs.declared.filled.Filled.{Filled}
 use Rattle.hc_bitsum.specs.declared.sum.Sum.{Sum}
 use Rattle.hc_bitsum.specs.declared.sum.Sum.TheVariants.{Empty}
-use Rattle.hc_bitsum.specs.Filling.{with_area, with_areas}
-use Rattle.hc_bitsum.specs.Sums.{ended, joined, sum_of, sum_of_area}
+use Rattle.hc_bitsum.specs.Filling.{filled_with_area, filled_with_areas}
+use Rattle.hc_bitsum.specs.Sums.{filled_by_run, sums_joined, sum_of, sum_of_area}
 
 -- three sums in a row join to the same, whichever two are joined first
 abbrev pub JoiningIsAssociative : Type 0
-JoiningIsAssociative = (a b c : Sum) → joined (joined a b) c ≡ joined a (joined b c)
+JoiningIsAssociative = (a b c : Sum) → sums_joined (sums_joined a b) c ≡ sums_joined a (sums_joined b c)
 
--- this sum, joined before any sum or behind it, leaves that sum as it was
+-- this sum, joined before any sum or after it, leaves that sum as it was
 pub record IsNeutral (empty : Sum) : Type 0 where
-  pub before : (sum : Sum) → joined empty sum ≡ sum
-  pub behind : (sum : Sum) → joined sum empty ≡ sum
+  pub before : (sum : Sum) → sums_joined empty sum ≡ sum
+  pub after_it : (sum : Sum) → sums_joined sum empty ≡ sum
 
 -- the empty sum is such a one
 abbrev pub EmptyIsNeutral : Type 0
@@ -23,12 +23,12 @@ EmptyIsNeutral = IsNeutral Empty
 
 -- an end never falls when an area is appended: wherever a run starts, one with an area appended ends no earlier
 abbrev pub EndsNeverFall : Type 0
-EndsNeverFall = (sum : Sum) (dir : Dir) (bits : ℕ) (filled : Filled) → (ended sum filled).bit ≤ (ended (joined sum (sum_of_area dir bits)) filled).bit
+EndsNeverFall = (sum : Sum) (dir : Dir) (bits : ℕ) (filled : Filled) → (filled_by_run sum filled).bit ≤ (filled_by_run (sums_joined sum (sum_of_area dir bits)) filled).bit
 
 -- and so it is of what fills a datagram: an area never takes bits back
 abbrev pub AreasTakeNothingBack : Type 0
-AreasTakeNothingBack = (filled : Filled) (area : Keyed) → filled.bit ≤ (with_area filled area).bit
+AreasTakeNothingBack = (filled : Filled) (area : Keyed) → filled.bit ≤ (filled_with_area filled area).bit
 
 -- the sum of a list of areas fills a datagram as these areas do by the rules of packing
 abbrev pub SumsFillAsTheirAreas : Type 0
-SumsFillAsTheirAreas = (list : List Keyed) (filled : Filled) → ended (sum_of list) filled ≡ with_areas filled list
+SumsFillAsTheirAreas = (list : List Keyed) (filled : Filled) → filled_by_run (sum_of list) filled ≡ filled_with_areas filled list

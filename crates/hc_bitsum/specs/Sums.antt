@@ -1,4 +1,4 @@
--- What the sum of a run of areas says: where the run ends, by the bit at which it starts.
+-- What the sum of a run of areas says: where the run ends, by the bit where it starts.
 use Rattle.std.specs.Prelude.{ℕ, ◌+◌, ◌*◌, ◌/◌, ◌%◌, ◌<◌, ◌==◌, nat_le, Bool, if◌then◌else◌, List, [], ◌∷◌, slice_index}
 use Rattle.hc_records.specs.declared.records.Dir.{Dir}
 use Rattle.hc_records.specs.Keys.{is_turn}
@@ -24,27 +24,27 @@ area_end bits bit = (if nat_le 8 bits then next_byte bit else bit) + bits
 abbrev pub sum_of_area : Dir → ℕ → Sum
 sum_of_area dir bits = if bits == 0 then Empty else Run dir dir (ends_by (area_end bits))
 
--- the bit from which a run starts: the next byte's first one where it turns from outputs to inputs
+-- the bit where a run starts: the next byte's first one where it turns from outputs to inputs
 abbrev pub start_at : Bool → ℕ → ℕ
 start_at turns bit = if turns then next_byte bit else bit
 
 -- a run and then another
-abbrev pub joined : Sum → Sum → Sum
-joined Empty later = later
-joined (Run first last ends) Empty = Run first last ends
-joined (Run first last ends) (Run next end laters) =
+abbrev pub sums_joined : Sum → Sum → Sum
+sums_joined Empty later = later
+sums_joined (Run first last ends) Empty = Run first last ends
+sums_joined (Run first last ends) (Run next end laters) =
     Run first end (ends_by (λ bit. end_from laters (start_at (is_turn last next) (end_from ends bit))))
 
--- how far a datagram is filled once the run stands in it
-abbrev pub ended : Sum → Filled → Filled
-ended Empty filled = filled
-ended (Run first last ends) filled =
+-- how far a datagram is filled once the run is in it
+abbrev pub filled_by_run : Sum → Filled → Filled
+filled_by_run Empty filled = filled
+filled_by_run (Run first last ends) filled =
     record { bit = end_from ends (start_at (is_turn filled.last first) filled.bit); last = last }
 
 -- the sum of a list of areas
 abbrev pub sum_of : List Keyed → Sum
 sum_of [] = Empty
-sum_of (area ∷ areas) = joined (sum_of_area area.0.dir area.1) (sum_of areas)
+sum_of (area ∷ areas) = sums_joined (sum_of_area area.0.dir area.1) (sum_of areas)
 
 -- each end lies below a bit
 abbrev pub EndsBelow : ℕ → Sum → Type 0

@@ -1,19 +1,19 @@
 //! A part of a tree: the areas of one direction, a row for each slave, and above the rows a tree of sums in an array.
-//! Node 1 is the root, below node `k` stand `2 * k` and `2 * k + 1`, and the last level has a node for each row.
+//! Node 1 is the root, below node `k` are `2 * k` and `2 * k + 1`, and the last level has a node for each row.
 ghost use Rattle.std.specs.Prelude.{◌≡◌, ◌+◌, ◌-◌, ◌*◌, ◌^◌, ◌<◌, ◌≤◌, ◌++◌, ◌∷◌, [], All, IfOk, IsTrue, OnOk, length, drop, filter, get_or};
 ghost use Rattle.hc_records.specs.declared.limits.TheConstants.{MOST_AREA_BITS};
-ghost use Rattle.hc_bitsum.specs.Branch.{AreForks, AreRowSums, AreSums, IsBranch, IsNode, areas_behind, node_areas, slots_of};
-ghost use Rattle.hc_bitsum.specs.Filling.{areas_between, with_areas};
+ghost use Rattle.hc_bitsum.specs.Branch.{AreForks, AreRowSums, AreSums, IsBranch, IsNode, areas_after, node_areas, branch_slots};
+ghost use Rattle.hc_bitsum.specs.Filling.{areas_between, filled_with_areas};
 ghost use Rattle.hc_bitsum.specs.Rows.{IsRow, blank_slots, part};
 ghost use Rattle.hc_bitsum.specs.Search.{IsInRoom, scan};
 ghost use Rattle.hc_bitsum.specs.Slots.{IsShaped, bits_at, key_at, stretch, with_bits};
-ghost use Rattle.hc_bitsum.specs.Strides.{HasClimbed, StandsAt};
-ghost use Rattle.hc_bitsum.specs.Sums.{ended, sum_of};
+ghost use Rattle.hc_bitsum.specs.Strides.{HasClimbed, BeginsWithRow};
+ghost use Rattle.hc_bitsum.specs.Sums.{filled_by_run, sum_of};
 ghost use Rattle.hc_bitsum.specs.Tree.{has_width};
 ghost use Rattle.hc_bitsum.specs.declared.sum.Sum.TheVariants.{Empty};
 
 use crate::filled::Filled;
-use crate::row::{Fit, Row, fit_row, key_at, places_before, row_sum};
+use crate::row::{AreaWidths, Fit, fit_row, key_at, places_before, row_sum};
 use crate::steps::Steps;
 use crate::sum::Sum;
 use hc_records::keys::Key;
@@ -25,9 +25,9 @@ use std::sync::ledger::Ledger;
 #[derive(Debug)]
 pub(crate) struct Branch {
     dir: Dir,
-    /// How many levels of nodes stand above the last one: 2 to the power of it rows.
+    /// How many levels of nodes are above the last one: 2 to the power of it rows.
     levels: u32,
-    rows: Vec<Row>,
+    rows: Vec<AreaWidths>,
     sums: Vec<Sum>,
 }
 
@@ -42,18 +42,18 @@ impl Drop for Branch {
     }
 }
 
-/// Where a walk over rows stands: the next row, a node that begins with it, that node's height above
-/// the last level, and how far a datagram is filled by the rows before.
+/// Where a walk over rows is: the next row, a node that begins with it, that node's height above the
+/// last level, and how far a datagram is filled by the rows before.
 #[derive(Clone, Copy)]
-struct Stand {
+struct ArePlaced {
     row: usize,
     node: usize,
     height: u32,
     filled: Filled,
 }
 
-/// Sums a row, and what stands above it, anew.
-fn sum_anew(dir: Dir, levels: u32, rows: &[Row], sums: &mut [Sum], row: usize)
+/// Sums a row, and what is above it, anew.
+fn sum_anew(dir: Dir, levels: u32, rows: &[AreaWidths], sums: &mut [Sum], row: usize)
     requires low { levels ≤ 11 }
     requires many { length rows.now ≡ 2 ^ levels }
     requires nodes { length sums.old ≡ 2 * 2 ^ levels }
@@ -77,7 +77,7 @@ impl Branch {
     /// refused.
     pub(crate) fn blank(alloc: Global, dir: Dir, levels: u32) -> Result<Branch, AllocError>
         requires low { levels ≤ 11 }
-        ensures slots { IfOk result (λ branch. slots_of branch ≡ blank_slots dir levels) }
+        ensures slots { IfOk result (λ branch. branch_slots branch ≡ blank_slots dir levels) }
         ensures branch { IfOk result IsBranch }
     {
         let rows = 1 << levels;
@@ -92,28 +92,28 @@ impl Branch {
     /// The sum of all its areas.
     pub(crate) fn total(&self) -> Sum
         requires { IsBranch self.now }
-        ensures sum { result ≡ sum_of (slots_of self.now).areas }
-        ensures shaped { IsShaped (slots_of self.now) }
+        ensures sum { result ≡ sum_of (branch_slots self.now).areas }
+        ensures shaped { IsShaped (branch_slots self.now) }
     {
         self.sums[1]
     }
 
-    /// How far a datagram is filled once all areas of a node stand in it.
+    /// How far a datagram is filled once all areas of a node are in it.
     fn filled_by(&self, node: usize, filled: Filled) -> Filled
         requires node { node < length self.now.sums.items }
         requires here { filled.bit < 2 ^ 31 }
-        requires there { (ended (get_or self.now.sums.items node Empty) filled).bit < 2 ^ 32 }
-        ensures { result ≡ ended (get_or self.now.sums.items node Empty) filled }
+        requires there { (filled_by_run (get_or self.now.sums.items node Empty) filled).bit < 2 ^ 32 }
+        ensures { result ≡ filled_by_run (get_or self.now.sums.items node Empty) filled }
     {
         filled.after(&self.sums[node])
     }
 
     /// The same; the node that is read is a step.
-    fn behind_node<L: Ledger>(&self, node: usize, filled: Filled, steps: &mut Steps<L>) -> Filled
+    fn after_node<L: Ledger>(&self, node: usize, filled: Filled, steps: &mut Steps<L>) -> Filled
         requires node { node < length self.now.sums.items }
         requires here { filled.bit < 2 ^ 31 }
-        requires there { (ended (get_or self.now.sums.items node Empty) filled).bit < 2 ^ 32 }
-        ensures end { result ≡ ended (get_or self.now.sums.items node Empty) filled }
+        requires there { (filled_by_run (get_or self.now.sums.items node Empty) filled).bit < 2 ^ 32 }
+        ensures end { result ≡ filled_by_run (get_or self.now.sums.items node Empty) filled }
         ensures step { steps.new ≡ steps.old + 1 }
     {
         steps.tick();
@@ -134,7 +134,7 @@ impl Branch {
         requires node { IsNode self.now.levels top from }
         requires here { filled.bit ≤ room }
         requires room { room < 2 ^ 30 }
-        requires beyond { room < (with_areas filled (node_areas self.now top from)).bit }
+        requires beyond { room < (filled_with_areas filled (node_areas self.now top from)).bit }
         ensures fit { result ≡ scan room filled (node_areas self.now top from) }
         ensures least { steps.old ≤ steps.new }
         ensures most { steps.new ≤ steps.old + top + 8 }
@@ -145,7 +145,7 @@ impl Branch {
         while height > 0 {
             height -= 1;
             let left = 2 * node;
-            let end = self.behind_node(left, so_far, steps);
+            let end = self.after_node(left, so_far, steps);
             if end.bit <= room {
                 so_far = end;
                 node = left + 1;
@@ -165,9 +165,9 @@ impl Branch {
         )
     }
 
-    /// Fills a datagram with the areas behind a row, as long as each ends within the room, in bits. Each
+    /// Fills a datagram with the areas after a row, as long as each ends within the room, in bits. Each
     /// node and area that is read is a step.
-    fn fit_behind<L: Ledger>(
+    fn fit_after<L: Ledger>(
         &self,
         row: usize,
         filled: Filled,
@@ -178,7 +178,7 @@ impl Branch {
         requires row { row < length self.now.rows.items }
         requires here { filled.bit ≤ room }
         requires room { room < 2 ^ 30 }
-        ensures fit { result ≡ scan room filled (areas_behind self.now (row + 1)) }
+        ensures fit { result ≡ scan room filled (areas_after self.now (row + 1)) }
         ensures end { IsInRoom room result }
         ensures least { steps.old ≤ steps.new }
         ensures most { steps.new ≤ steps.old + 30 }
@@ -188,7 +188,7 @@ impl Branch {
         let mut so_far = filled;
         while height < self.levels {
             if node % 2 == 0 {
-                let end = self.behind_node(node + 1, so_far, steps);
+                let end = self.after_node(node + 1, so_far, steps);
                 if end.bit > room {
                     return self.fit_below(height, node + 1, so_far, room, steps);
                 }
@@ -206,19 +206,19 @@ impl Branch {
         requires branch { IsBranch self.now }
         requires here { filled.bit ≤ room }
         requires room { room < 2 ^ 30 }
-        ensures fit { result ≡ scan room filled (slots_of self.now).areas }
+        ensures fit { result ≡ scan room filled (branch_slots self.now).areas }
         ensures end { IsInRoom room result }
         ensures least { steps.old + 1 ≤ steps.new }
         ensures most { steps.new ≤ steps.old + 20 }
     {
-        let end = self.behind_node(1, filled, steps);
+        let end = self.after_node(1, filled, steps);
         if end.bit <= room {
             return Fit::Through(end);
         }
         self.fit_below(self.levels, 1, filled, room, steps)
     }
 
-    /// Fills a datagram with its areas from the one behind `skip` others, as long as each ends within
+    /// Fills a datagram with its areas from the one after `skip` others, as long as each ends within
     /// the room, in bits. Each node and area that is read is a step.
     pub(crate) fn fit<L: Ledger>(
         &self,
@@ -228,10 +228,10 @@ impl Branch {
         steps: &mut Steps<L>,
     ) -> Fit
         requires branch { IsBranch self.now }
-        requires within { skip < length (slots_of self.now).areas }
+        requires within { skip < length (branch_slots self.now).areas }
         requires here { filled.bit ≤ room }
         requires room { room < 2 ^ 30 }
-        ensures fit { result ≡ scan room filled (drop skip (slots_of self.now).areas) }
+        ensures fit { result ≡ scan room filled (drop skip (branch_slots self.now).areas) }
         ensures end { IsInRoom room result }
         ensures least { steps.old + 1 ≤ steps.new }
         ensures most { steps.new ≤ steps.old + 38 }
@@ -248,21 +248,21 @@ impl Branch {
             steps,
         ) {
             Fit::Found(key) => Fit::Found(key),
-            Fit::Through(end) => self.fit_behind(row, end, room, steps),
+            Fit::Through(end) => self.fit_after(row, end, room, steps),
         }
     }
 
     /// Fills a datagram with the nodes from a row on, each higher than the one before, that end by
     /// another row. From the first row on it fills nothing: the root begins with that row.
-    fn climb(&self, first: usize, end: usize, filled: Filled) -> Stand
+    fn climb(&self, first: usize, end: usize, filled: Filled) -> ArePlaced
         requires branch { IsBranch self.now }
         requires order { first ≤ end }
         requires within { end ≤ length self.now.rows.items }
-        requires there { (with_areas filled (part self.now.dir self.now.rows.items first (end - first))).bit < 2 ^ 30 }
+        requires there { (filled_with_areas filled (part self.now.dir self.now.rows.items first (end - first))).bit < 2 ^ 30 }
         ensures { HasClimbed self.now first end filled result }
     {
         if first == 0 {
-            return Stand {
+            return ArePlaced {
                 row: 0,
                 node: 1,
                 height: self.levels,
@@ -285,7 +285,7 @@ impl Branch {
             node /= 2;
             height += 1;
         }
-        Stand {
+        ArePlaced {
             row,
             node,
             height,
@@ -295,14 +295,14 @@ impl Branch {
 
     /// Fills a datagram with the nodes from where a climb came to, each lower than the one before, up
     /// to the row by which they end.
-    fn descend(&self, from: Stand, end: usize) -> Filled
+    fn descend(&self, from: ArePlaced, end: usize) -> Filled
         requires branch { IsBranch self.now }
         requires order { from.row ≤ end }
         requires within { end ≤ length self.now.rows.items }
-        requires stands { StandsAt self.now.levels from.height from.node from.row }
+        requires is_placed { BeginsWithRow self.now.levels from.height from.node from.row }
         requires near { end < from.row + 2 ^ (from.height + 1) }
-        requires there { (with_areas from.filled (part self.now.dir self.now.rows.items from.row (end - from.row))).bit < 2 ^ 30 }
-        ensures { result ≡ with_areas from.filled (part self.now.dir self.now.rows.items from.row (end - from.row)) }
+        requires there { (filled_with_areas from.filled (part self.now.dir self.now.rows.items from.row (end - from.row))).bit < 2 ^ 30 }
+        ensures { result ≡ filled_with_areas from.filled (part self.now.dir self.now.rows.items from.row (end - from.row)) }
     {
         let mut row = from.row;
         let mut node = from.node;
@@ -322,30 +322,30 @@ impl Branch {
         }
     }
 
-    /// How far a datagram is filled once the areas from one place up to another stand in it, gone over
+    /// How far a datagram is filled once the areas from one place up to another are in it, gone over
     /// one by one.
     fn filled_by_each(&self, first: u32, end: u32, filled: Filled) -> Filled
         requires branch { IsBranch self.now }
         requires order { first ≤ end }
-        requires within { end ≤ length (slots_of self.now).areas }
-        requires there { (with_areas filled (stretch first end (slots_of self.now).areas)).bit < 2 ^ 30 }
-        ensures { result ≡ with_areas filled (stretch first end (slots_of self.now).areas) }
+        requires within { end ≤ length (branch_slots self.now).areas }
+        requires there { (filled_with_areas filled (stretch first end (branch_slots self.now).areas)).bit < 2 ^ 30 }
+        ensures { result ≡ filled_with_areas filled (stretch first end (branch_slots self.now).areas) }
     {
         let mut so_far = filled;
         for at in first..end {
-            so_far = so_far.behind_area(self.dir, self.bits(at));
+            so_far = so_far.after_area(self.dir, self.bits(at));
         }
         so_far
     }
 
-    /// How far a datagram is filled once the areas from one place up to another stand in it.
+    /// How far a datagram is filled once the areas from one place up to another are in it.
     #[inline(never)]
     fn filled_by_stretch(&self, first: u32, end: u32, filled: Filled) -> Filled
         requires branch { IsBranch self.now }
         requires order { first ≤ end }
-        requires within { end ≤ length (slots_of self.now).areas }
-        requires there { (with_areas filled (stretch first end (slots_of self.now).areas)).bit < 2 ^ 30 }
-        ensures { result ≡ with_areas filled (stretch first end (slots_of self.now).areas) }
+        requires within { end ≤ length (branch_slots self.now).areas }
+        requires there { (filled_with_areas filled (stretch first end (branch_slots self.now).areas)).bit < 2 ^ 30 }
+        ensures { result ≡ filled_with_areas filled (stretch first end (branch_slots self.now).areas) }
     {
         let first_row = first.div_ceil(8);
         let end_row = end / 8;
@@ -353,17 +353,17 @@ impl Branch {
             return self.filled_by_each(first, end, filled);
         }
         let head = self.filled_by_each(first, 8 * first_row, filled);
-        let stand = self.climb(first_row as usize, end_row as usize, head);
-        let rows = self.descend(stand, end_row as usize);
+        let are_placed = self.climb(first_row as usize, end_row as usize, head);
+        let rows = self.descend(are_placed, end_row as usize);
         self.filled_by_each(8 * end_row, end, rows)
     }
 
-    /// How far a datagram is filled once its areas from one key on and before another stand in it.
+    /// How far a datagram is filled once its areas from one key on and before another are in it.
     #[inline(always)]
     pub(crate) fn filled_between(&self, from: Key, until: Key, filled: Filled) -> Filled
         requires branch { IsBranch self.now }
-        requires there { (with_areas filled (areas_between from until (slots_of self.now).areas)).bit < 2 ^ 30 }
-        ensures { result ≡ with_areas filled (areas_between from until (slots_of self.now).areas) }
+        requires there { (filled_with_areas filled (areas_between from until (branch_slots self.now).areas)).bit < 2 ^ 30 }
+        ensures { result ≡ filled_with_areas filled (areas_between from until (branch_slots self.now).areas) }
     {
         let places = 8 * self.rows.len() as u32;
         let first = places_before(self.dir, from, places);
@@ -374,21 +374,21 @@ impl Branch {
         self.filled_by_stretch(first, end, filled)
     }
 
-    /// The width of the area behind `at` others, in bits.
+    /// The width of the area after `at` others, in bits.
     pub(crate) fn bits(&self, at: u32) -> u16
         requires branch { IsBranch self.now }
-        requires within { at < length (slots_of self.now).areas }
-        ensures { result ≡ bits_at at (slots_of self.now).areas }
+        requires within { at < length (branch_slots self.now).areas }
+        ensures { result ≡ bits_at at (branch_slots self.now).areas }
     {
         self.rows[(at / 8) as usize][(at % 8) as usize]
     }
 
-    /// Sets the width of the area behind `at` others, in bits.
+    /// Sets the width of the area after `at` others, in bits.
     pub(crate) fn set(&mut self, at: u32, bits: u16)
         requires branch { IsBranch self.old }
-        requires within { at < length (slots_of self.old).areas }
+        requires within { at < length (branch_slots self.old).areas }
         requires bits { bits ≤ MOST_AREA_BITS }
-        ensures slots { slots_of self.new ≡ with_bits (slots_of self.old) at bits }
+        ensures slots { branch_slots self.new ≡ with_bits (branch_slots self.old) at bits }
         ensures branch { IsBranch self.new }
     {
         let row = (at / 8) as usize;
@@ -411,7 +411,7 @@ impl Branch {
     /// Whether it has no area with a width, by the sum of all.
     fn is_empty(&self) -> bool
         requires { IsBranch self.now }
-        ensures { IsTrue result → filter has_width (slots_of self.now).areas ≡ [] }
+        ensures { IsTrue result → filter has_width (branch_slots self.now).areas ≡ [] }
     {
         match self.total() {
             Sum::Empty => true,
@@ -419,11 +419,11 @@ impl Branch {
         }
     }
 
-    /// Adds the area behind `at` others to areas, if it has a width. `AllocError` where a growth was refused.
+    /// Adds the area after `at` others to areas, if it has a width. `AllocError` where a growth was refused.
     fn add_area(&self, areas: &mut Vec<(Key, u16)>, at: u32) -> Result<(), AllocError>
         requires branch { IsBranch self.now }
-        requires within { at < length (slots_of self.now).areas }
-        ensures { OnOk result (areas.new.items ≡ areas.old.items ++ filter has_width ((key_at self.now.dir at, bits_at at (slots_of self.now).areas) ∷ [])) }
+        requires within { at < length (branch_slots self.now).areas }
+        ensures { OnOk result (areas.new.items ≡ areas.old.items ++ filter has_width ((key_at self.now.dir at, bits_at at (branch_slots self.now).areas) ∷ [])) }
     {
         let bits = self.bits(at);
         if bits > 0 {
@@ -442,8 +442,8 @@ impl Branch {
     ) -> Result<(), AllocError>
         requires branch { IsBranch self.now }
         requires order { first ≤ end }
-        requires within { end ≤ length (slots_of self.now).areas }
-        ensures { OnOk result (areas.new.items ≡ areas.old.items ++ filter has_width (stretch first end (slots_of self.now).areas)) }
+        requires within { end ≤ length (branch_slots self.now).areas }
+        ensures { OnOk result (areas.new.items ≡ areas.old.items ++ filter has_width (stretch first end (branch_slots self.now).areas)) }
     {
         let mut at = first;
         'places: while at < end {
@@ -466,7 +466,7 @@ impl Branch {
         until: Key,
     ) -> Result<(), AllocError>
         requires { IsBranch self.now }
-        ensures { OnOk result (areas.new.items ≡ areas.old.items ++ filter has_width (areas_between from until (slots_of self.now).areas)) }
+        ensures { OnOk result (areas.new.items ≡ areas.old.items ++ filter has_width (areas_between from until (branch_slots self.now).areas)) }
     {
         let places = 8 * self.rows.len() as u32;
         let first = places_before(self.dir, from, places);

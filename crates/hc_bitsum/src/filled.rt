@@ -1,9 +1,9 @@
 //! How far a datagram is filled.
 ghost use Rattle.std.specs.Prelude.{◌≡◌, ◌+◌, ◌^◌, ◌<◌, ℕ};
-ghost use Rattle.hc_bitsum.specs.Filling.{with_area};
-ghost use Rattle.hc_bitsum.specs.Search.{begun};
+ghost use Rattle.hc_bitsum.specs.Filling.{filled_with_area};
+ghost use Rattle.hc_bitsum.specs.Search.{datagram_begun};
 ghost use Rattle.hc_bitsum.specs.Slots.{key_at};
-ghost use Rattle.hc_bitsum.specs.Sums.{ended};
+ghost use Rattle.hc_bitsum.specs.Sums.{filled_by_run};
 
 use crate::borders::is_turning;
 use crate::sum::{Sum, start_at};
@@ -19,26 +19,26 @@ pub struct Filled {
 }
 
 impl Filled {
-    /// A datagram in which a run begins at a bit: nothing before it makes a first input begin a byte.
+    /// A datagram where a run begins at a bit: nothing before it makes a first input begin a byte.
     pub fn begun(bit: u32) -> Filled
-        ensures { result ≡ begun bit }
+        ensures { result ≡ datagram_begun bit }
     {
         Filled { bit, last: Dir::In }
     }
 
-    /// How far it is filled once a run of areas stands behind what fills it.
+    /// How far it is filled once a run of areas is after what fills it.
     pub fn after(self, run: &Sum) -> Filled
         requires here { self.bit < 2 ^ 31 }
-        requires there { (ended run.now self).bit < 2 ^ 32 }
-        ensures { result ≡ ended run.now self }
+        requires there { (filled_by_run run.now self).bit < 2 ^ 32 }
+        ensures { result ≡ filled_by_run run.now self }
     {
         run.ended(self)
     }
 
-    /// How far it is filled once one more area, of a width in bits, stands behind what fills it.
-    pub(crate) fn behind_area(self, dir: Dir, bits: u16) -> Filled
+    /// How far it is filled once one more area, of a width in bits, is after what fills it.
+    pub(crate) fn after_area(self, dir: Dir, bits: u16) -> Filled
         requires { self.bit < 2 ^ 31 }
-        ensures { (place : ℕ) → result ≡ with_area self (key_at dir place, bits) }
+        ensures { (place : ℕ) → result ≡ filled_with_area self (key_at dir place, bits) }
     {
         if bits == 0 {
             return self;

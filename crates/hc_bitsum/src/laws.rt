@@ -7,7 +7,7 @@ pub fn joining_is_associative()
     ensures { JoiningIsAssociative }
 {}
 
-/// A run of no areas changes no sum that it is joined to, before or behind.
+/// A run of no areas changes no sum that it is joined to, before or after.
 pub fn empty_is_neutral()
     ensures { EmptyIsNeutral }
 {}
@@ -18,7 +18,7 @@ pub fn ends_never_fall()
     ensures { EndsNeverFall }
 {}
 
-/// An area never takes bits back: once it stands in a datagram, the first free bit is the one before or a later
+/// An area never takes bits back: once it is in a datagram, the first free bit is the one before or a later
 /// one.
 pub fn areas_take_nothing_back()
     ensures { AreasTakeNothingBack }

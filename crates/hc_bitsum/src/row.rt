@@ -15,10 +15,10 @@ use hc_records::records::Dir;
 use std::sync::ledger::Ledger;
 
 /// The widths of a slave's areas in bits.
-pub(crate) type Row = [u16; 8];
+pub(crate) type AreaWidths = [u16; 8];
 
 /// What a search comes to: the key of the first area that would end past the room, or how far the
-/// datagram is filled behind all of them.
+/// datagram is filled after all of them.
 #[derive(Clone, Copy)]
 pub(crate) enum Fit {
     Found(Key),
@@ -68,21 +68,21 @@ pub(crate) fn places_before(dir: Dir, key: Key, places: u32) -> u32
     before.min(places)
 }
 
-/// The ends of a run with an area of its direction behind it.
-fn ends_behind(ends: &[u32; 8], bits: u32) -> [u32; 8]
+/// The ends of a run with an area of its direction after it.
+fn ends_after(ends: &[u32; 8], bits: u32) -> [u32; 8]
     requires low { (bit : ℕ) → bit < 8 → slice_index ends.now bit < 2 ^ 30 }
     requires narrow { bits ≤ MOST_AREA_BITS }
     ensures { result ≡ ends_by (λ bit. area_end bits (slice_index ends.now bit)) }
 {
-    let mut behind = [0; 8];
+    let mut after_it = [0; 8];
     for bit in 0..8 {
-        behind[bit] = start_at(bits >= 8, ends[bit]) + bits;
+        after_it[bit] = start_at(bits >= 8, ends[bit]) + bits;
     }
-    behind
+    after_it
 }
 
 /// The sum of a row's areas.
-pub(crate) fn row_sum(dir: Dir, row: &Row) -> Sum
+pub(crate) fn row_sum(dir: Dir, row: &AreaWidths) -> Sum
     requires { IsRow row.now }
     ensures { (place : ℕ) → result ≡ sum_of (row_areas dir place row.now) }
 {
@@ -90,7 +90,7 @@ pub(crate) fn row_sum(dir: Dir, row: &Row) -> Sum
     let mut is_run = false;
     for bits in row {
         if *bits > 0 {
-            ends = ends_behind(&ends, u32::from(*bits));
+            ends = ends_after(&ends, u32::from(*bits));
             is_run = true;
         }
     }
@@ -109,7 +109,7 @@ pub(crate) fn row_sum(dir: Dir, row: &Row) -> Sum
 /// in bits. The row's first area has a place of the direction. Each area that is read is a step.
 pub(crate) fn fit_row<L: Ledger>(
     dir: Dir,
-    row: &Row,
+    row: &AreaWidths,
     place: u32,
     from: usize,
     filled: Filled,
@@ -129,7 +129,7 @@ pub(crate) fn fit_row<L: Ledger>(
     let mut so_far = filled;
     for area in from..8 {
         steps.tick();
-        let end = so_far.behind_area(dir, row[area]);
+        let end = so_far.after_area(dir, row[area]);
         if end.bit > room {
             return Fit::Found(key_at(dir, place + area as u32));
         }

@@ -4,8 +4,8 @@ ghost use Rattle.std.specs.Prelude.{◌≡◌, ◌+◌};
 use std::marker::Model;
 use std::sync::ledger::{Blank, Book, Ledger, Share};
 
-/// How many nodes and areas searches have read. It stands in contracts alone: it takes no byte, and
-/// no program can ask for the number.
+/// How many nodes and areas searches have read. It is in contracts alone: it takes no byte, and no
+/// program can ask for the number.
 #[derive(Drop)]
 pub struct Steps<L: Ledger> {
     book: Book<L>,

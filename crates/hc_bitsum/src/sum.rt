@@ -1,7 +1,7 @@
 //! What a run of areas takes of a datagram.
 ghost use Rattle.std.specs.Prelude.{◌≡◌, ◌+◌, ◌^◌, ◌<◌, ◌≤◌, ℕ};
 ghost use Rattle.hc_records.specs.declared.limits.TheConstants.{MOST_AREA_BITS};
-ghost use Rattle.hc_bitsum.specs.Sums.{EndsBelow, end_from, ended, ends_by, joined, start_at, sum_of_area};
+ghost use Rattle.hc_bitsum.specs.Sums.{EndsBelow, end_from, filled_by_run, ends_by, sums_joined, start_at, sum_of_area};
 
 use crate::borders::{byte_border, is_turning};
 use crate::filled::Filled;
@@ -12,8 +12,8 @@ use hc_records::records::Dir;
 pub enum Sum {
     /// No area with a width.
     Empty,
-    /// The direction of the first area, that of the last one, and the bit behind the run where it
-    /// starts at each of the 8 bits of byte 0.
+    /// The directions of the first and the last area, and the bit after the run where it starts at
+    /// each of the 8 bits of byte 0.
     Run {
         first: Dir,
         last: Dir,
@@ -21,7 +21,7 @@ pub enum Sum {
     },
 }
 
-/// The bit from which a run starts: the next byte's first one where it begins a byte.
+/// The bit where a run starts: the next byte's first one where it begins a byte.
 pub(crate) fn start_at(turns: bool, bit: u32) -> u32
     requires { bit < 2 ^ 31 }
     ensures { result ≡ start_at turns bit }
@@ -29,7 +29,7 @@ pub(crate) fn start_at(turns: bool, bit: u32) -> u32
     if turns { byte_border(bit) } else { bit }
 }
 
-/// The bit behind a run with these ends that starts at a bit.
+/// The bit after a run with these ends that starts at a bit.
 fn end_from(ends: &[u32; 8], bit: u32) -> u32
     requires { end_from ends.now bit < 2 ^ 32 }
     ensures { result ≡ end_from ends.now bit }
@@ -37,7 +37,7 @@ fn end_from(ends: &[u32; 8], bit: u32) -> u32
     bit / 8 * 8 + ends[(bit % 8) as usize]
 }
 
-/// The bit behind two runs of which the first starts at a bit.
+/// The bit after two runs that follow one another from a bit on.
 fn end_of_both(ends: &[u32; 8], turns: bool, laters: &[u32; 8], bit: u32) -> u32
     requires first { end_from ends.now bit < 2 ^ 31 }
     requires both { end_from laters.now (start_at turns (end_from ends.now bit)) < 2 ^ 31 }
@@ -98,8 +98,8 @@ impl Sum {
     /// areas it does.
     pub fn join(self, later: Sum) -> Sum
         requires own { EndsBelow (2 ^ 31) self }
-        requires both { EndsBelow (2 ^ 31) (joined self later) }
-        ensures { result ≡ joined self later }
+        requires both { EndsBelow (2 ^ 31) (sums_joined self later) }
+        ensures { result ≡ sums_joined self later }
     {
         match self {
             Sum::Empty => later,
@@ -121,11 +121,11 @@ impl Sum {
         }
     }
 
-    /// How far a datagram is filled once this run stands behind what fills it.
+    /// How far a datagram is filled once this run is after what fills it.
     pub(crate) fn ended(&self, filled: Filled) -> Filled
         requires here { filled.bit < 2 ^ 31 }
-        requires there { (ended self.now filled).bit < 2 ^ 32 }
-        ensures { result ≡ ended self.now filled }
+        requires there { (filled_by_run self.now filled).bit < 2 ^ 32 }
+        ensures { result ≡ filled_by_run self.now filled }
     {
         match self {
             Sum::Empty => filled,

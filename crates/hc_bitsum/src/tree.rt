@@ -2,7 +2,7 @@
 ghost use Rattle.std.specs.Prelude.{◌≡◌, ◌+◌, ◌*◌, ◌^◌, ◌<◌, ◌≤◌, ◌++◌, ℕ, IfOk, IsTrue, drop, length};
 ghost use Rattle.hc_records.specs.declared.limits.TheConstants.{MOST_SLAVES};
 ghost use Rattle.hc_bitsum.specs.Tree.{CanBegin, HasPlace, HoldsTaskList};
-ghost use Rattle.hc_bitsum.specs.Branch.{IsBranch, slots_of};
+ghost use Rattle.hc_bitsum.specs.Branch.{IsBranch, branch_slots};
 ghost use Rattle.hc_bitsum.specs.Search.{scan};
 ghost use Rattle.hc_bitsum.specs.Slots.{key_at};
 
@@ -38,13 +38,13 @@ impl Drop for SumTree {
 
 impl Model for SumTree {
     ghost use Rattle.std.specs.Prelude.{◌++◌, filter};
-    ghost use Rattle.hc_bitsum.specs.Branch.{slots_of};
+    ghost use Rattle.hc_bitsum.specs.Branch.{branch_slots};
     ghost use Rattle.hc_bitsum.specs.Tree.{Tree, has_width};
     ghost use Rattle.hc_bitsum.specs.Places.{KeepsAreas};
 
     ghost Value = { Tree };
 
-    ghost view = { λ tree. record { slaves = tree.slaves; list = filter has_width ((slots_of tree.outputs).areas ++ (slots_of tree.inputs).areas) } };
+    ghost view = { λ tree. record { slaves = tree.slaves; list = filter has_width ((branch_slots tree.outputs).areas ++ (branch_slots tree.inputs).areas) } };
 
     ghost invariant = { λ tree. KeepsAreas tree.slaves tree.outputs tree.inputs };
 }
@@ -97,7 +97,7 @@ fn filled_tree(alloc: Global, slaves: u16, areas: &[(Key, u16)]) -> Result<SumTr
     Ok(tree)
 }
 
-/// Fills a datagram with the areas of two parts in a row, from the one behind `skip` others of the first
+/// Fills a datagram with the areas of two parts in a row, from the one after `skip` others of the first
 /// part on, as long as each ends within the room, in bits.
 fn fit_both<L: Ledger>(
     first: &Branch,
@@ -109,10 +109,10 @@ fn fit_both<L: Ledger>(
 ) -> Fit
     requires first { IsBranch first.now }
     requires second { IsBranch second.now }
-    requires within { skip < length (slots_of first.now).areas }
+    requires within { skip < length (branch_slots first.now).areas }
     requires here { filled.bit ≤ room }
     requires room { room < 2 ^ 30 }
-    ensures fit { result ≡ scan room filled (drop skip ((slots_of first.now).areas ++ (slots_of second.now).areas)) }
+    ensures fit { result ≡ scan room filled (drop skip ((branch_slots first.now).areas ++ (branch_slots second.now).areas)) }
     ensures least { steps.old + 1 ≤ steps.new }
     ensures most { steps.new ≤ steps.old + 62 }
 {
@@ -127,13 +127,13 @@ impl SumTree {
     ghost use Rattle.hc_records.specs.declared.limits.TheConstants.{MOST_AREA_BITS};
     ghost use Rattle.hc_records.specs.Boundaries.{width_in};
     ghost use Rattle.hc_records.specs.SpanLaws.{areas_from};
-    ghost use Rattle.hc_bitsum.specs.Filling.{areas_between, with_areas};
-    ghost use Rattle.hc_bitsum.specs.Search.{begun, first_beyond};
+    ghost use Rattle.hc_bitsum.specs.Filling.{areas_between, filled_with_areas};
+    ghost use Rattle.hc_bitsum.specs.Search.{datagram_begun, first_beyond};
     ghost use Rattle.hc_bitsum.specs.Sums.{sum_of};
     ghost use Rattle.hc_bitsum.specs.Tree.{HasRoom, with_width};
 
-    /// A tree with places for the areas of so many slaves, at most 2,048, none of which has a width
-    /// yet. `AllocError` where a growth was refused.
+    /// A tree with places for the areas of so many slaves, at most 2,048; none has a width yet.
+    /// `AllocError` where a growth was refused.
     pub fn new(alloc: Global, slaves: u16) -> Result<SumTree, AllocError>
         requires { slaves ≤ MOST_SLAVES }
         ensures { IfOk result (λ tree. tree ≡ record { slaves = slaves; list = [] }) }
@@ -169,7 +169,7 @@ impl SumTree {
         u32::from(slaves) <= 1 << levels_of(self.slaves)
     }
 
-    /// From now on there are so many slaves, for whom it has room: those behind its own have no areas yet. Its
+    /// From now on there are so many slaves; it has room for them: those after its own have no areas yet. Its
     /// areas stay, and are a task's list. It takes no memory.
     pub fn admit(&mut self, slaves: u16)
         requires more { self.old.slaves ≤ slaves }
@@ -180,7 +180,7 @@ impl SumTree {
         self.slaves = slaves;
     }
 
-    /// A tree of its own areas with places for so many slaves, at most 2,048: those behind its own have no areas
+    /// A tree of its own areas with places for so many slaves, at most 2,048: those after its own have no areas
     /// yet. Its areas are gone over. `AllocError` where a growth was refused.
     pub fn widened(&self, alloc: Global, slaves: u16) -> Result<SumTree, AllocError>
         requires more { self.now.slaves ≤ slaves }
@@ -208,14 +208,14 @@ impl SumTree {
         }
     }
 
-    /// How far a datagram is filled once its areas from one key on, that one included, and before
-    /// another stand in it behind what fills it, at most 11,888 bits: `Filled::begun(0)` where they begin
-    /// the datagram. The keys may be any, `Key::START` and `Key::END` too; no area lies between where the
-    /// second isn't behind the first. One climb and one descent in each direction's tree. It takes no
+    /// How far a datagram is filled once its areas from one key on, that one included, and before another
+    /// are in it after what fills it, at most 11,888 bits: `Filled::begun(0)` where they begin the
+    /// datagram. The keys may be any, `Key::START` and `Key::END` too; no area lies between where the
+    /// second isn't after the first. One climb and one descent in each direction's tree. It takes no
     /// memory and no steps.
     pub fn filled_between(&self, from: Key, until: Key, filled: Filled) -> Filled
         requires { filled.bit ≤ MOST_AREA_BITS }
-        ensures { result ≡ with_areas filled (areas_between from until self.now.list) }
+        ensures { result ≡ filled_with_areas filled (areas_between from until self.now.list) }
     {
         let outputs = self.outputs.filled_between(from, until, filled);
         self.inputs.filled_between(from, until, outputs)
@@ -246,17 +246,16 @@ impl SumTree {
         self.outputs.total().join(self.inputs.total())
     }
 
-    /// The key behind the longest run of areas from a key on that ends within a room where it begins at
+    /// The key after the longest run of areas from a key on that ends within a room where it begins at
     /// a bit: the key of the first area that would end past the room, or `Key::END` where none does.
-    /// The key is one that `set` takes, or `Key::START`, from which all areas are gone over; bit and
-    /// room are at most 11,888. Each node and area that is read is a step, at least 1 and at most 62.
-    /// Its areas are a task's list, so a search can begin at each of their keys.
-    /// It takes no memory.
+    /// The key is one that `set` takes, or `Key::START`, and then all areas are gone over; bit and room
+    /// are at most 11,888. Each node and area that is read is a step, at least 1 and at most 62. Its
+    /// areas are a task's list, so a search can begin at each of their keys. It takes no memory.
     pub fn last_fit<L: Ledger>(&self, from: Key, phase: u32, room: u32, steps: &mut Steps<L>) -> Key
         requires from { CanBegin self.now.slaves from }
         requires phase { phase ≤ room }
         requires room { room ≤ MOST_AREA_BITS }
-        ensures key { result ≡ first_beyond room (begun phase) (areas_from from self.now.list) }
+        ensures key { result ≡ first_beyond room (datagram_begun phase) (areas_from from self.now.list) }
         ensures holds { HoldsTaskList self.now }
         ensures least { steps.old + 1 ≤ steps.new }
         ensures most { steps.new ≤ steps.old + 62 }

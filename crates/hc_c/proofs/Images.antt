@@ -8,10 +8,10 @@ use Rattle.hc_records.specs.Project.{lowest_fault}
 use Rattle.hc_places.specs.declared.table.Datagram.{Datagram}
 use Rattle.hc_places.specs.Table.{Table, datagrams_in, table_of}
 use Rattle.hc_events.specs.declared.faults.CoreFault.TheVariants.{NoSuchTask}
-use Rattle.hc_events.specs.Entries.{Record}
+use Rattle.hc_events.specs.Entries.{History}
 use Rattle.hc_events.specs.Images.{slot_of}
 use Rattle.hc_events.specs.Points.{line_of, state_of}
-use Rattle.hc_events.specs.Sendings.{length_of}
+use Rattle.hc_events.specs.Sendings.{line_data_length}
 use Rattle.hc_events.specs.Steps.{Reads, answer_to, image_of, unless}
 use Rattle.hc_events.proofs.lemmas.Slots.{slots-fit}
 use Rattle.hc_sendings.proofs.lemmas.Listed.{listed-length}
@@ -22,19 +22,19 @@ lower : (task : ℕ) → task < TASKS → nat_lt task TASKS ≡ true
 lower task low = grind (arith, nat_tests)
 
 -- a task below 8 is never refused
-pub read-numbered : (past : Record) (task size room : ℕ) → task < TASKS → image_number (answer_to past (Reads task)) size room ≡ fit_number size room
-read-numbered past task size room low = ap (λ is. image_number (unless (cond (not is) (Some NoSuchTask) None) (image_of past task)) size room) (lower task low)
+pub read-numbered : (history : History) (task size room : ℕ) → task < TASKS → image_number (answer_to history (Reads task)) size room ≡ fit_number size room
+read-numbered history task size room low = ap (λ is. image_number (unless (cond (not is) (Some NoSuchTask) None) (image_of history task)) size room) (lower task low)
 
 -- the datagrams that a plan of the line lists
-pub listed-here : (past : Record) (plan : State) (table : Table) (task : ℕ) (datagrams : List Datagram) → plan ≡ state_of past → table ≡ table_of (line plan) → datagrams ≡ datagrams_in table task
-    → datagrams ≡ datagrams_of past task
-listed-here past plan table task datagrams state same are =
+pub listed-here : (history : History) (plan : State) (table : Table) (task : ℕ) (datagrams : List Datagram) → plan ≡ state_of history → table ≡ table_of (line plan) → datagrams ≡ datagrams_in table task
+    → datagrams ≡ datagrams_of history task
+listed-here history plan table task datagrams state same are =
     are ∙ ap (λ (it : Table). datagrams_in it task) same ∙ ap (λ (it : State). datagrams_in (table_of (line it)) task) state
 
 -- they have the line's lengths
 
 lengths_from : (members : List Member) (task number : ℕ) (datagrams : List Datagram) (other : Datagram)
-    → ((i n : ℕ) → i < length datagrams → n ≡ number + i → (get_or datagrams i other).length ≡ length_of members (task, n)) → HaveLengths members task number datagrams
+    → ((i n : ℕ) → i < length datagrams → n ≡ number + i → (get_or datagrams i other).length ≡ line_data_length members (task, n)) → HaveLengths members task number datagrams
 lengths_from members task number [] other each = tt
 lengths_from members task number (datagram ∷ datagrams) other each =
     (each 0 number (omega arith) (omega arith), lengths_from members task (number + 1) datagrams other (λ i n low is. each (suc i) n (omega (arith, low)) (omega (arith, is))))
@@ -45,18 +45,18 @@ same_index i n is = omega (arith, is)
 blank : Datagram
 blank = record { address = 0; length = 0; expected = 0; offset = 0 }
 
-pub listed-lengths : (past : Record) (plan : State) (table : Table) (task : ℕ) (datagrams : List Datagram) → plan ≡ state_of past → lowest_fault (groups_of plan.groups) ≡ None → table ≡ table_of (line plan)
-    → datagrams ≡ datagrams_in table task → HaveLengths (line_of past) task 0 datagrams
-listed-lengths past plan table task datagrams state kept same are =
+pub listed-lengths : (history : History) (plan : State) (table : Table) (task : ℕ) (datagrams : List Datagram) → plan ≡ state_of history → lowest_fault (groups_of plan.groups) ≡ None → table ≡ table_of (line plan)
+    → datagrams ≡ datagrams_in table task → HaveLengths (line_of history) task 0 datagrams
+listed-lengths history plan table task datagrams state unchanged same are =
     let here = are ∙ ap (λ (it : Table). datagrams_in it task) same in
     subst (λ (it : State). HaveLengths (line it) task 0 datagrams) state
     (lengths_from (line plan) task 0 datagrams blank
-    (λ i n low is. listed-length plan task i datagrams blank kept here low ∙ ap (λ (m : ℕ). length_of (line plan) (task, m)) (same_index i n is)))
+    (λ i n low is. listed-length plan task i datagrams blank unchanged here low ∙ ap (λ (m : ℕ). line_data_length (line plan) (task, m)) (same_index i n is)))
 
 -- so what a task reads of one has them too
-pub slot-fits : (past : Record) (task number size : ℕ) (slot : Option (List ℕ)) → slot ≡ slot_of past task number → size ≡ length_of (line_of past) (task, number) → IfSome slot (λ bytes. length bytes ≡ size)
-slot-fits past task number size None is long = tt
-slot-fits past task number size (Some bytes) is long = slots-fit past task number bytes (sym is) ∙ sym long
+pub slot-fits : (history : History) (task number size : ℕ) (slot : Option (List ℕ)) → slot ≡ slot_of history task number → size ≡ line_data_length (line_of history) (task, number) → IfSome slot (λ bytes. length bytes ≡ size)
+slot-fits history task number size None is long = tt
+slot-fits history task number size (Some bytes) is long = slots-fit history task number bytes (sym is) ∙ sym long
 
 -- sixteen bits are enough
 pub few-bits : (count : ℕ) → count < 16 → 2 ^ count ≤ 32768

@@ -9,6 +9,7 @@ mod Offset
 mod Refusals
 mod Returned
 mod Rooms
+mod SeatEnds
 mod Showing
 mod Taken
 mod TakenBits

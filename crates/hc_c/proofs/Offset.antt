@@ -17,12 +17,12 @@ use Rattle.hc_records.proofs.lemmas.Tiles.{tiles-image}
 use Rattle.hc_places.specs.declared.table.Datagram.{Datagram}
 use Rattle.hc_places.specs.Table.{TaskTable, datagram_of, task_table}
 use Rattle.hc_plan.proofs.lemmas.TableRows.{row-is}
-use Rattle.hc_events.specs.Entries.{Record}
+use Rattle.hc_events.specs.Entries.{History}
 use Rattle.hc_events.specs.Images.{slot_of}
 use Rattle.hc_events.specs.Points.{line_of}
 use Rattle.hc_events.proofs.lemmas.Slots.{slots-fit}
 use Rattle.hc_c.specs.declared.reading.Image.{Image}
-use Rattle.hc_c.specs.Looks.{datagram_at, part_at}
+use Rattle.hc_c.specs.Looks.{datagram_at, task_part_bytes}
 use Rattle.hc_c.specs.Offsets.{HasNoData, HoldsByOffset, ReadsHoldByOffset, bytes_at}
 use Rattle.hc_c.specs.Reads.{HoldsImage, data_or_zeros, datagrams_of, image_from, image_size}
 use Rattle.hc_c.proofs.Returned.{row_at}
@@ -32,7 +32,7 @@ abbrev pieces : (ℕ → List ℕ) → List ℕ → ℕ → ℕ → List ℕ
 pieces piece rest a zero = rest
 pieces piece rest a (suc n) = piece a ++ pieces piece rest (a + 1) n
 
--- pieces of these sizes, each of which begins where the one before it ends
+-- pieces of these sizes; each begins where the one before it ends
 record AreLaid (piece : ℕ → List ℕ) (offset size : ℕ → ℕ) : Type 0 where
   next : (d : ℕ) → offset (d + 1) ≡ offset d + size d
   rises : (a b : ℕ) → a ≤ b → offset a ≤ offset b
@@ -83,27 +83,27 @@ zero-at piece offset size rest laid (suc n) a m low zeros = elim (cases_lt m (si
       get-front (piece a) (pieces piece rest (a + 1) n) m (omega (arith, own, sized))
       ∙ ap (λ (xs : List ℕ). slice_get xs m) (zeros a (omega arith) (omega arith) (omega arith) (omega (arith, own)))
       ∙ zero-get (size a) m own
-  | inr past ↦
+  | inr history ↦
       let sized = laid.sized a in
       let next = laid.next a in
       let last : a + 1 + n ≡ a + suc n = omega arith in
       let ends = ap offset last in
-      let here : offset (a + 1) + (m - size a) ≡ offset a + m = omega (arith, next, past) in
+      let here : offset (a + 1) + (m - size a) ≡ offset a + m = omega (arith, next, history) in
       let back : m - length (piece a) ≡ m - size a = omega (arith, sized) in
-      get-back (piece a) (pieces piece rest (a + 1) n) m (omega (arith, past, sized))
+      get-back (piece a) (pieces piece rest (a + 1) n) m (omega (arith, history, sized))
       ∙ ap (slice_get (pieces piece rest (a + 1) n)) back
       ∙ zero-at piece offset size rest laid n (a + 1) (m - size a) (omega (arith, here, low, ends))
       (λ d from below begins over. zeros d (omega (arith, from)) (omega (arith, below)) (omega (arith, begins, here)) (omega (arith, over, here)))
 ]
 
 -- what a read writes, as pieces
-image-pieces : (past : Record) (task : ℕ) (row : ℕ → Datagram) (rest : List ℕ) (n a : ℕ)
-    → image_from past task a (map row (range_with_len a n)) ++ rest ≡ pieces (λ d. data_or_zeros (row d).length (slot_of past task d)) rest a n
-image-pieces past task row rest zero a = refl
-image-pieces past task row rest (suc n) a =
-    let own = data_or_zeros (row a).length (slot_of past task a) in
-    append_assoc own (image_from past task (a + 1) (map row (range_with_len (a + 1) n))) rest
-    ∙ ap (λ (xs : List ℕ). own ++ xs) (image-pieces past task row rest n (a + 1))
+image-pieces : (history : History) (task : ℕ) (row : ℕ → Datagram) (rest : List ℕ) (n a : ℕ)
+    → image_from history task a (map row (range_with_len a n)) ++ rest ≡ pieces (λ d. data_or_zeros (row d).length (slot_of history task d)) rest a n
+image-pieces history task row rest zero a = refl
+image-pieces history task row rest (suc n) a =
+    let own = data_or_zeros (row a).length (slot_of history task a) in
+    append_assoc own (image_from history task (a + 1) (map row (range_with_len (a + 1) n))) rest
+    ∙ ap (λ (xs : List ℕ). own ++ xs) (image-pieces history task row rest n (a + 1))
 
 sizes : (row : ℕ → Datagram) (offset : ℕ → ℕ) → ((d : ℕ) → offset (d + 1) ≡ offset d + (row d).length) → (n a : ℕ)
     → offset a + image_size (map row (range_with_len a n)) ≡ offset (a + n)
@@ -128,47 +128,47 @@ task-there : (members : List Member) (task : ℕ) → task < TASKS → slice_get
 task-there members (suc (suc (suc (suc (suc (suc (suc (suc task)))))))) low = absurd (omega arith)
 task-there members other low = refl
 
-sized-slot : (past : Record) (task d : ℕ) (slot : Option (List ℕ)) → slot_of past task d ≡ slot
-    → length (data_or_zeros (datagram_length (task_places task (line_of past)) d) slot) ≡ datagram_length (task_places task (line_of past)) d
-sized-slot past task d None is = length-replicate (datagram_length (task_places task (line_of past)) d) 0
-sized-slot past task d (Some bytes) is = slots-fit past task d bytes is
+sized-slot : (history : History) (task d : ℕ) (slot : Option (List ℕ)) → slot_of history task d ≡ slot
+    → length (data_or_zeros (datagram_length (task_places task (line_of history)) d) slot) ≡ datagram_length (task_places task (line_of history)) d
+sized-slot history task d None is = length-replicate (datagram_length (task_places task (line_of history)) d) 0
+sized-slot history task d (Some bytes) is = slots-fit history task d bytes is
 
 -- a datagram that covers a byte without data has none
-no-data : (past : Record) (task byte d : ℕ) (slot : Option (List ℕ)) → slot_of past task d ≡ slot → task < TASKS → d < datagram_count (task_places task (line_of past))
-    → HasNoData past task byte → datagram_offset (task_places task (line_of past)) d ≤ byte
-    → byte < datagram_offset (task_places task (line_of past)) d + datagram_length (task_places task (line_of past)) d
-    → data_or_zeros (datagram_length (task_places task (line_of past)) d) slot ≡ replicate (datagram_length (task_places task (line_of past)) d) 0
+no-data : (history : History) (task byte d : ℕ) (slot : Option (List ℕ)) → slot_of history task d ≡ slot → task < TASKS → d < datagram_count (task_places task (line_of history))
+    → HasNoData history task byte → datagram_offset (task_places task (line_of history)) d ≤ byte
+    → byte < datagram_offset (task_places task (line_of history)) d + datagram_length (task_places task (line_of history)) d
+    → data_or_zeros (datagram_length (task_places task (line_of history)) d) slot ≡ replicate (datagram_length (task_places task (line_of history)) d) 0
 unfolding datagram_at
-no-data past task byte d None is low counted none begins over = refl
-no-data past task byte d (Some bytes) is low counted none begins over =
-    elim (none d (datagram_of (line_of past) task d) bytes (row_at (line_of past) task d low counted) is) [
+no-data history task byte d None is low counted none begins over = refl
+no-data history task byte d (Some bytes) is low counted none begins over =
+    elim (none d (datagram_of (line_of history) task d) bytes (row_at (line_of history) task d low counted) is) [
       | inl before ↦ absurd (omega (arith, before, begins))
       | inr after ↦ absurd (omega (arith, after, over))
     ]
 
-laid-out : (past : Record) (task : ℕ)
-    → AreLaid (λ d. data_or_zeros (datagram_length (task_places task (line_of past)) d) (slot_of past task d)) (datagram_offset (task_places task (line_of past))) (datagram_length (task_places task (line_of past)))
-laid-out past task = record {
-  next = (tiles-image (task_places task (line_of past))).next;
-  rises = offset-le (task_places task (line_of past));
-  sized = λ d. sized-slot past task d (slot_of past task d) refl;
+laid-out : (history : History) (task : ℕ)
+    → AreLaid (λ d. data_or_zeros (datagram_length (task_places task (line_of history)) d) (slot_of history task d)) (datagram_offset (task_places task (line_of history))) (datagram_length (task_places task (line_of history)))
+laid-out history task = record {
+  next = (tiles-image (task_places task (line_of history))).next;
+  rises = offset-le (task_places task (line_of history));
+  sized = λ d. sized-slot history task d (slot_of history task d) refl;
 }
 
-task-holds : (past : Record) (task : ℕ) (image : Image) (before after serials serials' : List ℕ) → task < TASKS
-    → HoldsImage past task (map (datagram_of (line_of past) task) (range_with_len 0 (datagram_count (task_places task (line_of past))))) image before after serials serials'
-    → HoldsByOffset past task image after
-unfolding datagram_at part_at
-task-holds past task image before after serials serials' low holds =
-    let members = line_of past in
+task-holds : (history : History) (task : ℕ) (image : Image) (before after serials serials' : List ℕ) → task < TASKS
+    → HoldsImage history task (map (datagram_of (line_of history) task) (range_with_len 0 (datagram_count (task_places task (line_of history))))) image before after serials serials'
+    → HoldsByOffset history task image after
+unfolding datagram_at task_part_bytes
+task-holds history task image before after serials serials' low holds =
+    let members = line_of history in
     let areas = task_places task members in
     let count = datagram_count areas in
     let row = datagram_of members task in
     let rest = drop (image_size (map row (range_with_len 0 count))) before in
-    let piece = λ (d : ℕ). data_or_zeros (datagram_length areas d) (slot_of past task d) in
-    let laid = laid-out past task in
+    let piece = λ (d : ℕ). data_or_zeros (datagram_length areas d) (slot_of history task d) in
+    let laid = laid-out history task in
     let tiles = tiles-image areas in
     let last = tiles.last in
-    let bytes : after ≡ pieces piece rest 0 count = holds.bytes ∙ image-pieces past task row rest count 0 in
+    let bytes : after ≡ pieces piece rest 0 count = holds.bytes ∙ image-pieces history task row rest count 0 in
     let all : 0 + image_size (map row (range_with_len 0 count)) ≡ datagram_offset areas (0 + count) = sizes row (datagram_offset areas) tiles.next count 0 in
     let begin : datagram_offset areas 0 ≡ 0 = tiles.first in
     let count_is : 0 + count ≡ count = omega arith in
@@ -186,7 +186,7 @@ task-holds past task image before after serials serials' low holds =
       others = λ byte within none.
           ap (λ (xs : List ℕ). slice_get xs byte) bytes
           ∙ zero-at piece (datagram_offset areas) (datagram_length areas) rest laid count 0 byte (omega (arith, within, size, all, begin))
-          (λ d from below begins over. no-data past task byte d (slot_of past task d) refl low (omega (arith, below)) none (omega (arith, begins, begin)) (omega (arith, over, begin)));
+          (λ d from below begins over. no-data history task byte d (slot_of history task d) refl low (omega (arith, below)) none (omega (arith, begins, begin)) (omega (arith, over, begin)));
       size = size ∙ sum ∙ sym (ap (λ (o : Option TaskTable). (parts_of o).0 + (parts_of o).1) (task-there members task low));
     }
 
@@ -195,11 +195,11 @@ task-holds past task image before after serials serials' low holds =
 no-task : (members : List Member) (task : ℕ) → TASKS ≤ task → slice_get (map (task_table members) tasks) task ≡ None
 no-task members task high = slice_get_past (map (task_table members) tasks) task high
 
-none-holds : (past : Record) (task : ℕ) (image : Image) (before after serials serials' : List ℕ) → TASKS ≤ task
-    → HoldsImage past task (datagrams_of past task) image before after serials serials' → HoldsByOffset past task image after
-unfolding datagram_at part_at
-none-holds past task image before after serials serials' high holds =
-    let members = line_of past in
+none-holds : (history : History) (task : ℕ) (image : Image) (before after serials serials' : List ℕ) → TASKS ≤ task
+    → HoldsImage history task (datagrams_of history task) image before after serials serials' → HoldsByOffset history task image after
+unfolding datagram_at task_part_bytes
+none-holds history task image before after serials serials' high holds =
+    let members = line_of history in
     let none = no-task members task high in
     let size : image.size ≡ 0 = holds.size ∙ ap (λ (o : Option TaskTable). image_size (option_map_or (λ (found : TaskTable). found.datagrams) o [])) none in
     record {
@@ -211,10 +211,10 @@ none-holds past task image before after serials serials' high holds =
     }
 
 pub reads-hold : ReadsHoldByOffset
-reads-hold past task image before after serials serials' holds = elim (cases_lt task TASKS) [
+reads-hold history task image before after serials serials' holds = elim (cases_lt task TASKS) [
   | inl low ↦
-      task-holds past task image before after serials serials' low
-      (subst (λ (all : List Datagram). HoldsImage past task all image before after serials serials')
-      (ap (λ (o : Option TaskTable). option_map_or (λ (found : TaskTable). found.datagrams) o []) (task-there (line_of past) task low)) holds)
-  | inr high ↦ none-holds past task image before after serials serials' high holds
+      task-holds history task image before after serials serials' low
+      (subst (λ (all : List Datagram). HoldsImage history task all image before after serials serials')
+      (ap (λ (o : Option TaskTable). option_map_or (λ (found : TaskTable). found.datagrams) o []) (task-there (line_of history) task low)) holds)
+  | inr high ↦ none-holds history task image before after serials serials' high holds
 ]

@@ -6,7 +6,7 @@ use Rattle.hc_records.specs.declared.faults.EditFault.TheVariants.{UnknownAlias,
 use Rattle.hc_records.specs.Line.{State}
 use Rattle.hc_events.specs.Faults.{core_fault_number, edit_refusal}
 
--- that of want of memory is want of memory's alone
+-- the number of `Memory` is no other fault's
 pub not_memory : (fault : EditFault) → core_fault_number (edit_refusal fault) ≢ 28 → fault ≢ Memory
 not_memory fault other is = other (ap (λ (it : EditFault). core_fault_number (edit_refusal it)) is)
 
@@ -40,25 +40,26 @@ not_accepted e = cc
 pub same_fault : {first second : EditFault} → ◌≡◌ {A = Result State EditFault} (Err first) (Err second) → first ≡ second
 same_fault e = cc
 
--- a fault that an edit has by itself: one that is accepted has none, and of one that is refused it is the fault told
+-- a fault that an edit has by itself: one that is accepted has none, and of one that is refused it is the fault
+-- reported
 
 same_found : {X : Type 0} {value : X} {fault : EditFault} → ◌≡◌ {A = Result X EditFault} (Ok value) (Err fault) → ⊥
 same_found e = cc
 
-same_told : {X : Type 0} {first second : EditFault} → ◌≡◌ {A = Result X EditFault} (Err first) (Err second) → first ≡ second
-same_told e = cc
+same_answered : {X : Type 0} {first second : EditFault} → ◌≡◌ {A = Result X EditFault} (Err first) (Err second) → first ≡ second
+same_answered e = cc
 
 pub own-accepted : {X : Type 0} (found : Option EditFault) (value : X) (number : ℕ) → IfSome found (λ fault. ◌≡◌ {A = Result X EditFault} (Ok value) (Err fault))
     → IfSome found (λ fault. number ≡ core_fault_number (edit_refusal fault))
 own-accepted None value number own = tt
 own-accepted (Some fault) value number own = absurd (same_found own)
 
-pub own-refused : (X : Type 0) (found : Option EditFault) (told : EditFault) (number : ℕ) → number ≡ core_fault_number (edit_refusal told)
-    → IfSome found (λ fault. ◌≡◌ {A = Result X EditFault} (Err told) (Err fault)) → IfSome found (λ fault. number ≡ core_fault_number (edit_refusal fault))
-own-refused X None told number is own = tt
-own-refused X (Some fault) told number is own = is ∙ ap (λ (it : EditFault). core_fault_number (edit_refusal it)) (same_told own)
+pub own-refused : (X : Type 0) (found : Option EditFault) (answer_given : EditFault) (number : ℕ) → number ≡ core_fault_number (edit_refusal answer_given)
+    → IfSome found (λ fault. ◌≡◌ {A = Result X EditFault} (Err answer_given) (Err fault)) → IfSome found (λ fault. number ≡ core_fault_number (edit_refusal fault))
+own-refused X None answer_given number is own = tt
+own-refused X (Some fault) answer_given number is own = is ∙ ap (λ (it : EditFault). core_fault_number (edit_refusal it)) (same_answered own)
 
-pub own-found : (found : Option EditFault) (told : EditFault) (number : ℕ) → number ≡ core_fault_number (edit_refusal told) → found ≡ Some told
+pub own-found : (found : Option EditFault) (answer_given : EditFault) (number : ℕ) → number ≡ core_fault_number (edit_refusal answer_given) → found ≡ Some answer_given
     → IfSome found (λ fault. number ≡ core_fault_number (edit_refusal fault))
-own-found None told number is same = tt
-own-found (Some fault) told number is same = is ∙ sym (ap (λ (it : EditFault). core_fault_number (edit_refusal it)) (same_Some fault told same))
+own-found None answer_given number is same = tt
+own-found (Some fault) answer_given number is same = is ∙ sym (ap (λ (it : EditFault). core_fault_number (edit_refusal it)) (same_Some fault answer_given same))

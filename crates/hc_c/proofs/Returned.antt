@@ -1,4 +1,4 @@
--- What is told of a frame that is answered, outcome beside part, is what was sent and what came back of it.
+-- What is said of a frame that is answered, outcome beside part, is what was sent and what came back of it.
 use Rattle.std.proofs.Common.{◌≡◌, ◌≢◌, ℕ, zero, suc, ◌+◌, ◌<◌, ◌≤◌, ◌==◌, Bool, true, false, cond, ◌&&◌, ◌||◌, not, List, [], ◌∷◌, length, take, drop, map, refl, sym, ap, ◌∙◌, subst, arith, Option, Some, None}
 use Rattle.std.specs.Prelude.{All, Ok, nat_lt, slice_get}
 use Rattle.std.specs.Option.{option_map_or}
@@ -8,7 +8,7 @@ use Rattle.std.proofs.lemmas.List.Elements.{All-nil, All-cons, All-head, All-tai
 use Rattle.std.proofs.lemmas.List.FromFn.{get_or-map-range_with_len, length-map-range_with_len}
 use Rattle.std.proofs.lemmas.Option.{slice_get-get_or}
 use Rattle.hc_records.specs.declared.limits.TheConstants.{MOST_DATAGRAMS, TASKS}
-use Rattle.hc_records.specs.Edits.{crowded_task}
+use Rattle.hc_records.specs.Edits.{over_limit_task}
 use Rattle.hc_records.specs.Image.{datagram_count, task_places}
 use Rattle.hc_records.specs.Line.{Member, State, groups_of, line}
 use Rattle.hc_records.specs.Project.{lowest_fault}
@@ -17,7 +17,7 @@ use Rattle.hc_records.proofs.lemmas.Choices.{by_bool}
 use Rattle.hc_registers.specs.Blocks.{LineBlock}
 use Rattle.hc_registers.specs.declared.counters.TheConstants.{WRITE_COUNT}
 use Rattle.hc_frames.specs.Commands.{code_of}
-use Rattle.hc_frames.specs.Arrived.{Placed, placed_from}
+use Rattle.hc_frames.specs.Arrived.{ArrivedDatagram, placed_from}
 use Rattle.hc_places.specs.declared.table.Datagram.{Datagram}
 use Rattle.hc_places.specs.Table.{Table, datagram_in, datagram_of, table_of}
 use Rattle.hc_events.specs.declared.answer.Answer.{Answer}
@@ -25,27 +25,27 @@ use Rattle.hc_events.specs.declared.answer.Answer.TheVariants as answer
 use Rattle.hc_events.specs.declared.answer.Arrived.{Arrived}
 use Rattle.hc_events.specs.declared.answer.Arrived.TheVariants as arrived
 use Rattle.hc_events.specs.declared.answer.Outcome as core
-use Rattle.hc_events.specs.Accepted.{IsReachable, StandsIn}
-use Rattle.hc_events.specs.Answering.{Judged, Sending, Verdict, Good, Wrong, Stale, answered_by, has_head, has_heads, is_answer, is_news, judge, judged, judged_by, sending_of}
+use Rattle.hc_events.specs.Accepted.{IsReachable, IsInLine}
+use Rattle.hc_events.specs.Answering.{Judged, Sending, Verdict, Good, Wrong, Stale, answered_by, has_head, has_heads, is_answer, is_current, judge, judged, judged_by, sending_of}
 use Rattle.hc_events.specs.Arrivals as frame
 use Rattle.hc_events.specs.Arrivals.{Part}
-use Rattle.hc_events.specs.Entries.{Entry, Record}
+use Rattle.hc_events.specs.Entries.{HistoryEntry, History}
 use Rattle.hc_events.specs.Heads.{Head, data_head, is_block, write_head, write_heads}
-use Rattle.hc_events.specs.Names.{HasFewDatagrams, IsNamed, named_at, written_at}
-use Rattle.hc_events.specs.Outcomes.{told_with}
+use Rattle.hc_events.specs.Names.{HasFewDatagrams, IsNamedByAddress, named_at, written_at}
+use Rattle.hc_events.specs.Outcomes.{arrived_answer}
 use Rattle.hc_events.specs.Points.{line_of, state_of}
 use Rattle.hc_events.specs.Sendings.{Named}
-use Rattle.hc_events.specs.Steps.{outcome_for, outcome_of, told_of, told_of_block, told_of_blocks}
+use Rattle.hc_events.specs.Steps.{outcome_for, outcome_of, judged_answer, write_answer, judged_blocks_answer}
 use Rattle.hc_events.proofs.lemmas.Answers.{answers-first}
 use Rattle.hc_events.proofs.lemmas.Names.{answered-named}
 use Rattle.hc_events.proofs.lemmas.Once.{only-if_some}
 use Rattle.hc_events.proofs.lemmas.TwoWrites.{wrote-at}
 use Rattle.hc_sendings.proofs.lemmas.Listed.{standing-task}
-use Rattle.hc_c.specs.Arrivals as told
-use Rattle.hc_c.specs.Arrivals.{block_kind, kind_in, outcomes_from, place_of, written_in}
+use Rattle.hc_c.specs.Arrivals as answer_given
+use Rattle.hc_c.specs.Arrivals.{block_kind, kind_in, outcomes_from, register_place, written_in}
 use Rattle.hc_c.specs.declared.arriving.Arrival.{Arrival}
 use Rattle.hc_c.specs.declared.arriving.Outcome.{Outcome}
-use Rattle.hc_c.specs.Returned.{expected_in, first_written, kind_by, told_arrival, told_block, told_blocks, told_part, told_parts}
+use Rattle.hc_c.specs.Returned.{expected_in, first_written, kind_by, arrival_out, block_outcome_out, answered_blocks, part_outcome_out, parts_out}
 
 -- the row of a datagram in the table of its line
 
@@ -54,28 +54,28 @@ blank = record { address = 0; length = 0; expected = 0; offset = 0 }
 
 row_of : (line : List Member) (task d : ℕ) → d < datagram_count (task_places task line)
     → slice_get (map (datagram_of line task) (range_with_len 0 (datagram_count (task_places task line)))) d ≡ Some (datagram_of line task d)
-row_of line task d stands =
+row_of line task d is_placed =
     let count = length-map-range_with_len (datagram_of line task) 0 (datagram_count (task_places task line)) in
-    slice_get-get_or (map (datagram_of line task) (range_with_len 0 (datagram_count (task_places task line)))) d blank (omega (arith, count, stands))
-    ∙ ap (λ (row : Datagram). Some row) (get_or-map-range_with_len (datagram_of line task) 0 (datagram_count (task_places task line)) d d blank stands (omega arith))
+    slice_get-get_or (map (datagram_of line task) (range_with_len 0 (datagram_count (task_places task line)))) d blank (omega (arith, count, is_placed))
+    ∙ ap (λ (row : Datagram). Some row) (get_or-map-range_with_len (datagram_of line task) 0 (datagram_count (task_places task line)) d d blank is_placed (omega arith))
 
 pub row_at : (line : List Member) (task d : ℕ) → task < TASKS → d < datagram_count (task_places task line) → datagram_in (table_of line) task d ≡ Some (datagram_of line task d)
-row_at line zero d low stands = row_of line 0 d stands
-row_at line (suc zero) d low stands = row_of line 1 d stands
-row_at line (suc (suc zero)) d low stands = row_of line 2 d stands
-row_at line (suc (suc (suc zero))) d low stands = row_of line 3 d stands
-row_at line (suc (suc (suc (suc zero)))) d low stands = row_of line 4 d stands
-row_at line (suc (suc (suc (suc (suc zero))))) d low stands = row_of line 5 d stands
-row_at line (suc (suc (suc (suc (suc (suc zero)))))) d low stands = row_of line 6 d stands
-row_at line (suc (suc (suc (suc (suc (suc (suc zero))))))) d low stands = row_of line 7 d stands
-row_at line (suc (suc (suc (suc (suc (suc (suc (suc task)))))))) d low stands = absurd (omega arith)
+row_at line zero d low is_placed = row_of line 0 d is_placed
+row_at line (suc zero) d low is_placed = row_of line 1 d is_placed
+row_at line (suc (suc zero)) d low is_placed = row_of line 2 d is_placed
+row_at line (suc (suc (suc zero))) d low is_placed = row_of line 3 d is_placed
+row_at line (suc (suc (suc (suc zero)))) d low is_placed = row_of line 4 d is_placed
+row_at line (suc (suc (suc (suc (suc zero))))) d low is_placed = row_of line 5 d is_placed
+row_at line (suc (suc (suc (suc (suc (suc zero)))))) d low is_placed = row_of line 6 d is_placed
+row_at line (suc (suc (suc (suc (suc (suc (suc zero))))))) d low is_placed = row_of line 7 d is_placed
+row_at line (suc (suc (suc (suc (suc (suc (suc (suc task)))))))) d low is_placed = absurd (omega arith)
 
 -- what a project's line has is within a core's bounds
-pub few-datagrams : (state : State) → lowest_fault (groups_of state.groups) ≡ None → crowded_task (line state) ≡ None → HasFewDatagrams (line state)
-few-datagrams state project uncrowded named stands =
-    let task = standing-task state named.0 named.1 project stands in
+pub few-datagrams : (state : State) → lowest_fault (groups_of state.groups) ≡ None → over_limit_task (line state) ≡ None → HasFewDatagrams (line state)
+few-datagrams state project uncrowded named is_placed =
+    let task = standing-task state named.0 named.1 project is_placed in
     let few = uncrowded-few (line state) named.0 uncrowded task in
-    omega (arith, few, stands)
+    omega (arith, few, is_placed)
 
 -- one datagram
 
@@ -84,56 +84,56 @@ same_kind members named head part Good is = ap (λ (one : Head). kind_by (outcom
 same_kind members named head part Wrong is = ap (λ (one : Head). kind_by (outcome_of one part Wrong)) is ∙ sym (ap (λ (one : Head). kind_in one.item Wrong) is)
 same_kind members named head part Stale is = sym (ap (λ (one : Head). kind_in one.item Stale) is)
 
-same_expected : (state : State) (named : Named) → lowest_fault (groups_of state.groups) ≡ None → StandsIn (line state) named
+same_expected : (state : State) (named : Named) → lowest_fault (groups_of state.groups) ≡ None → IsInLine (line state) named
     → expected_in (table_of (line state)) named ≡ (data_head (line state) named).expected
-same_expected state named project stands =
-    let task = standing-task state named.0 named.1 project stands in
-    ap (λ (found : Option Datagram). option_map_or (λ (datagram : Datagram). datagram.expected) found 0) (row_at (line state) named.0 named.1 task stands)
+same_expected state named project is_placed =
+    let task = standing-task state named.0 named.1 project is_placed in
+    ap (λ (found : Option Datagram). option_map_or (λ (datagram : Datagram). datagram.expected) found 0) (row_at (line state) named.0 named.1 task is_placed)
 
 abbrev built : ℕ → Named → ℕ → ℕ → ℕ → ℕ → ℕ × ℕ → Outcome
 built kind named expected got at size place =
     record { kind = kind; task = named.0; datagram = named.1; expected = expected; got = got; at = at; length = size; station = place.0; start = place.1 }
 
-part_told : (state : State) (start at : ℕ) (datagram : Judged) → lowest_fault (groups_of state.groups) ≡ None → IsNamed (line state) datagram → at ≡ start + 10
-    → told_part (table_of (line state)) (outcome_for datagram) (record { start = start; carried = datagram.part }) ≡ told.outcome_of at datagram
-part_told state start at datagram project is from =
+part_answered : (state : State) (start at : ℕ) (datagram : Judged) → lowest_fault (groups_of state.groups) ≡ None → IsNamedByAddress (line state) datagram → at ≡ start + 10
+    → part_outcome_out (table_of (line state)) (outcome_for datagram) (record { start = start; carried = datagram.part }) ≡ answer_given.datagram_outcome_out at datagram
+part_answered state start at datagram project is from =
     let table = table_of (line state) in
     let named = named_at datagram.part.address in
     let got = datagram.part.counter in
     let size = length datagram.part.bytes in
     let kind = kind_in datagram.head.item datagram.verdict in
-    let item : told.name_of datagram.head.item ≡ is.named = ap (λ (head : Head). told.name_of head.item) is.head in
-    let place : place_of datagram.head.item datagram.head.address ≡ (0, 0) = ap (λ (head : Head). place_of head.item head.address) is.head in
+    let item : answer_given.item_name datagram.head.item ≡ is.named = ap (λ (head : Head). answer_given.item_name head.item) is.head in
+    let place : register_place datagram.head.item datagram.head.address ≡ (0, 0) = ap (λ (head : Head). register_place head.item head.address) is.head in
     let expected : expected_in table named ≡ datagram.head.expected =
-    ap (expected_in table) is.names ∙ same_expected state is.named project is.stands ∙ sym (ap (λ (head : Head). head.expected) is.head) in
+    ap (expected_in table) is.names ∙ same_expected state is.named project is.is_placed ∙ sym (ap (λ (head : Head). head.expected) is.head) in
     ap (λ (one : ℕ). built one named (expected_in table named) got (start + 10) size (0, 0)) (same_kind (line state) is.named datagram.head datagram.part datagram.verdict is.head)
     ∙ ap (λ (one : ℕ). built kind named one got (start + 10) size (0, 0)) expected
     ∙ ap (λ (one : Named). built kind one datagram.head.expected got (start + 10) size (0, 0)) (is.names ∙ sym item)
-    ∙ ap (λ (one : ℕ). built kind (told.name_of datagram.head.item) datagram.head.expected got one size (0, 0)) (sym from)
-    ∙ ap (λ (one : ℕ × ℕ). built kind (told.name_of datagram.head.item) datagram.head.expected got at size one) (sym place)
+    ∙ ap (λ (one : ℕ). built kind (answer_given.item_name datagram.head.item) datagram.head.expected got one size (0, 0)) (sym from)
+    ∙ ap (λ (one : ℕ × ℕ). built kind (answer_given.item_name datagram.head.item) datagram.head.expected got at size one) (sym place)
 
 -- all of them, one after another
 
 next_at : (start at size : ℕ) → at ≡ start + 10 → at + (12 + size) ≡ start + (12 + size) + 10
 next_at start at size is = omega (arith, is)
 
-parts_told : (state : State) (start at : ℕ) (datagrams : List Judged) → lowest_fault (groups_of state.groups) ≡ None → All (IsNamed (line state)) datagrams → at ≡ start + 10
-    → told_parts (table_of (line state)) (map outcome_for datagrams) (placed_from start (map (λ (one : Judged). one.part) datagrams)) ≡ outcomes_from at datagrams
-parts_told state start at [] project all from = refl
-parts_told state start at (datagram ∷ datagrams) project all from =
-    ap (λ (one : Outcome). one ∷ told_parts (table_of (line state)) (map outcome_for datagrams) (placed_from (start + (12 + length datagram.part.bytes)) (map (λ (one : Judged). one.part) datagrams)))
-    (part_told state start at datagram project (All-head (IsNamed (line state)) datagram datagrams all) from)
-    ∙ ap (λ (rest : List Outcome). told.outcome_of at datagram ∷ rest)
-    (parts_told state (start + (12 + length datagram.part.bytes)) (at + (12 + length datagram.part.bytes)) datagrams project (All-tail (IsNamed (line state)) datagram datagrams all)
+parts_answered : (state : State) (start at : ℕ) (datagrams : List Judged) → lowest_fault (groups_of state.groups) ≡ None → All (IsNamedByAddress (line state)) datagrams → at ≡ start + 10
+    → parts_out (table_of (line state)) (map outcome_for datagrams) (placed_from start (map (λ (one : Judged). one.part) datagrams)) ≡ outcomes_from at datagrams
+parts_answered state start at [] project all from = refl
+parts_answered state start at (datagram ∷ datagrams) project all from =
+    ap (λ (one : Outcome). one ∷ parts_out (table_of (line state)) (map outcome_for datagrams) (placed_from (start + (12 + length datagram.part.bytes)) (map (λ (one : Judged). one.part) datagrams)))
+    (part_answered state start at datagram project (All-head (IsNamedByAddress (line state)) datagram datagrams all) from)
+    ∙ ap (λ (rest : List Outcome). answer_given.datagram_outcome_out at datagram ∷ rest)
+    (parts_answered state (start + (12 + length datagram.part.bytes)) (at + (12 + length datagram.part.bytes)) datagrams project (All-tail (IsNamedByAddress (line state)) datagram datagrams all)
     (next_at start at (length datagram.part.bytes) from))
 
-parts_back : (since : List Entry) (heads : List Head) (parts : List Part) → has_heads heads parts ≡ true → map (λ (one : Judged). one.part) (map (judge since) (zip heads parts)) ≡ parts
+parts_back : (since : List HistoryEntry) (heads : List Head) (parts : List Part) → has_heads heads parts ≡ true → map (λ (one : Judged). one.part) (map (judge since) (zip heads parts)) ≡ parts
 parts_back since [] [] fit = refl
 parts_back since [] (part ∷ parts) fit = cc
 parts_back since (head ∷ heads) [] fit = cc
 parts_back since (head ∷ heads) (part ∷ parts) fit = ap (λ (rest : List Part). part ∷ rest) (parts_back since heads parts (and_parts (has_head head part) _ fit).1)
 
-first_alike : (since : List Entry) (heads : List Head) (parts : List Part) → has_heads heads parts ≡ true → first_written parts ≡ written_in (map (judge since) (zip heads parts))
+first_alike : (since : List HistoryEntry) (heads : List Head) (parts : List Part) → has_heads heads parts ≡ true → first_written parts ≡ written_in (map (judge since) (zip heads parts))
 first_alike since [] [] fit = refl
 first_alike since [] (part ∷ parts) fit = cc
 first_alike since (head ∷ heads) [] fit = cc
@@ -141,49 +141,49 @@ first_alike since (head ∷ heads) (part ∷ parts) fit =
     let same = and_parts ((code_of head.command == code_of part.command) && (head.address == part.address)) (head.length == length part.bytes) (and_parts (has_head head part) _ fit).0 in
     ap written_at (sym (eqb-true head.address part.address (and_parts (code_of head.command == code_of part.command) (head.address == part.address) same.0).1))
 
-answered_parts : (past : Record) (arrival : frame.Arrival) (outcomes : List core.Outcome) (found : Option Sending) → answered_by past arrival ≡ found
-    → told_of (option_map_or (judged arrival) found []) ≡ answer.Answered outcomes → map (λ (one : Judged). one.part) (option_map_or (judged arrival) found []) ≡ arrival.parts
-answered_parts past arrival outcomes None is told = cc
-answered_parts past arrival outcomes (Some sending) is told = parts_back sending.since sending.heads arrival.parts ((answers-first past arrival sending).0 is).fits
+answered_parts : (history : History) (arrival : frame.Arrival) (outcomes : List core.Outcome) (found : Option Sending) → answered_by history arrival ≡ found
+    → judged_answer (option_map_or (judged arrival) found []) ≡ answer.Answered outcomes → map (λ (one : Judged). one.part) (option_map_or (judged arrival) found []) ≡ arrival.parts
+answered_parts history arrival outcomes None is answer_given = cc
+answered_parts history arrival outcomes (Some sending) is answer_given = parts_back sending.since sending.heads arrival.parts ((answers-first history arrival sending).0 is).fits
 
--- the list of the answer is that of the datagrams
+-- the answer lists the datagrams
 
 same_list : (one other : List core.Outcome) → answer.Answered one ≡ answer.Answered other → one ≡ other
 same_list one other e = cc
 
-list_by : (datagrams : List Judged) (outcomes : List core.Outcome) (block news : Bool) (blocks : Answer) → block ≡ false
-    → cond block blocks (cond news (answer.Answered (map outcome_for datagrams)) answer.Stale) ≡ answer.Answered outcomes → outcomes ≡ map outcome_for datagrams
-list_by datagrams outcomes true news blocks plain e = cc
+list_by : (datagrams : List Judged) (outcomes : List core.Outcome) (block updates : Bool) (blocks : Answer) → block ≡ false
+    → cond block blocks (cond updates (answer.Answered (map outcome_for datagrams)) answer.Stale) ≡ answer.Answered outcomes → outcomes ≡ map outcome_for datagrams
+list_by datagrams outcomes true updates blocks plain e = cc
 list_by datagrams outcomes false true blocks plain e = sym (same_list (map outcome_for datagrams) outcomes e)
 list_by datagrams outcomes false false blocks plain e = cc
 
-list_is : (members : List Member) (datagrams : List Judged) (outcomes : List core.Outcome) → All (IsNamed members) datagrams → told_of datagrams ≡ answer.Answered outcomes → outcomes ≡ map outcome_for datagrams
+list_is : (members : List Member) (datagrams : List Judged) (outcomes : List core.Outcome) → All (IsNamedByAddress members) datagrams → judged_answer datagrams ≡ answer.Answered outcomes → outcomes ≡ map outcome_for datagrams
 list_is members [] outcomes all e = cc
 list_is members (datagram ∷ datagrams) outcomes all e =
-    let first = All-head (IsNamed members) datagram datagrams all in
-    list_by (datagram ∷ datagrams) outcomes (is_block datagram.head.item) (list_any is_news (datagram ∷ datagrams)) (told_of_blocks (datagram ∷ datagrams)) (ap (λ (head : Head). is_block head.item) first.head) e
+    let first = All-head (IsNamedByAddress members) datagram datagrams all in
+    list_by (datagram ∷ datagrams) outcomes (is_block datagram.head.item) (list_any is_current (datagram ∷ datagrams)) (judged_blocks_answer (datagram ∷ datagrams)) (ap (λ (head : Head). is_block head.item) first.head) e
 
--- so of a frame of tasks each outcome is told as it is
-pub outcomes-told : (past : Record) (state : State) (arrival : frame.Arrival) (outcomes : List core.Outcome) → IsReachable past → state ≡ state_of past → lowest_fault (groups_of state.groups) ≡ None → crowded_task (line state) ≡ None
-    → told_of (judged_by past arrival) ≡ answer.Answered outcomes
-    → told_parts (table_of (line state)) outcomes (placed_from 16 arrival.parts) ≡ outcomes_from 26 (judged_by past arrival)
-outcomes-told past state arrival outcomes reachable is project uncrowded e =
+-- so of a frame of tasks each outcome is reported as it is
+pub outcomes-answer_given : (history : History) (state : State) (arrival : frame.Arrival) (outcomes : List core.Outcome) → IsReachable history → state ≡ state_of history → lowest_fault (groups_of state.groups) ≡ None → over_limit_task (line state) ≡ None
+    → judged_answer (judged_by history arrival) ≡ answer.Answered outcomes
+    → parts_out (table_of (line state)) outcomes (placed_from 16 arrival.parts) ≡ outcomes_from 26 (judged_by history arrival)
+outcomes-answer_given history state arrival outcomes reachable is project uncrowded e =
     let few = subst (λ (one : State). HasFewDatagrams (line one)) is (few-datagrams state project uncrowded) in
-    let all = answered-named past arrival outcomes reachable.accepted few e in
-    let same = subst (λ (one : State). All (IsNamed (line one)) (judged_by past arrival)) (sym is) all in
-    ap (λ (list : List core.Outcome). told_parts (table_of (line state)) list (placed_from 16 arrival.parts)) (list_is (line_of past) (judged_by past arrival) outcomes all e)
-    ∙ ap (λ (parts : List Part). told_parts (table_of (line state)) (map outcome_for (judged_by past arrival)) (placed_from 16 parts)) (sym (answered_parts past arrival outcomes (answered_by past arrival) refl e))
-    ∙ parts_told state 16 26 (judged_by past arrival) project same refl
+    let all = answered-named history arrival outcomes reachable.accepted few e in
+    let same = subst (λ (one : State). All (IsNamedByAddress (line one)) (judged_by history arrival)) (sym is) all in
+    ap (λ (list : List core.Outcome). parts_out (table_of (line state)) list (placed_from 16 arrival.parts)) (list_is (line_of history) (judged_by history arrival) outcomes all e)
+    ∙ ap (λ (parts : List Part). parts_out (table_of (line state)) (map outcome_for (judged_by history arrival)) (placed_from 16 parts)) (sym (answered_parts history arrival outcomes (answered_by history arrival) refl e))
+    ∙ parts_answered state 16 26 (judged_by history arrival) project same refl
 
--- a register write is told by what its address names
+-- a register write is given by what its address names
 
-written_by_answer : (past : Record) (arrival : frame.Arrival) (found : Option Sending) → answered_by past arrival ≡ found → told_of (option_map_or (judged arrival) found []) ≢ answer.Stale
+written_by_answer : (history : History) (arrival : frame.Arrival) (found : Option Sending) → answered_by history arrival ≡ found → judged_answer (option_map_or (judged arrival) found []) ≢ answer.Stale
     → first_written arrival.parts ≡ written_in (option_map_or (judged arrival) found [])
-written_by_answer past arrival None is news = absurd (news refl)
-written_by_answer past arrival (Some sending) is news = first_alike sending.since sending.heads arrival.parts ((answers-first past arrival sending).0 is).fits
+written_by_answer history arrival None is updates = absurd (updates refl)
+written_by_answer history arrival (Some sending) is updates = first_alike sending.since sending.heads arrival.parts ((answers-first history arrival sending).0 is).fits
 
-pub written-told : (past : Record) (arrival : frame.Arrival) → told_of (judged_by past arrival) ≢ answer.Stale → first_written arrival.parts ≡ written_in (judged_by past arrival)
-written-told past arrival news = written_by_answer past arrival (answered_by past arrival) refl news
+pub written-answer_given : (history : History) (arrival : frame.Arrival) → judged_answer (judged_by history arrival) ≢ answer.Stale → first_written arrival.parts ≡ written_in (judged_by history arrival)
+written-answer_given history arrival updates = written_by_answer history arrival (answered_by history arrival) refl updates
 
 -- so is each block of a frame of several register writes
 
@@ -197,9 +197,9 @@ same_address head part fit =
     let same = and_parts ((code_of head.command == code_of part.command) && (head.address == part.address)) (head.length == length part.bytes) fit in
     eqb-true head.address part.address (and_parts (code_of head.command == code_of part.command) (head.address == part.address) same.0).1
 
-block_told : (since : List Entry) (block : LineBlock) (part : Part) (start at : ℕ) → has_head (write_head block) part ≡ true → at ≡ start + 10
-    → told_block (outcome_for (judge since (write_head block, part))) (record { start = start; carried = part }) ≡ told.outcome_of at (judge since (write_head block, part))
-block_told since block part start at fit from =
+block_answered : (since : List HistoryEntry) (block : LineBlock) (part : Part) (start at : ℕ) → has_head (write_head block) part ≡ true → at ≡ start + 10
+    → block_outcome_out (outcome_for (judge since (write_head block, part))) (record { start = start; carried = part }) ≡ answer_given.datagram_outcome_out at (judge since (write_head block, part))
+block_answered since block part start at fit from =
     let datagram = judge since (write_head block, part) in
     let got = part.counter in
     let size = length part.bytes in
@@ -208,51 +208,51 @@ block_told since block part start at fit from =
     ∙ ap (λ (one : ℕ). built kind (0, 0) WRITE_COUNT got one size (written_at part.address)) (sym from)
     ∙ ap (λ (one : ℕ). built kind (0, 0) WRITE_COUNT got at size (written_at one)) (sym (same_address (write_head block) part fit))
 
-blocks_told : (since : List Entry) (blocks : List LineBlock) (parts : List Part) (start at : ℕ) → has_heads (write_heads blocks) parts ≡ true → at ≡ start + 10
-    → told_blocks (map outcome_for (map (judge since) (zip (write_heads blocks) parts))) (placed_from start parts) ≡ outcomes_from at (map (judge since) (zip (write_heads blocks) parts))
-blocks_told since [] parts start at fit from = refl
-blocks_told since (block ∷ blocks) [] start at fit from = cc
-blocks_told since (block ∷ blocks) (part ∷ parts) start at fit from =
+blocks_answered : (since : List HistoryEntry) (blocks : List LineBlock) (parts : List Part) (start at : ℕ) → has_heads (write_heads blocks) parts ≡ true → at ≡ start + 10
+    → answered_blocks (map outcome_for (map (judge since) (zip (write_heads blocks) parts))) (placed_from start parts) ≡ outcomes_from at (map (judge since) (zip (write_heads blocks) parts))
+blocks_answered since [] parts start at fit from = refl
+blocks_answered since (block ∷ blocks) [] start at fit from = cc
+blocks_answered since (block ∷ blocks) (part ∷ parts) start at fit from =
     let both = and_parts (has_head (write_head block) part) (has_heads (write_heads blocks) parts) fit in
     let rest = map (judge since) (zip (write_heads blocks) parts) in
-    ap (λ (one : Outcome). one ∷ told_blocks (map outcome_for rest) (placed_from (start + (12 + length part.bytes)) parts)) (block_told since block part start at both.0 from)
-    ∙ ap (λ (all : List Outcome). told.outcome_of at (judge since (write_head block, part)) ∷ all)
-    (blocks_told since blocks parts (start + (12 + length part.bytes)) (at + (12 + length part.bytes)) both.1 (next_at start at (length part.bytes) from))
+    ap (λ (one : Outcome). one ∷ answered_blocks (map outcome_for rest) (placed_from (start + (12 + length part.bytes)) parts)) (block_answered since block part start at both.0 from)
+    ∙ ap (λ (all : List Outcome). answer_given.datagram_outcome_out at (judge since (write_head block, part)) ∷ all)
+    (blocks_answered since blocks parts (start + (12 + length part.bytes)) (at + (12 + length part.bytes)) both.1 (next_at start at (length part.bytes) from))
 
--- the list of the answer is that of the blocks, of which the first one is a block
+-- the answer lists the blocks; the first one is a block
 
 same_written : (one other : List core.Outcome) → answer.Written one ≡ answer.Written other → one ≡ other
 same_written one other e = cc
 
-block_unwritten : (verdict : Verdict) (outcomes : List core.Outcome) → told_of_block verdict ≢ answer.Written outcomes
+block_unwritten : (verdict : Verdict) (outcomes : List core.Outcome) → write_answer verdict ≢ answer.Written outcomes
 block_unwritten Good outcomes e = cc
 block_unwritten Wrong outcomes e = cc
 block_unwritten Stale outcomes e = cc
 
-written_if : (news : Bool) (all outcomes : List core.Outcome) → cond news (answer.Written all) answer.Stale ≡ answer.Written outcomes → outcomes ≡ all
+written_if : (updates : Bool) (all outcomes : List core.Outcome) → cond updates (answer.Written all) answer.Stale ≡ answer.Written outcomes → outcomes ≡ all
 written_if true all outcomes e = sym (same_written all outcomes e)
 written_if false all outcomes e = cc
 
-written_list : (datagrams : List Judged) (outcomes : List core.Outcome) → told_of_blocks datagrams ≡ answer.Written outcomes → outcomes ≡ map outcome_for datagrams
+written_list : (datagrams : List Judged) (outcomes : List core.Outcome) → judged_blocks_answer datagrams ≡ answer.Written outcomes → outcomes ≡ map outcome_for datagrams
 written_list [] outcomes e = cc
 written_list (datagram ∷ []) outcomes e = absurd (block_unwritten datagram.verdict outcomes e)
 written_list (datagram ∷ next ∷ datagrams) outcomes e =
-    written_if (list_any is_news (datagram ∷ next ∷ datagrams)) (map outcome_for (datagram ∷ next ∷ datagrams)) outcomes e
+    written_if (list_any is_current (datagram ∷ next ∷ datagrams)) (map outcome_for (datagram ∷ next ∷ datagrams)) outcomes e
 
-data_unwritten : (news : Bool) (all outcomes : List core.Outcome) → cond news (answer.Answered all) answer.Stale ≢ answer.Written outcomes
+data_unwritten : (updates : Bool) (all outcomes : List core.Outcome) → cond updates (answer.Answered all) answer.Stale ≢ answer.Written outcomes
 data_unwritten true all outcomes e = cc
 data_unwritten false all outcomes e = cc
 
-first_block : (datagram : Judged) (datagrams : List Judged) (outcomes : List core.Outcome) → told_of (datagram ∷ datagrams) ≡ answer.Written outcomes
+first_block : (datagram : Judged) (datagrams : List Judged) (outcomes : List core.Outcome) → judged_answer (datagram ∷ datagrams) ≡ answer.Written outcomes
     → (is_block datagram.head.item ≡ true) × (outcomes ≡ map outcome_for (datagram ∷ datagrams))
 first_block datagram datagrams outcomes e =
-    let news = list_any is_news (datagram ∷ datagrams) in
-    let tasks = cond news (answer.Answered (map outcome_for (datagram ∷ datagrams))) answer.Stale in
+    let updates = list_any is_current (datagram ∷ datagrams) in
+    let tasks = cond updates (answer.Answered (map outcome_for (datagram ∷ datagrams))) answer.Stale in
     by_bool (is_block datagram.head.item)
-    (λ t. (t, written_list (datagram ∷ datagrams) outcomes (sym (ap (λ b. cond b (told_of_blocks (datagram ∷ datagrams)) tasks) t) ∙ e)))
-    (λ t. absurd (data_unwritten news (map outcome_for (datagram ∷ datagrams)) outcomes (sym (ap (λ b. cond b (told_of_blocks (datagram ∷ datagrams)) tasks) t) ∙ e)))
+    (λ t. (t, written_list (datagram ∷ datagrams) outcomes (sym (ap (λ b. cond b (judged_blocks_answer (datagram ∷ datagrams)) tasks) t) ∙ e)))
+    (λ t. absurd (data_unwritten updates (map outcome_for (datagram ∷ datagrams)) outcomes (sym (ap (λ b. cond b (judged_blocks_answer (datagram ∷ datagrams)) tasks) t) ∙ e)))
 
-answered_write : (since : List Entry) (heads : List Head) (parts : List Part) (outcomes : List core.Outcome) → told_of (map (judge since) (zip heads parts)) ≡ answer.Written outcomes
+answered_write : (since : List HistoryEntry) (heads : List Head) (parts : List Part) (outcomes : List core.Outcome) → judged_answer (map (judge since) (zip heads parts)) ≡ answer.Written outcomes
     → (list_any (λ (head : Head). is_block head.item) heads ≡ true) × (outcomes ≡ map outcome_for (map (judge since) (zip heads parts)))
 answered_write since [] parts outcomes e = cc
 answered_write since (head ∷ heads) [] outcomes e = cc
@@ -260,21 +260,21 @@ answered_write since (head ∷ heads) (part ∷ parts) outcomes e =
     let one = first_block (judge since (head, part)) (map (judge since) (zip heads parts)) outcomes e in
     (ap (λ b. b || list_any (λ (other : Head). is_block other.item) heads) one.0, one.1)
 
-blocks_by : (past : Record) (arrival : frame.Arrival) (outcomes : List core.Outcome) (found : Option Sending) → answered_by past arrival ≡ found
-    → told_of (option_map_or (judged arrival) found []) ≡ answer.Written outcomes
-    → told_blocks outcomes (placed_from 16 arrival.parts) ≡ outcomes_from 26 (option_map_or (judged arrival) found [])
-blocks_by past arrival outcomes None is e = cc
-blocks_by past arrival outcomes (Some sending) is e =
+blocks_by : (history : History) (arrival : frame.Arrival) (outcomes : List core.Outcome) (found : Option Sending) → answered_by history arrival ≡ found
+    → judged_answer (option_map_or (judged arrival) found []) ≡ answer.Written outcomes
+    → answered_blocks outcomes (placed_from 16 arrival.parts) ≡ outcomes_from 26 (option_map_or (judged arrival) found [])
+blocks_by history arrival outcomes None is e = cc
+blocks_by history arrival outcomes (Some sending) is e =
     let write = answered_write sending.since sending.heads arrival.parts outcomes e in
-    let there = (only-if_some (sending_of past arrival.serial) (is_answer arrival) sending is).0 in
-    let made = wrote-at past arrival.serial sending there write.0 in
+    let there = (only-if_some (sending_of history arrival.serial) (is_answer arrival) sending is).0 in
+    let made = wrote-at history arrival.serial sending there write.0 in
     let fit : has_heads (write_heads made.blocks) arrival.parts ≡ true =
-    sym (ap (λ (heads : List Head). has_heads heads arrival.parts) made.heads) ∙ ((answers-first past arrival sending).0 is).fits in
-    ap (λ (list : List core.Outcome). told_blocks list (placed_from 16 arrival.parts)) write.1
-    ∙ ap (λ (heads : List Head). told_blocks (map outcome_for (map (judge sending.since) (zip heads arrival.parts))) (placed_from 16 arrival.parts)) made.heads
-    ∙ blocks_told sending.since made.blocks arrival.parts 16 26 fit refl
+    sym (ap (λ (heads : List Head). has_heads heads arrival.parts) made.heads) ∙ ((answers-first history arrival sending).0 is).fits in
+    ap (λ (list : List core.Outcome). answered_blocks list (placed_from 16 arrival.parts)) write.1
+    ∙ ap (λ (heads : List Head). answered_blocks (map outcome_for (map (judge sending.since) (zip heads arrival.parts))) (placed_from 16 arrival.parts)) made.heads
+    ∙ blocks_answered sending.since made.blocks arrival.parts 16 26 fit refl
     ∙ sym (ap (λ (heads : List Head). outcomes_from 26 (map (judge sending.since) (zip heads arrival.parts))) made.heads)
 
-pub blocks-told : (past : Record) (arrival : frame.Arrival) (outcomes : List core.Outcome) → told_of (judged_by past arrival) ≡ answer.Written outcomes
-    → told_blocks outcomes (placed_from 16 arrival.parts) ≡ outcomes_from 26 (judged_by past arrival)
-blocks-told past arrival outcomes e = blocks_by past arrival outcomes (answered_by past arrival) refl e
+pub blocks-answer_given : (history : History) (arrival : frame.Arrival) (outcomes : List core.Outcome) → judged_answer (judged_by history arrival) ≡ answer.Written outcomes
+    → answered_blocks outcomes (placed_from 16 arrival.parts) ≡ outcomes_from 26 (judged_by history arrival)
+blocks-answer_given history arrival outcomes e = blocks_by history arrival outcomes (answered_by history arrival) refl e

@@ -6,13 +6,13 @@ use Rattle.hc_records.specs.Lists.{lowest}
 use Rattle.hc_events.specs.declared.faults.CoreFault.{CoreFault}
 use Rattle.hc_events.specs.declared.faults.CoreFault.TheVariants.{UnknownAlias, AlreadyPresent, NotPresent, Mandatory, UnknownStation, Absent, NoSuchArea, NoSuchTask, UnknownPdo, RepeatedPdo, AreaTooBig, TooManyDatagrams, EpochsSpent, StalePost, PostLength, Unprogrammed, NothingOwed, SerialsSpent, Short, NotEtherCat, BadType, BadLength, Circulating, MoreFollows, UnknownCommand, IndexMismatch, Memory, Room, BadGroup, AliasTaken, StationTaken, VariableTaken, TooManyGroups, TooManySlaves}
 use Rattle.hc_events.specs.Calls.{frames_size, room_faults, send_into_faults, write_all_into_faults, write_into_faults, write_size}
-use Rattle.hc_events.specs.Entries.{Record}
+use Rattle.hc_events.specs.Entries.{History}
 use Rattle.hc_events.specs.Faults.{core_fault_number}
 use Rattle.hc_events.specs.Owed.{owed_blocks}
 use Rattle.hc_events.specs.Steps.{task_faults, write_faults}
 use Rattle.hc_events.specs.WriteFrames.{frame_blocks, writes_size}
 
--- its number is that of no other fault
+-- no other fault has its number
 numbered_room : (fault : CoreFault) → (core_fault_number fault == 29) ≡ true → (needed : ℕ) × (fault ≡ Room needed)
 numbered_room UnknownAlias e = cc
 numbered_room AlreadyPresent e = cc
@@ -65,30 +65,30 @@ abbrev AreOther : List (Bool × CoreFault) → Type 0
 AreOther [] = Unit {0}
 AreOther (judged ∷ rest) = ((needed : ℕ) → judged.1 ≢ Room needed) × AreOther rest
 
-behind : (judged : Bool) (one : CoreFault) (rest : List (Bool × CoreFault)) (size needed : ℕ) → ((bytes : ℕ) → one ≢ Room bytes) → (lowest rest ≡ Some (Room needed) → needed ≡ size)
+after_it : (judged : Bool) (one : CoreFault) (rest : List (Bool × CoreFault)) (size needed : ℕ) → ((bytes : ℕ) → one ≢ Room bytes) → (lowest rest ≡ Some (Room needed) → needed ≡ size)
     → (if judged then Some one else lowest rest) ≡ Some (Room needed) → needed ≡ size
-behind true one rest size needed other later is = absurd (other needed (same_Some one (Room needed) is))
-behind false one rest size needed other later is = later is
+after_it true one rest size needed other later is = absurd (other needed (same_Some one (Room needed) is))
+after_it false one rest size needed other later is = later is
 
-needed_behind : (faults : List (Bool × CoreFault)) (size bytes needed : ℕ) → AreOther faults → lowest (faults ++ room_faults size bytes) ≡ Some (Room needed) → needed ≡ size
-needed_behind [] size bytes needed other is = at_room (nat_lt bytes size) size needed is
-needed_behind (judged ∷ rest) size bytes needed other is =
-    behind judged.0 judged.1 (rest ++ room_faults size bytes) size needed other.0 (needed_behind rest size bytes needed other.1) is
+needed_after : (faults : List (Bool × CoreFault)) (size bytes needed : ℕ) → AreOther faults → lowest (faults ++ room_faults size bytes) ≡ Some (Room needed) → needed ≡ size
+needed_after [] size bytes needed other is = at_room (nat_lt bytes size) size needed is
+needed_after (judged ∷ rest) size bytes needed other is =
+    after_it judged.0 judged.1 (rest ++ room_faults size bytes) size needed other.0 (needed_after rest size bytes needed other.1) is
 
 -- those of a register write
-pub write_needs : (past : Record) (bytes needed : ℕ) → lowest (write_into_faults past bytes) ≡ Some (Room needed) → needed ≡ write_size (owed_blocks past)
-write_needs past bytes needed is =
-    let apart : AreOther (write_faults past (owed_blocks past)) = (λ one e. cc, (λ one e. cc, tt)) in
-    needed_behind (write_faults past (owed_blocks past)) (write_size (owed_blocks past)) bytes needed apart is
+pub write_needs : (history : History) (bytes needed : ℕ) → lowest (write_into_faults history bytes) ≡ Some (Room needed) → needed ≡ write_size (owed_blocks history)
+write_needs history bytes needed is =
+    let apart : AreOther (write_faults history (owed_blocks history)) = (λ one e. cc, (λ one e. cc, tt)) in
+    needed_after (write_faults history (owed_blocks history)) (write_size (owed_blocks history)) bytes needed apart is
 
 -- those of a frame of register writes
-pub writes_need : (past : Record) (bytes needed : ℕ) → lowest (write_all_into_faults past bytes) ≡ Some (Room needed) → needed ≡ writes_size (frame_blocks (owed_blocks past))
-writes_need past bytes needed is =
-    let apart : AreOther (write_faults past (owed_blocks past)) = (λ one e. cc, (λ one e. cc, tt)) in
-    needed_behind (write_faults past (owed_blocks past)) (writes_size (frame_blocks (owed_blocks past))) bytes needed apart is
+pub writes_need : (history : History) (bytes needed : ℕ) → lowest (write_all_into_faults history bytes) ≡ Some (Room needed) → needed ≡ writes_size (frame_blocks (owed_blocks history))
+writes_need history bytes needed is =
+    let apart : AreOther (write_faults history (owed_blocks history)) = (λ one e. cc, (λ one e. cc, tt)) in
+    needed_after (write_faults history (owed_blocks history)) (writes_size (frame_blocks (owed_blocks history))) bytes needed apart is
 
 -- those of tasks that are sent
-pub frames_need : (past : Record) (tasks : List ℕ) (bytes needed : ℕ) → lowest (send_into_faults past tasks bytes) ≡ Some (Room needed) → needed ≡ frames_size past tasks
-frames_need past tasks bytes needed is =
-    let apart : AreOther (task_faults past tasks) = (λ one e. cc, (λ one e. cc, (λ one e. cc, tt))) in
-    needed_behind (task_faults past tasks) (frames_size past tasks) bytes needed apart is
+pub frames_need : (history : History) (tasks : List ℕ) (bytes needed : ℕ) → lowest (send_into_faults history tasks bytes) ≡ Some (Room needed) → needed ≡ frames_size history tasks
+frames_need history tasks bytes needed is =
+    let apart : AreOther (task_faults history tasks) = (λ one e. cc, (λ one e. cc, (λ one e. cc, tt))) in
+    needed_after (task_faults history tasks) (frames_size history tasks) bytes needed apart is

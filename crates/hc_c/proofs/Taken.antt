@@ -9,33 +9,33 @@ use Rattle.hc_events.specs.declared.answer.Arrived.{Arrived}
 use Rattle.hc_events.specs.declared.answer.Arrived.TheVariants as arrived
 use Rattle.hc_events.specs.Arrivals as frame
 use Rattle.hc_events.specs.Arrivals.{arrival_in, read_unless}
-use Rattle.hc_events.specs.Changes.{news_of}
-use Rattle.hc_events.specs.Entries.{Record, Came}
+use Rattle.hc_events.specs.Changes.{updates_of}
+use Rattle.hc_events.specs.Entries.{History, Came}
 use Rattle.hc_events.specs.Faults.{core_fault_number, frame_refusal}
 use Rattle.hc_events.specs.Steps.{with_arrival}
-use Rattle.hc_core.specs.News.{untaken}
+use Rattle.hc_core.specs.Update.{untaken}
 use Rattle.hc_core.specs.State.{CoreState}
 use Rattle.hc_c.specs.declared.embedded.Embedded.{Embedded}
 use Rattle.hc_c.specs.Arrivals.{added_by, is_taken, refused_number, with_arrived}
 use Rattle.hc_c.specs.Counts.{Counts}
-use Rattle.hc_c.specs.Embedded.{are_too_many, changes_room, keeps_changes, settled, with_counts, with_past}
+use Rattle.hc_c.specs.Embedded.{are_too_many, changes_room, keeps_changes, with_changes_let_go, with_counts, embedded_with_history}
 use Rattle.hc_c.specs.Returned.{arrived_number}
 
 -- a line that took one
 
-kept_by : (keeps : Bool) (room : ℕ) (old : Embedded) (past : Record) (counts : Counts)
-    → ◌≡◌ {A = Embedded} (record old { core = with_arrived (cond keeps (Some room) None) old.core past; counts = counts })
-    (cond keeps (with_counts (with_past old past) counts) (record (with_counts (with_past old past) counts) { core = record old.core { past = past; taken = past } }))
-kept_by true room old past counts = refl
-kept_by false room old past counts = refl
+unchanged_by : (stays : Bool) (room : ℕ) (old : Embedded) (history : History) (counts : Counts)
+    → ◌≡◌ {A = Embedded} (record old { core = with_arrived (cond stays (Some room) None) old.core history; counts = counts })
+    (cond stays (with_counts (embedded_with_history old history) counts) (record (with_counts (embedded_with_history old history) counts) { core = record old.core { history = history; taken = history } }))
+unchanged_by true room old history counts = refl
+unchanged_by false room old history counts = refl
 
-pub settled-taken : (old : Embedded) (past : Record) (counts : Counts)
-    → ◌≡◌ {A = Embedded} (record old { core = with_arrived (changes_room old) old.core past; counts = counts }) (settled (with_counts (with_past old past) counts))
-settled-taken old past counts = kept_by (keeps_changes old) _ old past counts
+pub settled-taken : (old : Embedded) (history : History) (counts : Counts)
+    → ◌≡◌ {A = Embedded} (record old { core = with_arrived (changes_room old) old.core history; counts = counts }) (with_changes_let_go (with_counts (embedded_with_history old history) counts))
+settled-taken old history counts = unchanged_by (keeps_changes old) _ old history counts
 
-pub past-taken : (room : Option ℕ) (core : CoreState) (past : Record) → (with_arrived room core past).past ≡ past
-past-taken None core past = refl
-past-taken (Some room) core past = refl
+pub history-taken : (room : Option ℕ) (core : CoreState) (history : History) → (with_arrived room core history).history ≡ history
+history-taken None core history = refl
+history-taken (Some room) core history = refl
 
 -- its number
 
@@ -53,7 +53,7 @@ taken-other arrived.WriteMissed = (λ e. omega (arith, e), λ e. omega (arith, e
 taken-other arrived.Stale = (λ e. omega (arith, e), λ e. omega (arith, e))
 taken-other arrived.Written = (λ e. omega (arith, e), λ e. omega (arith, e))
 
--- that of bytes which can't be read
+-- the number of bytes that can't be read
 
 pub fault-number : (fault : FrameFault) → is_taken (core_fault_number (frame_refusal fault)) ≡ false
 fault-number Short = refl
@@ -78,7 +78,7 @@ fault_low IndexMismatch = omega arith
 pub fault-other : (fault : FrameFault) (number : ℕ) → number ≡ core_fault_number (frame_refusal fault) → (number ≢ 28) × (number ≢ 253)
 fault-other fault number is = (λ e. omega (arith, e, is, fault_low fault), λ e. omega (arith, e, is, fault_low fault))
 
--- that of one which isn't taken
+-- the number of one that isn't taken
 
 refused_by : (full : Bool) → ◌≢◌ {A = ℕ} (cond full 252 28) 253
 refused_by true e = omega (arith, e)
@@ -90,26 +90,26 @@ refused-other room added number is e = refused_by (are_too_many room added) (sym
 pub refused-memory : (room : Option ℕ) (added number : ℕ) → number ≡ refused_number room added → are_too_many room added ≡ false → number ≡ 28
 refused-memory room added number is fits = is ∙ ap (λ (full : Bool). cond full 252 28) fits
 
-pub none-kept : (old : Embedded) → keeps_changes old ≡ false → is_some (changes_room old) ≡ false
-none-kept old none = ap (λ (keeps : Bool). is_some (cond keeps (Some (old.most_changes - (length old.untold + untaken old.core))) None)) none
+pub none-unchanged : (old : Embedded) → keeps_changes old ≡ false → is_some (changes_room old) ≡ false
+none-unchanged old none = ap (λ (stays : Bool). is_some (cond stays (Some (old.most_changes - (length old.waiting_changes + untaken old.core))) None)) none
 
 -- how many changes it adds
 
 same_none : (n : ℕ) → n - n ≡ 0
 same_none n = omega arith
 
-pub fault-adds : (past : Record) (bytes : List ℕ) (fault : FrameFault) → fault_in bytes ≡ Some fault → added_by past bytes ≡ 0
-fault-adds past bytes fault is =
-    ap (λ (found : Option FrameFault). length (news_of (with_arrival past (read_unless found (reading_of bytes)))) - length (news_of past)) is
-    ∙ same_none (length (news_of past))
+pub fault-adds : (history : History) (bytes : List ℕ) (fault : FrameFault) → fault_in bytes ≡ Some fault → added_by history bytes ≡ 0
+fault-adds history bytes fault is =
+    ap (λ (found : Option FrameFault). length (updates_of (with_arrival history (read_unless found (reading_of bytes)))) - length (updates_of history)) is
+    ∙ same_none (length (updates_of history))
 
 less_all : (m n k : ℕ) → m ≡ n + k → m - n ≡ k
 less_all m n k e = omega (arith, e)
 
-pub read-adds : (past : Record) (bytes : List ℕ) (arrival : frame.Arrival) (count : ℕ) → arrival_in bytes ≡ Ok arrival → length (news_of (Came arrival ∷ past)) ≡ length (news_of past) + count → added_by past bytes ≡ count
-read-adds past bytes arrival count read added =
-    ap (λ (found : Result frame.Arrival FrameFault). length (news_of (with_arrival past found)) - length (news_of past)) read
-    ∙ less_all (length (news_of (Came arrival ∷ past))) (length (news_of past)) count added
+pub read-adds : (history : History) (bytes : List ℕ) (arrival : frame.Arrival) (count : ℕ) → arrival_in bytes ≡ Ok arrival → length (updates_of (Came arrival ∷ history)) ≡ length (updates_of history) + count → added_by history bytes ≡ count
+read-adds history bytes arrival count read added =
+    ap (λ (found : Result frame.Arrival FrameFault). length (updates_of (with_arrival history found)) - length (updates_of history)) read
+    ∙ less_all (length (updates_of (Came arrival ∷ history))) (length (updates_of history)) count added
 
 pub none-fits : (room : Option ℕ) → are_too_many room 0 ≡ false
 none-fits None = refl

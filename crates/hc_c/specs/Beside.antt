@@ -1,4 +1,4 @@
--- Frames beside those of the line, as C is told them.
+-- Frames beside those of the line, as C gets them.
 use Rattle.std.specs.Prelude.{◌≡◌, ℕ, ◌<◌, ◌≤◌, ◌==◌, nat_le, ◌&&◌, Bool, true, List, ◌++◌, length, drop, slice_index, Result, Ok, Err}
 use Rattle.hc_frames.specs.declared.building.Room.{Room}
 use Rattle.hc_frames.specs.declared.limits.TheConstants.{LEAST_FRAME}
@@ -6,8 +6,9 @@ use Rattle.hc_frames.specs.FrameText.{Datagram, frame_text}
 use Rattle.hc_c.specs.declared.beside.TheConstants.{SOURCE}
 use Rattle.hc_c.specs.declared.numbers.TheConstants.{DONE, ROOM}
 
--- the bytes of a frame of the least size are told; its text replaces the slice's first bytes, where they are so many, else the slice is as it was
-pub record TellsFrame (text : List ℕ) (number size : ℕ) (before after : List ℕ) : Type 0 where
+-- the bytes of a frame of the least size are reported; its text replaces the slice's first bytes, where they are so many, else the slice is as it
+-- was
+pub record GivesFrame (text : List ℕ) (number size : ℕ) (before after : List ℕ) : Type 0 where
   pub sized : size ≡ LEAST_FRAME
   pub done : LEAST_FRAME ≤ length before → (number ≡ DONE) × (after ≡ text ++ drop LEAST_FRAME before)
   pub short : length before < LEAST_FRAME → (number ≡ ROOM) × (after ≡ before)
@@ -17,7 +18,7 @@ abbrev pub AnswersBuilt : Result ℕ Room → ℕ → ℕ → Type 0
 AnswersBuilt (Ok bytes) number size = (number ≡ DONE) × (size ≡ bytes)
 AnswersBuilt (Err room) number size = (number ≡ ROOM) × (size ≡ room.0)
 
--- the EtherType is 0x88A4, and the first byte of the source address is that of the library's frames
+-- the EtherType is 0x88A4, and the source address begins as in the library's frames
 abbrev pub is_mine : List ℕ → Bool
 is_mine frame =
     nat_le 14 (length frame)

@@ -17,12 +17,12 @@ abbrev pub nothing_counted : Counters
 nothing_counted = record { sent = 0; good = 0; wrong = 0; again = 0 }
 
 -- no datagram was sent yet
-abbrev pub fresh_counts : Counts
-fresh_counts = replicate (TASKS * MOST_DATAGRAMS) nothing_counted
+abbrev pub opening_counts : Counts
+opening_counts = replicate (TASKS * MOST_DATAGRAMS) nothing_counted
 
 -- one more, and at the last number of 64 bits no more
-abbrev pub one_more : ℕ → ℕ
-one_more number = min (number + 1) (2 ^ 64 - 1)
+abbrev pub counted_up : ℕ → ℕ
+counted_up number = min (number + 1) (2 ^ 64 - 1)
 
 -- the counters of a datagram
 abbrev pub counters_of : Counts → ℕ → ℕ → Counters
@@ -36,21 +36,21 @@ with_counters counts task d counters = slice_set counts (slot_number task d) cou
 abbrev pub sent_once : Counts → Named → Counts
 sent_once counts named =
     with_counters counts named.0 named.1
-    (record (counters_of counts named.0 named.1) { sent = one_more (counters_of counts named.0 named.1).sent })
+    (record (counters_of counts named.0 named.1) { sent = counted_up (counters_of counts named.0 named.1).sent })
 
 -- so is each datagram of a frame
 abbrev pub frame_sent : Counts → Frame → Counts
 frame_sent counts frame = fold sent_once counts frame.datagrams
 
 -- and of all frames of a sending
-abbrev pub all_sent : Counts → List Frame → Counts
-all_sent counts frames = fold frame_sent counts frames
+abbrev pub all_counted_sent : Counts → List Frame → Counts
+all_counted_sent counts frames = fold frame_sent counts frames
 
--- the counters of a datagram for which an arrival is of this kind
+-- the counters of a datagram, where an arrival is of this kind for it
 abbrev pub judged_as : ℕ → Counters → Counters
 judged_as kind counters =
-    if kind == INPUTS then record counters { good = one_more counters.good }
-    else (if kind == WRONG_COUNT then record counters { wrong = one_more counters.wrong } else record counters { again = one_more counters.again })
+    if kind == INPUTS then record counters { good = counted_up counters.good }
+    else (if kind == WRONG_COUNT then record counters { wrong = counted_up counters.wrong } else record counters { again = counted_up counters.again })
 
 -- what an arrival is for a datagram is counted
 abbrev pub judged_once : Counts → Outcome → Counts

@@ -1,4 +1,4 @@
--- What C is told of an edit.
+-- What C gets for an edit.
 use Rattle.std.specs.Prelude.{◌≡◌, ◌≢◌, ℕ, Bool, true, false, not, ◌&&◌, if◌then◌else◌, ◌∷◌, length, IfSome, Result, Ok, Err}
 use Rattle.hc_records.specs.declared.edit.Edit.{Edit}
 use Rattle.hc_records.specs.declared.faults.EditFault.{EditFault}
@@ -15,10 +15,10 @@ use Rattle.hc_places.specs.Swap.{changed_variables}
 use Rattle.hc_places.specs.Table.{table_of}
 use Rattle.hc_c.specs.declared.editing.Cost.{Cost}
 use Rattle.hc_c.specs.declared.embedded.Embedded.{Embedded}
-use Rattle.hc_c.specs.declared.numbers.TheConstants.{CHANGES_FULL, CROWDED, DONE, MEMORY}
-use Rattle.hc_c.specs.Embedded.{is_full, past_of, settled, with_past}
+use Rattle.hc_c.specs.declared.numbers.TheConstants.{CHANGES_FULL, OVER_LIMIT, DONE, MEMORY}
+use Rattle.hc_c.specs.Embedded.{is_full, embedded_history, with_changes_let_go, embedded_with_history}
 
--- what an edit does that leads from one state to another; no task is crowded by it
+-- what an edit does that leads from one state to another; no task is over its limit by it
 pub record IsCost (old new : State) (cost : Cost) : Type 0 where
   pub epoch : cost.epoch ≡ new.epoch
   pub recut : cost.recut ≡ recut (line old) (line new)
@@ -35,13 +35,14 @@ edit_number full (Err fault) = core_fault_number (edit_refusal fault)
 abbrev pub is_full_for : Embedded → Bool → Bool
 is_full_for old asks = not asks && is_full old
 
--- the edit is judged as the core judges it, or memory was wanted, which no fault that the edit has by itself waits for; where it is accepted its cost is told, and it is carried out where C doesn't only ask, and where no changes are kept its change is let go; else nothing changes, and of the cost only the crowded task is told, where there is one
+-- the edit is judged as the core judges it, or memory was wanted, which no fault that the edit has by itself waits for; where it is accepted its cost is reported, and it is carried out where C doesn't only ask, and where no changes are kept its change is let go; else nothing changes, and of the cost only the task over its limit is given, where
+-- there is one
 pub record Serves (old new : Embedded) (edit : Edit) (asks : Bool) (number : ℕ) (before after : Cost) : Type 0 where
-  pub told : number ≢ MEMORY → number ≡ edit_number (is_full_for old asks) (edited (state_of (past_of old)) edit)
-  pub own : IfSome (own_fault (state_of (past_of old)).groups edit) (λ fault. number ≡ core_fault_number (edit_refusal fault))
-  pub cost : number ≡ DONE → IsCost (state_of (past_of old)) (state_after (state_of (past_of old)) edit) after
-  pub carried : number ≡ DONE → asks ≡ false → new ≡ settled (with_past old (Edited edit ∷ past_of old))
+  pub answer_given : number ≢ MEMORY → number ≡ edit_number (is_full_for old asks) (edited (state_of (embedded_history old)) edit)
+  pub own : IfSome (own_fault (state_of (embedded_history old)).groups edit) (λ fault. number ≡ core_fault_number (edit_refusal fault))
+  pub cost : number ≡ DONE → IsCost (state_of (embedded_history old)) (state_after (state_of (embedded_history old)) edit) after
+  pub carried : number ≡ DONE → asks ≡ false → new ≡ with_changes_let_go (embedded_with_history old (Edited edit ∷ embedded_history old))
   pub asked : asks ≡ true → new ≡ old
   pub refused : number ≢ DONE → new ≡ old
-  pub unwritten : number ≢ DONE → number ≢ CROWDED → after ≡ before
-  pub crowds : (task : ℕ) → number ≢ MEMORY → edited (state_of (past_of old)) edit ≡ Err (TooManyDatagrams task) → after ≡ record before { crowded = task }
+  pub unwritten : number ≢ DONE → number ≢ OVER_LIMIT → after ≡ before
+  pub crowds : (task : ℕ) → number ≢ MEMORY → edited (state_of (embedded_history old)) edit ≡ Err (TooManyDatagrams task) → after ≡ record before { crowded = task }

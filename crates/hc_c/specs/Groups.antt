@@ -1,4 +1,4 @@
--- What C is told of a text whose group is to be declared.
+-- What C gets for a text whose group is to be declared.
 use Rattle.std.specs.Prelude.{◌≡◌, ◌≢◌, ℕ, ◌+◌, Bool, Result, Ok, Err}
 use Rattle.hc_records.specs.declared.edit.Edit.TheVariants.{Declare}
 use Rattle.hc_records.specs.declared.faults.ProjectFault.{ProjectFault}
@@ -11,9 +11,9 @@ use Rattle.hc_c.specs.Edits.{Serves}
 
 -- the text is no group's for this fault, which is answered, or a growth was refused; nothing changes
 pub record IsNoGroup (fault : ProjectFault) (old new : Embedded) (number : ℕ) (before after : Cost) : Type 0 where
-  pub told : number ≢ MEMORY → number ≡ PROJECT + project_fault_number fault
-  pub kept : new ≡ old
-  pub untold : after ≡ before
+  pub answer_given : number ≢ MEMORY → number ≡ PROJECT + project_fault_number fault
+  pub unchanged : new ≡ old
+  pub cost_stays : after ≡ before
 
 -- the group of a text is declared, judged as any edit; where the text is no group's its fault is answered
 abbrev pub Declares : Result Group ProjectFault → Embedded → Embedded → Bool → ℕ → Cost → Cost → Type 0

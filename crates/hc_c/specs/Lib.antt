@@ -12,7 +12,7 @@ pub mod Returned
 pub mod Reads
 pub mod Pieces
 pub mod Owings
-pub mod Tellings
+pub mod HandingOut
 pub mod Groups
 pub mod Runs
 pub mod Values
@@ -22,8 +22,10 @@ pub mod Counts
 pub mod Offsets
 pub mod Shares
 pub mod SeatRoom
+pub mod SeatEnds
 pub mod SeatImages
 pub mod Seats
 pub mod TakenPosts
 pub mod HeldSeat
 pub mod LendingEnd
+pub mod Handles

@@ -1,17 +1,17 @@
--- What C is told of where a text is no project.
+-- What C gets for where a text is no project.
 use Rattle.std.specs.Prelude.{◌≡◌, ℕ, ◌+◌, List, Option, Some, None, unwrap_or}
 use Rattle.hc_records.specs.ProjectFault.{project_fault_number}
 use Rattle.hc_records.specs.declared.faults.ProjectFault.TheVariants.{NotToml}
-use Rattle.hc_project.specs.Located.{Tells}
+use Rattle.hc_project.specs.Located.{LocatesFault}
 use Rattle.hc_project.specs.Places as places
 use Rattle.hc_project.specs.declared.located.Found.{Found}
 use Rattle.hc_project.specs.declared.located.Found.TheVariants.{InText, InProject}
 use Rattle.hc_project.specs.declared.places.Key.{Key}
 use Rattle.hc_project.specs.declared.places.Key.TheVariants as key
 use Rattle.hc_project.specs.declared.places.Place.{Place}
-use Rattle.hc_project.specs.declared.places.Spot as project
+use Rattle.hc_project.specs.declared.places.Location as project
 use Rattle.hc_c.specs.declared.locating.Location.{Location}
-use Rattle.hc_c.specs.declared.locating.Spot.{Spot}
+use Rattle.hc_c.specs.declared.locating.LocatedPlace.{LocatedPlace}
 use Rattle.hc_c.specs.declared.locating.TheConstants.{NOWHERE}
 use Rattle.hc_c.specs.declared.numbers.TheConstants.{DONE, PROJECT}
 
@@ -48,9 +48,9 @@ key_item (key.Variable item) = item
 key_item (key.Bits item) = item
 key_item _ = NOWHERE
 
--- a place, as C is told it
-abbrev pub told_spot : Place → Spot
-told_spot place = record {
+-- a place, as C gets it
+abbrev pub located_out : Place → LocatedPlace
+located_out place = record {
   group = place.group;
   slave = index_or_none place.slave;
   area = index_or_none place.area;
@@ -62,30 +62,30 @@ told_spot place = record {
 }
 
 -- the places of a fault: the first one is the fault's own where there is no other
-abbrev pub told_location : project.Spot → Location
-told_location spot = record { line = 0; column = 0; place = told_spot spot.place; first = told_spot (unwrap_or spot.first spot.place) }
+abbrev pub location_out : project.Location → Location
+location_out located_place = record { line = 0; column = 0; place = located_out located_place.place; first = located_out (unwrap_or located_place.first located_place.place) }
 
 -- a line and a column; the places are the document
-abbrev pub told_position : ℕ → ℕ → Location
-told_position line column = record { line = line; column = column; place = told_spot places.document; first = told_spot places.document }
+abbrev pub position_out : ℕ → ℕ → Location
+position_out line column = record { line = line; column = column; place = located_out places.document; first = located_out places.document }
 
--- of what was found the number, and what is told of it
+-- of what was found the number, and what is said of it
 abbrev pub found_number : Found → ℕ
 found_number (InText line column) = PROJECT + project_fault_number NotToml
-found_number (InProject fault spot) = PROJECT + project_fault_number fault
+found_number (InProject fault located_place) = PROJECT + project_fault_number fault
 
--- where it was found, as C is told it
-abbrev pub told_found : Found → Location
-told_found (InText line column) = told_position line column
-told_found (InProject fault spot) = told_location spot
+-- where it was found, as C gets it
+abbrev pub found_out : Found → Location
+found_out (InText line column) = position_out line column
+found_out (InProject fault located_place) = location_out located_place
 
--- nothing was found, and nothing is told; or the number and the location of what was found
+-- nothing was found, and nothing is reported; or the number and the location of what was found
 abbrev pub LocatesAs : Option Found → ℕ → Location → Location → Type 0
 LocatesAs None number before after = (number ≡ DONE) × (after ≡ before)
-LocatesAs (Some found) number before after = (number ≡ found_number found) × (after ≡ told_found found)
+LocatesAs (Some found) number before after = (number ≡ found_number found) × (after ≡ found_out found)
 
--- what is found in a text is told
+-- what is found in a text is reported
 pub record Locates (text : List ℕ) (number : ℕ) (before after : Location) : Type 0 where
   pub found : Option Found
-  pub of_text : Tells text found
-  pub told : LocatesAs found number before after
+  pub of_text : LocatesFault text found
+  pub answer_given : LocatesAs found number before after

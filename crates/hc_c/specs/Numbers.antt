@@ -1,9 +1,13 @@
 -- What calls answer.
-use Rattle.std.specs.Prelude.{ℕ, Option, Some, None}
+use Rattle.std.specs.Prelude.{ℕ, Option, Some, None, ◌≡◌, IfSome}
 use Rattle.hc_events.specs.declared.faults.CoreFault.{CoreFault}
 use Rattle.hc_events.specs.Faults.{core_fault_number}
 
 -- 0 where nothing refuses a call, else the fault's number
-abbrev pub number_of : Option CoreFault → ℕ
-number_of None = 0
-number_of (Some fault) = core_fault_number fault
+abbrev pub refusal_number : Option CoreFault → ℕ
+refusal_number None = 0
+refusal_number (Some fault) = core_fault_number fault
+
+-- where there is a fault, this is its number
+abbrev pub IsNumberOf : Option CoreFault → ℕ → Type 0
+IsNumberOf found number = IfSome found (λ fault. number ≡ core_fault_number fault)

@@ -1,10 +1,10 @@
 -- Where the data of a task's datagrams lie in what it reads.
 use Rattle.std.specs.Prelude.{◌≡◌, ℕ, ◌+◌, ◌<◌, ◌≤◌, ◌⊎◌, List, drop, slice_get, take, Some}
 use Rattle.hc_places.specs.declared.table.Datagram.{Datagram}
-use Rattle.hc_events.specs.Entries.{Record}
+use Rattle.hc_events.specs.Entries.{History}
 use Rattle.hc_events.specs.Images.{slot_of}
 use Rattle.hc_c.specs.declared.reading.Image.{Image}
-use Rattle.hc_c.specs.Looks.{datagram_at, part_at}
+use Rattle.hc_c.specs.Looks.{datagram_at, task_part_bytes}
 use Rattle.hc_c.specs.Reads.{HoldsImage, datagrams_of}
 
 -- so many bytes from an offset on
@@ -16,20 +16,20 @@ abbrev pub LiesOutside : Datagram → ℕ → Type 0
 LiesOutside datagram byte = (byte < datagram.offset) ⊎ (datagram.offset + datagram.length ≤ byte)
 
 -- a byte of a task's image lies in no datagram that has data
-abbrev pub HasNoData : Record → ℕ → ℕ → Type 0
-HasNoData past task byte =
-    (number : ℕ) (datagram : Datagram) (bytes : List ℕ) → datagram_at past task number ≡ Some datagram
-    → slot_of past task number ≡ Some bytes → LiesOutside datagram byte
+abbrev pub HasNoData : History → ℕ → ℕ → Type 0
+HasNoData history task byte =
+    (number : ℕ) (datagram : Datagram) (bytes : List ℕ) → datagram_at history task number ≡ Some datagram
+    → slot_of history task number ≡ Some bytes → LiesOutside datagram byte
 
 -- the data of each datagram that has some lie at its offset, every other byte of the image is 0, and the image has the task's outputs and inputs
-pub record HoldsByOffset (past : Record) (task : ℕ) (image : Image) (out : List ℕ) : Type 0 where
-  pub each : (number : ℕ) (datagram : Datagram) (bytes : List ℕ) → datagram_at past task number ≡ Some datagram
-      → slot_of past task number ≡ Some bytes → bytes_at datagram.offset datagram.length out ≡ bytes
-  pub others : (byte : ℕ) → byte < image.size → HasNoData past task byte → slice_get out byte ≡ Some 0
-  pub size : image.size ≡ (part_at past task).0 + (part_at past task).1
+pub record HoldsByOffset (history : History) (task : ℕ) (image : Image) (out : List ℕ) : Type 0 where
+  pub each : (number : ℕ) (datagram : Datagram) (bytes : List ℕ) → datagram_at history task number ≡ Some datagram
+      → slot_of history task number ≡ Some bytes → bytes_at datagram.offset datagram.length out ≡ bytes
+  pub others : (byte : ℕ) → byte < image.size → HasNoData history task byte → slice_get out byte ≡ Some 0
+  pub size : image.size ≡ (task_part_bytes history task).0 + (task_part_bytes history task).1
 
 -- what the contract of a read says one datagram after another holds by offsets
 abbrev pub ReadsHoldByOffset : Type 0
 ReadsHoldByOffset =
-    (past : Record) (task : ℕ) (image : Image) (before after serials serials' : List ℕ)
-    → HoldsImage past task (datagrams_of past task) image before after serials serials' → HoldsByOffset past task image after
+    (history : History) (task : ℕ) (image : Image) (before after serials serials' : List ℕ)
+    → HoldsImage history task (datagrams_of history task) image before after serials serials' → HoldsByOffset history task image after

@@ -2,9 +2,9 @@
 use Rattle.std.specs.Prelude.{◌≡◌, ℕ, ◌+◌, List, [], ◌∷◌}
 use Rattle.hc_records.specs.Line.{Member}
 use Rattle.hc_places.specs.declared.table.Datagram.{Datagram}
-use Rattle.hc_events.specs.Sendings.{length_of}
+use Rattle.hc_events.specs.Sendings.{line_data_length}
 
 -- these datagrams of a task, from a number on, have the lengths that the line says
 abbrev pub HaveLengths : List Member → ℕ → ℕ → List Datagram → Type 0
 HaveLengths line task number [] = Unit {0}
-HaveLengths line task number (datagram ∷ datagrams) = (datagram.length ≡ length_of line (task, number)) × HaveLengths line task (number + 1) datagrams
+HaveLengths line task number (datagram ∷ datagrams) = (datagram.length ≡ line_data_length line (task, number)) × HaveLengths line task (number + 1) datagrams

@@ -1,4 +1,4 @@
--- What C is told of a task's image.
+-- What C gets for a task's image.
 use Rattle.std.specs.Prelude.{◌≡◌, ℕ, ◌+◌, ◌*◌, if◌then◌else◌, nat_le, Bool, List, [], ◌∷◌, ◌++◌, length, map, sum_by, drop, is_some, replicate, unwrap_or, Option, Some, None}
 use Rattle.std.specs.List.{range_with_len}
 use Rattle.hc_places.specs.declared.table.Datagram.{Datagram}
@@ -6,17 +6,18 @@ use Rattle.hc_places.specs.Table.{datagrams_in, table_of}
 use Rattle.hc_events.specs.declared.answer.Answer.{Answer}
 use Rattle.hc_events.specs.declared.answer.Answer.TheVariants as answer
 use Rattle.hc_events.specs.Ages.{data_serial}
-use Rattle.hc_events.specs.Entries.{Record}
+use Rattle.hc_events.specs.Entries.{History}
 use Rattle.hc_events.specs.Faults.{core_fault_number}
 use Rattle.hc_events.specs.Images.{slot_of}
 use Rattle.hc_events.specs.Points.{epoch_of, line_of}
+use Rattle.hc_events.specs.Steps.{Reads, answer_to}
 use Rattle.hc_c.specs.declared.numbers.TheConstants.{DONE, NOTHING, ROOM}
 use Rattle.hc_c.specs.declared.reading.Image.{Image}
-use Rattle.hc_c.specs.Lists.{put}
+use Rattle.hc_c.specs.Lists.{put_first}
 
 -- the datagrams of a task in the present line, in order
-abbrev pub datagrams_of : Record → ℕ → List Datagram
-datagrams_of past task = datagrams_in (table_of (line_of past)) task
+abbrev pub datagrams_of : History → ℕ → List Datagram
+datagrams_of history task = datagrams_in (table_of (line_of history)) task
 
 -- the bytes of datagrams
 abbrev pub image_size : List Datagram → ℕ
@@ -28,10 +29,10 @@ data_or_zeros size None = replicate size 0
 data_or_zeros size (Some bytes) = bytes
 
 -- what a task's datagrams have, from a number on: each with as many bytes as the line says, so that its data begin at its offset
-abbrev pub image_from : Record → ℕ → ℕ → List Datagram → List ℕ
-image_from past task number [] = []
-image_from past task number (datagram ∷ datagrams) =
-    data_or_zeros datagram.length (slot_of past task number) ++ image_from past task (number + 1) datagrams
+abbrev pub image_from : History → ℕ → ℕ → List Datagram → List ℕ
+image_from history task number [] = []
+image_from history task number (datagram ∷ datagrams) =
+    data_or_zeros datagram.length (slot_of history task number) ++ image_from history task (number + 1) datagrams
 
 -- the number whose bits, from the least significant one on, say so
 abbrev pub mask_of : List Bool → ℕ
@@ -39,28 +40,36 @@ mask_of [] = 0
 mask_of (bit ∷ bits) = (if bit then 1 else 0) + 2 * mask_of bits
 
 -- of so many datagrams of a task, from a number on, whether each has data
-abbrev pub have_data : Record → ℕ → ℕ → ℕ → List Bool
-have_data past task number count = map (λ d. is_some (slot_of past task d)) (range_with_len number count)
+abbrev pub have_data : History → ℕ → ℕ → ℕ → List Bool
+have_data history task number count = map (λ d. is_some (slot_of history task d)) (range_with_len number count)
 
 -- of so many datagrams of a task, from a number on, the serial of the sending that each one's data answer; 0 where it has none
-abbrev pub serials_from : Record → ℕ → ℕ → ℕ → List ℕ
-serials_from past task number count = map (λ d. unwrap_or (data_serial past task d) 0) (range_with_len number count)
+abbrev pub serials_from : History → ℕ → ℕ → ℕ → List ℕ
+serials_from history task number count = map (λ d. unwrap_or (data_serial history task d) 0) (range_with_len number count)
 
 -- 0 where so many bytes fit a slice of so many, else the number of one that is too short
 abbrev pub fit_number : ℕ → ℕ → ℕ
 fit_number size room = if nat_le size room then DONE else ROOM
 
--- the number of what a task reads, with an image of so many bytes, in a slice of so many: as `fit_number` says, or that of a refusal
+-- the number of what a task reads, with an image of so many bytes, in a slice of so many: as `fit_number` says, or a refusal's
 abbrev pub image_number : Answer → ℕ → ℕ → ℕ
 image_number (answer.Image epoch slots) size room = fit_number size room
 image_number (answer.Refused fault) size room = core_fault_number fault
 image_number _ size room = NOTHING
 
+-- the number that a read of a task is answered with, into so many bytes
+abbrev pub read_number : History → ℕ → ℕ → ℕ
+read_number history task room = image_number (answer_to history (Reads task)) (image_size (datagrams_of history task)) room
+
 -- what a task reads of these datagrams: the epoch, their number and their bytes; those with data by their bits; the bytes of all before what the slice had after them; and each one's serial, as many as there is room for
-pub record HoldsImage (past : Record) (task : ℕ) (datagrams : List Datagram) (image : Image) (before after serials serials' : List ℕ) : Type 0 where
-  pub epoch_is : image.epoch ≡ epoch_of past
+pub record HoldsImage (history : History) (task : ℕ) (datagrams : List Datagram) (image : Image) (before after serials serials' : List ℕ) : Type 0 where
+  pub epoch_is : image.epoch ≡ epoch_of history
   pub counted : image.datagrams ≡ length datagrams
   pub size : image.size ≡ image_size datagrams
-  pub has : image.has ≡ mask_of (have_data past task 0 (length datagrams))
-  pub bytes : after ≡ image_from past task 0 datagrams ++ drop (image_size datagrams) before
-  pub told_serials : serials' ≡ put (serials_from past task 0 (length datagrams)) serials
+  pub has : image.has ≡ mask_of (have_data history task 0 (length datagrams))
+  pub bytes : after ≡ image_from history task 0 datagrams ++ drop (image_size datagrams) before
+  pub answered_serials : serials' ≡ put_first (serials_from history task 0 (length datagrams)) serials
+
+-- what a task reads of all its datagrams
+abbrev pub HoldsTask : History → ℕ → Image → List ℕ → List ℕ → List ℕ → List ℕ → Type 0
+HoldsTask history task image before after serials serials' = HoldsImage history task (datagrams_of history task) image before after serials serials'

@@ -1,8 +1,8 @@
 -- What the code makes of a frame that is answered: outcome beside part, by the part's own address and the table of the present line. No public contract names it.
 use Rattle.std.specs.Prelude.{◌≡◌, ℕ, ◌+◌, ◌≤◌, List, [], ◌∷◌, length}
 use Rattle.std.specs.Option.{option_map_or}
-use Rattle.hc_frames.specs.Arrived.{Placed, Reading}
-use Rattle.hc_frames.specs.FrameText.{Carried}
+use Rattle.hc_frames.specs.Arrived.{ArrivedDatagram, Reading}
+use Rattle.hc_frames.specs.FrameText.{WireDatagram}
 use Rattle.hc_places.specs.Table.{Table, datagram_in}
 use Rattle.hc_registers.specs.declared.counters.TheConstants.{WRITE_COUNT}
 use Rattle.hc_events.specs.declared.answer.Arrived.{Arrived}
@@ -16,7 +16,7 @@ use Rattle.hc_c.specs.declared.arriving.Outcome.{Outcome}
 use Rattle.hc_c.specs.declared.arriving.TheConstants.{BLOCK_MISSED, BLOCK_WRITTEN, INPUTS, SENT_AGAIN, WRONG_COUNT}
 use Rattle.hc_c.specs.declared.numbers.TheConstants.{DONE, STALE, WRITE_DONE, WRITE_MISSED, WRITTEN}
 
--- the kind that an outcome tells
+-- the kind that an outcome gives
 abbrev pub kind_by : core.Outcome → ℕ
 kind_by (outcome.Inputs task d) = INPUTS
 kind_by (outcome.WrongCount expected got) = WRONG_COUNT
@@ -28,9 +28,9 @@ kind_by outcome.Missed = BLOCK_MISSED
 abbrev pub expected_in : Table → Named → ℕ
 expected_in table named = option_map_or (λ datagram. datagram.expected) (datagram_in table named.0 named.1) 0
 
--- what is told of a datagram by its outcome and what came back of it
-abbrev pub told_part : Table → core.Outcome → Placed → Outcome
-told_part table one placed = record {
+-- what is said of a datagram by its outcome and what came back of it
+abbrev pub part_outcome_out : Table → core.Outcome → ArrivedDatagram → Outcome
+part_outcome_out table one placed = record {
   kind = kind_by one;
   task = (named_at placed.carried.address).0;
   datagram = (named_at placed.carried.address).1;
@@ -43,14 +43,14 @@ told_part table one placed = record {
 }
 
 -- outcome beside part, in order
-abbrev pub told_parts : Table → List core.Outcome → List Placed → List Outcome
-told_parts table [] placed = []
-told_parts table (one ∷ outcomes) [] = []
-told_parts table (one ∷ outcomes) (part ∷ placed) = told_part table one part ∷ told_parts table outcomes placed
+abbrev pub parts_out : Table → List core.Outcome → List ArrivedDatagram → List Outcome
+parts_out table [] placed = []
+parts_out table (one ∷ outcomes) [] = []
+parts_out table (one ∷ outcomes) (part ∷ placed) = part_outcome_out table one part ∷ parts_out table outcomes placed
 
--- what is told of a register block by its outcome and what came back of it
-abbrev pub told_block : core.Outcome → Placed → Outcome
-told_block one placed = record {
+-- what is said of a register block by its outcome and what came back of it
+abbrev pub block_outcome_out : core.Outcome → ArrivedDatagram → Outcome
+block_outcome_out one placed = record {
   kind = kind_by one;
   task = 0;
   datagram = 0;
@@ -63,28 +63,28 @@ told_block one placed = record {
 }
 
 -- outcome beside part, in order
-abbrev pub told_blocks : List core.Outcome → List Placed → List Outcome
-told_blocks [] placed = []
-told_blocks (one ∷ outcomes) [] = []
-told_blocks (one ∷ outcomes) (part ∷ placed) = told_block one part ∷ told_blocks outcomes placed
+abbrev pub answered_blocks : List core.Outcome → List ArrivedDatagram → List Outcome
+answered_blocks [] placed = []
+answered_blocks (one ∷ outcomes) [] = []
+answered_blocks (one ∷ outcomes) (part ∷ placed) = block_outcome_out one part ∷ answered_blocks outcomes placed
 
--- what is told of datagrams, by what the arrival is as a whole
-abbrev pub told_as : Arrived → Table → List core.Outcome → List Placed → List Outcome
-told_as arrived.Answered table outcomes placed = told_parts table outcomes placed
-told_as arrived.Written table outcomes placed = told_blocks outcomes placed
-told_as _ table outcomes placed = []
+-- what is said of datagrams, by what the arrival is as a whole
+abbrev pub answered_as : Arrived → Table → List core.Outcome → List ArrivedDatagram → List Outcome
+answered_as arrived.Answered table outcomes placed = parts_out table outcomes placed
+answered_as arrived.Written table outcomes placed = answered_blocks outcomes placed
+answered_as _ table outcomes placed = []
 
 -- and what is counted of it
-abbrev pub counted_as : Arrived → Table → List core.Outcome → List Placed → List Outcome
-counted_as arrived.Answered table outcomes placed = told_parts table outcomes placed
+abbrev pub counted_as : Arrived → Table → List core.Outcome → List ArrivedDatagram → List Outcome
+counted_as arrived.Answered table outcomes placed = parts_out table outcomes placed
 counted_as _ table outcomes placed = []
 
 -- the datagram ends within the first 2,064 bytes of its frame
-abbrev pub IsInFrame : Placed → Type 0
+abbrev pub IsInFrame : ArrivedDatagram → Type 0
 IsInFrame placed = placed.start + (12 + length placed.carried.bytes) ≤ 2064
 
 -- the station address and the register of the first datagram's address
-abbrev pub first_written : List Carried → ℕ × ℕ
+abbrev pub first_written : List WireDatagram → ℕ × ℕ
 first_written [] = (0, 0)
 first_written (part ∷ parts) = written_at part.address
 
@@ -96,10 +96,10 @@ arrived_number arrived.WriteMissed = WRITE_MISSED
 arrived_number arrived.Stale = STALE
 arrived_number arrived.Written = WRITTEN
 
--- what is told of it as a whole, with so many outcomes
-abbrev pub told_arrival : Arrived → ℕ → Reading → Arrival
-told_arrival arrived.Answered count frame = record { serial = frame.serial; datagrams = count; station = 0; start = 0 }
-told_arrival arrived.Written count frame = record { serial = frame.serial; datagrams = count; station = 0; start = 0 }
-told_arrival arrived.WriteDone count frame = record { serial = frame.serial; datagrams = 0; station = (first_written frame.parts).0; start = (first_written frame.parts).1 }
-told_arrival arrived.WriteMissed count frame = record { serial = frame.serial; datagrams = 0; station = (first_written frame.parts).0; start = (first_written frame.parts).1 }
-told_arrival arrived.Stale count frame = record { serial = frame.serial; datagrams = 0; station = 0; start = 0 }
+-- what is said of it as a whole, with so many outcomes
+abbrev pub arrival_out : Arrived → ℕ → Reading → Arrival
+arrival_out arrived.Answered count frame = record { serial = frame.serial; datagrams = count; station = 0; start = 0 }
+arrival_out arrived.Written count frame = record { serial = frame.serial; datagrams = count; station = 0; start = 0 }
+arrival_out arrived.WriteDone count frame = record { serial = frame.serial; datagrams = 0; station = (first_written frame.parts).0; start = (first_written frame.parts).1 }
+arrival_out arrived.WriteMissed count frame = record { serial = frame.serial; datagrams = 0; station = (first_written frame.parts).0; start = (first_written frame.parts).1 }
+arrival_out arrived.Stale count frame = record { serial = frame.serial; datagrams = 0; station = 0; start = 0 }

@@ -6,8 +6,8 @@ use Rattle.hc_mail.specs.Images.{Image, StartsWith, newest}
 use Rattle.hc_mail.specs.Ends.{reported, seen}
 use Rattle.hc_rings.specs.Post.{post_of}
 use Rattle.hc_rings.specs.Ring.{ArePostEnds, SameSender, posted, taken}
-use Rattle.hc_c.specs.Embedded.{past_of}
-use Rattle.hc_c.specs.Lists.{put}
+use Rattle.hc_c.specs.Embedded.{embedded_history}
+use Rattle.hc_c.specs.Lists.{put_first}
 use Rattle.hc_c.specs.Reads.{mask_of}
 use Rattle.hc_c.specs.SeatImages.{ShowsAll}
 use Rattle.hc_c.specs.SeatRoom.{image_room}
@@ -35,13 +35,13 @@ pub record OpensSeat (task : ℕ) (old new : OwnerEnds) (end : TaskEnd) : Type 0
   pub placed : new.by_task ≡ set old.by_task task (Some owner)
   pub ends : AreEnds owner end
 
--- so it is in a line, of which all else is as it was
+-- so it is in a line; all else of the line is as it was
 abbrev pub OpensLineSeat : ℕ → Embedded → Embedded → TaskEnd → Type 0
 OpensLineSeat task old new end = (new ≡ record old { ends = new.ends }) × OpensSeat task old.ends new.ends end
 
 -- each seat of a line is shown what its task reads; all else of the line is as it was
 abbrev pub ShowsLine : Embedded → Embedded → Type 0
-ShowsLine old new = (new ≡ record old { ends = new.ends }) × ShowsAll (past_of old) 0 old.ends.by_task new.ends.by_task
+ShowsLine old new = (new ≡ record old { ends = new.ends }) × ShowsAll (embedded_history old) 0 old.ends.by_task new.ends.by_task
 
 -- what had been shown as the seat looked begins with what had been shown as it looked before, and with what a note named; its posts are as they were
 pub record LooksOn (old new : TaskEnd) : Type 0 where
@@ -51,18 +51,18 @@ pub record LooksOn (old new : TaskEnd) : Type 0 where
   pub one_mail : new.images.place.table_id ≡ old.images.place.table_id
   pub posts : new.posts ≡ old.posts
 
--- the serials of an image's datagrams, as C is told them: 0 where a datagram has no data
-abbrev pub serials_told : List (Option ℕ) → List ℕ
-serials_told serials = map (λ serial. unwrap_or serial 0) serials
+-- the serials of an image's datagrams, as C gets them: 0 where a datagram has no data
+abbrev pub serials_answered : List (Option ℕ) → List ℕ
+serials_answered serials = map (λ serial. unwrap_or serial 0) serials
 
--- an image, as C is told it: its epoch, its bytes and its output bytes; those with data by their bits; its bytes before what the slice had after them; and the serials, as many as there is room for
-pub record TellsImage (image : Image) (view : SeatView) (before after : List ℕ) (serials serials' : List ℕ) : Type 0 where
+-- an image, as C gets it: its epoch, its bytes and its output bytes; those with data by their bits; its bytes before what the slice had after them; and the serials, as many as there is room for
+pub record GivesImage (image : Image) (view : SeatView) (before after : List ℕ) (serials serials' : List ℕ) : Type 0 where
   pub epoch_is : view.epoch ≡ image.epoch
   pub size : view.size ≡ length image.bytes
   pub outputs : view.outputs ≡ length image.outputs
   pub has : view.has ≡ mask_of (map is_some image.serials)
   pub bytes : after ≡ image.bytes ++ drop (length image.bytes) before
-  pub told_serials : serials' ≡ put (serials_told image.serials) serials
+  pub answered_serials : serials' ≡ put_first (serials_answered image.serials) serials
 
 -- what refuses outputs for an epoch beside an image, in order: 15 it is of another epoch, 16 it has another number of output bytes
 abbrev pub seat_fault : Image → ℕ → List ℕ → Option CoreFault

@@ -1,16 +1,17 @@
 //! Frames arrive.
-ghost use Rattle.std.specs.Prelude.{◌≡◌, ◌≢◌, ◌≤◌, All, IfErr, IfOk, IfSome, None, OnErr, OnOk, [], false, is_some, true, vec_capacity};
+ghost use Rattle.std.specs.Prelude.{◌≡◌, ◌≢◌, ◌≤◌, All, IfErr, IfOk, None, OnErr, OnOk, [], false, is_some, true, vec_capacity};
 ghost use Rattle.hc_events.specs.declared.answer.Arrived.TheVariants.{Answered, Written};
 ghost use Rattle.hc_events.specs.Arrivals.{arrival_in};
-ghost use Rattle.hc_events.specs.Outcomes.{told_with};
+ghost use Rattle.hc_events.specs.Outcomes.{arrived_answer};
 ghost use Rattle.hc_events.specs.Steps.{Arrives as ArrivesStep, answer_to, entries_after};
 ghost use Rattle.hc_sendings.specs.declared.awaited.TheConstants.{FRAME_DATAGRAMS};
-ghost use Rattle.hc_c.specs.Arrivals.{Arrives, added_by, overflows, refused_number, with_arrived};
+ghost use Rattle.hc_c.specs.Arrivals.{Arrives, added_by, overflows, refused_number, with_arrived, ArrivesInto, LeavesAll};
 ghost use Rattle.hc_c.specs.Counts.{all_judged};
 ghost use Rattle.hc_c.specs.Embedded.{are_too_many};
-ghost use Rattle.hc_c.specs.Lists.{put};
-ghost use Rattle.hc_c.specs.Returned.{IsInFrame, arrived_number, counted_as, expected_in, first_written, kind_by, told_arrival, told_as, told_block, told_blocks, told_part, told_parts};
+ghost use Rattle.hc_c.specs.Lists.{put_first};
+ghost use Rattle.hc_c.specs.Returned.{IsInFrame, arrived_number, counted_as, expected_in, first_written, kind_by, arrival_out, answered_as, block_outcome_out, answered_blocks, part_outcome_out, parts_out};
 ghost use Rattle.hc_c.specs.declared.numbers.TheConstants.{BUSY, CLOSED};
+ghost use Rattle.hc_c.specs.Handles.{IfServed, IfServedBoth};
 
 use crate::counting::Counts;
 use crate::embedded::Embedded;
@@ -41,7 +42,7 @@ pub const BLOCK_WRITTEN: u8 = 4;
 /// No slave took the register block: it stays owed.
 pub const BLOCK_MISSED: u8 = 5;
 
-/// What an arrival is for a datagram of a task, or for a register block among several, as C is told it.
+/// What an arrival is for a datagram of a task, or for a register block among several, as C gets it.
 #[repr(C)]
 #[derive(Clone, Copy)]
 pub struct Outcome {
@@ -55,17 +56,17 @@ pub struct Outcome {
     expected: u16,
     /// The working counter that it came back with.
     got: u16,
-    /// The byte of the frame at which its data begin, counted from 0.
+    /// The byte of the frame where its data begin, counted from 0.
     at: u16,
     /// The bytes of its data, 1 to 1,486.
     length: u16,
     /// Of a register block the slave's station address; else 0.
     station: u16,
-    /// Of a register block the register at which it begins; else 0.
+    /// Of a register block the register where it begins; else 0.
     start: u16,
 }
 
-/// What an arrival is as a whole, as C is told it.
+/// What an arrival is as a whole, as C gets it.
 #[repr(C)]
 #[derive(Clone, Copy)]
 pub struct Arrival {
@@ -75,11 +76,11 @@ pub struct Arrival {
     datagrams: usize,
     /// Of a register write of one block that it answers the slave's station address; else 0.
     station: u16,
-    /// Of a register write of one block that it answers the register at which its block begins; else 0.
+    /// Of a register write of one block that it answers the register where its block begins; else 0.
     start: u16,
 }
 
-/// The kind that an outcome tells.
+/// The kind that an outcome gives.
 fn kind_by(outcome: &CoreOutcome) -> u8
     ensures { result ≡ kind_by outcome.now }
 {
@@ -108,10 +109,10 @@ fn expected_in(places: &Places, task: u8, number: u8) -> u16
     }
 }
 
-/// What C is told of a datagram, by its outcome and what came back of it.
-fn told_part(places: &Places, outcome: &CoreOutcome, part: &Part<'_>) -> Outcome
+/// What C gets for a datagram, by its outcome and what came back of it.
+fn part_out(places: &Places, outcome: &CoreOutcome, part: &Part<'_>) -> Outcome
     requires { IsInFrame part.now }
-    ensures { result ≡ told_part places.now outcome.now part.now }
+    ensures { result ≡ part_outcome_out places.now outcome.now part.now }
 {
     let (task, datagram) = named_by(part);
     Outcome {
@@ -127,10 +128,10 @@ fn told_part(places: &Places, outcome: &CoreOutcome, part: &Part<'_>) -> Outcome
     }
 }
 
-/// What C is told of a register block, by its outcome and what came back of it.
-fn told_block(outcome: &CoreOutcome, part: &Part<'_>) -> Outcome
+/// What C gets for a register block, by its outcome and what came back of it.
+fn block_out(outcome: &CoreOutcome, part: &Part<'_>) -> Outcome
     requires { IsInFrame part.now }
-    ensures { result ≡ told_block outcome.now part.now }
+    ensures { result ≡ block_outcome_out outcome.now part.now }
 {
     let (station, start) = written_by(part);
     Outcome {
@@ -149,7 +150,7 @@ fn told_block(outcome: &CoreOutcome, part: &Part<'_>) -> Outcome
 /// Answers what became of register blocks, of as many as there is room for. A frame has 74 at most, so deep is this recursion.
 fn put_blocks(outcomes: &[CoreOutcome], parts: Parts<'_>, out: &mut [Outcome])
     requires { All IsInFrame parts }
-    ensures { out.new ≡ put (told_blocks outcomes.now parts.entry) out.old }
+    ensures { out.new ≡ put_first (answered_blocks outcomes.now parts.entry) out.old }
 {
     let Some((outcome, rest)) = outcomes.split_first() else {
         return;
@@ -161,7 +162,7 @@ fn put_blocks(outcomes: &[CoreOutcome], parts: Parts<'_>, out: &mut [Outcome])
     let Some((first, others)) = out.split_first_mut() else {
         return;
     };
-    *first = told_block(outcome, &part);
+    *first = block_out(outcome, &part);
     put_blocks(rest, left, others);
 }
 
@@ -175,8 +176,8 @@ fn put_outcomes(
     out: &mut [Outcome],
 )
     requires { All IsInFrame parts }
-    ensures put { out.new ≡ put (told_parts places.now outcomes.now parts.entry) out.old }
-    ensures counted { counts.new ≡ all_judged counts.old (told_parts places.now outcomes.now parts.entry) }
+    ensures put { out.new ≡ put_first (parts_out places.now outcomes.now parts.entry) out.old }
+    ensures counted { counts.new ≡ all_judged counts.old (parts_out places.now outcomes.now parts.entry) }
 {
     let Some((outcome, rest)) = outcomes.split_first() else {
         return;
@@ -185,13 +186,13 @@ fn put_outcomes(
     let Some(part) = left.next() else {
         return;
     };
-    let told = told_part(places, outcome, &part);
-    counts.count_arrival(told.kind, told.task, told.datagram);
+    let answer_given = part_out(places, outcome, &part);
+    counts.count_arrival(answer_given.kind, answer_given.task, answer_given.datagram);
     let Some((first, others)) = out.split_first_mut() else {
         put_outcomes(counts, places, rest, left, &mut []);
         return;
     };
-    *first = told;
+    *first = answer_given;
     put_outcomes(counts, places, rest, left, others);
 }
 
@@ -205,7 +206,7 @@ fn put_arrived(
     out: &mut [Outcome],
 )
     requires { All IsInFrame parts }
-    ensures put { out.new ≡ put (told_as arrived places.now outcomes.now parts.entry) out.old }
+    ensures put { out.new ≡ put_first (answered_as arrived places.now outcomes.now parts.entry) out.old }
     ensures counted { counts.new ≡ all_judged counts.old (counted_as arrived places.now outcomes.now parts.entry) }
 {
     match arrived {
@@ -227,9 +228,9 @@ fn first_written(frame: &Returned<'_>) -> (u16, u16)
     }
 }
 
-/// What C is told of an arrival as a whole, with so many outcomes.
-fn told_arrival(arrived: Arrived, count: usize, frame: &Returned<'_>) -> Arrival
-    ensures { result ≡ told_arrival arrived count frame.now }
+/// What C gets for an arrival as a whole, with so many outcomes.
+fn arrival_out(arrived: Arrived, count: usize, frame: &Returned<'_>) -> Arrival
+    ensures { result ≡ arrival_out arrived count frame.now }
 {
     let serial = frame.serial();
     let (datagrams, (station, start)) = match arrived {
@@ -272,12 +273,12 @@ fn take(
 ) -> Result<Arrived, u8>
     requires read { arrival_in bytes.now ≡ Ok frame.now }
     requires enough { FRAME_DATAGRAMS ≤ vec_capacity list.old }
-    ensures answer { IfOk result (λ arrived. told_with arrived list.new.items ≡ answer_to core.old.past (ArrivesStep bytes.now)) }
+    ensures answer { IfOk result (λ arrived. arrived_answer arrived list.new.items ≡ answer_to core.old.history (ArrivesStep bytes.now)) }
     ensures none { IfOk result (λ arrived. arrived ≢ Answered → arrived ≢ Written → list.new.items ≡ []) }
-    ensures entries { OnOk result (core.new ≡ with_arrived room core.old (entries_after core.old.past (ArrivesStep bytes.now))) }
-    ensures fits { OnOk result (are_too_many room (added_by core.old.past bytes.now) ≡ false) }
-    ensures refused { IfErr result (λ number. number ≡ refused_number room (added_by core.old.past bytes.now)) }
-    ensures kept { OnErr result (is_some room ≡ true) }
+    ensures entries { OnOk result (core.new ≡ with_arrived room core.old (entries_after core.old.history (ArrivesStep bytes.now))) }
+    ensures fits { OnOk result (are_too_many room (added_by core.old.history bytes.now) ≡ false) }
+    ensures refused { IfErr result (λ number. number ≡ refused_number room (added_by core.old.history bytes.now)) }
+    ensures room_left { OnErr result (is_some room ≡ true) }
     ensures unchanged { OnErr result (core.new ≡ core.old) }
     ensures capacity { vec_capacity list.old ≤ vec_capacity list.new }
 {
@@ -299,7 +300,7 @@ fn take(
     }
 }
 
-/// Gives a line bytes that arrived, and tells what they are.
+/// Gives a line bytes that arrived, and says what they are.
 fn arrive(
     own: &mut Embedded,
     alloc: Global,
@@ -307,7 +308,7 @@ fn arrive(
     outcomes: &mut [Outcome],
     arrival: &mut Arrival,
 ) -> u8
-    ensures told { overflows own.old bytes.now ≡ false → Arrives own.old own.new bytes.now result outcomes.old outcomes.new arrival.old arrival.new }
+    ensures answer_given { overflows own.old bytes.now ≡ false → Arrives own.old own.new bytes.now result outcomes.old outcomes.new arrival.old arrival.new }
     ensures full { overflows own.old bytes.now ≡ true → (result ≡ CHANGES_FULL) × (own.new ≡ own.old) × (outcomes.new ≡ outcomes.old) × (arrival.new ≡ arrival.old) }
     ensures busy { result ≢ BUSY }
 {
@@ -322,14 +323,14 @@ fn arrive(
         Ok(arrived) => arrived,
         Err(number) => return number,
     };
-    let told = list.as_slice();
+    let answer_given = list.as_slice();
     let places = own.core.plan().places();
-    *arrival = told_arrival(arrived, told.len(), &frame);
+    *arrival = arrival_out(arrived, answer_given.len(), &frame);
     put_arrived(
         &mut own.counts,
         places,
         arrived,
-        told,
+        answer_given,
         frame.parts(),
         outcomes,
     );
@@ -340,9 +341,9 @@ fn arrive(
 /// answer a frame of several register writes: `outcomes` has of each datagram, in the frame's order, what it is, as
 /// many as there is room for; a frame has at most 115. `WRITE_DONE`, `WRITE_MISSED` or `STALE`; with these five
 /// `arrival` is written, with `DONE` and `WRITTEN` alone `outcomes`, and with `DONE` each datagram is counted. Else a
-/// fault, 20 to 27, with which the bytes can't be read; `CHANGES_FULL` where the line keeps changes, and this arrival's
-/// good answers are more than it has room for; `MEMORY`, but never of a line that keeps no changes; `BUSY` or `CLOSED`;
-/// then nothing changed and nothing is written. Where the line keeps no changes, none is made. The answers are this
+/// fault, 20 to 27, of bytes that can't be read; `CHANGES_FULL` where the line keeps changes, and this arrival's good
+/// answers are more than it has room for; `MEMORY`, but never of a line that keeps no changes; `BUSY` or `CLOSED`; then
+/// nothing changed and nothing is written. Where the line keeps no changes, none is made. The answers are this
 /// project's profile over frames of ETG.1000.4, 5.3 and 5.4.
 #[unsafe(no_mangle)]
 pub extern "C" fn zangjulf_arrive(
@@ -352,10 +353,11 @@ pub extern "C" fn zangjulf_arrive(
     outcomes: &mut [Outcome],
     arrival: &mut Arrival,
 ) -> u8
-    ensures told { IfSome handle.old.holding.value (λ old. IfSome handle.new.holding.value (λ new. result ≢ BUSY → overflows old bytes.now ≡ false → Arrives old new bytes.now result outcomes.old outcomes.new arrival.old arrival.new)) }
-    ensures full { IfSome handle.old.holding.value (λ old. result ≢ BUSY → overflows old bytes.now ≡ true → (result ≡ CHANGES_FULL) × (handle.new.holding.value ≡ handle.old.holding.value) × (outcomes.new ≡ outcomes.old) × (arrival.new ≡ arrival.old)) }
+    ensures answer_given { IfServedBoth handle.old handle.new result (λ old new. ArrivesInto old new bytes.now result outcomes.old outcomes.new arrival.old arrival.new) }
+    ensures full { IfServed handle.old result (λ old. overflows old bytes.now ≡ true → result ≡ CHANGES_FULL) }
+    ensures full_leaves { IfServed handle.old result (λ old. overflows old bytes.now ≡ true → LeavesAll handle.old handle.new outcomes.old outcomes.new arrival.old arrival.new) }
     ensures held { is_some handle.new.holding.value ≡ is_some handle.old.holding.value }
-    ensures busy { result ≡ BUSY → (handle.new.holding.value ≡ handle.old.holding.value) × (outcomes.new ≡ outcomes.old) × (arrival.new ≡ arrival.old) }
+    ensures busy { result ≡ BUSY → LeavesAll handle.old handle.new outcomes.old outcomes.new arrival.old arrival.new }
     ensures closed { handle.old.holding.value ≡ None → (result ≡ CLOSED) × (outcomes.new ≡ outcomes.old) × (arrival.new ≡ arrival.old) }
 {
     if let Err(number) = handle.begin_change() {

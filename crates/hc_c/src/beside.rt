@@ -2,7 +2,7 @@
 ghost use Rattle.std.specs.Prelude.{◌≡◌, [], ◌∷◌};
 ghost use Rattle.hc_frames.specs.FrameText.{alias_read, frame_text, station_write};
 ghost use Rattle.hc_frames.specs.declared.limits.TheConstants.{SETUP_SERIAL};
-ghost use Rattle.hc_c.specs.Beside.{AnswersBuilt, TellsFrame, is_mine};
+ghost use Rattle.hc_c.specs.Beside.{AnswersBuilt, GivesFrame, is_mine};
 
 use crate::numbers::{DONE, ROOM};
 use hc_frames::building::{Room, build_alias_read, build_station};
@@ -10,8 +10,8 @@ use hc_frames::building::{Room, build_alias_read, build_station};
 /// The first byte of the source address of each frame that the library writes: a locally administered address.
 pub const SOURCE: u8 = 2;
 
-/// What a builder of a frame answered, as C is told it.
-fn tell(built: Result<usize, Room>, size: &mut usize) -> u8
+/// What a builder of a frame answered, as C gets it.
+fn give(built: Result<usize, Room>, size: &mut usize) -> u8
     ensures { AnswersBuilt built result size.new }
 {
     match built {
@@ -27,18 +27,18 @@ fn tell(built: Result<usize, Room>, size: &mut usize) -> u8
 }
 
 /// The frame that reads the configured station alias of the slave at a position of the line, from 0 (APRD of register 0x0012;
-/// ETG.1000.4, auto increment addressing). It stands at the front of `out`, and its bytes are 60, in `size`. `DONE`, or `ROOM`
+/// ETG.1000.4, auto increment addressing). It is at the front of `out`, and its bytes are 60, in `size`. `DONE`, or `ROOM`
 /// where `out` is shorter, and is as it was. It takes no memory.
 #[unsafe(no_mangle)]
 pub extern "C" fn zangjulf_alias_read(position: u16, out: &mut [u8], size: &mut usize) -> u8
-    ensures { TellsFrame (frame_text SETUP_SERIAL (alias_read position ∷ [])) result size.new out.old out.new }
+    ensures { GivesFrame (frame_text SETUP_SERIAL (alias_read position ∷ [])) result size.new out.old out.new }
 {
-    tell(build_alias_read(out, position), size)
+    give(build_alias_read(out, position), size)
 }
 
 /// The frame that gives the slave at a position of the line, from 0, its station address (APWR of register 0x0010; ETG.1000.4,
-/// auto increment addressing). It stands at the front of `out`, and its bytes are 60, in `size`. `DONE`, or `ROOM` where `out`
-/// is shorter, and is as it was. It takes no memory.
+/// auto increment addressing). It is at the front of `out`, and its bytes are 60, in `size`. `DONE`, or `ROOM` where `out` is
+/// shorter, and is as it was. It takes no memory.
 #[unsafe(no_mangle)]
 pub extern "C" fn zangjulf_station_write(
     position: u16,
@@ -46,9 +46,9 @@ pub extern "C" fn zangjulf_station_write(
     out: &mut [u8],
     size: &mut usize,
 ) -> u8
-    ensures { TellsFrame (frame_text SETUP_SERIAL (station_write position station ∷ [])) result size.new out.old out.new }
+    ensures { GivesFrame (frame_text SETUP_SERIAL (station_write position station ∷ [])) result size.new out.old out.new }
 {
-    tell(build_station(out, position, station), size)
+    give(build_station(out, position, station), size)
 }
 
 /// Whether a frame may be one that the library wrote, as it was sent or as it came back: its EtherType is 0x88A4, and its

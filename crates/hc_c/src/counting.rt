@@ -1,7 +1,8 @@
 //! How often each datagram was sent, and what arrivals were for it, since the line was opened.
 ghost use Rattle.std.specs.Prelude.{◌≡◌, ◌≢◌, IfSome, None};
 ghost use Rattle.hc_c.specs.Counts.{counters_number, counters_of, judged_as};
-ghost use Rattle.hc_c.specs.declared.numbers.TheConstants.{BUSY, CLOSED};
+ghost use Rattle.hc_c.specs.declared.numbers.TheConstants.{CLOSED};
+ghost use Rattle.hc_c.specs.Handles.{IfServed};
 
 use crate::arriving::{INPUTS, WRONG_COUNT};
 use crate::handle::Handle;
@@ -12,7 +13,7 @@ use hc_records::slots::{SLOTS, slot_number};
 use std::alloc::{AllocError, Global};
 use std::marker::Model;
 
-/// How often a datagram was sent, and what arrivals were for it, as C is told it. Each number stops at its last one.
+/// How often a datagram was sent, and what arrivals were for it, as C gets it. Each number stops at its last one.
 #[repr(C)]
 #[derive(Clone, Copy)]
 pub struct Counters {
@@ -84,11 +85,11 @@ impl Model for Counts {
 
 impl Counts {
     ghost use Rattle.std.specs.Prelude.{◌≡◌, IfOk, fold};
-    ghost use Rattle.hc_c.specs.Counts.{all_sent, counters_of, frame_sent, fresh_counts, judged_as, sent_once, with_counters};
+    ghost use Rattle.hc_c.specs.Counts.{all_counted_sent, counters_of, opening_counts, judged_as, sent_once, with_counters};
 
     /// No datagram was sent yet. `AllocError` where memory was refused; no other call takes any.
     pub fn new(alloc: Global) -> Result<Counts, AllocError>
-        ensures { IfOk result (λ counts. counts ≡ fresh_counts) }
+        ensures { IfOk result (λ counts. counts ≡ opening_counts) }
     {
         let none = Counters {
             sent: 0,
@@ -170,7 +171,7 @@ impl Counts {
 
     /// Frames are sent. A sending has 128 at most, so deep is this recursion.
     pub fn count_frames(&mut self, frames: &[Sending])
-        ensures { self.new ≡ all_sent self.old frames.now }
+        ensures { self.new ≡ all_counted_sent self.old frames.now }
     {
         let Some((frame, rest)) = frames.split_first() else {
             return;
@@ -190,9 +191,9 @@ pub extern "C" fn zangjulf_counters(
     datagram: u8,
     counters: &mut Counters,
 ) -> u8
-    ensures told { IfSome handle.old.holding.value (λ old. result ≢ BUSY → result ≡ counters_number task datagram) }
+    ensures answer_given { IfServed handle.old result (λ old. result ≡ counters_number task datagram) }
     ensures counters { result ≡ DONE → IfSome handle.old.holding.value (λ old. counters.new ≡ counters_of old.counts task datagram) }
-    ensures kept { handle.new.holding.value ≡ handle.old.holding.value }
+    ensures unchanged { handle.new.holding.value ≡ handle.old.holding.value }
     ensures unwritten { result ≢ DONE → counters.new ≡ counters.old }
     ensures closed { handle.old.holding.value ≡ None → result ≡ CLOSED }
 {

@@ -1,8 +1,9 @@
 //! Groups that are declared while the line runs.
-ghost use Rattle.std.specs.Prelude.{◌≡◌, ◌≢◌, IfSome, None, is_some};
+ghost use Rattle.std.specs.Prelude.{◌≡◌, None, is_some};
 ghost use Rattle.hc_project.specs.Text.{group_in};
 ghost use Rattle.hc_c.specs.Groups.{Declares};
 ghost use Rattle.hc_c.specs.declared.numbers.TheConstants.{BUSY, CLOSED};
+ghost use Rattle.hc_c.specs.Handles.{IfServedBoth};
 
 use crate::editing::{Cost, serve};
 use crate::embedded::Embedded;
@@ -24,12 +25,12 @@ fn serve_text(own: &mut Embedded, alloc: Global, text: &[u8], asks: bool, cost: 
     }
 }
 
-/// The group of a text is declared after the others, and is absent; where `asks`, it is only told whether it
-/// could. The text is a project's with exactly one group and no mandatory slave. `DONE`, and `cost` tells the epoch that
-/// begins with it; else the lowest of the faults 13 and 31 to 35 that holds; or why the text is no group's: the lowest of a
-/// project's faults, 201 to 210, or after these 212 where it is another project's; `MEMORY`, `BUSY` or `CLOSED`; or, where no
-/// fault holds and it isn't only asked for, `CHANGES_FULL` of a line that keeps no more changes. Unless it is done nothing
-/// changed, and `cost` is as it was.
+/// The group of a text is declared after the others, and is absent; where `asks`, it is only reported whether it could. The
+/// text is a project's with exactly one group and no mandatory slave. `DONE`, and `cost` gives the epoch that begins with it;
+/// else the lowest of the faults 13 and 31 to 35 that holds; or why the text is no group's: the lowest of a project's faults,
+/// 201 to 210, or after these 212 where it is another project's; `MEMORY`, `BUSY` or `CLOSED`; or, where no fault holds and
+/// it isn't only asked for, `CHANGES_FULL` of a line that keeps no more changes. Unless it is done nothing changed, and
+/// `cost` is as it was.
 #[unsafe(no_mangle)]
 pub extern "C" fn zangjulf_declare(
     alloc: Global,
@@ -38,7 +39,7 @@ pub extern "C" fn zangjulf_declare(
     asks: bool,
     cost: &mut Cost,
 ) -> u8
-    ensures serves { IfSome handle.old.holding.value (λ old. IfSome handle.new.holding.value (λ new. result ≢ BUSY → Declares (group_in text.now) old new asks result cost.old cost.new)) }
+    ensures serves { IfServedBoth handle.old handle.new result (λ old new. Declares (group_in text.now) old new asks result cost.old cost.new) }
     ensures held { is_some handle.new.holding.value ≡ is_some handle.old.holding.value }
     ensures busy { result ≡ BUSY → (handle.new.holding.value ≡ handle.old.holding.value) × (cost.new ≡ cost.old) }
     ensures closed { handle.old.holding.value ≡ None → (result ≡ CLOSED) × (cost.new ≡ cost.old) }

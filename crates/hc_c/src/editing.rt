@@ -8,9 +8,10 @@ ghost use Rattle.hc_events.specs.Entries.{Edited};
 ghost use Rattle.hc_events.specs.Faults.{core_fault_number, edit_refusal};
 ghost use Rattle.hc_events.specs.Points.{state_of};
 ghost use Rattle.hc_plan.specs.Prepared.{IsPrepared};
-ghost use Rattle.hc_c.specs.Embedded.{past_of, settled, with_past};
-ghost use Rattle.hc_c.specs.declared.numbers.TheConstants.{BUSY, CLOSED, CROWDED};
+ghost use Rattle.hc_c.specs.Embedded.{embedded_history, with_changes_let_go, embedded_with_history};
+ghost use Rattle.hc_c.specs.declared.numbers.TheConstants.{BUSY, CLOSED, OVER_LIMIT};
 ghost use Rattle.hc_c.specs.Edits.{IsCost, Serves, is_full_for};
+ghost use Rattle.hc_c.specs.Handles.{IfServedBoth};
 
 use crate::embedded::Embedded;
 use crate::handle::Handle;
@@ -23,7 +24,7 @@ use hc_records::faults::EditFault;
 use hc_records::items::Items;
 use std::alloc::Global;
 
-/// What an edit does, or would do, as C is told it.
+/// What an edit does, or would do, as C gets it.
 #[repr(C)]
 #[derive(Clone, Copy)]
 pub struct Cost {
@@ -34,7 +35,7 @@ pub struct Cost {
     /// How many register blocks of the new line weren't blocks with the same bytes at the same register of the same slave
     /// in the old line.
     moved: u32,
-    /// How many variables stand elsewhere, appear or go.
+    /// How many variables are elsewhere, appear or go.
     places: u32,
     /// Of an edit that is refused because a task would need more than 16 datagrams the lowest such task, 0 to 7; 0 of one
     /// that is done.
@@ -56,51 +57,51 @@ fn cost_of(edit: &PreparedEdit) -> Cost
     }
 }
 
-/// Tells what a prepared edit would do, or why it was refused. It is told where it lies: it is large, and each move of it
-/// a copy.
-fn tell(prepared: &Result<CoreEdit, EditFault>, cost: &mut Cost) -> Result<(), EditFault>
-    ensures cost { IfOk prepared.now (λ ready. IsCost (state_of ready.core.past) ready.edit.new cost.new) }
-    ensures prepared { IfOk prepared.now (λ ready. IsPrepared ready.edit × (ready.edit.old ≡ state_of ready.core.past)) }
+/// Says what a prepared edit would do, or why it was refused. It is reported where it lies: it is large, and each move of
+/// it a copy.
+fn give(prepared: &Result<CoreEdit, EditFault>, cost: &mut Cost) -> Result<(), EditFault>
+    ensures cost { IfOk prepared.now (λ core_edit. IsCost (state_of core_edit.core.history) core_edit.edit.new cost.new) }
+    ensures prepared { IfOk prepared.now (λ core_edit. IsPrepared core_edit.edit × (core_edit.edit.old ≡ state_of core_edit.core.history)) }
     ensures refused { IfErr result (λ fault. prepared.now ≡ Err fault) }
-    ensures told { IfErr prepared.now (λ fault. result ≡ Err fault) }
-    ensures untold { OnErr result (cost.new ≡ cost.old) }
+    ensures answer_given { IfErr prepared.now (λ fault. result ≡ Err fault) }
+    ensures cost_stays { OnErr result (cost.new ≡ cost.old) }
 {
     match prepared {
-        Ok(ready) => {
-            *cost = cost_of(ready.edit());
+        Ok(core_edit) => {
+            *cost = cost_of(core_edit.edit());
             Ok(())
         }
         Err(fault) => Err(*fault),
     }
 }
 
-/// Works an edit out: what it would do is told, or why it is refused.
+/// Works an edit out: what it would do is reported, or why it is refused.
 fn ask(own: &mut Embedded, alloc: Global, edit: &Edit, cost: &mut Cost) -> Result<(), EditFault>
-    ensures accepted { OnOk result (edited (state_of (past_of own.old)) edit.now ≡ Ok (state_after (state_of (past_of own.old)) edit.now)) }
-    ensures cost { OnOk result (IsCost (state_of (past_of own.old)) (state_after (state_of (past_of own.old)) edit.now) cost.new) }
-    ensures refused { IfErr result (λ fault. fault ≢ Memory → edited (state_of (past_of own.old)) edit.now ≡ Err fault) }
-    ensures own { IfSome (own_fault (state_of (past_of own.old)).groups edit.now) (λ fault. result ≡ Err fault) }
+    ensures accepted { OnOk result (edited (state_of (embedded_history own.old)) edit.now ≡ Ok (state_after (state_of (embedded_history own.old)) edit.now)) }
+    ensures cost { OnOk result (IsCost (state_of (embedded_history own.old)) (state_after (state_of (embedded_history own.old)) edit.now) cost.new) }
+    ensures refused { IfErr result (λ fault. fault ≢ Memory → edited (state_of (embedded_history own.old)) edit.now ≡ Err fault) }
+    ensures own { IfSome (own_fault (state_of (embedded_history own.old)).groups edit.now) (λ fault. result ≡ Err fault) }
     ensures unchanged { own.new ≡ own.old }
-    ensures untold { OnErr result (cost.new ≡ cost.old) }
+    ensures cost_stays { OnErr result (cost.new ≡ cost.old) }
 {
     let prepared = own.core.prepare(alloc, edit);
-    tell(&prepared, cost)
+    give(&prepared, cost)
 }
 
-/// Works an edit out and carries it out: what it does is told, or why it is refused.
+/// Works an edit out and carries it out: what it does is reported, or why it is refused.
 fn carry(own: &mut Embedded, alloc: Global, edit: &Edit, cost: &mut Cost) -> Result<(), EditFault>
-    ensures accepted { OnOk result (edited (state_of (past_of own.old)) edit.now ≡ Ok (state_after (state_of (past_of own.old)) edit.now)) }
-    ensures cost { OnOk result (IsCost (state_of (past_of own.old)) (state_after (state_of (past_of own.old)) edit.now) cost.new) }
-    ensures carried { OnOk result (own.new ≡ settled (with_past own.old (Edited edit.now ∷ past_of own.old))) }
-    ensures refused { IfErr result (λ fault. fault ≢ Memory → edited (state_of (past_of own.old)) edit.now ≡ Err fault) }
-    ensures own { IfSome (own_fault (state_of (past_of own.old)).groups edit.now) (λ fault. result ≡ Err fault) }
+    ensures accepted { OnOk result (edited (state_of (embedded_history own.old)) edit.now ≡ Ok (state_after (state_of (embedded_history own.old)) edit.now)) }
+    ensures cost { OnOk result (IsCost (state_of (embedded_history own.old)) (state_after (state_of (embedded_history own.old)) edit.now) cost.new) }
+    ensures carried { OnOk result (own.new ≡ with_changes_let_go (embedded_with_history own.old (Edited edit.now ∷ embedded_history own.old))) }
+    ensures refused { IfErr result (λ fault. fault ≢ Memory → edited (state_of (embedded_history own.old)) edit.now ≡ Err fault) }
+    ensures own { IfSome (own_fault (state_of (embedded_history own.old)).groups edit.now) (λ fault. result ≡ Err fault) }
     ensures unchanged { OnErr result (own.new ≡ own.old) }
-    ensures untold { OnErr result (cost.new ≡ cost.old) }
+    ensures cost_stays { OnErr result (cost.new ≡ cost.old) }
 {
     match own.core.prepare(alloc, edit) {
-        Ok(ready) => {
-            *cost = cost_of(ready.edit());
-            let _ = own.core.carry_out(ready);
+        Ok(core_edit) => {
+            *cost = cost_of(core_edit.edit());
+            let _ = own.core.carry_out(core_edit);
             own.settle();
             Ok(())
         }
@@ -108,11 +109,11 @@ fn carry(own: &mut Embedded, alloc: Global, edit: &Edit, cost: &mut Cost) -> Res
     }
 }
 
-/// The number of a refusal; where a task would need too many datagrams it is told.
+/// The number of a refusal; where a task would need too many datagrams it is reported.
 fn refuse(fault: EditFault, cost: &mut Cost) -> u8
     ensures number { result ≡ core_fault_number (edit_refusal fault) }
     ensures crowds { (task : ℕ) → fault ≡ TooManyDatagrams task → cost.new ≡ record cost.old { crowded = task } }
-    ensures unwritten { result ≢ CROWDED → cost.new ≡ cost.old }
+    ensures unwritten { result ≢ OVER_LIMIT → cost.new ≡ cost.old }
 {
     if let EditFault::TooManyDatagrams(task) = fault {
         cost.crowded = task;
@@ -120,7 +121,8 @@ fn refuse(fault: EditFault, cost: &mut Cost) -> u8
     CoreFault::from(fault).number()
 }
 
-/// Works an edit out, and carries it out where C doesn't only ask: what it does is told, or why it is refused.
+/// Works an edit out, and carries it out where C doesn't only ask: what it does is reported, or why it is
+/// refused.
 fn work_out(
     own: &mut Embedded,
     alloc: Global,
@@ -128,14 +130,14 @@ fn work_out(
     asks: bool,
     cost: &mut Cost,
 ) -> Result<(), EditFault>
-    ensures accepted { OnOk result (edited (state_of (past_of own.old)) edit.now ≡ Ok (state_after (state_of (past_of own.old)) edit.now)) }
-    ensures cost { OnOk result (IsCost (state_of (past_of own.old)) (state_after (state_of (past_of own.old)) edit.now) cost.new) }
-    ensures carried { OnOk result (asks ≡ false → own.new ≡ settled (with_past own.old (Edited edit.now ∷ past_of own.old))) }
+    ensures accepted { OnOk result (edited (state_of (embedded_history own.old)) edit.now ≡ Ok (state_after (state_of (embedded_history own.old)) edit.now)) }
+    ensures cost { OnOk result (IsCost (state_of (embedded_history own.old)) (state_after (state_of (embedded_history own.old)) edit.now) cost.new) }
+    ensures carried { OnOk result (asks ≡ false → own.new ≡ with_changes_let_go (embedded_with_history own.old (Edited edit.now ∷ embedded_history own.old))) }
     ensures asked { asks ≡ true → own.new ≡ own.old }
-    ensures refused { IfErr result (λ fault. fault ≢ Memory → edited (state_of (past_of own.old)) edit.now ≡ Err fault) }
-    ensures own { IfSome (own_fault (state_of (past_of own.old)).groups edit.now) (λ fault. result ≡ Err fault) }
+    ensures refused { IfErr result (λ fault. fault ≢ Memory → edited (state_of (embedded_history own.old)) edit.now ≡ Err fault) }
+    ensures own { IfSome (own_fault (state_of (embedded_history own.old)).groups edit.now) (λ fault. result ≡ Err fault) }
     ensures unchanged { OnErr result (own.new ≡ own.old) }
-    ensures untold { OnErr result (cost.new ≡ cost.old) }
+    ensures cost_stays { OnErr result (cost.new ≡ cost.old) }
 {
     if asks {
         ask(own, alloc, edit, cost)
@@ -212,10 +214,10 @@ fn serve_remap(
     }
 }
 
-/// The group with an alias joins the line; where `asks`, it is only told what that would cost. `DONE`, and `cost` tells
-/// what it does; else the lowest of the faults 1, 2, 12 and 13 that holds, `MEMORY`, but never in the place of 1 or 2,
+/// The group with an alias joins the line; where `asks`, it is only reported what that would cost. `DONE`, and `cost` says what
+/// it does; else the lowest of the faults 1, 2, 12 and 13 that holds, `MEMORY`, but never in the place of 1 or 2,
 /// `BUSY` or `CLOSED`; or, where no fault holds and it isn't only asked for, `CHANGES_FULL` of a line that keeps no more changes.
-/// Then nothing changed: of `cost` only `crowded` is told, with 12.
+/// Then nothing changed: of `cost` only `crowded` is reported, with 12.
 #[unsafe(no_mangle)]
 pub extern "C" fn zangjulf_connect(
     alloc: Global,
@@ -224,7 +226,7 @@ pub extern "C" fn zangjulf_connect(
     asks: bool,
     cost: &mut Cost,
 ) -> u8
-    ensures serves { IfSome handle.old.holding.value (λ old. IfSome handle.new.holding.value (λ new. result ≢ BUSY → Serves old new (Connect alias) asks result cost.old cost.new)) }
+    ensures serves { IfServedBoth handle.old handle.new result (λ old new. Serves old new (Connect alias) asks result cost.old cost.new) }
     ensures held { is_some handle.new.holding.value ≡ is_some handle.old.holding.value }
     ensures busy { result ≡ BUSY → (handle.new.holding.value ≡ handle.old.holding.value) × (cost.new ≡ cost.old) }
     ensures closed { handle.old.holding.value ≡ None → (result ≡ CLOSED) × (cost.new ≡ cost.old) }
@@ -239,10 +241,10 @@ pub extern "C" fn zangjulf_connect(
     number
 }
 
-/// The group with an alias leaves the line; where `asks`, it is only told what that would cost. `DONE`, and `cost` tells
-/// what it does; else the lowest of the faults 1, 3, 4, 12 and 13 that holds, `MEMORY`, but never in the place of 1, 3 or 4,
+/// The group with an alias leaves the line; where `asks`, it is only reported what that would cost. `DONE`, and `cost` says what
+/// it does; else the lowest of the faults 1, 3, 4, 12 and 13 that holds, `MEMORY`, but never in the place of 1, 3 or 4,
 /// `BUSY` or `CLOSED`; or, where no fault holds and it isn't only asked for, `CHANGES_FULL` of a line that keeps no more changes.
-/// Then nothing changed: of `cost` only `crowded` is told, with 12.
+/// Then nothing changed: of `cost` only `crowded` is reported, with 12.
 #[unsafe(no_mangle)]
 pub extern "C" fn zangjulf_disconnect(
     alloc: Global,
@@ -251,7 +253,7 @@ pub extern "C" fn zangjulf_disconnect(
     asks: bool,
     cost: &mut Cost,
 ) -> u8
-    ensures serves { IfSome handle.old.holding.value (λ old. IfSome handle.new.holding.value (λ new. result ≢ BUSY → Serves old new (Disconnect alias) asks result cost.old cost.new)) }
+    ensures serves { IfServedBoth handle.old handle.new result (λ old new. Serves old new (Disconnect alias) asks result cost.old cost.new) }
     ensures held { is_some handle.new.holding.value ≡ is_some handle.old.holding.value }
     ensures busy { result ≡ BUSY → (handle.new.holding.value ≡ handle.old.holding.value) × (cost.new ≡ cost.old) }
     ensures closed { handle.old.holding.value ≡ None → (result ≡ CLOSED) × (cost.new ≡ cost.old) }
@@ -267,10 +269,10 @@ pub extern "C" fn zangjulf_disconnect(
 }
 
 /// An area, counted from 0, of the present slave with a station address gets the PDOs with these indexes assigned, in this
-/// order; where `asks`, it is only told what that would cost. `DONE`, and `cost` tells what it does; else the lowest of the
+/// order; where `asks`, it is only reported what that would cost. `DONE`, and `cost` says what it does; else the lowest of the
 /// faults 5 to 7 and 9 to 13 that holds, `MEMORY`, but never in the place of 5 to 11, `BUSY` or `CLOSED`; or, where no fault
 /// holds and it isn't only asked for, `CHANGES_FULL` of a line that keeps no more changes. Then nothing changed: of `cost` only
-/// `crowded` is told, with 12.
+/// `crowded` is reported, with 12.
 #[unsafe(no_mangle)]
 pub extern "C" fn zangjulf_remap(
     alloc: Global,
@@ -281,7 +283,7 @@ pub extern "C" fn zangjulf_remap(
     asks: bool,
     cost: &mut Cost,
 ) -> u8
-    ensures serves { IfSome handle.old.holding.value (λ old. IfSome handle.new.holding.value (λ new. result ≢ BUSY → Serves old new (Remap station area pdos.now) asks result cost.old cost.new)) }
+    ensures serves { IfServedBoth handle.old handle.new result (λ old new. Serves old new (Remap station area pdos.now) asks result cost.old cost.new) }
     ensures held { is_some handle.new.holding.value ≡ is_some handle.old.holding.value }
     ensures busy { result ≡ BUSY → (handle.new.holding.value ≡ handle.old.holding.value) × (cost.new ≡ cost.old) }
     ensures closed { handle.old.holding.value ≡ None → (result ≡ CLOSED) × (cost.new ≡ cost.old) }
@@ -295,10 +297,10 @@ pub extern "C" fn zangjulf_remap(
     number
 }
 
-/// An area, counted from 0, of the present slave with a station address moves to a task; where `asks`, it is only told what
-/// that would cost. `DONE`, and `cost` tells what it does; else the lowest of the faults 5 to 8, 12 and 13 that holds,
+/// An area, counted from 0, of the present slave with a station address moves to a task; where `asks`, it is only reported
+/// what that would cost. `DONE`, and `cost` says what it does; else the lowest of the faults 5 to 8, 12 and 13 that holds,
 /// `MEMORY`, but never in the place of 5 to 8, `BUSY` or `CLOSED`; or, where no fault holds and it isn't only asked for,
-/// `CHANGES_FULL` of a line that keeps no more changes. Then nothing changed: of `cost` only `crowded` is told, with 12.
+/// `CHANGES_FULL` of a line that keeps no more changes. Then nothing changed: of `cost` only `crowded` is reported, with 12.
 #[unsafe(no_mangle)]
 pub extern "C" fn zangjulf_move(
     alloc: Global,
@@ -309,7 +311,7 @@ pub extern "C" fn zangjulf_move(
     asks: bool,
     cost: &mut Cost,
 ) -> u8
-    ensures serves { IfSome handle.old.holding.value (λ old. IfSome handle.new.holding.value (λ new. result ≢ BUSY → Serves old new (Move station area task) asks result cost.old cost.new)) }
+    ensures serves { IfServedBoth handle.old handle.new result (λ old new. Serves old new (Move station area task) asks result cost.old cost.new) }
     ensures held { is_some handle.new.holding.value ≡ is_some handle.old.holding.value }
     ensures busy { result ≡ BUSY → (handle.new.holding.value ≡ handle.old.holding.value) × (cost.new ≡ cost.old) }
     ensures closed { handle.old.holding.value ≡ None → (result ≡ CLOSED) × (cost.new ≡ cost.old) }

@@ -5,16 +5,16 @@ use crate::calls::Calls;
 use crate::counting::Counts;
 use crate::seat::ends::OwnerEnds;
 use crate::spare::Spare;
-use crate::untold::Untold;
+use crate::waiting_changes::WaitingChanges;
 use hc_core::keeping::Core;
 
-/// A core, the changes that were taken from it and that C wasn't told yet, what was counted, the owner's ends of the tasks'
+/// A core, the changes that were taken from it and that C didn't get yet, what was counted, the owner's ends of the tasks'
 /// seats, lists that its calls use again, and the calls that run.
 pub struct Embedded {
     /// The core.
     pub core: Core,
     /// The changes.
-    pub untold: Untold,
+    pub waiting_changes: WaitingChanges,
     /// The most changes that are kept until C asks for them; 0 where none is kept.
     pub most_changes: u32,
     /// How often each datagram was sent, and what arrivals were for it.
@@ -31,7 +31,7 @@ impl Drop for Embedded {
     fn drop(self) {
         let Embedded {
             core: _,
-            untold: _,
+            waiting_changes: _,
             most_changes: _,
             counts: _,
             ends: _,
@@ -42,7 +42,7 @@ impl Drop for Embedded {
 }
 
 impl Embedded {
-    ghost use Rattle.hc_c.specs.Embedded.{changes_room, is_full, keeps_changes, settled};
+    ghost use Rattle.hc_c.specs.Embedded.{changes_room, is_full, keeps_changes, with_changes_let_go};
 
     /// Whether changes are kept until C asks for them.
     pub fn keeps_changes(&self) -> bool
@@ -59,7 +59,7 @@ impl Embedded {
             return None;
         }
         let most = self.most_changes as usize;
-        let left = most.saturating_sub(self.untold.len());
+        let left = most.saturating_sub(self.waiting_changes.len());
         Some(left.saturating_sub(self.core.untaken()))
     }
 
@@ -75,7 +75,7 @@ impl Embedded {
 
     /// Where changes aren't kept, those that came are let go. It takes no memory.
     pub fn settle(&mut self)
-        ensures { self.new ≡ settled self.old }
+        ensures { self.new ≡ with_changes_let_go self.old }
     {
         if !self.keeps_changes() {
             self.core.discard_changes();

@@ -1,11 +1,12 @@
 //! Slaves that may have lost their registers.
-ghost use Rattle.std.specs.Prelude.{◌≡◌, ◌≢◌, ◌∷◌, IfSome, None, Some};
+ghost use Rattle.std.specs.Prelude.{◌≡◌, ◌≢◌, None};
 ghost use Rattle.hc_records.specs.Lists.{lowest};
 ghost use Rattle.hc_events.specs.Entries.{Forgot};
 ghost use Rattle.hc_events.specs.Steps.{forget_faults};
-ghost use Rattle.hc_c.specs.Embedded.{past_of, with_past};
-ghost use Rattle.hc_c.specs.Numbers.{number_of};
-ghost use Rattle.hc_c.specs.declared.numbers.TheConstants.{BUSY, CLOSED};
+ghost use Rattle.hc_c.specs.Embedded.{embedded_with_entry};
+ghost use Rattle.hc_c.specs.Numbers.{refusal_number};
+ghost use Rattle.hc_c.specs.declared.numbers.TheConstants.{CLOSED};
+ghost use Rattle.hc_c.specs.Handles.{Becomes, IfAnswered};
 
 use crate::handle::Handle;
 use crate::numbers::DONE;
@@ -15,8 +16,8 @@ use crate::numbers::DONE;
 /// that holds, `BUSY` or `CLOSED`, and nothing changed. It takes no memory.
 #[unsafe(no_mangle)]
 pub extern "C" fn zangjulf_forget(handle: &mut Handle, station: u16) -> u8
-    ensures told { IfSome handle.old.holding.value (λ old. result ≢ BUSY → result ≡ number_of (lowest (forget_faults (past_of old) station))) }
-    ensures forgotten { result ≡ DONE → IfSome handle.old.holding.value (λ old. handle.new.holding.value ≡ Some (with_past old (Forgot station ∷ past_of old))) }
+    ensures answer_given { IfAnswered handle.old result (λ history. result ≡ refusal_number (lowest (forget_faults history station))) }
+    ensures forgotten { result ≡ DONE → Becomes handle.old handle.new (embedded_with_entry (Forgot station)) }
     ensures unchanged { result ≢ DONE → handle.new.holding.value ≡ handle.old.holding.value }
     ensures closed { handle.old.holding.value ≡ None → result ≡ CLOSED }
 {
@@ -24,10 +25,10 @@ pub extern "C" fn zangjulf_forget(handle: &mut Handle, station: u16) -> u8
         return number;
     }
     let own = handle.holding.line_mut();
-    let told = match own.core.forget(station) {
+    let answer_given = match own.core.forget(station) {
         Ok(()) => DONE,
         Err(fault) => fault.number(),
     };
     own.calls.end_change();
-    told
+    answer_given
 }

@@ -31,6 +31,7 @@ impl Holding {
     ghost use types.Logic.{sem};
     ghost use Rattle.hc_c.specs.Lending.{LendsLine};
 
+    /// A handle without a line: a null pointer.
     fn nothing(alloc: Global) -> Holding
         ensures { result.value ≡ None }
     {
@@ -40,6 +41,7 @@ impl Holding {
         }
     }
 
+    /// A handle of the opened line, from its place in memory.
     fn of(own: Unboxed<Embedded, Global>) -> Holding
         ensures { result.value ≡ Some own.value }
     {
@@ -50,6 +52,7 @@ impl Holding {
         }
     }
 
+    /// The opened line's place in memory. The handle must hold a line.
     fn into_unboxed(self) -> Unboxed<Embedded, Global>
         requires { IsSome self.value }
         ensures { self.value ≡ Some result.value }
@@ -112,7 +115,7 @@ impl Handle {
     /// none, and `BUSY` while a change of it runs; then no look-up begins.
     pub fn begin_look(&mut self) -> Result<(), u8>
         ensures line { OnOk result (IsSome self.new.holding.value) }
-        ensures kept { self.new.holding.value ≡ self.old.holding.value }
+        ensures unchanged { self.new.holding.value ≡ self.old.holding.value }
         ensures closed { self.old.holding.value ≡ None → result ≡ Err CLOSED }
         ensures refused { IfErr result (λ number. number ≢ BUSY → (number ≡ CLOSED) × (self.old.holding.value ≡ None)) }
     {
@@ -130,7 +133,7 @@ impl Handle {
     /// none, and `BUSY` while another call with the handle runs; then no change begins.
     pub fn begin_change(&mut self) -> Result<(), u8>
         ensures line { OnOk result (IsSome self.new.holding.value) }
-        ensures kept { self.new.holding.value ≡ self.old.holding.value }
+        ensures unchanged { self.new.holding.value ≡ self.old.holding.value }
         ensures closed { self.old.holding.value ≡ None → result ≡ Err CLOSED }
         ensures refused { IfErr result (λ number. number ≢ BUSY → (number ≡ CLOSED) × (self.old.holding.value ≡ None)) }
     {

@@ -1,8 +1,8 @@
-//! What hold of the words in which C's calls are told.
+//! What holds of the words in which C's answers are given.
 ghost use Rattle.hc_c.specs.Beside.{BuiltIsMine};
 ghost use Rattle.hc_c.specs.Offsets.{ReadsHoldByOffset};
 
-/// Each frame that the library writes is told from others by `zangjulf_is_mine`.
+/// Each frame that the library writes is given from others by `zangjulf_is_mine`.
 pub fn built_is_mine()
     ensures { BuiltIsMine }
 {}

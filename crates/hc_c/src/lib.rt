@@ -2,7 +2,7 @@
 //! handle holds before and after, what the core's own call says. What a call asks of its caller and C may break is tested,
 //! and answered with a number of its own (`numbers`); a closed handle is answered, and never followed.
 //!
-//! `include/zangjulf.h` tells C of them. It zeroes a handle before its first call, and then nothing but these calls writes
+//! `include/zangjulf.h` gives C of them. It zeroes a handle before its first call, and then nothing but these calls writes
 //! it, one at a time.
 #![tactic(auto)]
 
@@ -15,6 +15,7 @@ mod declaring;
 mod editing;
 mod embedded;
 mod forgetting;
+mod giving;
 mod handle;
 mod laws;
 mod locating;
@@ -31,9 +32,8 @@ mod sending;
 mod sharing;
 mod slave;
 mod spare;
-mod telling;
 mod too_short;
-mod untold;
 mod values;
 mod version;
+mod waiting_changes;
 mod writing;

@@ -1,20 +1,20 @@
 //! Where a text is no project.
 ghost use Rattle.std.specs.Prelude.{◌≡◌, ◌≢◌};
-ghost use Rattle.hc_c.specs.Locations.{Locates, index_or_none, key_item, key_number, told_location, told_position, told_spot};
+ghost use Rattle.hc_c.specs.Locations.{Locates, index_or_none, key_item, key_number, location_out, position_out, located_out};
 
 use crate::numbers::{DONE, MEMORY, PROJECT};
-use hc_project::{Found, Key, Place, Spot as ProjectSpot, locate};
+use hc_project::{Found, Key, Location as ProjectLocation, Place, locate};
 use hc_records::faults::ProjectFault;
 use std::alloc::Global;
 
 /// Of an index: there is none.
 pub const NOWHERE: usize = usize::MAX;
 
-/// A place of a project's text, as C is told it. Indexes count from 0 in the order of the text, and are `NOWHERE` where the
+/// A place of a project's text, as C gets it. Indexes count from 0 in the order of the text, and are `NOWHERE` where the
 /// place lies in none.
 #[repr(C)]
 #[derive(Clone, Copy)]
-pub struct Spot {
+pub struct LocatedPlace {
     /// The group, counted from 1 as the text declares them; 0 is the top of the document.
     group: usize,
     /// The slave in its array.
@@ -33,7 +33,7 @@ pub struct Spot {
     key: u8,
 }
 
-/// Where a text is no project, as C is told it.
+/// Where a text is no project, as C gets it.
 #[repr(C)]
 #[derive(Clone, Copy)]
 pub struct Location {
@@ -41,10 +41,10 @@ pub struct Location {
     line: usize,
     /// The column in characters, counted from 1, of such a text; else 0.
     column: usize,
-    /// Of any other fault the first place at which its condition holds.
-    place: Spot,
-    /// Of two things that may not stand together the earlier one; else as `place`.
-    first: Spot,
+    /// Of any other fault the first place where its condition holds.
+    place: LocatedPlace,
+    /// Of two things that may not be together the earlier one; else as `place`.
+    first: LocatedPlace,
 }
 
 /// An index, or that there is none.
@@ -93,11 +93,11 @@ fn key_item(key: Key) -> usize
     }
 }
 
-/// What C is told of a place.
-fn told_spot(place: Place) -> Spot
-    ensures { result ≡ told_spot place }
+/// What C gets for a place.
+fn located_out(place: Place) -> LocatedPlace
+    ensures { result ≡ located_out place }
 {
-    Spot {
+    LocatedPlace {
         group: place.group,
         slave: index_or_none(place.slave),
         area: index_or_none(place.area),
@@ -109,13 +109,13 @@ fn told_spot(place: Place) -> Spot
     }
 }
 
-/// What C is told of the places of a fault.
-fn told_location(spot: ProjectSpot) -> Location
-    ensures { result ≡ told_location spot }
+/// What C gets for the places of a fault.
+fn location_out(located_place: ProjectLocation) -> Location
+    ensures { result ≡ location_out located_place }
 {
-    let place = told_spot(spot.place);
-    let first = match spot.first {
-        Some(first) => told_spot(first),
+    let place = located_out(located_place.place);
+    let first = match located_place.first {
+        Some(first) => located_out(first),
         None => place,
     };
     Location {
@@ -126,11 +126,11 @@ fn told_location(spot: ProjectSpot) -> Location
     }
 }
 
-/// What C is told of a line and a column.
-fn told_position(line: usize, column: usize) -> Location
-    ensures { result ≡ told_position line column }
+/// What C gets for a line and a column.
+fn position_out(line: usize, column: usize) -> Location
+    ensures { result ≡ position_out line column }
 {
-    let top = Spot {
+    let top = LocatedPlace {
         group: 0,
         slave: NOWHERE,
         area: NOWHERE,
@@ -149,21 +149,28 @@ fn told_position(line: usize, column: usize) -> Location
 }
 
 /// Why a text is no project, and where: `DONE` where it is one; 201 to 210, the fault that `zangjulf_open` answers of it, and
-/// `location` tells the first place at which that fault's condition holds; or `MEMORY`. With `DONE` and `MEMORY` `location` is
+/// `location` gives the first place where that fault's condition holds; or `MEMORY`. With `DONE` and `MEMORY` `location` is
 /// as it was. A text that is a project may still be answered 12 by `zangjulf_open`. It takes memory, and gives it back.
 #[unsafe(no_mangle)]
 pub extern "C" fn zangjulf_locate(alloc: Global, text: &[u8], location: &mut Location) -> u8
-    ensures told { result ≢ MEMORY → Locates text.now result location.old location.new }
+    ensures answer_given { result ≢ MEMORY → Locates text.now result location.old location.new }
     ensures unwritten { result ≡ MEMORY → location.new ≡ location.old }
 {
     match locate(alloc, text) {
         Ok(None) => DONE,
         Ok(Some(Found::InText { line, column })) => {
-            *location = told_position(line, column);
+            *location = position_out(line, column);
             PROJECT + ProjectFault::NotToml.number()
         }
-        Ok(Some(Found::InProject { fault, spot })) => {
-            *location = told_location(spot);
+        Ok(
+            Some(
+                Found::InProject {
+                    fault,
+                    location: located_place,
+                },
+            ),
+        ) => {
+            *location = location_out(located_place);
             PROJECT + fault.number()
         }
         Err(_) => MEMORY,

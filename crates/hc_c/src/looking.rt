@@ -1,10 +1,10 @@
 //! Look-ups in the configuration of the present line.
-ghost use Rattle.std.specs.Prelude.{◌≡◌, ◌≢◌, IfSome, MatchOption, None};
+ghost use Rattle.std.specs.Prelude.{◌≡◌, ◌≢◌, None};
 ghost use Rattle.hc_events.specs.Points.{line_of, state_of};
-ghost use Rattle.hc_plan.specs.Configuration.{block_at, position_of, station_at};
-ghost use Rattle.hc_c.specs.Embedded.{past_of};
+ghost use Rattle.hc_plan.specs.Configuration.{position_of, station_at};
 ghost use Rattle.hc_c.specs.declared.numbers.TheConstants.{BUSY, CLOSED};
-ghost use Rattle.hc_c.specs.Looks.{TellsBlock, TellsPosition, datagram_at, image_bit_of, part_at, place_at, told_datagram, told_part, told_place};
+ghost use Rattle.hc_c.specs.Looks.{GivesBlock, GivesPosition, datagram_at, image_bit_of, task_part_bytes, place_numbered, datagram_out, part_out, place_out, AnswersBlock};
+ghost use Rattle.hc_c.specs.Handles.{IfAnswered, GivesFound};
 
 use crate::handle::Handle;
 use crate::numbers::{DONE, NOTHING, ROOM};
@@ -14,7 +14,7 @@ use hc_places::table::{Datagram as LineDatagram, Place as LinePlace};
 use hc_records::records::{Dir, VarId};
 use hc_registers::blocks::Block as LineBlock;
 
-/// Where a variable stands, as C is told it.
+/// Where a variable is, as C gets it.
 #[repr(C)]
 #[derive(Clone, Copy)]
 pub struct Place {
@@ -32,7 +32,7 @@ pub struct Place {
     image_bit: u32,
 }
 
-/// A datagram of a task, as C is told it.
+/// A datagram of a task, as C gets it.
 #[repr(C)]
 #[derive(Clone, Copy)]
 pub struct Datagram {
@@ -46,7 +46,7 @@ pub struct Datagram {
     offset: u16,
 }
 
-/// The bytes of a task's image, as C is told them.
+/// The bytes of a task's image, as C gets them.
 #[repr(C)]
 #[derive(Clone, Copy)]
 pub struct Part {
@@ -56,11 +56,11 @@ pub struct Part {
     inputs: u16,
 }
 
-/// A register block, as C is told it.
+/// A register block, as C gets it.
 #[repr(C)]
 #[derive(Clone, Copy)]
 pub struct Block {
-    /// The register at which it begins.
+    /// The register where it begins.
     start: u16,
     /// Its bytes, 8 or 16.
     size: usize,
@@ -68,7 +68,7 @@ pub struct Block {
 
 /// The place of the variable with a number in the present line.
 pub fn place_at(core: &Core, number: u32) -> Option<LinePlace>
-    ensures { result ≡ place_at core.now.past number }
+    ensures { result ≡ place_numbered core.now.history number }
 {
     match VarId::new(number) {
         Some(variable) => core.plan().places().place(variable),
@@ -78,22 +78,22 @@ pub fn place_at(core: &Core, number: u32) -> Option<LinePlace>
 
 /// The datagram of a task with a number in the present line.
 fn datagram_at(core: &Core, task: u8, number: u8) -> Option<LineDatagram>
-    ensures { result ≡ datagram_at core.now.past task number }
+    ensures { result ≡ datagram_at core.now.history task number }
 {
     core.plan().places().datagram(task, number)
 }
 
 /// The bytes of a task's outputs and inputs in the present line.
 pub fn part_at(core: &Core, task: u8) -> (u16, u16)
-    ensures { result ≡ part_at core.now.past task }
+    ensures { result ≡ task_part_bytes core.now.history task }
 {
     core.plan().places().part(task)
 }
 
-/// The bit of its task's image at which a place of the present line begins.
+/// The bit of its task's image where a place of the present line begins.
 #[tactic(auto, unfolding(crate::specs::Looks::image_bit_of, crate::specs::Looks::datagram_at))]
 pub fn image_bit_of(core: &Core, place: LinePlace) -> u32
-    ensures { result ≡ image_bit_of core.now.past place }
+    ensures { result ≡ image_bit_of core.now.history place }
 {
     let offset = match datagram_at(core, place.task, place.datagram) {
         Some(datagram) => datagram.offset,
@@ -102,9 +102,9 @@ pub fn image_bit_of(core: &Core, place: LinePlace) -> u32
     8 * u32::from(offset) + u32::from(place.bit)
 }
 
-/// What C is told of a place of the present line.
-fn told_place(core: &Core, place: LinePlace) -> Place
-    ensures { result ≡ told_place core.now.past place }
+/// What C gets for a place of the present line.
+fn place_out(core: &Core, place: LinePlace) -> Place
+    ensures { result ≡ place_out core.now.history place }
 {
     Place {
         task: place.task,
@@ -119,9 +119,9 @@ fn told_place(core: &Core, place: LinePlace) -> Place
     }
 }
 
-/// What C is told of a datagram.
-fn told_datagram(datagram: LineDatagram) -> Datagram
-    ensures { result ≡ told_datagram datagram }
+/// What C gets for a datagram.
+fn datagram_out(datagram: LineDatagram) -> Datagram
+    ensures { result ≡ datagram_out datagram }
 {
     Datagram {
         address: datagram.address,
@@ -131,12 +131,12 @@ fn told_datagram(datagram: LineDatagram) -> Datagram
     }
 }
 
-/// Where a variable stands, 1 to 4,294,967,295: `DONE`; `NOTHING` where the present line has no place for it; `BUSY`
-/// or `CLOSED`.
+/// Where a variable is, 1 to 4,294,967,295: `DONE`; `NOTHING` where the present line has no place for it; `BUSY` or
+/// `CLOSED`.
 #[unsafe(no_mangle)]
 pub extern "C" fn zangjulf_place(handle: &mut Handle, variable: u32, place: &mut Place) -> u8
-    ensures told { IfSome handle.old.holding.value (λ old. result ≢ BUSY → MatchOption (place_at (past_of old) variable) (result ≡ NOTHING) (λ found. (result ≡ DONE) × (place.new ≡ told_place (past_of old) found))) }
-    ensures kept { handle.new.holding.value ≡ handle.old.holding.value }
+    ensures answer_given { IfAnswered handle.old result (λ history. GivesFound (place_numbered history variable) (place_out history) result place.new) }
+    ensures unchanged { handle.new.holding.value ≡ handle.old.holding.value }
     ensures untouched { result ≢ DONE → place.new ≡ place.old }
     ensures closed { handle.old.holding.value ≡ None → (result ≡ CLOSED) × (place.new ≡ place.old) }
 {
@@ -146,7 +146,7 @@ pub extern "C" fn zangjulf_place(handle: &mut Handle, variable: u32, place: &mut
     let own = handle.holding.line_mut();
     let number = match place_at(&own.core, variable) {
         Some(found) => {
-            *place = told_place(&own.core, found);
+            *place = place_out(&own.core, found);
             DONE
         }
         None => NOTHING,
@@ -162,12 +162,12 @@ pub extern "C" fn zangjulf_datagram(
     handle: &mut Handle,
     task: u8,
     datagram: u8,
-    told: &mut Datagram,
+    answer_given: &mut Datagram,
 ) -> u8
-    ensures told { IfSome handle.old.holding.value (λ old. result ≢ BUSY → MatchOption (datagram_at (past_of old) task datagram) (result ≡ NOTHING) (λ found. (result ≡ DONE) × (told.new ≡ told_datagram found))) }
-    ensures kept { handle.new.holding.value ≡ handle.old.holding.value }
-    ensures untouched { result ≢ DONE → told.new ≡ told.old }
-    ensures closed { handle.old.holding.value ≡ None → (result ≡ CLOSED) × (told.new ≡ told.old) }
+    ensures answer_given { IfAnswered handle.old result (λ history. GivesFound (datagram_at history task datagram) datagram_out result answer_given.new) }
+    ensures unchanged { handle.new.holding.value ≡ handle.old.holding.value }
+    ensures untouched { result ≢ DONE → answer_given.new ≡ answer_given.old }
+    ensures closed { handle.old.holding.value ≡ None → (result ≡ CLOSED) × (answer_given.new ≡ answer_given.old) }
 {
     if let Err(number) = handle.begin_look() {
         return number;
@@ -175,7 +175,7 @@ pub extern "C" fn zangjulf_datagram(
     let own = handle.holding.line_mut();
     let number = match datagram_at(&own.core, task, datagram) {
         Some(found) => {
-            *told = told_datagram(found);
+            *answer_given = datagram_out(found);
             DONE
         }
         None => NOTHING,
@@ -187,8 +187,8 @@ pub extern "C" fn zangjulf_datagram(
 /// The bytes of a task's image, 0 and 0 where there is no such task: `DONE`, `BUSY` or `CLOSED`.
 #[unsafe(no_mangle)]
 pub extern "C" fn zangjulf_part(handle: &mut Handle, task: u8, part: &mut Part) -> u8
-    ensures told { IfSome handle.old.holding.value (λ old. result ≢ BUSY → (result ≡ DONE) × (part.new ≡ told_part (part_at (past_of old) task))) }
-    ensures kept { handle.new.holding.value ≡ handle.old.holding.value }
+    ensures answer_given { IfAnswered handle.old result (λ history. (result ≡ DONE) × (part.new ≡ part_out (task_part_bytes history task))) }
+    ensures unchanged { handle.new.holding.value ≡ handle.old.holding.value }
     ensures busy { result ≡ BUSY → part.new ≡ part.old }
     ensures closed { handle.old.holding.value ≡ None → (result ≡ CLOSED) × (part.new ≡ part.old) }
 {
@@ -206,8 +206,8 @@ pub extern "C" fn zangjulf_part(handle: &mut Handle, task: u8, part: &mut Part) 
 /// shorter; `BUSY` or `CLOSED`.
 #[unsafe(no_mangle)]
 pub extern "C" fn zangjulf_station(handle: &mut Handle, position: u32, station: &mut u16) -> u8
-    ensures told { IfSome handle.old.holding.value (λ old. result ≢ BUSY → MatchOption (station_at (line_of (past_of old)) position) (result ≡ NOTHING) (λ found. (result ≡ DONE) × (station.new ≡ found))) }
-    ensures kept { handle.new.holding.value ≡ handle.old.holding.value }
+    ensures answer_given { IfAnswered handle.old result (λ history. GivesFound (station_at (line_of history) position) (λ found. found) result station.new) }
+    ensures unchanged { handle.new.holding.value ≡ handle.old.holding.value }
     ensures untouched { result ≢ DONE → station.new ≡ station.old }
     ensures closed { handle.old.holding.value ≡ None → (result ≡ CLOSED) × (station.new ≡ station.old) }
 {
@@ -230,8 +230,8 @@ pub extern "C" fn zangjulf_station(handle: &mut Handle, position: u32, station: 
 /// has it; 6 where that slave's group isn't present; `BUSY` or `CLOSED`.
 #[unsafe(no_mangle)]
 pub extern "C" fn zangjulf_position(handle: &mut Handle, station: u16, position: &mut u32) -> u8
-    ensures told { IfSome handle.old.holding.value (λ old. result ≢ BUSY → TellsPosition (position_of (state_of (past_of old)) station) result position.new) }
-    ensures kept { handle.new.holding.value ≡ handle.old.holding.value }
+    ensures answer_given { IfAnswered handle.old result (λ history. GivesPosition (position_of (state_of history) station) result position.new) }
+    ensures unchanged { handle.new.holding.value ≡ handle.old.holding.value }
     ensures untouched { result ≢ DONE → position.new ≡ position.old }
     ensures closed { handle.old.holding.value ≡ None → (result ≡ CLOSED) × (position.new ≡ position.old) }
 {
@@ -250,9 +250,9 @@ pub extern "C" fn zangjulf_position(handle: &mut Handle, station: u16, position:
     number
 }
 
-/// Tells a register block: `DONE`, or `ROOM` where `out` is too short.
-fn tell_block(found: &LineBlock, out: &mut [u8], block: &mut Block) -> u8
-    ensures { TellsBlock found.now result block.new out.old out.new }
+/// Gives a register block: `DONE`, or `ROOM` where `out` is too short.
+fn give_block(found: &LineBlock, out: &mut [u8], block: &mut Block) -> u8
+    ensures { GivesBlock found.now result block.new out.old out.new }
 {
     let bytes = found.bytes();
     *block = Block {
@@ -267,7 +267,7 @@ fn tell_block(found: &LineBlock, out: &mut [u8], block: &mut Block) -> u8
 }
 
 /// The register block with a number, from 0, in the order of the slave with a station address: for each area in record
-/// order its sync manager block, then its FMMU block. `DONE`, and its bytes stand at the front of `out`; `NOTHING` where no
+/// order its sync manager block, then its FMMU block. `DONE`, and its bytes are at the front of `out`; `NOTHING` where no
 /// such slave is present or it has fewer blocks; `ROOM` where `out` has fewer than `block.size` bytes, and is as it was;
 /// `BUSY` or `CLOSED`. With `NOTHING`, `BUSY` and `CLOSED` `block` is as it was.
 #[unsafe(no_mangle)]
@@ -278,8 +278,8 @@ pub extern "C" fn zangjulf_block(
     out: &mut [u8],
     block: &mut Block,
 ) -> u8
-    ensures told { IfSome handle.old.holding.value (λ old. result ≢ BUSY → MatchOption (block_at (line_of (past_of old)) station number) ((result ≡ NOTHING) × (block.new ≡ block.old)) (λ found. TellsBlock found result block.new out.old out.new)) }
-    ensures kept { handle.new.holding.value ≡ handle.old.holding.value }
+    ensures answer_given { IfAnswered handle.old result (λ history. AnswersBlock history station number result block.old block.new out.old out.new) }
+    ensures unchanged { handle.new.holding.value ≡ handle.old.holding.value }
     ensures untouched { result ≢ DONE → out.new ≡ out.old }
     ensures busy { result ≡ BUSY → block.new ≡ block.old }
     ensures closed { handle.old.holding.value ≡ None → (result ≡ CLOSED) × (block.new ≡ block.old) }
@@ -288,10 +288,10 @@ pub extern "C" fn zangjulf_block(
         return number;
     }
     let own = handle.holding.line_mut();
-    let told = match own.core.plan().block(station, number) {
-        Some(found) => tell_block(&found, out, block),
+    let answer_given = match own.core.plan().block(station, number) {
+        Some(found) => give_block(&found, out, block),
         None => NOTHING,
     };
     own.calls.end_look();
-    told
+    answer_given
 }

@@ -3,7 +3,7 @@
 pub const DONE: u8 = 0;
 
 /// A task of the opening line needs more than 16 datagrams.
-pub const CROWDED: u8 = 12;
+pub const OVER_LIMIT: u8 = 12;
 
 /// Register blocks are owed: no task is sent before they are written.
 pub const UNPROGRAMMED: u8 = 17;
@@ -11,7 +11,7 @@ pub const UNPROGRAMMED: u8 = 17;
 /// A growth was refused.
 pub const MEMORY: u8 = 28;
 
-/// A slice is too short for what is to stand in it.
+/// A slice is too short for what is to be in it.
 pub const ROOM: u8 = 29;
 
 /// There is no such thing.

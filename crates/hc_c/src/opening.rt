@@ -1,25 +1,25 @@
 //! A handle is opened and closed.
 ghost use Rattle.std.specs.Prelude.{◌≡◌, ◌≢◌, ◌⊎◌, IfErr, IfOk, IsSome, None, OnOk, Some};
-ghost use Rattle.hc_records.specs.Edits.{crowded_task};
+ghost use Rattle.hc_records.specs.Edits.{over_limit_task};
 ghost use Rattle.hc_records.specs.Line.{line, opened};
 ghost use Rattle.hc_project.specs.Text.{project_in};
-ghost use Rattle.hc_c.specs.Opening.{crowded_in, fresh, opened_by, opening_number};
+ghost use Rattle.hc_c.specs.Opening.{over_limit_in, at_opening, opened_by, opening_number};
 
 use crate::calls::Calls;
 use crate::counting::Counts;
 use crate::embedded::Embedded;
 use crate::handle::Handle;
-use crate::numbers::{CROWDED, DONE, MEMORY, PROJECT};
+use crate::numbers::{DONE, MEMORY, OVER_LIMIT, PROJECT};
 use crate::seat::ends::OwnerEnds;
 use crate::spare::Spare;
-use crate::untold::Untold;
+use crate::waiting_changes::WaitingChanges;
 use hc_core::keeping::Core;
 use hc_project::read_project;
 use hc_records::faults::{EditFault, ProjectFault};
 use hc_records::project::Project;
 use std::alloc::Global;
 
-/// Opens a project in a box. Else the number to answer: `CROWDED` with the lowest task that needs more than 16 datagrams,
+/// Opens a project in a box. Else the number to answer: `OVER_LIMIT` with the lowest task that needs more than 16 datagrams,
 /// or `MEMORY`.
 fn open_project(
     alloc: Global,
@@ -27,16 +27,16 @@ fn open_project(
     most_changes: u32,
     task: &mut u8,
 ) -> Result<Box<Embedded>, u8>
-    ensures opened { IfOk result (λ own. own.value ≡ fresh most_changes project) }
-    ensures accepted { OnOk result (crowded_task (line (opened project)) ≡ None) }
-    ensures refused { IfErr result (λ number. ((number ≡ MEMORY) × (task.new ≡ task.old)) ⊎ ((number ≡ CROWDED) × (crowded_task (line (opened project)) ≡ Some task.new))) }
+    ensures opened { IfOk result (λ own. own.value ≡ at_opening most_changes project) }
+    ensures accepted { OnOk result (over_limit_task (line (opened project)) ≡ None) }
+    ensures refused { IfErr result (λ number. ((number ≡ MEMORY) × (task.new ≡ task.old)) ⊎ ((number ≡ OVER_LIMIT) × (over_limit_task (line (opened project)) ≡ Some task.new))) }
     ensures unwritten { OnOk result (task.new ≡ task.old) }
 {
     let core = match Core::new(alloc, project) {
         Ok(core) => core,
         Err(EditFault::TooManyDatagrams(crowded)) => {
             *task = crowded;
-            return Err(CROWDED);
+            return Err(OVER_LIMIT);
         }
         Err(_) => return Err(MEMORY),
     };
@@ -48,7 +48,7 @@ fn open_project(
     };
     let line = Embedded {
         core,
-        untold: Untold::nothing(alloc),
+        waiting_changes: WaitingChanges::nothing(alloc),
         most_changes,
         counts,
         ends: OwnerEnds::none(),
@@ -63,8 +63,8 @@ fn open_project(
 
 /// Opens the project of a text in place of what the handle held, and answers `DONE`: the mandatory group alone is present,
 /// and nothing has happened. Otherwise the handle is closed, and the answer is the project's fault, 201 to 210, the lowest
-/// whose condition holds; `CROWDED` where a task of the opening line needs more than 16 datagrams, and `task` is the lowest
-/// such; or `MEMORY`. With every answer but `CROWDED` `task` is as it was. The line keeps `changes` changes at most until
+/// whose condition holds; `OVER_LIMIT` where a task of the opening line needs more than 16 datagrams, and `task` is the lowest
+/// such; or `MEMORY`. With every answer but `OVER_LIMIT` `task` is as it was. The line keeps `changes` changes at most until
 /// `zangjulf_next_change` asks for them, and none where that is 0.
 #[unsafe(no_mangle)]
 pub extern "C" fn zangjulf_open(
@@ -76,9 +76,9 @@ pub extern "C" fn zangjulf_open(
 ) -> u8
     ensures opened { result ≡ DONE → handle.new.holding.value ≡ opened_by changes (project_in text.now) }
     ensures open { result ≡ DONE → IsSome handle.new.holding.value }
-    ensures told { result ≢ MEMORY → result ≡ opening_number (project_in text.now) }
-    ensures crowded { result ≡ CROWDED → crowded_in (project_in text.now) ≡ Some task.new }
-    ensures unwritten { result ≢ CROWDED → task.new ≡ task.old }
+    ensures answer_given { result ≢ MEMORY → result ≡ opening_number (project_in text.now) }
+    ensures crowded { result ≡ OVER_LIMIT → over_limit_in (project_in text.now) ≡ Some task.new }
+    ensures unwritten { result ≢ OVER_LIMIT → task.new ≡ task.old }
     ensures closed { result ≢ DONE → handle.new.holding.value ≡ None }
 {
     drop(handle.take(alloc));

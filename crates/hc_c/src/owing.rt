@@ -1,32 +1,32 @@
 //! The owed register blocks, one by one.
-ghost use Rattle.std.specs.Prelude.{◌≡◌, ◌≢◌, IfSome, MatchOption, None, slice_get};
-ghost use Rattle.hc_core.specs.Firsts.{HasBytes};
+ghost use Rattle.std.specs.Prelude.{◌≡◌, ◌≢◌, None, slice_get};
+ghost use Rattle.hc_core.specs.Firsts.{HasBlockBytes};
 ghost use Rattle.hc_events.specs.Owed.{owed_blocks};
-ghost use Rattle.hc_c.specs.Embedded.{past_of};
-ghost use Rattle.hc_c.specs.Owings.{first_told, told_block};
-ghost use Rattle.hc_c.specs.declared.numbers.TheConstants.{BUSY, CLOSED};
+ghost use Rattle.hc_c.specs.Owings.{first_block_out, block_out};
+ghost use Rattle.hc_c.specs.declared.numbers.TheConstants.{CLOSED};
+ghost use Rattle.hc_c.specs.Handles.{IfAnswered, GivesFound};
 
 use crate::handle::Handle;
 use crate::numbers::{DONE, NOTHING};
 use hc_core::keeping::Core;
 use hc_plan::blocks::LineBlock;
 
-/// A register block that is owed, as C is told it.
+/// A register block that is owed, as C gets it.
 #[repr(C)]
 #[derive(Clone, Copy)]
 pub struct OwedBlock {
     /// The station address of its slave.
     station: u16,
-    /// The register at which it begins.
+    /// The register where it begins.
     start: u16,
     /// Its bytes, 8 or 16.
     size: u8,
 }
 
-/// What C is told of a block.
-fn told_block(block: &LineBlock) -> OwedBlock
-    requires { HasBytes block.now.block }
-    ensures { result ≡ told_block block.now }
+/// What C gets for a block.
+fn block_out(block: &LineBlock) -> OwedBlock
+    requires { HasBlockBytes block.now.block }
+    ensures { result ≡ block_out block.now }
 {
     OwedBlock {
         station: block.station,
@@ -35,12 +35,12 @@ fn told_block(block: &LineBlock) -> OwedBlock
     }
 }
 
-/// The first owed block, as C is told it; zeros where none is owed.
-pub fn first_told(core: &Core) -> OwedBlock
-    ensures { result ≡ first_told (owed_blocks core.now.past) }
+/// The first owed block, as C gets it; zeros where none is owed.
+pub fn first_block_out(core: &Core) -> OwedBlock
+    ensures { result ≡ first_block_out (owed_blocks core.now.history) }
 {
     match core.owed_block(0) {
-        Some(block) => told_block(&block),
+        Some(block) => block_out(&block),
         None => OwedBlock {
             station: 0,
             start: 0,
@@ -54,8 +54,8 @@ pub fn first_told(core: &Core) -> OwedBlock
 /// memory.
 #[unsafe(no_mangle)]
 pub extern "C" fn zangjulf_owed_block(handle: &mut Handle, index: u32, block: &mut OwedBlock) -> u8
-    ensures told { IfSome handle.old.holding.value (λ old. result ≢ BUSY → MatchOption (slice_get (owed_blocks (past_of old)) index) (result ≡ NOTHING) (λ found. (result ≡ DONE) × (block.new ≡ told_block found))) }
-    ensures kept { handle.new.holding.value ≡ handle.old.holding.value }
+    ensures answer_given { IfAnswered handle.old result (λ history. GivesFound (slice_get (owed_blocks history) index) block_out result block.new) }
+    ensures unchanged { handle.new.holding.value ≡ handle.old.holding.value }
     ensures untouched { result ≢ DONE → block.new ≡ block.old }
     ensures closed { handle.old.holding.value ≡ None → (result ≡ CLOSED) × (block.new ≡ block.old) }
 {
@@ -65,7 +65,7 @@ pub extern "C" fn zangjulf_owed_block(handle: &mut Handle, index: u32, block: &m
     let own = handle.holding.line_mut();
     let number = match own.core.owed_block(index) {
         Some(found) => {
-            *block = told_block(&found);
+            *block = block_out(&found);
             DONE
         }
         None => NOTHING,

@@ -1,11 +1,12 @@
 //! What tasks post.
-ghost use Rattle.std.specs.Prelude.{◌≡◌, ◌≢◌, ◌∷◌, IfSome, None, Some};
+ghost use Rattle.std.specs.Prelude.{◌≡◌, ◌≢◌, None};
 ghost use Rattle.hc_records.specs.Lists.{lowest};
 ghost use Rattle.hc_events.specs.Entries.{Posted};
 ghost use Rattle.hc_events.specs.Steps.{post_faults};
-ghost use Rattle.hc_c.specs.Embedded.{past_of, with_past};
-ghost use Rattle.hc_c.specs.Numbers.{number_of};
-ghost use Rattle.hc_c.specs.declared.numbers.TheConstants.{BUSY, CLOSED};
+ghost use Rattle.hc_c.specs.Embedded.{embedded_with_entry};
+ghost use Rattle.hc_c.specs.Numbers.{refusal_number};
+ghost use Rattle.hc_c.specs.declared.numbers.TheConstants.{CLOSED};
+ghost use Rattle.hc_c.specs.Handles.{Becomes, IfAnswered};
 
 use crate::handle::Handle;
 use crate::numbers::DONE;
@@ -14,8 +15,8 @@ use crate::numbers::DONE;
 /// faults 8, 15 and 16 that holds, `BUSY` or `CLOSED`, and nothing changed. It takes no memory.
 #[unsafe(no_mangle)]
 pub extern "C" fn zangjulf_post(handle: &mut Handle, task: u8, epoch: u32, bytes: &[u8]) -> u8
-    ensures told { IfSome handle.old.holding.value (λ old. result ≢ BUSY → result ≡ number_of (lowest (post_faults (past_of old) task epoch bytes.now))) }
-    ensures posted { result ≡ DONE → IfSome handle.old.holding.value (λ old. handle.new.holding.value ≡ Some (with_past old (Posted task bytes.now ∷ past_of old))) }
+    ensures answer_given { IfAnswered handle.old result (λ history. result ≡ refusal_number (lowest (post_faults history task epoch bytes.now))) }
+    ensures posted { result ≡ DONE → Becomes handle.old handle.new (embedded_with_entry (Posted task bytes.now)) }
     ensures unchanged { result ≢ DONE → handle.new.holding.value ≡ handle.old.holding.value }
     ensures closed { handle.old.holding.value ≡ None → result ≡ CLOSED }
 {
@@ -23,10 +24,10 @@ pub extern "C" fn zangjulf_post(handle: &mut Handle, task: u8, epoch: u32, bytes
         return number;
     }
     let own = handle.holding.line_mut();
-    let told = match own.core.post(task, epoch, bytes) {
+    let answer_given = match own.core.post(task, epoch, bytes) {
         Ok(()) => DONE,
         Err(fault) => fault.number(),
     };
     own.calls.end_change();
-    told
+    answer_given
 }

@@ -1,16 +1,14 @@
 //! What tasks read.
-ghost use Rattle.std.specs.Prelude.{◌≡◌, ◌≢◌, ◌+◌, ◌*◌, ◌^◌, ◌<◌, ◌≤◌, ◌++◌, All, IfSome, None, drop, is_some, length, nat_le};
+ghost use Rattle.std.specs.Prelude.{◌≡◌, ◌≢◌, ◌+◌, ◌*◌, ◌^◌, ◌<◌, ◌≤◌, ◌++◌, All, IfSome, None, drop, is_some, length};
 ghost use Rattle.std.specs.Option.{option_copied};
 ghost use Rattle.hc_records.specs.declared.limits.TheConstants.{MOST_DATAGRAMS};
 ghost use Rattle.hc_places.specs.Ranges.{IsDatagram};
-ghost use Rattle.hc_events.specs.Images.{slot_of};
 ghost use Rattle.hc_events.specs.Points.{line_of};
-ghost use Rattle.hc_events.specs.Steps.{Reads, answer_to};
-ghost use Rattle.hc_c.specs.Embedded.{past_of};
-ghost use Rattle.hc_c.specs.Lists.{put};
+ghost use Rattle.hc_c.specs.Lists.{put_first};
 ghost use Rattle.hc_c.specs.Pieces.{HaveLengths};
-ghost use Rattle.hc_c.specs.declared.numbers.TheConstants.{BUSY, CLOSED};
-ghost use Rattle.hc_c.specs.Reads.{HoldsImage, data_or_zeros, datagrams_of, fit_number, have_data, image_from, image_number, image_size, mask_of, serials_from};
+ghost use Rattle.hc_c.specs.declared.numbers.TheConstants.{CLOSED};
+ghost use Rattle.hc_c.specs.Reads.{HoldsImage, data_or_zeros, fit_number, have_data, image_from, image_size, mask_of, serials_from, HoldsTask, read_number};
+ghost use Rattle.hc_c.specs.Handles.{IfAnswered, IfAnsweredWith};
 
 use crate::handle::Handle;
 use crate::numbers::{DONE, ROOM};
@@ -19,7 +17,7 @@ use hc_events::faults::CoreFault;
 use hc_places::table::Datagram;
 use hc_records::limits::TASKS;
 
-/// A task's image, as C is told it.
+/// A task's image, as C gets it.
 #[repr(C)]
 #[derive(Clone, Copy)]
 pub struct Image {
@@ -61,9 +59,9 @@ fn put_slot(slot: Option<&[u8]>, out: &mut [u8])
 fn put_data(core: &Core, task: u8, number: u8, datagrams: &[Datagram], out: &mut [u8])
     requires task { task < TASKS }
     requires few { number + length datagrams.now ≤ MOST_DATAGRAMS }
-    requires lengths { HaveLengths (line_of core.now.past) task number datagrams.now }
+    requires lengths { HaveLengths (line_of core.now.history) task number datagrams.now }
     requires room { image_size datagrams.now ≤ length out.old }
-    ensures { out.new ≡ image_from core.now.past task number datagrams.now ++ drop (image_size datagrams.now) out.old }
+    ensures { out.new ≡ image_from core.now.history task number datagrams.now ++ drop (image_size datagrams.now) out.old }
 {
     let Some((first, rest)) = datagrams.split_first() else {
         return;
@@ -77,7 +75,7 @@ fn put_data(core: &Core, task: u8, number: u8, datagrams: &[Datagram], out: &mut
 fn mask(core: &Core, task: u8, number: u8, datagrams: &[Datagram]) -> u16
     requires task { task < TASKS }
     requires few { number + length datagrams.now ≤ MOST_DATAGRAMS }
-    ensures mask { result ≡ mask_of (have_data core.now.past task number (length datagrams.now)) }
+    ensures mask { result ≡ mask_of (have_data core.now.history task number (length datagrams.now)) }
     ensures below { result < 2 ^ length datagrams.now }
 {
     match datagrams {
@@ -89,11 +87,11 @@ fn mask(core: &Core, task: u8, number: u8, datagrams: &[Datagram]) -> u16
     }
 }
 
-/// Tells the serial of each, as many as there is room for. So deep is this recursion too.
+/// Gives the serial of each, as many as there is room for. So deep is this recursion too.
 fn put_serials(core: &Core, task: u8, number: u8, datagrams: &[Datagram], serials: &mut [u64])
     requires task { task < TASKS }
     requires few { number + length datagrams.now ≤ MOST_DATAGRAMS }
-    ensures { serials.new ≡ put (serials_from core.now.past task number (length datagrams.now)) serials.old }
+    ensures { serials.new ≡ put_first (serials_from core.now.history task number (length datagrams.now)) serials.old }
 {
     let Some((_, rest)) = datagrams.split_first() else {
         return;
@@ -105,8 +103,8 @@ fn put_serials(core: &Core, task: u8, number: u8, datagrams: &[Datagram], serial
     put_serials(core, task, number + 1, rest, others);
 }
 
-/// Tells what a task reads of its datagrams: `DONE`, or `ROOM` where `out` is too short.
-fn tell_slots(
+/// Says what a task reads of its datagrams: `DONE`, or `ROOM` where `out` is too short.
+fn give_slots(
     core: &Core,
     task: u8,
     datagrams: &[Datagram],
@@ -117,9 +115,9 @@ fn tell_slots(
     requires task { task < TASKS }
     requires few { length datagrams.now ≤ MOST_DATAGRAMS }
     requires ranges { All IsDatagram datagrams.now }
-    requires lengths { HaveLengths (line_of core.now.past) task 0 datagrams.now }
+    requires lengths { HaveLengths (line_of core.now.history) task 0 datagrams.now }
     ensures number { result ≡ fit_number (image_size datagrams.now) (length out.old) }
-    ensures image { result ≡ DONE → HoldsImage core.now.past task datagrams.now image.new out.old out.new serials.old serials.new }
+    ensures image { result ≡ DONE → HoldsImage core.now.history task datagrams.now image.new out.old out.new serials.old serials.new }
     ensures untouched { result ≢ DONE → out.new ≡ out.old }
     ensures unwritten { result ≢ DONE → (serials.new ≡ serials.old) × (image.new ≡ image.old) }
 {
@@ -138,10 +136,10 @@ fn tell_slots(
     DONE
 }
 
-/// Tells an image: `DONE`, or `ROOM` where `out` is too short, or why it was refused.
-fn tell_image(core: &Core, task: u8, out: &mut [u8], serials: &mut [u64], image: &mut Image) -> u8
-    ensures number { result ≡ image_number (answer_to core.now.past (Reads task)) (image_size (datagrams_of core.now.past task)) (length out.old) }
-    ensures image { result ≡ DONE → HoldsImage core.now.past task (datagrams_of core.now.past task) image.new out.old out.new serials.old serials.new }
+/// Gives an image: `DONE`, or `ROOM` where `out` is too short, or why it was refused.
+fn give_image(core: &Core, task: u8, out: &mut [u8], serials: &mut [u64], image: &mut Image) -> u8
+    ensures number { result ≡ read_number core.now.history task (length out.old) }
+    ensures image { result ≡ DONE → HoldsTask core.now.history task image.new out.old out.new serials.old serials.new }
     ensures untouched { result ≢ DONE → out.new ≡ out.old }
     ensures unwritten { result ≢ DONE → (serials.new ≡ serials.old) × (image.new ≡ image.old) }
 {
@@ -149,13 +147,13 @@ fn tell_image(core: &Core, task: u8, out: &mut [u8], serials: &mut [u64], image:
         return CoreFault::NoSuchTask.number();
     }
     let datagrams = core.plan().places().datagrams(task);
-    tell_slots(core, task, datagrams, out, serials, image)
+    give_slots(core, task, datagrams, out, serials, image)
 }
 
 /// What a task reads: of each of its datagrams the data of the last good answer in the present epoch, or none. `DONE`: the
-/// data of each stand in `out` at the datagram's offset in the task's image, outputs and inputs, and those of one without data
+/// data of each are in `out` at the datagram's offset in the task's image, outputs and inputs, and those of one without data
 /// are zeros; `serials` has of each, in the datagrams' order, the serial of the sending that its data answer, 0 where it has
-/// none, as many as there is room for; `image.has` tells which have data. Else fault 8 where the task is over 7, `ROOM` where
+/// none, as many as there is room for; `image.has` says which have data. Else fault 8 where the task is over 7, `ROOM` where
 /// `out` is shorter than the image, which 23,776 bytes never are, `BUSY` or `CLOSED`; `out`, `serials` and `image` are then as
 /// they were. Nothing changes. It takes no memory.
 #[unsafe(no_mangle)]
@@ -166,9 +164,9 @@ pub extern "C" fn zangjulf_read(
     serials: &mut [u64],
     image: &mut Image,
 ) -> u8
-    ensures told { IfSome handle.old.holding.value (λ old. result ≢ BUSY → result ≡ image_number (answer_to (past_of old) (Reads task)) (image_size (datagrams_of (past_of old) task)) (length out.old)) }
-    ensures kept { handle.new.holding.value ≡ handle.old.holding.value }
-    ensures image { result ≡ DONE → IfSome handle.old.holding.value (λ old. HoldsImage (past_of old) task (datagrams_of (past_of old) task) image.new out.old out.new serials.old serials.new) }
+    ensures answer_given { IfAnswered handle.old result (λ history. result ≡ read_number history task (length out.old)) }
+    ensures unchanged { handle.new.holding.value ≡ handle.old.holding.value }
+    ensures image { IfAnsweredWith DONE handle.old result (λ history. HoldsTask history task image.new out.old out.new serials.old serials.new) }
     ensures untouched { result ≢ DONE → out.new ≡ out.old }
     ensures unwritten { result ≢ DONE → (serials.new ≡ serials.old) × (image.new ≡ image.old) }
     ensures closed { handle.old.holding.value ≡ None → result ≡ CLOSED }
@@ -177,7 +175,7 @@ pub extern "C" fn zangjulf_read(
         return number;
     }
     let own = handle.holding.line_mut();
-    let number = tell_image(&own.core, task, out, serials, image);
+    let number = give_image(&own.core, task, out, serials, image);
     own.calls.end_look();
     number
 }

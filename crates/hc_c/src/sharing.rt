@@ -1,8 +1,8 @@
-//! What a slave adds to an expected working counter, as C is told it.
-ghost use Rattle.std.specs.Prelude.{◌≡◌, ◌≢◌, IfSome, MatchOption, None};
-ghost use Rattle.hc_c.specs.Embedded.{past_of};
+//! What a slave adds to an expected working counter, as C gets it.
+ghost use Rattle.std.specs.Prelude.{◌≡◌, ◌≢◌, None};
 ghost use Rattle.hc_c.specs.Shares.{slave_share};
-ghost use Rattle.hc_c.specs.declared.numbers.TheConstants.{BUSY, CLOSED};
+ghost use Rattle.hc_c.specs.declared.numbers.TheConstants.{CLOSED};
+ghost use Rattle.hc_c.specs.Handles.{IfAnswered, GivesFound};
 
 use crate::handle::Handle;
 use crate::numbers::{DONE, NOTHING};
@@ -10,7 +10,7 @@ use hc_core::keeping::Core;
 
 /// What the slave with a station address adds to the working counter of a datagram of the present line.
 fn slave_share(core: &Core, task: u8, datagram: u8, station: u16) -> Option<u16>
-    ensures { result ≡ slave_share core.now.past task datagram station }
+    ensures { result ≡ slave_share core.now.history task datagram station }
 {
     core.plan().counter_share(task, datagram, station)
 }
@@ -28,8 +28,8 @@ pub extern "C" fn zangjulf_share(
     station: u16,
     share: &mut u16,
 ) -> u8
-    ensures told { IfSome handle.old.holding.value (λ old. result ≢ BUSY → MatchOption (slave_share (past_of old) task datagram station) (result ≡ NOTHING) (λ found. (result ≡ DONE) × (share.new ≡ found))) }
-    ensures kept { handle.new.holding.value ≡ handle.old.holding.value }
+    ensures answer_given { IfAnswered handle.old result (λ history. GivesFound (slave_share history task datagram station) (λ found. found) result share.new) }
+    ensures unchanged { handle.new.holding.value ≡ handle.old.holding.value }
     ensures untouched { result ≢ DONE → share.new ≡ share.old }
     ensures closed { handle.old.holding.value ≡ None → (result ≡ CLOSED) × (share.new ≡ share.old) }
 {

@@ -1,7 +1,7 @@
 //! A simulated slave, whose memory C keeps: it holds nothing between two calls.
 ghost use Rattle.std.specs.Prelude.{◌≡◌, ◌≢◌, ◌+◌, ◌≤◌, length};
 ghost use Rattle.hc_machine.specs.declared.limits.TheConstants.{MEMORY_BYTES};
-ghost use Rattle.hc_machine.specs.Frames.{frame_after, memory_behind};
+ghost use Rattle.hc_machine.specs.Frames.{frame_after, memory_after};
 ghost use Rattle.hc_machine.specs.Memory.{fresh_memory, with_part, zeros};
 
 use crate::numbers::{DONE, MISUSED};
@@ -38,7 +38,7 @@ fn start(memory: &mut [u8], alias: u16)
 fn process(memory: &mut [u8], frame: &mut [u8])
     requires { length memory.old ≡ MEMORY_BYTES }
     ensures frame { frame.new ≡ frame_after memory.old frame.old }
-    ensures memory { memory.new ≡ memory_behind memory.old frame.old }
+    ensures memory { memory.new ≡ memory_after memory.old frame.old }
 {
     if is_readable(frame) {
         let mut spare = [0; MAX_DATA as usize];
@@ -66,7 +66,7 @@ pub extern "C" fn zangjulf_slave_start(memory: &mut [u8], alias: u16) -> u8
 #[unsafe(no_mangle)]
 pub extern "C" fn zangjulf_slave_process(memory: &mut [u8], frame: &mut [u8]) -> u8
     ensures frame { length memory.old ≡ MEMORY_BYTES → (result ≡ DONE) × (frame.new ≡ frame_after memory.old frame.old) }
-    ensures memory { length memory.old ≡ MEMORY_BYTES → memory.new ≡ memory_behind memory.old frame.old }
+    ensures memory { length memory.old ≡ MEMORY_BYTES → memory.new ≡ memory_after memory.old frame.old }
     ensures misused { length memory.old ≢ MEMORY_BYTES → (result ≡ MISUSED) × (memory.new ≡ memory.old) × (frame.new ≡ frame.old) }
 {
     if memory.len() != MEMORY_BYTES {

@@ -6,7 +6,7 @@ ghost use Rattle.hc_events.specs.Faults.{core_fault_number};
 use crate::numbers::ROOM;
 use hc_events::faults::CoreFault;
 
-/// The number of a refusal; with `ROOM` the bytes that are needed are told.
+/// The number of a refusal; with `ROOM` the bytes that are needed are reported.
 #[tactic(auto, using(crate::proofs::Rooms::room_alone))]
 pub fn refuse(fault: CoreFault, needed: &mut usize) -> u8
     ensures number { result ≡ core_fault_number fault }

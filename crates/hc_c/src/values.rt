@@ -1,9 +1,9 @@
 //! Values of variables, by their numbers, in bytes that C keeps.
-ghost use Rattle.std.specs.Prelude.{◌≡◌, ◌≢◌, ◌≤◌, IfSome, MatchOption, None};
-ghost use Rattle.hc_c.specs.Embedded.{past_of};
-ghost use Rattle.hc_c.specs.Looks.{image_bit_of, place_at};
-ghost use Rattle.hc_c.specs.declared.numbers.TheConstants.{BUSY, CLOSED};
-ghost use Rattle.hc_c.specs.Values.{GetsValue, PutsValue};
+ghost use Rattle.std.specs.Prelude.{◌≡◌, ◌≢◌, ◌≤◌, None};
+ghost use Rattle.hc_c.specs.Looks.{image_bit_of};
+ghost use Rattle.hc_c.specs.declared.numbers.TheConstants.{CLOSED};
+ghost use Rattle.hc_c.specs.Values.{GetsValue, PutsValue, GetsAt, PutsAt};
+ghost use Rattle.hc_c.specs.Handles.{IfAnswered};
 
 use crate::handle::Handle;
 use crate::looking::{image_bit_of, place_at};
@@ -32,7 +32,7 @@ fn put_at(place: LinePlace, bit: usize, value: u64, outputs: &mut [u8]) -> u8
     DONE
 }
 
-/// Tells the value of a variable from its task's image.
+/// Gives the value of a variable from its task's image.
 fn get_at(place: LinePlace, bit: usize, image: &[u8], value: &mut u64) -> u8
     ensures { GetsValue place bit image.now result value.old value.new }
 {
@@ -45,7 +45,7 @@ fn get_at(place: LinePlace, bit: usize, image: &[u8], value: &mut u64) -> u8
 
 /// Puts a value where a variable is placed in the present line.
 fn put_value(core: &Core, variable: u32, value: u64, outputs: &mut [u8]) -> u8
-    ensures { MatchOption (place_at core.now.past variable) ((result ≡ NOTHING) × (outputs.new ≡ outputs.old)) (λ place. PutsValue place (image_bit_of core.now.past place) value result outputs.old outputs.new) }
+    ensures { PutsAt core.now.history variable value result outputs.old outputs.new }
 {
     match place_at(core, variable) {
         Some(place) => put_at(place, image_bit_of(core, place) as usize, value, outputs),
@@ -53,9 +53,9 @@ fn put_value(core: &Core, variable: u32, value: u64, outputs: &mut [u8]) -> u8
     }
 }
 
-/// Tells the value of a variable that is placed in the present line.
+/// Gives the value of a variable that is placed in the present line.
 fn get_value(core: &Core, variable: u32, image: &[u8], value: &mut u64) -> u8
-    ensures { MatchOption (place_at core.now.past variable) ((result ≡ NOTHING) × (value.new ≡ value.old)) (λ place. GetsValue place (image_bit_of core.now.past place) image.now result value.old value.new) }
+    ensures { GetsAt core.now.history variable image.now result value.old value.new }
 {
     match place_at(core, variable) {
         Some(place) => get_at(place, image_bit_of(core, place) as usize, image, value),
@@ -74,8 +74,8 @@ pub extern "C" fn zangjulf_put_value(
     value: u64,
     outputs: &mut [u8],
 ) -> u8
-    ensures told { IfSome handle.old.holding.value (λ old. result ≢ BUSY → MatchOption (place_at (past_of old) variable) (result ≡ NOTHING) (λ place. PutsValue place (image_bit_of (past_of old) place) value result outputs.old outputs.new)) }
-    ensures kept { handle.new.holding.value ≡ handle.old.holding.value }
+    ensures answer_given { IfAnswered handle.old result (λ history. PutsAt history variable value result outputs.old outputs.new) }
+    ensures unchanged { handle.new.holding.value ≡ handle.old.holding.value }
     ensures untouched { result ≢ DONE → outputs.new ≡ outputs.old }
     ensures closed { handle.old.holding.value ≡ None → result ≡ CLOSED }
 {
@@ -88,9 +88,9 @@ pub extern "C" fn zangjulf_put_value(
     number
 }
 
-/// The value of a variable in the image of its task, as `zangjulf_read` tells it, at the place that the variable has in the
-/// present line. `DONE`; `NOTHING` where the present line has no place for the variable; `ROOM` where the slice ends before
-/// the place does; `BUSY` or `CLOSED`. Unless it is done `value` is as it was. Whether the datagram has data is told by the read's
+/// The value of a variable in the image of its task, as `zangjulf_read` gives it, at the place that the variable has in the
+/// present line. `DONE`; `NOTHING` where the present line has no place for the variable; `ROOM` where the slice ends before the
+/// place does; `BUSY` or `CLOSED`. Unless it is done `value` is as it was. Whether the datagram has data is given by the read's
 /// mask. It takes no memory.
 #[unsafe(no_mangle)]
 pub extern "C" fn zangjulf_get_value(
@@ -99,8 +99,8 @@ pub extern "C" fn zangjulf_get_value(
     image: &[u8],
     value: &mut u64,
 ) -> u8
-    ensures told { IfSome handle.old.holding.value (λ old. result ≢ BUSY → MatchOption (place_at (past_of old) variable) (result ≡ NOTHING) (λ place. GetsValue place (image_bit_of (past_of old) place) image.now result value.old value.new)) }
-    ensures kept { handle.new.holding.value ≡ handle.old.holding.value }
+    ensures answer_given { IfAnswered handle.old result (λ history. GetsAt history variable image.now result value.old value.new) }
+    ensures unchanged { handle.new.holding.value ≡ handle.old.holding.value }
     ensures unwritten { result ≢ DONE → value.new ≡ value.old }
     ensures closed { handle.old.holding.value ≡ None → result ≡ CLOSED }
 {

@@ -2,7 +2,7 @@
 ghost use Rattle.std.specs.Prelude.{◌≡◌};
 ghost use Rattle.hc_c.specs.declared.version.TheConstants.{ABI, MAJOR, MINOR, PATCH};
 
-/// The number of the binary interface: it grows with each release in which a call or a struct is another one, or gone.
+/// The number of the binary interface: it grows with each release where a call or a struct is another one, or gone.
 pub const ABI: u32 = 0;
 
 /// The first number of the version.

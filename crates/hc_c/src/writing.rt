@@ -1,22 +1,22 @@
 //! Register writes.
-ghost use Rattle.std.specs.Prelude.{◌≡◌, ◌≢◌, IfSome, None, Some, length};
+ghost use Rattle.std.specs.Prelude.{◌≡◌, ◌≢◌, None, length};
 ghost use Rattle.hc_records.specs.Lists.{lowest};
 ghost use Rattle.hc_core.specs.Written.{HoldsWrite, HoldsWrites};
 ghost use Rattle.hc_events.specs.Calls.{write_all_into_faults, write_into_faults, write_size};
 ghost use Rattle.hc_events.specs.Owed.{owed_blocks};
-ghost use Rattle.hc_events.specs.Steps.{SendsWrite, SendsWrites, entries_after};
-ghost use Rattle.hc_events.specs.WriteFrames.{frame_blocks, writes_size};
-ghost use Rattle.hc_c.specs.Embedded.{past_of, with_past};
-ghost use Rattle.hc_c.specs.Numbers.{number_of};
-ghost use Rattle.hc_c.specs.Owings.{first_told};
-ghost use Rattle.hc_c.specs.declared.numbers.TheConstants.{BUSY, CLOSED, ROOM};
+ghost use Rattle.hc_events.specs.Steps.{SendsWrite, SendsWrites};
+ghost use Rattle.hc_c.specs.Embedded.{embedded_after};
+ghost use Rattle.hc_c.specs.Numbers.{refusal_number};
+ghost use Rattle.hc_c.specs.Owings.{first_block_out, owed_frame_size};
+ghost use Rattle.hc_c.specs.declared.numbers.TheConstants.{CLOSED, ROOM};
+ghost use Rattle.hc_c.specs.Handles.{Becomes, IfAnswered, IfAnsweredWith};
 
 use crate::handle::Handle;
 use crate::numbers::DONE;
-use crate::owing::{OwedBlock, first_told};
+use crate::owing::{OwedBlock, first_block_out};
 use crate::too_short::refuse;
 
-/// A register write that was sent, as C is told it.
+/// A register write that was sent, as C gets it.
 #[repr(C)]
 #[derive(Clone, Copy)]
 pub struct Write {
@@ -26,17 +26,17 @@ pub struct Write {
     block: OwedBlock,
 }
 
-/// The first owed register block is sent, with the next serial: its frame stands at the front of `out`, and `write` tells its
-/// bytes and the block. `DONE`; else the first of the faults 18, 19 and 29 that holds, `BUSY` or `CLOSED`, and nothing changed,
+/// The first owed register block is sent, with the next serial: its frame is at the front of `out`, and `write` gives its bytes
+/// and the block. `DONE`; else the first of the faults 18, 19 and 29 that holds, `BUSY` or `CLOSED`, and nothing changed,
 /// `out` neither. With 29 `write.size` is the bytes that are needed, and all else of `write` is as it was. It takes no memory.
 #[tactic(auto, using(crate::proofs::Rooms::write_needs))]
 #[unsafe(no_mangle)]
 pub extern "C" fn zangjulf_next_write(handle: &mut Handle, out: &mut [u8], write: &mut Write) -> u8
-    ensures told { IfSome handle.old.holding.value (λ old. result ≢ BUSY → result ≡ number_of (lowest (write_into_faults (past_of old) (length out.old)))) }
-    ensures written { result ≡ DONE → IfSome handle.old.holding.value (λ old. HoldsWrite (past_of old) out.old out.new write.new.size) }
-    ensures block { result ≡ DONE → IfSome handle.old.holding.value (λ old. write.new.block ≡ first_told (owed_blocks (past_of old))) }
-    ensures entries { result ≡ DONE → IfSome handle.old.holding.value (λ old. handle.new.holding.value ≡ Some (with_past old (entries_after (past_of old) SendsWrite))) }
-    ensures needed { result ≡ ROOM → IfSome handle.old.holding.value (λ old. write.new ≡ record write.old { size = write_size (owed_blocks (past_of old)) }) }
+    ensures answer_given { IfAnswered handle.old result (λ history. result ≡ refusal_number (lowest (write_into_faults history (length out.old)))) }
+    ensures written { IfAnsweredWith DONE handle.old result (λ history. HoldsWrite history out.old out.new write.new.size) }
+    ensures block { IfAnsweredWith DONE handle.old result (λ history. write.new.block ≡ first_block_out (owed_blocks history)) }
+    ensures entries { result ≡ DONE → Becomes handle.old handle.new (embedded_after SendsWrite) }
+    ensures needed { IfAnsweredWith ROOM handle.old result (λ history. write.new ≡ record write.old { size = write_size (owed_blocks history) }) }
     ensures unwritten { result ≢ DONE → result ≢ ROOM → write.new ≡ write.old }
     ensures unchanged { result ≢ DONE → handle.new.holding.value ≡ handle.old.holding.value }
     ensures untouched { result ≢ DONE → out.new ≡ out.old }
@@ -46,8 +46,8 @@ pub extern "C" fn zangjulf_next_write(handle: &mut Handle, out: &mut [u8], write
         return number;
     }
     let own = handle.holding.line_mut();
-    let block = first_told(&own.core);
-    let told = match own.core.write_into(out) {
+    let block = first_block_out(&own.core);
+    let answer_given = match own.core.write_into(out) {
         Ok(size) => {
             *write = Write { size, block };
             DONE
@@ -55,10 +55,10 @@ pub extern "C" fn zangjulf_next_write(handle: &mut Handle, out: &mut [u8], write
         Err(fault) => refuse(fault, &mut write.size),
     };
     own.calls.end_change();
-    told
+    answer_given
 }
 
-/// Register writes that were sent in one frame, as C is told them.
+/// Register writes that were sent in one frame, as C gets them.
 #[repr(C)]
 #[derive(Clone, Copy)]
 pub struct Writes {
@@ -69,7 +69,7 @@ pub struct Writes {
 }
 
 /// The first owed register blocks are sent in one frame, with the next serial and in the order in which they are owed: as many
-/// as the frame holds, whatever the length of `out`. The frame is put at the front of `out`, and `writes` tells its bytes and
+/// as the frame holds, whatever the length of `out`. The frame is put at the front of `out`, and `writes` gives its bytes and
 /// its blocks. `DONE`; else the first of the faults 18, 19 and 29 that holds, `BUSY` or `CLOSED`, and nothing changed, `out`
 /// neither. With 29 `writes.size` is the bytes that are needed, and `writes.blocks` is as it was. One block has the frame of
 /// `zangjulf_next_write`. It takes no memory (ETG.1000.4, 5.3 and 5.4; this project's profile).
@@ -80,10 +80,10 @@ pub extern "C" fn zangjulf_next_writes(
     out: &mut [u8],
     writes: &mut Writes,
 ) -> u8
-    ensures told { IfSome handle.old.holding.value (λ old. result ≢ BUSY → result ≡ number_of (lowest (write_all_into_faults (past_of old) (length out.old)))) }
-    ensures written { result ≡ DONE → IfSome handle.old.holding.value (λ old. HoldsWrites (past_of old) out.old out.new (record { size = writes.new.size; blocks = writes.new.blocks })) }
-    ensures entries { result ≡ DONE → IfSome handle.old.holding.value (λ old. handle.new.holding.value ≡ Some (with_past old (entries_after (past_of old) SendsWrites))) }
-    ensures needed { result ≡ ROOM → IfSome handle.old.holding.value (λ old. writes.new ≡ record writes.old { size = writes_size (frame_blocks (owed_blocks (past_of old))) }) }
+    ensures answer_given { IfAnswered handle.old result (λ history. result ≡ refusal_number (lowest (write_all_into_faults history (length out.old)))) }
+    ensures written { IfAnsweredWith DONE handle.old result (λ history. HoldsWrites history out.old out.new (record { size = writes.new.size; blocks = writes.new.blocks })) }
+    ensures entries { result ≡ DONE → Becomes handle.old handle.new (embedded_after SendsWrites) }
+    ensures needed { IfAnsweredWith ROOM handle.old result (λ history. writes.new ≡ record writes.old { size = owed_frame_size history }) }
     ensures unwritten { result ≢ DONE → result ≢ ROOM → writes.new ≡ writes.old }
     ensures unchanged { result ≢ DONE → handle.new.holding.value ≡ handle.old.holding.value }
     ensures untouched { result ≢ DONE → out.new ≡ out.old }
@@ -93,7 +93,7 @@ pub extern "C" fn zangjulf_next_writes(
         return number;
     }
     let own = handle.holding.line_mut();
-    let told = match own.core.write_all_into(out) {
+    let answer_given = match own.core.write_all_into(out) {
         Ok(sent) => {
             *writes = Writes {
                 size: sent.size,
@@ -104,5 +104,5 @@ pub extern "C" fn zangjulf_next_writes(
         Err(fault) => refuse(fault, &mut writes.size),
     };
     own.calls.end_change();
-    told
+    answer_given
 }

@@ -11,18 +11,18 @@ use Rattle.hc_records.specs.Project.{entry_names}
 use Rattle.hc_cuts.specs.LineChange.{LineChange}
 use Rattle.hc_places.specs.Swap.{ChangedRow}
 use Rattle.hc_changes.specs.MovedAreas.{MovedArea}
-use Rattle.hc_changes.specs.Rows.{HoldsArea, StandsInside, gone_rows, gone_variables}
+use Rattle.hc_changes.specs.Rows.{HoldsArea, IsInside, gone_rows, gone_variables}
 
 -- where each that passes a test adds one element
 
-kept-first : {X Y : Type 0} (passes : Bool) (make : X → Y) (x : X) (rest : List X) (had has : List Y) → has ≡ had ++ (if passes then make x ∷ [] else [])
+unchanged-first : {X Y : Type 0} (passes : Bool) (make : X → Y) (x : X) (rest : List X) (had has : List Y) → has ≡ had ++ (if passes then make x ∷ [] else [])
     → has ++ map make rest ≡ had ++ map make (cond passes (x ∷ rest) rest)
-kept-first passes make x rest had has adds = search (rules, append_assoc)
+unchanged-first passes make x rest had has adds = search (rules, append_assoc)
 
-pub kept-added : {X Y : Type 0} (make : X → Y) (test : X → Bool) (xs : List X) (i : ℕ) (x : X) (passes : Bool) (had has all : List Y) → i < length xs → x ≡ get_or xs i x
+pub unchanged-added : {X Y : Type 0} (make : X → Y) (test : X → Bool) (xs : List X) (i : ℕ) (x : X) (passes : Bool) (had has all : List Y) → i < length xs → x ≡ get_or xs i x
     → test x ≡ passes → has ≡ had ++ (if passes then make x ∷ [] else [])
     → had ++ map make (filter test (drop i xs)) ≡ all → has ++ map make (filter test (drop (i + 1) xs)) ≡ all
-kept-added make test xs i x passes had has all within is passed adds so_far = search (rules, kept-first, drop_more)
+unchanged-added make test xs i x passes had has all within is passed adds so_far = search (rules, unchanged-first, drop_more)
 
 -- where each makes one, and adds it if that passes a test
 
@@ -55,9 +55,9 @@ pub names-added : {X : Type 0} (f : X → List Entry) (xs : List X) (i : ℕ) (d
 names-added f xs i d entries had has all within own adds so_far = search (rules, append_assoc, filter_map-append, drop_more)
 
 -- a moved area that is met, and its place
-pub stands-at : (moved_areas : List MovedArea) (i : ℕ) (moved_area : MovedArea) (placed : Placed) → All (λ m. StandsInside m.found) moved_areas → i < length moved_areas
+pub is_placed-at : (moved_areas : List MovedArea) (i : ℕ) (moved_area : MovedArea) (placed : Placed) → All (λ m. IsInside m.found) moved_areas → i < length moved_areas
     → moved_area ≡ get_or moved_areas i moved_area → moved_area.found.place ≡ Some placed → HoldsArea moved_area.found.area placed
-stands-at moved_areas i moved_area placed all within is place = search rules
+is_placed-at moved_areas i moved_area placed all within is place = search rules
 
 -- where those that go with one slave more are added
 
@@ -83,4 +83,4 @@ gone-added change i had has all within same adds so_far =
     ∙ so_far
 
 pub gone-end : (change : LineChange) (i : ℕ) (had all : List ChangedRow) → length change.areas_before ≤ i → had ++ left_rows change i ≡ all → had ≡ all
-gone-end change i had all past so_far = sym (append-nil had) ∙ ap (λ (before : List (List Area)). had ++ gone_rows (record change { areas_before = before; areas_after = drop i change.areas_after })) (sym (drop_all i change.areas_before past)) ∙ so_far
+gone-end change i had all history so_far = sym (append-nil had) ∙ ap (λ (before : List (List Area)). had ++ gone_rows (record change { areas_before = before; areas_after = drop i change.areas_after })) (sym (drop_all i change.areas_before history)) ∙ so_far

@@ -7,15 +7,15 @@ use Rattle.hc_records.specs.declared.records.Slave.{Slave}
 use Rattle.hc_groups.specs.declared.changes.AreasChange.{AreasChange}
 use Rattle.hc_groups.specs.declared.changes.PresenceChange.{PresenceChange}
 use Rattle.hc_groups.specs.declared.prepared.Prepared.TheVariants.{Areas, Presence}
-use Rattle.hc_groups.specs.Rows.{areas_in_line, ranked}
+use Rattle.hc_groups.specs.Rows.{areas_in_line, present_ranked}
 use Rattle.hc_groups.proofs.lemmas.Concerned.{areas-row, presence-row}
 use Rattle.hc_cuts.specs.LineChange.{LineChange, areas_if}
 use Rattle.hc_changes.specs.EditedLine.{line_change_of}
 use Rattle.hc_changes.specs.inner.LineChanges.{slave_change_of}
-use Rattle.hc_changes.proofs.lemmas.EditedLines.{told-of}
+use Rattle.hc_changes.proofs.lemmas.EditedLines.{answer_given-of}
 
-if-told : (present : Bool) (slaves : List Slave) → areas_if present slaves ≡ map areas_in_line (ranked present slaves)
-if-told present slaves = told-of areas_in_line (λ p s. if p then s.areas else []) (λ p s. refl) present slaves
+if-answer_given : (present : Bool) (slaves : List Slave) → areas_if present slaves ≡ map areas_in_line (present_ranked present slaves)
+if-answer_given present slaves = answer_given-of areas_in_line (λ p s. if p then s.areas else []) (λ p s. refl) present slaves
 
 -- what a group has before it comes or goes, and after
 
@@ -26,15 +26,15 @@ by-rows : (change : PresenceChange) (groups : List Declared) (found : Option Dec
     line_change_of (Presence change) groups
     ≡ record {
       first = change.first;
-      areas_before = map areas_in_line (option_map_or (λ d. ranked d.present d.group.slaves) found []);
-      areas_after = map areas_in_line (option_map_or (λ d. ranked change.present d.group.slaves) found []);
+      areas_before = map areas_in_line (option_map_or (λ d. present_ranked d.present d.group.slaves) found []);
+      areas_after = map areas_in_line (option_map_or (λ d. present_ranked change.present d.group.slaves) found []);
     }
 by-rows change groups found at = rw (presence-row change groups, at) refl
 
 pub group-made : (change : PresenceChange) (groups : List Declared) (declared : Declared) → slice_get groups change.group ≡ Some declared →
     group_change change declared.present declared.group.slaves ≡ line_change_of (Presence change) groups
 group-made change groups declared at =
-    rw (if-told declared.present declared.group.slaves, if-told change.present declared.group.slaves) (sym (by-rows change groups (Some declared) at))
+    rw (if-answer_given declared.present declared.group.slaves, if-answer_given change.present declared.group.slaves) (sym (by-rows change groups (Some declared) at))
 
 pub no-group : (change : PresenceChange) (groups : List Declared) → slice_get groups change.group ≡ None →
     record { first = change.first; areas_before = areas_if false []; areas_after = areas_if false [] } ≡ line_change_of (Presence change) groups

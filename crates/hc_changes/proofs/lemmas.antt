@@ -12,7 +12,7 @@ pub mod FoundWithin
 pub mod InARow
 pub mod Inside
 pub mod Keeping
-pub mod KeptSpans
+pub mod UnchangedSpans
 pub mod Lists
 pub mod Moved
 pub mod MovedAreas
@@ -25,7 +25,7 @@ pub mod Places
 pub mod Ranks
 pub mod Recut
 pub mod Rows
-pub mod Standing
+pub mod Placing
 pub mod SwapSays
 pub mod Tables
 pub mod Widths

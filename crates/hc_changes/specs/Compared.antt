@@ -3,9 +3,9 @@ use Rattle.std.specs.Prelude.{◌==◌, if◌then◌else◌, List, [], ◌∷◌
 use Rattle.std.specs.Option.{option_map_or}
 use Rattle.hc_records.specs.Line.{Member}
 use Rattle.hc_registers.specs.Blocks.{LineBlock, same_block}
-use Rattle.hc_changes.specs.Candidates.{LineArea, blocks_of}
+use Rattle.hc_changes.specs.MaybeMovedAreas.{LineArea, line_area_blocks}
 
--- the area of a line that stands where another does: at its index in the slave with its slave's rank; none where the line lacks that slave
+-- the area of a line that is where another does: at its index in the slave with its slave's rank; none where the line lacks that slave
 abbrev pub counterpart : List Member → LineArea → Option LineArea
 counterpart line found =
     option_and_then (λ member. option_map (λ area. record { member = member; index = found.index; area = area }) (slice_get member.slave.areas found.index))
@@ -13,7 +13,7 @@ counterpart line found =
 
 -- its two blocks, which have the numbers of the other's
 abbrev pub blocks_in : List Member → LineArea → List LineBlock
-blocks_in line found = option_map_or (blocks_of line) (counterpart line found) []
+blocks_in line found = option_map_or (line_area_blocks line) (counterpart line found) []
 
 -- the blocks of a list that aren't the same as those in their places in another list
 abbrev pub unlike : List LineBlock → List LineBlock → List LineBlock
@@ -23,4 +23,4 @@ unlike (other ∷ others) (block ∷ blocks) = if same_block block other then un
 
 -- the blocks of an area of the new line that differ from those which the old line's slave had with their numbers
 abbrev pub differing_of : List Member → List Member → LineArea → List LineBlock
-differing_of old new found = unlike (blocks_in old found) (blocks_of new found)
+differing_of old new found = unlike (blocks_in old found) (line_area_blocks new found)

@@ -8,12 +8,12 @@ use Rattle.hc_records.specs.Project.{lowest_fault}
 use Rattle.hc_records.specs.Boundaries.{is_touched_task}
 use Rattle.hc_records.specs.SpanLaws.{IsTaskList}
 use Rattle.hc_places.specs.Table.{task_table}
-use Rattle.hc_cuts.specs.Keeping.{is_kept}
+use Rattle.hc_cuts.specs.Keeping.{is_unchanged}
 
 -- a kept datagram carries the areas that it carried, each at its bit
-abbrev pub KeptDatagramsStay : Type 0
-KeptDatagramsStay =
-    (old new : List Keyed) (datagram : ℕ) → IsTaskList old → IsTaskList new → is_kept old new datagram ≡ true
+abbrev pub UnchangedDatagramsStay : Type 0
+UnchangedDatagramsStay =
+    (old new : List Keyed) (datagram : ℕ) → IsTaskList old → IsTaskList new → is_unchanged old new datagram ≡ true
     → inside datagram (packed opening new) ≡ inside datagram (packed opening old)
 
 -- a task that no edit touched has the table that it had

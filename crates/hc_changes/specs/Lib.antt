@@ -1,4 +1,4 @@
-pub mod Candidates
+pub mod MaybeMovedAreas
 pub mod Compared
 pub mod Edited
 pub mod EditedLine

@@ -1,4 +1,5 @@
--- Which variables of a line an edit changes, told by the moved areas and by the slaves that change.
+-- Which variables of a line an edit changes, given by the moved areas and by the slaves that
+-- change.
 use Rattle.std.specs.Prelude.{◌≡◌, ℕ, ◌+◌, ◌==◌, ◌<◌, ◌≤◌, not, Bool, List, [], ◌++◌, filter, find, map, None, Some, option_map}
 use Rattle.std.specs.List.{flat_map, list_any, zip}
 use Rattle.std.specs.Option.{option_map_or}
@@ -11,21 +12,21 @@ use Rattle.hc_records.specs.Project.{area_names, entry_names}
 use Rattle.hc_places.specs.Found.{area_rows}
 use Rattle.hc_places.specs.Ranges.{OffersBits}
 use Rattle.hc_places.specs.Swap.{AreOnce, ChangedRow, new_place, same_found}
-use Rattle.hc_places.specs.Table.{Row, Table, place_in}
+use Rattle.hc_places.specs.Table.{VariableRow, Table, place_in}
 use Rattle.hc_cuts.specs.LineChange.{LineChange}
-use Rattle.hc_changes.specs.Candidates.{Candidate}
+use Rattle.hc_changes.specs.MaybeMovedAreas.{MaybeMoved}
 use Rattle.hc_changes.specs.MovedAreas.{MovedArea}
 
--- the variables of a candidate with their places; none where it stands nowhere
-abbrev pub rows_of : Candidate → List Row
-rows_of candidate = option_map_or (area_rows candidate.area.task candidate.area) candidate.place []
+-- the variables of a candidate with their places; none where it is nowhere
+abbrev pub rows_of : MaybeMoved → List VariableRow
+rows_of maybe_moved = option_map_or (area_rows maybe_moved.area.task maybe_moved.area) maybe_moved.place []
 
--- a variable stands elsewhere in a table, or nowhere
-abbrev pub is_new_row : Table → Row → Bool
+-- a variable is elsewhere in a table, or nowhere
+abbrev pub is_new_row : Table → VariableRow → Bool
 is_new_row table row = not (same_found (place_in table row.0) (Some row.1))
 
--- the new places of those variables that stood elsewhere, or nowhere
-abbrev pub moved_rows : Table → List Row → List ChangedRow
+-- the new places of those variables that were elsewhere, or nowhere
+abbrev pub moved_rows : Table → List VariableRow → List ChangedRow
 moved_rows old rows = map (λ row. (row.0, Some row.1)) (filter (is_new_row old) rows)
 
 -- the variables that an area's assigned PDOs carry, and those of the areas of a slave
@@ -40,6 +41,10 @@ assigned_variables areas = flat_map area_variables_of areas
 abbrev pub is_assigned : ℕ → List Area → Bool
 is_assigned variable areas = list_any (λ other. other == variable) (assigned_variables areas)
 
+-- a row without a place for each of these variables that isn't among those after the edit
+abbrev pub rows_of_gone : List ℕ → List ℕ → List ChangedRow
+rows_of_gone before after = map (λ variable. (variable, None)) (filter (λ variable. not (list_any (λ other. other == variable) after)) before)
+
 -- those of a slave's areas before that its areas after don't carry
 abbrev pub gone_variables : List Area × List Area → List ℕ
 gone_variables slave = filter (λ variable. not (is_assigned variable slave.1)) (assigned_variables slave.0)
@@ -49,10 +54,10 @@ abbrev pub gone_rows : LineChange → List ChangedRow
 gone_rows change = map (λ variable. (variable, None)) (flat_map gone_variables (zip change.areas_before change.areas_after))
 
 -- those of the variables of moved areas
-abbrev pub rows_of_moved_areas : List MovedArea → List Row
+abbrev pub rows_of_moved_areas : List MovedArea → List VariableRow
 rows_of_moved_areas moved_areas = flat_map (λ moved_area. rows_of moved_area.found) moved_areas
 
--- what an edit changes of an old table: the moved areas' variables that stand elsewhere, then the variables that go with the changed slaves' areas
+-- what an edit changes of an old table: the moved areas' variables that are elsewhere, then the variables that go with the changed slaves' areas
 abbrev pub changed_rows : Table → List MovedArea → LineChange → List ChangedRow
 changed_rows old moved_areas change = moved_rows old (rows_of_moved_areas moved_areas) ++ gone_rows change
 
@@ -63,15 +68,15 @@ pub record HoldsArea (area : Area) (placed : Placed) : Type 0 where
   pub inside : placed.bit + width area ≤ MOST_AREA_BITS
   pub offers : OffersBits area
 
--- where a candidate stands, its place lies in one of 16 datagrams of one of the eight tasks and holds its area
-abbrev pub StandsInside : Candidate → Type 0
-StandsInside candidate = (placed : Placed) → candidate.place ≡ Some placed → HoldsArea candidate.area placed
+-- where a candidate is, its place lies in one of 16 datagrams of one of the eight tasks and holds its area
+abbrev pub IsInside : MaybeMoved → Type 0
+IsInside maybe_moved = (placed : Placed) → maybe_moved.place ≡ Some placed → HoldsArea maybe_moved.area placed
 
 -- the variables that each declared slave offers, by rank
 abbrev pub variables_by_rank : List Declared → List (List ℕ)
 variables_by_rank groups = flat_map (λ declared. map (λ slave. area_names slave.areas) declared.group.slaves) groups
 
 -- rows say of each variable whose place differs between two tables its new place or none, once, and nothing of any other
-pub record TellPlaces (old new : Table) (rows : List ChangedRow) : Type 0 where
+pub record SayPlaces (old new : Table) (rows : List ChangedRow) : Type 0 where
   pub once : AreOnce rows
   pub says : (variable : ℕ) → option_map (λ changed. changed.1) (find (λ changed. changed.0 == variable) rows) ≡ new_place (place_in old variable) (place_in new variable)

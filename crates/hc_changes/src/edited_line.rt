@@ -1,5 +1,5 @@
-//! A line, and what an edit makes of it before it is carried out: what differs is told by one `LineChange`, which is made
-//! here of what the edit changes of the declared groups.
+//! A line, and what an edit makes of it before it is carried out: what differs is given by one `LineChange`, which is
+//! made here of what the edit changes of the declared groups.
 ghost use Rattle.std.specs.Prelude.{◌≡◌};
 ghost use Rattle.hc_groups.specs.declared.prepared.Prepared.TheVariants.{Areas, Presence};
 ghost use Rattle.hc_changes.specs.EditedLine.{line_change_of};
@@ -84,16 +84,16 @@ impl<'a> Model for EditedLine<'a> {
 }
 
 impl<'a> EditedLine<'a> {
-    ghost use Rattle.std.specs.Prelude.{◌≡◌, ◌+◌, ◌≤◌, ◌⊎◌, [], MatchOption, None, Some, false, if◌then◌else◌, length, slice_get, sum_by, take, true};
+    ghost use Rattle.std.specs.Prelude.{◌≡◌, ◌+◌, ◌≤◌, ◌⊎◌, [], MatchOption, None, Some, false, if◌then◌else◌, length, slice_get, sum_by, take};
     ghost use Rattle.hc_records.specs.Line.{groups_of};
     ghost use Rattle.hc_records.specs.Project.{lowest_fault};
     ghost use Rattle.hc_groups.specs.Changes.{changed_groups};
     ghost use Rattle.hc_groups.specs.Index.{declared_count};
     ghost use Rattle.hc_groups.specs.Rows.{ChangesRow};
-    ghost use Rattle.hc_cuts.specs.Areas.{areas_at, areas_by_rank};
+    ghost use Rattle.hc_cuts.specs.Areas.{areas_of_rank, areas_by_rank};
     ghost use Rattle.hc_cuts.specs.LineChange.{changes};
     ghost use Rattle.hc_changes.specs.Edited.{HasEdit};
-    ghost use Rattle.hc_changes.specs.EditedLine.{IsEditedLine, edited_line_of};
+    ghost use Rattle.hc_changes.specs.EditedLine.{IsEditedLine, edited_line_of, area_in_old_line};
 
     /// What a prepared edit makes of the line of the groups of a project, which it leaves a project's. It takes no memory.
     pub fn of(groups: &'a Indexed<'a>, prepared: &'a Prepared) -> EditedLine<'a>
@@ -145,8 +145,8 @@ impl<'a> EditedLine<'a> {
     /// The areas that a declared slave has in the line after the edit, by its rank, its record before it,
     /// and whether its group was present then.
     pub fn areas_after(&self, rank: u16, present: bool, slave: &'a Slave) -> &'a [Area]
-        requires { areas_at (areas_by_rank self.now.old) rank ≡ (if present then slave.now.areas else []) }
-        ensures { result.now ≡ areas_at (areas_by_rank self.now.new) rank }
+        requires { areas_of_rank (areas_by_rank self.now.old) rank ≡ (if present then slave.now.areas else []) }
+        ensures { result.now ≡ areas_of_rank (areas_by_rank self.now.new) rank }
     {
         match self.change.index_of(rank) {
             Some(index) => self.change.areas_after(index),
@@ -158,8 +158,8 @@ impl<'a> EditedLine<'a> {
     /// The area with an index that a slave had in the line before the edit, by its rank and the area with
     /// that index that it has after it; none where it had no such area.
     pub fn area_before<'b>(&'b self, rank: u16, index: u8, area: &'b Area) -> Option<&'b Area>
-        requires { slice_get (areas_at (areas_by_rank self.now.new) rank) index ≡ Some area.now }
-        ensures { MatchOption result (slice_get (areas_at (areas_by_rank self.now.old) rank) index ≡ None) (λ found. slice_get (areas_at (areas_by_rank self.now.old) rank) index ≡ Some found.now) }
+        requires { slice_get (areas_of_rank (areas_by_rank self.now.new) rank) index ≡ Some area.now }
+        ensures { MatchOption result (area_in_old_line self.now rank index ≡ None) (λ found. area_in_old_line self.now rank index ≡ Some found.now) }
     {
         match self.change.index_of(rank) {
             Some(slave) => self.change.areas_before(slave).get(usize::from(index)),

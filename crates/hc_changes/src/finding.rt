@@ -1,18 +1,17 @@
 //! The areas of a new line that may be configured in another way than in the old one, found slave by slave
 //! where the tasks are turned.
-ghost use Rattle.std.specs.Prelude.{◌≡◌, ◌&&◌, IfOk, map, slice_index_or};
+ghost use Rattle.std.specs.Prelude.{◌≡◌, ◌&&◌, IfOk, slice_index_or};
 ghost use Rattle.hc_records.specs.declared.keys.Key.{Key};
 ghost use Rattle.hc_records.specs.declared.keys.TheConstants.Key.{END};
 ghost use Rattle.hc_records.specs.Keys.{is_within};
-ghost use Rattle.hc_records.specs.Line.{line_from};
 ghost use Rattle.hc_cuts.specs.Areas.{areas_by_rank};
-ghost use Rattle.hc_cuts.specs.LineKeeping.{StandsBefore};
-ghost use Rattle.hc_cuts.specs.Kept.{line_kept};
-ghost use Rattle.hc_changes.specs.Candidates.{candidate_of, candidates};
-ghost use Rattle.hc_cuts.specs.LineChange.{changes};
+ghost use Rattle.hc_cuts.specs.LineKeeping.{IsKnownBefore};
+ghost use Rattle.hc_cuts.specs.TaskCuts.{line_cuts};
+ghost use Rattle.hc_changes.specs.MaybeMovedAreas.{maybe_moved_areas};
+ghost use Rattle.hc_changes.specs.EditedLine.{maybe_moved_areas_of};
 
-use crate::candidates::Candidate;
 use crate::edited_line::EditedLine;
+use crate::maybe_moved_areas::MaybeMoved;
 use crate::ranks::Ranks;
 use hc_cuts::finder::Finder;
 use hc_cuts::line_keeping::Before;
@@ -53,49 +52,48 @@ fn higher(one: Key, other: Key) -> Key
     if one.is_before(other) { other } else { one }
 }
 
-/// What tells of an area of a line whether it is a candidate, and where it stands: what an edit makes of the
+/// What says of an area of a line whether it is a candidate, and where it is: what an edit makes of the
 /// line, what is known of the tasks before they were turned, and the turned tasks. Contracts see the first.
 #[derive(Drop)]
-struct CandidateTest<'b, 'a> {
+struct MaybeMovedTest<'b, 'a> {
     edited_line: &'b EditedLine<'a>,
     before: &'b Before,
     cuts: &'b LineCuts,
 }
 
-impl<'b, 'a> Model for CandidateTest<'b, 'a> {
-    ghost use Rattle.hc_changes.specs.inner.Found.{IsCandidateTest};
+impl<'b, 'a> Model for MaybeMovedTest<'b, 'a> {
+    ghost use Rattle.hc_changes.specs.inner.Found.{IsMaybeMovedTest};
     ghost use Rattle.hc_changes.specs.EditedLine.{EditedLine};
 
     ghost Value = { EditedLine };
 
     ghost view = { λ test. test.edited_line.now };
 
-    ghost invariant = { λ test. IsCandidateTest test.edited_line.now test.before.now test.cuts.now };
+    ghost invariant = { λ test. IsMaybeMovedTest test.edited_line.now test.before.now test.cuts.now };
 }
 
-impl<'b, 'a> CandidateTest<'b, 'a> {
+impl<'b, 'a> MaybeMovedTest<'b, 'a> {
     ghost use Rattle.std.specs.Prelude.{◌≡◌, ◌+◌, ◌<◌, ◌≤◌, ◌++◌, [], IfSome, OnOk, false, if◌then◌else◌, length, not, option_to_list, true};
     ghost use Rattle.std.specs.Option.{option_map_or};
-    ghost use Rattle.hc_records.specs.Line.{line_from};
-    ghost use Rattle.hc_records.specs.TaskList.{task_list};
     ghost use Rattle.hc_records.specs.declared.limits.TheConstants.{MOST_SLAVES, TASKS};
-    ghost use Rattle.hc_cuts.specs.Keeping.{is_kept_up_to};
     ghost use Rattle.hc_records.specs.Keys.{is_before};
     ghost use Rattle.hc_records.specs.declared.keys.TheConstants.Key.{END};
-    ghost use Rattle.hc_cuts.specs.Areas.{areas_at, areas_by_rank};
-    ghost use Rattle.hc_cuts.specs.Kept.{line_kept};
-    ghost use Rattle.hc_changes.specs.inner.Found.{HoldChanged, HoldRanks, HoldRecut, IsGroupAt, LieWithin, area_found, found_below, rank_found, station_at};
-    ghost use Rattle.hc_changes.specs.EditedLine.{IsEditedLine};
+    ghost use Rattle.hc_cuts.specs.Areas.{areas_of_rank, areas_by_rank};
+    ghost use Rattle.hc_cuts.specs.TaskCuts.{line_cuts};
+    ghost use Rattle.hc_changes.specs.inner.Found.{HoldChanged, HoldRanks, HoldRecut, IsGroupAt, LieWithin, area_found, found_below, rank_found, ranked_station, is_unchanged_at};
+    ghost use Rattle.hc_changes.specs.EditedLine.{IsEditedLine, maybe_moved_areas_of};
 
-    /// Whether an area of a task with a place, if it has one, stands in a datagram that isn't kept up to it.
+    /// Whether an area of a task with a place, if it has one, is in a datagram that isn't kept up to it.
     fn is_recut(&self, task: Task, place: &Option<Placed>) -> bool
         requires { IfSome place.now (λ placed. is_before placed.key END ≡ true) }
-        ensures { result ≡ option_map_or (λ placed. not (is_kept_up_to (task_list task (line_from 1 self.now.old)) (task_list task (line_from 1 self.now.new)) placed.datagram placed.key)) place.now false }
+        ensures { result ≡ option_map_or (λ placed. not (is_unchanged_at self.now task placed)) place.now false }
     {
         match place {
             Some(placed) => {
-                let kept = self.before.kept_until(self.cuts, task, placed.datagram());
-                !placed.key().is_before(kept)
+                let unchanged = self
+                    .before
+                    .unchanged_until(self.cuts, task, placed.datagram());
+                !placed.key().is_before(unchanged)
             }
             None => false,
         }
@@ -110,8 +108,8 @@ impl<'b, 'a> CandidateTest<'b, 'a> {
         rank: u16,
         index: u8,
         area: &'a Area,
-    ) -> Option<Candidate<'a>>
-        requires places { places.old ≡ line_kept (areas_by_rank self.now.new) }
+    ) -> Option<MaybeMoved<'a>>
+        requires places { places.old ≡ line_cuts (areas_by_rank self.now.new) }
         requires task { area.now.task < TASKS }
         ensures places { places.new ≡ places.old }
         ensures found { option_to_list result ≡ area_found self.now station rank index area.now }
@@ -124,7 +122,7 @@ impl<'b, 'a> CandidateTest<'b, 'a> {
         if !changed && !self.is_recut(Task(area.task), &place) {
             return None;
         }
-        Some(Candidate {
+        Some(MaybeMoved {
             station,
             rank,
             index,
@@ -138,37 +136,37 @@ impl<'b, 'a> CandidateTest<'b, 'a> {
     fn add_slave(
         &self,
         places: &mut Finder,
-        found: &mut Vec<Candidate<'a>>,
+        found: &mut Vec<MaybeMoved<'a>>,
         rank: u16,
         present: bool,
         slave: &'a Slave,
     ) -> Result<(), AllocError>
-        requires places { places.old ≡ line_kept (areas_by_rank self.now.new) }
-        requires areas { areas_at (areas_by_rank self.now.old) rank ≡ (if present then slave.now.areas else []) }
-        requires station { station_at self.now.old rank ≡ slave.now.station }
+        requires places { places.old ≡ line_cuts (areas_by_rank self.now.new) }
+        requires areas { areas_of_rank (areas_by_rank self.now.old) rank ≡ (if present then slave.now.areas else []) }
+        requires station { ranked_station self.now.old rank ≡ slave.now.station }
         ensures places { places.new ≡ places.old }
         ensures found { OnOk result (found.new.items ≡ found.old.items ++ rank_found self.now rank) }
     {
         let areas = self.edited_line.areas_after(rank, present, slave);
         for i in 0..areas.len() {
-            if let Some(candidate) = self.judge(places, slave.station, rank, i as u8, &areas[i]) {
-                found.push(candidate)?;
+            if let Some(maybe_moved) = self.judge(places, slave.station, rank, i as u8, &areas[i]) {
+                found.push(maybe_moved)?;
             }
         }
         Ok(())
     }
 
-    /// Adds those of a declared group's slaves, the first of which has a rank, to those of the slaves with
-    /// lower ranks. The slaves with other ranks than the given ones are passed over.
+    /// Adds those of a declared group's slaves, from a rank on, to those of the slaves with lower ranks.
+    /// The slaves with other ranks than the given ones are passed over.
     fn add_group(
         &self,
         places: &mut Finder,
-        found: &mut Vec<Candidate<'a>>,
+        found: &mut Vec<MaybeMoved<'a>>,
         first: u16,
         declared: &'a Declared,
         ranks: Ranks,
     ) -> Result<(), AllocError>
-        requires places { places.old ≡ line_kept (areas_by_rank self.now.new) }
+        requires places { places.old ≡ line_cuts (areas_by_rank self.now.new) }
         requires group { IsGroupAt self.now.old first declared.now }
         requires few { first + length declared.now.group.slaves ≤ MOST_SLAVES + 1 }
         requires ranks { LieWithin self.now ranks.low ranks.high }
@@ -210,8 +208,8 @@ impl<'b, 'a> CandidateTest<'b, 'a> {
         let inputs = self.cuts.has_inputs(task);
         let mut all = ranks;
         for number in 0..starts.len() {
-            let kept = self.before.kept_until(self.cuts, task, number as u16);
-            let from = higher(starts[number], kept);
+            let unchanged = self.before.unchanged_until(self.cuts, task, number as u16);
+            let from = higher(starts[number], unchanged);
             let next = start_at(starts, number + 1);
             if from.is_before(next) {
                 all = all.joined(Ranks::between(from, next, inputs));
@@ -220,7 +218,7 @@ impl<'b, 'a> CandidateTest<'b, 'a> {
         all
     }
 
-    /// Ranks between which all candidates stand.
+    /// Ranks between which all candidates are.
     fn ranks(&self) -> Ranks
         requires { IsEditedLine self.now }
         ensures { LieWithin self.now result.low result.high }
@@ -241,11 +239,11 @@ impl<'b, 'a> CandidateTest<'b, 'a> {
         alloc: Global,
         groups: &'a [Declared],
         ranks: Ranks,
-    ) -> Result<Vec<Candidate<'a>>, AllocError>
+    ) -> Result<Vec<MaybeMoved<'a>>, AllocError>
         requires groups { groups.now ≡ self.now.old }
         requires known { IsEditedLine self.now }
         requires ranks { LieWithin self.now ranks.low ranks.high }
-        ensures { IfOk result (λ found. found.items ≡ map (candidate_of (line_from 1 self.now.new)) (candidates (changes self.now.change) (line_from 1 self.now.old) (line_from 1 self.now.new))) }
+        ensures { IfOk result (λ found. found.items ≡ maybe_moved_areas_of self.now) }
     {
         let mut places = Finder::of(self.cuts);
         let mut found = Vec::new(alloc);
@@ -264,20 +262,20 @@ impl<'b, 'a> CandidateTest<'b, 'a> {
 
 /// The areas of the line after an edit that may be configured in another way than before it, by what the
 /// edit makes of the line, what was known of the tasks before they were turned, and the turned tasks: those
-/// of the slaves that the edit concerns, and those that stand in datagrams which aren't kept up to them, in
+/// of the slaves that the edit concerns, and those that are in datagrams which aren't kept up to them, in
 /// line and record order, each with its place. `AllocError` where a growth was refused.
-pub fn candidates<'a>(
+pub fn maybe_moved_areas<'a>(
     alloc: Global,
     edited_line: &EditedLine<'a>,
     before: &Before,
     cuts: &LineCuts,
-) -> Result<Vec<Candidate<'a>>, AllocError>
-    requires before { StandsBefore (areas_by_rank edited_line.now.old) (areas_by_rank edited_line.now.new) before.now }
-    requires cuts { cuts.now ≡ line_kept (areas_by_rank edited_line.now.new) }
-    ensures { IfOk result (λ found. found.items ≡ map (candidate_of (line_from 1 edited_line.now.new)) (candidates (changes edited_line.now.change) (line_from 1 edited_line.now.old) (line_from 1 edited_line.now.new))) }
+) -> Result<Vec<MaybeMoved<'a>>, AllocError>
+    requires before { IsKnownBefore (areas_by_rank edited_line.now.old) (areas_by_rank edited_line.now.new) before.now }
+    requires cuts { cuts.now ≡ line_cuts (areas_by_rank edited_line.now.new) }
+    ensures { IfOk result (λ found. found.items ≡ maybe_moved_areas_of edited_line.now) }
 {
     let groups = edited_line.groups();
-    let test = CandidateTest {
+    let test = MaybeMovedTest {
         edited_line,
         before,
         cuts,

@@ -1,10 +1,10 @@
 //! What an edit leaves as it was: each function does nothing, and its contract is a law. Nobody calls it.
-ghost use Rattle.hc_changes.specs.Laws.{KeptDatagramsStay, UntouchedTasksStay};
+ghost use Rattle.hc_changes.specs.Laws.{UnchangedDatagramsStay, UntouchedTasksStay};
 
 /// A datagram that an edit keeps carries the areas that it carried, each at its bit: so its length and its
 /// expected working counter stay too.
-pub fn kept_datagrams_stay()
-    ensures { KeptDatagramsStay }
+pub fn unchanged_datagrams_stay()
+    ensures { UnchangedDatagramsStay }
 {}
 
 /// A task in whose list no width differs between the lines of two states of a project has the table that it

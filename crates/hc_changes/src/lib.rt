@@ -1,12 +1,12 @@
-//! What an edit changes of a line's configuration, told by few areas: those of the slaves that it concerns, and
-//! those in datagrams that it doesn't keep. All other areas are configured as they were. The plan's reports and
-//! swaps are made from these.
+//! What an edit changes of a line's configuration, given by few areas: those of the slaves that it concerns,
+//! and those in datagrams that it doesn't keep. All other areas are configured as they were. The plan's reports
+//! and swaps are made from these.
 #![tactic(auto)]
 
-pub mod candidates;
 pub mod edited_line;
 pub mod finding;
 pub mod laws;
+pub mod maybe_moved_areas;
 pub mod moved;
 pub mod moved_areas;
 mod ranks;

@@ -8,9 +8,9 @@ ghost use Rattle.hc_registers.specs.Blocks.{mapping_at, same_bytes};
 ghost use Rattle.hc_changes.specs.inner.Moved.{IsComparable, IsWritable, block_with, blocks_if, blocks_moved, differ_from, moved_by, two_blocks};
 ghost use Rattle.hc_changes.specs.MovedAreas.{moved_areas_of};
 
-use crate::candidates::Candidate;
 use crate::edited_line::EditedLine;
-use crate::moved_areas::{FormerArea, MovedArea};
+use crate::maybe_moved_areas::MaybeMoved;
+use crate::moved_areas::{MovedArea, OldArea};
 use hc_cuts::packing::Placed;
 use hc_records::records::Area;
 use hc_records::task::Task;
@@ -31,7 +31,7 @@ pub fn mapping(task: Task, placed: Placed) -> Mapping
 }
 
 /// The sync manager block and the FMMU block of the area at an index of its slave's record, by its place,
-/// which tells its width: no PDO is read.
+/// which gives its width: no PDO is read.
 fn two_blocks(index: u8, area: &Area, place: Option<Placed>) -> (Block, Block)
     requires { IsWritable index area.now place }
     ensures { result ≡ two_blocks index area.now place }
@@ -61,11 +61,11 @@ fn is_same(a: &Block, b: &Block) -> bool
 
 /// Of two blocks of an area at an index of its slave's record, whether each differs from the one that the slave
 /// had with its number.
-fn differing(blocks: &(Block, Block), index: u8, former: &FormerArea) -> (bool, bool)
-    requires { IsWritable index former.now.area former.now.place }
-    ensures { result ≡ differ_from blocks.now (two_blocks index former.now.area former.now.place) }
+fn differing(blocks: &(Block, Block), index: u8, old_area: &OldArea) -> (bool, bool)
+    requires { IsWritable index old_area.now.area old_area.now.place }
+    ensures { result ≡ differ_from blocks.now (two_blocks index old_area.now.area old_area.now.place) }
 {
-    let (manager, fmmu) = two_blocks(index, former.area, former.place);
+    let (manager, fmmu) = two_blocks(index, old_area.area, old_area.place);
     (!is_same(&blocks.0, &manager), !is_same(&blocks.1, &fmmu))
 }
 
@@ -76,14 +76,14 @@ fn moved_by(blocks: &(Block, Block), moved_area: &MovedArea) -> (bool, bool)
     ensures { result ≡ moved_by blocks.now moved_area.now }
 {
     let found = moved_area.found;
-    match &moved_area.former {
-        Some(former) => differing(blocks, found.index, former),
+    match &moved_area.old_area {
+        Some(old_area) => differing(blocks, found.index, old_area),
         None => (true, true),
     }
 }
 
 /// A block of a candidate, by its number in the slave's order, with the slave's rank.
-fn ranked(found: &Candidate, number: u8, block: Block) -> RankedBlock
+fn ranked(found: &MaybeMoved, number: u8, block: Block) -> RankedBlock
     ensures { result ≡ block_with found.now number block }
 {
     RankedBlock {
@@ -99,7 +99,7 @@ fn ranked(found: &Candidate, number: u8, block: Block) -> RankedBlock
 /// Adds those of the two blocks of a candidate that moved.
 fn add_blocks(
     blocks: &mut Vec<RankedBlock>,
-    found: &Candidate,
+    found: &MaybeMoved,
     two: (Block, Block),
     moved: (bool, bool),
 ) -> Result<(), AllocError>

@@ -1,15 +1,15 @@
-//! The candidates that move: those of the slaves that an edit concerns, and those that stand elsewhere than
+//! The candidates that move: those of the slaves that an edit concerns, and those that are elsewhere than
 //! before it.
 ghost use Rattle.std.specs.Prelude.{◌≡◌, IfOk};
 ghost use Rattle.hc_records.specs.Line.{line_from};
 ghost use Rattle.hc_cuts.specs.Areas.{areas_by_rank};
-ghost use Rattle.hc_cuts.specs.Kept.{line_kept};
+ghost use Rattle.hc_cuts.specs.TaskCuts.{line_cuts};
 ghost use Rattle.hc_changes.specs.inner.Moved.{IsOfLine};
-ghost use Rattle.hc_changes.specs.MovedAreas.{former_area_of, moved_areas_of, moves, same_spot};
-ghost use Rattle.hc_changes.specs.EditedLine.{IsEditedLine, candidates_of};
+ghost use Rattle.hc_changes.specs.MovedAreas.{old_area_of, moved_areas_of, moves, same_placing};
+ghost use Rattle.hc_changes.specs.EditedLine.{IsEditedLine, maybe_moved_areas_of};
 
-use crate::candidates::Candidate;
 use crate::edited_line::EditedLine;
+use crate::maybe_moved_areas::MaybeMoved;
 use hc_cuts::finder::Finder;
 use hc_cuts::packing::Placed;
 use hc_cuts::tasks::LineCuts;
@@ -21,28 +21,28 @@ use std::marker::Model;
 
 /// An area that a slave had in the line before an edit.
 #[derive(Drop)]
-pub struct FormerArea<'a> {
+pub struct OldArea<'a> {
     /// The area as it was.
     pub area: &'a Area,
-    /// Where it stood; none where it had 0 bits.
+    /// Where it was; none where it had 0 bits.
     pub place: Option<Placed>,
 }
 
-impl<'a> Model for FormerArea<'a> {
-    ghost use Rattle.hc_changes.specs.MovedAreas.{FormerArea};
+impl<'a> Model for OldArea<'a> {
+    ghost use Rattle.hc_changes.specs.MovedAreas.{OldArea};
 
-    ghost Value = { FormerArea };
+    ghost Value = { OldArea };
 
-    ghost view = { λ former. record { area = former.area.now; place = former.place } };
+    ghost view = { λ old_area. record { area = old_area.area.now; place = old_area.place } };
 }
 
 /// A candidate beside what its slave had at its index before the edit. `moved_areas` gives those that move.
 #[derive(Drop)]
 pub struct MovedArea<'b, 'a> {
     /// The candidate.
-    pub found: &'b Candidate<'a>,
+    pub found: &'b MaybeMoved<'a>,
     /// The area that its slave had at its index before the edit; none where it had no such area.
-    pub former: Option<FormerArea<'b>>,
+    pub old_area: Option<OldArea<'b>>,
 }
 
 impl<'b, 'a> Model for MovedArea<'b, 'a> {
@@ -50,7 +50,7 @@ impl<'b, 'a> Model for MovedArea<'b, 'a> {
 
     ghost Value = { MovedArea };
 
-    ghost view = { λ moved_area. record { found = moved_area.found.now; former = moved_area.former } };
+    ghost view = { λ moved_area. record { found = moved_area.found.now; old_area = moved_area.old_area } };
 }
 
 /// What the slave of a candidate had at its index before the edit, by the tasks of the line then; none where
@@ -58,13 +58,13 @@ impl<'b, 'a> Model for MovedArea<'b, 'a> {
 fn before<'b, 'a>(
     edited_line: &'b EditedLine<'a>,
     places: &mut Finder,
-    found: &'b Candidate<'a>,
-) -> Option<FormerArea<'b>>
+    found: &'b MaybeMoved<'a>,
+) -> Option<OldArea<'b>>
     requires edited_line { IsEditedLine edited_line.now }
-    requires trees { places.old ≡ line_kept (areas_by_rank edited_line.now.old) }
-    requires stands { IsOfLine (line_from 1 edited_line.now.new) found.now }
+    requires trees { places.old ≡ line_cuts (areas_by_rank edited_line.now.old) }
+    requires is_placed { IsOfLine (line_from 1 edited_line.now.new) found.now }
     ensures places { places.new ≡ places.old }
-    ensures former { result ≡ former_area_of edited_line.now found.now }
+    ensures old_area { result ≡ old_area_of edited_line.now found.now }
 {
     let area = edited_line.area_before(found.rank, found.index, found.area)?;
     let key = Key {
@@ -73,12 +73,12 @@ fn before<'b, 'a>(
         area: found.index,
     };
     let place = places.place(Task(area.task), key);
-    Some(FormerArea { area, place })
+    Some(OldArea { area, place })
 }
 
 /// Whether two places are at the same bit of the same datagram, or neither is there.
-fn is_same_spot(one: Option<Placed>, other: Option<Placed>) -> bool
-    ensures { result ≡ same_spot one other }
+fn is_same_placing(one: Option<Placed>, other: Option<Placed>) -> bool
+    ensures { result ≡ same_placing one other }
 {
     match (one, other) {
         (Some(one), Some(other)) => {
@@ -94,35 +94,35 @@ fn is_moved(edited_line: &EditedLine, moved_area: &MovedArea) -> bool
     ensures { result ≡ moves edited_line.now moved_area.now }
 {
     let found = moved_area.found;
-    let moved = match &moved_area.former {
-        Some(former) => !is_same_spot(found.place, former.place),
+    let moved = match &moved_area.old_area {
+        Some(old_area) => !is_same_placing(found.place, old_area.place),
         None => true,
     };
     edited_line.is_changed(found.rank) || moved
 }
 
-/// The candidates that move, in line and record order, by what an edit makes of a line, by the tasks of the
-/// line before it, and by its candidates: those of the slaves that the edit concerns, and those that stand
-/// elsewhere than before. Each other candidate has the record that it had and stands where it stood, and with it
-/// its register blocks and its variables stay. `AllocError` where a growth was refused.
+/// The candidates that move, in line and record order, by what an edit makes of a line, by the tasks of the line
+/// before it, and by its candidates: those of the slaves that the edit concerns, and those that are elsewhere
+/// than before. Each other candidate has the record that it had and is where it was, and with it its register
+/// blocks and its variables stay. `AllocError` where a growth was refused.
 pub fn moved_areas<'b, 'a>(
     alloc: Global,
     edited_line: &'b EditedLine<'a>,
     old: &LineCuts,
-    found: &'b [Candidate<'a>],
+    found: &'b [MaybeMoved<'a>],
 ) -> Result<Vec<MovedArea<'b, 'a>>, AllocError>
-    requires trees { old.now ≡ line_kept (areas_by_rank edited_line.now.old) }
-    requires candidates { found.now ≡ candidates_of edited_line.now }
+    requires trees { old.now ≡ line_cuts (areas_by_rank edited_line.now.old) }
+    requires maybe_moved_areas { found.now ≡ maybe_moved_areas_of edited_line.now }
     ensures { IfOk result (λ moved_areas. moved_areas.items ≡ moved_areas_of edited_line.now) }
 {
     // says that an edit leads from a project's groups to a project's
     let _ = edited_line.groups();
     let mut places = Finder::of(old);
     let mut moved_areas = Vec::with_capacity(alloc, found.len())?;
-    for candidate in found {
+    for maybe_moved in found {
         let moved_area = MovedArea {
-            found: candidate,
-            former: before(edited_line, &mut places, candidate),
+            found: maybe_moved,
+            old_area: before(edited_line, &mut places, maybe_moved),
         };
         if is_moved(edited_line, &moved_area) {
             moved_areas.push(moved_area)?;

@@ -1,7 +1,6 @@
-//! Ranks between which the slaves stand whose areas an edit may configure in another way.
-ghost use Rattle.std.specs.Prelude.{◌≡◌, true};
+//! Ranks between which the slaves are whose areas an edit may configure in another way.
+ghost use Rattle.std.specs.Prelude.{◌≡◌};
 ghost use Rattle.hc_records.specs.declared.keys.Key.{Key};
-ghost use Rattle.hc_records.specs.Keys.{is_before, is_within};
 
 use hc_records::keys::Key;
 use hc_records::records::Dir;
@@ -14,11 +13,10 @@ pub(crate) struct Ranks {
 }
 
 impl Ranks {
-    ghost use Rattle.std.specs.Prelude.{◌≡◌, ◌+◌, ◌<◌, ◌≤◌, ℕ, false, true};
+    ghost use Rattle.std.specs.Prelude.{◌≡◌, ◌+◌, ◌<◌, ◌≤◌, ℕ};
     ghost use Rattle.hc_records.specs.declared.keys.Key.{Key};
     ghost use Rattle.hc_records.specs.declared.records.Dir.TheVariants.{Out};
-    ghost use Rattle.hc_records.specs.Keys.{is_before, is_within};
-    ghost use Rattle.hc_changes.specs.inner.Found.{HoldRanks};
+    ghost use Rattle.hc_changes.specs.inner.Found.{HoldRanks, LiesBetween};
 
     /// All ranks.
     const ALL: Ranks = Ranks {
@@ -37,7 +35,7 @@ impl Ranks {
     /// Those of the slaves that may have areas of a task from one key on and before another. Between an output
     /// and an input they are all where the task has inputs, and else those from the output's slave on.
     pub(crate) fn between(from: Key, to: Key, inputs: bool) -> Ranks
-        ensures { (key : Key) → key.rank < 65536 → (inputs ≡ false → key.dir ≡ Out) → is_within from key ≡ true → is_before key to ≡ true → (result.low ≤ key.rank) × (key.rank ≤ result.high) }
+        ensures { (key : Key) → LiesBetween from to inputs key → (result.low ≤ key.rank) × (key.rank ≤ result.high) }
     {
         match (from.dir, to.dir) {
             (Dir::Out, Dir::In) if inputs => Ranks::ALL,
@@ -57,13 +55,13 @@ impl Ranks {
         }
     }
 
-    /// Which of so many slaves in a row, the first of which has a rank, have ranks among these: those with
-    /// an index from one on and below another.
+    /// Which of so many slaves in a row, from a rank on, have ranks among these: those with an index from
+    /// one on and below another.
     pub(crate) fn part(self, first: u16, slaves: usize) -> (usize, usize)
         ensures order { result.0 ≤ result.1 }
         ensures within { result.1 ≤ slaves }
         ensures front { (i : ℕ) → i < result.0 → self.low ≤ first + i → ⊥ }
-        ensures behind { (i : ℕ) → result.1 ≤ i → i < slaves → first + i ≤ self.high → ⊥ }
+        ensures after_it { (i : ℕ) → result.1 ≤ i → i < slaves → first + i ≤ self.high → ⊥ }
     {
         let first = usize::from(first);
         let from = usize::from(self.low).saturating_sub(first).min(slaves);

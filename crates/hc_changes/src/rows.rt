@@ -1,8 +1,8 @@
-//! The variables that stand elsewhere, appear or go with an edit.
-ghost use Rattle.std.specs.Prelude.{◌≡◌, ◌++◌, ◌==◌, not, All, IfOk, OnOk, filter, length, map, None};
+//! The variables that are elsewhere, appear or go with an edit.
+ghost use Rattle.std.specs.Prelude.{◌≡◌, ◌++◌, ◌==◌, All, IfOk, OnOk, map, None};
 ghost use Rattle.std.specs.List.{list_any};
 ghost use Rattle.hc_records.specs.Project.{entry_names};
-ghost use Rattle.hc_changes.specs.Rows.{StandsInside, area_variables_of, assigned_variables, changed_rows, gone_rows, gone_variables, is_new_row, moved_rows, rows_of_moved_areas};
+ghost use Rattle.hc_changes.specs.Rows.{IsInside, area_variables_of, assigned_variables, changed_rows, gone_rows, gone_variables, is_new_row, moved_rows, rows_of_moved_areas, rows_of_gone};
 
 use crate::moved_areas::MovedArea;
 use hc_cuts::line_change::LineChange;
@@ -19,7 +19,7 @@ fn moved_area_rows(
     alloc: Global,
     moved_areas: &[MovedArea],
 ) -> Result<Vec<(VarId, Place)>, AllocError>
-    requires { All (λ moved_area. StandsInside moved_area.found) moved_areas.now }
+    requires { All (λ moved_area. IsInside moved_area.found) moved_areas.now }
     ensures { IfOk result (λ rows. rows.items ≡ rows_of_moved_areas moved_areas.now) }
 {
     let mut rows = Vec::new(alloc);
@@ -32,7 +32,7 @@ fn moved_area_rows(
     Ok(rows)
 }
 
-/// Whether a variable stands elsewhere in a table than at a place, or nowhere. It is looked for near the one
+/// Whether a variable is elsewhere in a table than at a place, or nowhere. It is looked for near the one
 /// before it.
 fn is_new(old: &Places, near: &mut usize, variable: VarId, place: Place) -> bool
     ensures { result ≡ is_new_row old.now (variable, place) }
@@ -40,7 +40,7 @@ fn is_new(old: &Places, near: &mut usize, variable: VarId, place: Place) -> bool
     old.place_near(near, variable) != Some(place)
 }
 
-/// Adds those variables that don't stand in a table where they are to stand.
+/// Adds those variables that aren't in a table where they are to be.
 fn add_moved(
     rows: &mut Vec<ChangedRow>,
     old: &Places,
@@ -106,7 +106,7 @@ fn add_gone(
     before: &[VarId],
     after: &[VarId],
 ) -> Result<(), AllocError>
-    ensures { OnOk result (rows.new.items ≡ rows.old.items ++ map (λ variable. (variable, None)) (filter (λ variable. not (list_any (λ other. other == variable) after.now)) before.now)) }
+    ensures { OnOk result (rows.new.items ≡ rows.old.items ++ rows_of_gone before.now after.now) }
 {
     let mut near = 0;
     for variable in before {
@@ -155,9 +155,9 @@ fn add_slaves(
 }
 
 /// What an edit changes of the places of a line's variables, by the candidates that move, what differs in the line, and
-/// the table of the line before the edit: the moved areas' variables that stood elsewhere or nowhere, each with its new
+/// the table of the line before the edit: the moved areas' variables that were elsewhere or nowhere, each with its new
 /// place, and then the variables that the slaves that change carried and don't carry any more, without one. For an
-/// edit's own moved areas they are the variables that stand elsewhere, appear or go with the edit, each once. Each moved
+/// edit's own moved areas they are the variables that are elsewhere, appear or go with the edit, each once. Each moved
 /// area's place lies in one of 16 datagrams. `AllocError` where a growth was refused.
 pub fn changed_rows(
     alloc: Global,
@@ -165,7 +165,7 @@ pub fn changed_rows(
     moved_areas: &[MovedArea],
     change: &LineChange,
 ) -> Result<Vec<ChangedRow>, AllocError>
-    requires inside { All (λ moved_area. StandsInside moved_area.found) moved_areas.now }
+    requires inside { All (λ moved_area. IsInside moved_area.found) moved_areas.now }
     ensures { IfOk result (λ rows. rows.items ≡ changed_rows old.now moved_areas.now change.now) }
 {
     let found = moved_area_rows(alloc, moved_areas)?;

@@ -1,18 +1,17 @@
-//! The tasks whose tables an edit changes. What a kept datagram holds stands in the old table; the areas of
+//! The tasks whose tables an edit changes. What a kept datagram holds is in the old table; the areas of
 //! each other one are gone over.
-ghost use Rattle.std.specs.Prelude.{◌≡◌, ◌==◌, ℕ, IfOk, List, find, length, map, option_map, slice_get};
+ghost use Rattle.std.specs.Prelude.{◌≡◌, IfOk, length, map};
 ghost use Rattle.hc_records.specs.declared.limits.TheConstants.{TASKS};
-ghost use Rattle.hc_records.specs.declared.records.Declared.{Declared};
 ghost use Rattle.hc_records.specs.Image.{task_places, tasks};
 ghost use Rattle.hc_records.specs.Line.{line_from};
-ghost use Rattle.hc_places.specs.Loads.{IsLoad, load_in};
-ghost use Rattle.hc_places.specs.Swap.{ChangesAscend, IsNewTask};
+ghost use Rattle.hc_places.specs.DatagramUses.{IsDatagramUse, datagram_use_in};
+ghost use Rattle.hc_places.specs.Swap.{ChangesAscend, AreNewTasks};
 ghost use Rattle.hc_places.specs.Table.{table_of, task_table};
-ghost use Rattle.hc_changes.specs.Tables.{AreOfLine, IsEdited};
+ghost use Rattle.hc_changes.specs.Tables.{AreOfLine, AfterEdit};
 
 use hc_cuts::line_keeping::Before;
 use hc_cuts::tasks::LineCuts;
-use hc_places::loads::Load;
+use hc_places::datagram_uses::DatagramUse;
 use hc_places::swap::ChangedTask;
 use hc_places::table::{Places, TaskTable};
 use hc_records::limits::TASKS;
@@ -20,26 +19,26 @@ use hc_records::task::Task;
 use std::alloc::{AllocError, Global};
 
 /// What a datagram of a task of the new line holds: a kept one what it held.
-fn load_in(
+fn datagram_use_in(
     alloc: Global,
     cuts: &LineCuts,
     old: &Places,
     before: &Before,
     task: Task,
     number: u16,
-) -> Result<Load, AllocError>
+) -> Result<DatagramUse, AllocError>
     requires { AreOfLine cuts.now }
-    ensures value { IfOk result (λ load. (was is : List Declared) → IsEdited was is old.now before.now cuts.now → load ≡ load_in (task_places task (line_from 1 is)) number) }
-    ensures low { IfOk result IsLoad }
+    ensures value { IfOk result (λ found. AfterEdit old.now before.now cuts.now (λ is. found ≡ datagram_use_in (task_places task (line_from 1 is)) number)) }
+    ensures low { IfOk result IsDatagramUse }
 {
-    if before.is_kept(cuts, task, number) {
-        return Ok(old.load(task.number(), number));
+    if before.is_unchanged(cuts, task, number) {
+        return Ok(old.datagram_use(task.number(), number));
     }
     let areas = cuts.datagram(alloc, task, number)?;
-    Ok(Load::of(areas.as_slice(), number))
+    Ok(DatagramUse::of(areas.as_slice(), number))
 }
 
-/// The table of a task of the new line: that of the old one, where no width differs in the task.
+/// The table of a task of the new line: the old one's, where no width differs in the task.
 fn new_table(
     alloc: Global,
     cuts: &LineCuts,
@@ -48,7 +47,7 @@ fn new_table(
     task: Task,
 ) -> Result<TaskTable, AllocError>
     requires { AreOfLine cuts.now }
-    ensures { IfOk result (λ table. (was is : List Declared) → IsEdited was is old.now before.now cuts.now → table ≡ task_table (line_from 1 is) task) }
+    ensures { IfOk result (λ table. AfterEdit old.now before.now cuts.now (λ is. table ≡ task_table (line_from 1 is) task)) }
 {
     if !before.is_touched(task) {
         // says that the task's number is below 8
@@ -57,9 +56,9 @@ fn new_table(
     }
     let mut table = TaskTable::empty();
     for number in 0..cuts.starts(task).len() {
-        let load = load_in(alloc, cuts, old, before, task, number as u16)?;
-        if load.length > 0 {
-            table.add(task, load);
+        let datagram_use = datagram_use_in(alloc, cuts, old, before, task, number as u16)?;
+        if datagram_use.length > 0 {
+            table.add(task, datagram_use);
         }
     }
     Ok(table)
@@ -73,7 +72,7 @@ fn new_tables(
     before: &Before,
 ) -> Result<Vec<TaskTable>, AllocError>
     requires { AreOfLine cuts.now }
-    ensures tables { IfOk result (λ tables. (was is : List Declared) → IsEdited was is old.now before.now cuts.now → tables.items ≡ map (task_table (line_from 1 is)) tasks) }
+    ensures tables { IfOk result (λ tables. AfterEdit old.now before.now cuts.now (λ is. tables.items ≡ map (task_table (line_from 1 is)) tasks)) }
     ensures eight { IfOk result (λ tables. length tables.items ≡ TASKS) }
 {
     let mut tables = Vec::with_capacity(alloc, usize::from(TASKS))?;
@@ -83,10 +82,10 @@ fn new_tables(
     Ok(tables)
 }
 
-/// The tasks whose tables an edit changes, with their new ones, in the order of their numbers: from the trees
-/// of the new line, the old line's table, and what was known of its tasks before they were turned. A task in which
-/// no width differs keeps its table, and what a kept datagram holds stands in the old table; the areas of each
-/// other one are gone over.
+/// The tasks whose tables an edit changes, with their new ones, in the order of their numbers: from the trees of
+/// the new line, the old line's table, and what was known of its tasks before they were turned. A task where no
+/// width differs keeps its table, and what a kept datagram holds is in the old table; the areas of each other one
+/// are gone over.
 /// `AllocError` where a growth was refused.
 pub fn changed_tasks(
     alloc: Global,
@@ -95,7 +94,7 @@ pub fn changed_tasks(
     before: &Before,
 ) -> Result<Vec<ChangedTask>, AllocError>
     requires { AreOfLine cuts.now }
-    ensures says { IfOk result (λ changed. (was is : List Declared) → IsEdited was is old.now before.now cuts.now → (task : ℕ) → IsNewTask (slice_get old.now.tasks task) (slice_get (table_of (line_from 1 is)).tasks task) (option_map (λ found. found.1) (find (λ found. found.0 == task) changed.items))) }
+    ensures says { IfOk result (λ changed. AfterEdit old.now before.now cuts.now (λ is. AreNewTasks old.now.tasks (table_of (line_from 1 is)).tasks changed.items)) }
     ensures ascends { IfOk result (λ changed. ChangesAscend changed.items) }
 {
     let tables = new_tables(alloc, cuts, old, before)?;

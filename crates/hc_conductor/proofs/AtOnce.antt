@@ -7,10 +7,10 @@ use Rattle.std.proofs.lemmas.List.Sums.{sum_by-cons}
 use Rattle.std.proofs.lemmas.List.Elements.{All-head, All-tail}
 use Rattle.std.proofs.lemmas.Grind.{common_steps}
 use Rattle.hc_events.specs.Calls.{AreSentTogether}
-use Rattle.hc_events.specs.Entries.{Record}
+use Rattle.hc_events.specs.Entries.{History}
 use Rattle.hc_events.specs.Outputs.{sent_data}
 use Rattle.hc_events.specs.Points.{line_of}
-use Rattle.hc_events.specs.Sendings.{Frame, size_of}
+use Rattle.hc_events.specs.Sendings.{Frame, sent_frame_size}
 use Rattle.hc_events.specs.Steps.{proposal, sent_text}
 use Rattle.hc_events.proofs.lemmas.Frames.{frames-sized}
 use Rattle.hc_lend.specs.Work.{CanWorkOnEach, numbered_parts, worked_parts}
@@ -19,7 +19,7 @@ use Rattle.hc_sendings.specs.PartTexts.{part_text}
 use Rattle.hc_sendings.specs.Parts.{part_size}
 use Rattle.hc_core.specs.Filled.{CanBeFilled}
 use Rattle.hc_core.proofs.lemmas.Parts.{part-long, parts}
-use Rattle.hc_conductor.specs.AtOnce.{CanFillPart, part_at, sizes_of, task_at}
+use Rattle.hc_conductor.specs.AtOnce.{CanFillPart, part_written_at, sizes_of, task_at}
 
 -- ---- the parts' bytes are the frames' bytes
 
@@ -36,36 +36,36 @@ sum_of_map : {A : Type 0} (f : A → ℕ) (xs : List A) → sum (map f xs) ≡ s
 sum_of_map f [] = refl
 sum_of_map f (x ∷ xs) = sum_by-cons (λ (n : ℕ). n) (f x) (map f xs) ∙ ap (λ n. f x + n) (sum_of_map f xs) ∙ sym (sum_by-cons f x xs)
 
-pub sizes-whole : (past : Record) (tasks : List ℕ) → AreSentTogether tasks → sum (sizes_of past (proposal past tasks) tasks) ≡ sum_by size_of (proposal past tasks)
-sizes-whole past tasks together =
-    let frames = proposal past tasks in
-    let part : ℕ → List ℕ = λ task. part_text (sent_data past) task frames in
-    sum_of_map (λ task. part_size (line_of past) task frames) tasks
-    ∙ sums_alike (λ task. part_size (line_of past) task frames) (λ task. length (part task)) (λ task. sym (part-long past task frames)) tasks
+pub sizes-whole : (history : History) (tasks : List ℕ) → AreSentTogether tasks → sum (sizes_of history (proposal history tasks) tasks) ≡ sum_by sent_frame_size (proposal history tasks)
+sizes-whole history tasks together =
+    let frames = proposal history tasks in
+    let part : ℕ → List ℕ = λ task. part_text (sent_data history) task frames in
+    sum_of_map (λ task. part_size (line_of history) task frames) tasks
+    ∙ sums_alike (λ task. part_size (line_of history) task frames) (λ task. length (part task)) (λ task. sym (part-long history task frames)) tasks
     ∙ sym (length-flat_map part tasks)
-    ∙ ap length (parts past tasks together)
-    ∙ length-flat_map (sent_text past) frames
-    ∙ sums_of_all (λ frame. length (sent_text past frame)) size_of frames (frames-sized past tasks)
+    ∙ ap length (parts history tasks together)
+    ∙ length-flat_map (sent_text history) frames
+    ∙ sums_of_all (λ frame. length (sent_text history frame)) sent_frame_size frames (frames-sized history tasks)
 
 -- ---- each part can be filled
 
 size_at : (f : ℕ → ℕ) (tasks : List ℕ) (k d : ℕ) → k < length tasks → slice_index_or (map f tasks) k d ≡ f (slice_index_or tasks k 0)
 size_at f tasks k d low = grind (arith, common_steps)
 
-pub parts-fillable : (past : Record) (frames : List Frame) (tasks lengths bytes : List ℕ) → All (CanBeFilled past) frames → lengths ≡ sizes_of past frames tasks → sum lengths ≡ length bytes
-    → CanWorkOnEach (CanFillPart past frames tasks) 0 lengths bytes
-parts-fillable past frames tasks lengths bytes can sizes all k d below =
-    let f : ℕ → ℕ = λ task. part_size (line_of past) task frames in
+pub parts-fillable : (history : History) (frames : List Frame) (tasks lengths bytes : List ℕ) → All (CanBeFilled history) frames → lengths ≡ sizes_of history frames tasks → sum lengths ≡ length bytes
+    → CanWorkOnEach (CanFillPart history frames tasks) 0 lengths bytes
+parts-fillable history frames tasks lengths bytes can sizes all k d below =
+    let f : ℕ → ℕ = λ task. part_size (line_of history) task frames in
     let inside : k < length lengths = omega (arith, length-numbered_parts 0 lengths bytes, below) in
-    let stands : k < length tasks = omega (arith, inside, ap length sizes, length-map tasks f) in
+    let is_placed : k < length tasks = omega (arith, inside, ap length sizes, length-map tasks f) in
     let number : (slice_index_or (numbered_parts 0 lengths bytes) k d).0 ≡ k = omega (arith, number-numbered_parts 0 lengths bytes k d inside) in
     record {
       filled = can;
-      stands = omega (arith, number, stands);
+      is_placed = omega (arith, number, is_placed);
       exact =
           length-numbered_part 0 lengths bytes k d all inside
           ∙ ap (λ (ls : List ℕ). slice_index_or ls k 0) sizes
-          ∙ size_at f tasks k 0 stands
+          ∙ size_at f tasks k 0 is_placed
           ∙ ap (λ n. f (task_at tasks n)) (sym number);
     }
 
@@ -81,7 +81,7 @@ worked_from text all (task ∷ rest) first (n ∷ ns) bytes long same =
 worked_from text all [] first (n ∷ ns) bytes long same = absurd (omega (arith, long))
 worked_from text all (task ∷ rest) first [] bytes long same = absurd (omega (arith, long))
 
-pub parts-joined : (past : Record) (tasks lengths bytes : List ℕ) → AreSentTogether tasks → length lengths ≡ length tasks
-    → concat (worked_parts (λ part b. part_at past (proposal past tasks) tasks part) 0 lengths bytes) ≡ flat_map (sent_text past) (proposal past tasks)
-parts-joined past tasks lengths bytes together long =
-    worked_from (λ task. part_text (sent_data past) task (proposal past tasks)) tasks tasks 0 lengths bytes long (λ k low. ap (task_at tasks) (omega arith)) ∙ parts past tasks together
+pub parts-joined : (history : History) (tasks lengths bytes : List ℕ) → AreSentTogether tasks → length lengths ≡ length tasks
+    → concat (worked_parts (λ part b. part_written_at history (proposal history tasks) tasks part) 0 lengths bytes) ≡ flat_map (sent_text history) (proposal history tasks)
+parts-joined history tasks lengths bytes together long =
+    worked_from (λ task. part_text (sent_data history) task (proposal history tasks)) tasks tasks 0 lengths bytes long (λ k low. ap (task_at tasks) (omega arith)) ∙ parts history tasks together

@@ -9,13 +9,13 @@ use Rattle.hc_rings.specs.declared.posts.PostReceiver.{PostReceiver}
 use Rattle.hc_rings.specs.declared.posts.PostSender.{PostSender}
 use Rattle.hc_rings.specs.Post.{Post}
 use Rattle.hc_rings.specs.Ring.{posted, taken}
-use Rattle.hc_publish.specs.Seats.{IsFresh}
+use Rattle.hc_publish.specs.Seats.{SeatIsAtOpening}
 use Rattle.hc_publish.specs.Stories.{Origin}
 use Rattle.hc_conductor.specs.declared.seat.TaskSeat.{TaskSeat}
 use Rattle.hc_conductor.specs.Openings.{IsUnused}
 use Rattle.hc_conductor.specs.Seats as seats
-use Rattle.hc_conductor.specs.Seats.{known, seat_of, seat_origin, sender}
-use Rattle.hc_conductor.specs.Together.{EachRing, IsWhole, posts_waiting, waiting_between}
+use Rattle.hc_conductor.specs.Seats.{seat_known, seat_of, task_seat_origin, sender}
+use Rattle.hc_conductor.specs.Together.{EachRing, LostNoBuffer, posts_waiting, waiting_between}
 use Rattle.hc_conductor.proofs.Takings.{whole-list}
 
 -- what is the same of each, is so of one
@@ -58,27 +58,27 @@ all-empty (x ∷ xs) all =
 
 -- ---- seats that were opened
 
-pub fresh-known : (o : Origin) (ss : List TaskSeat) → All (IsFresh o) (map seat_of ss) → map known ss ≡ replicate (length ss) []
+pub fresh-known : (o : Origin) (ss : List TaskSeat) → All (SeatIsAtOpening o) (map seat_of ss) → map seat_known ss ≡ replicate (length ss) []
 fresh-known o [] all = refl
 fresh-known o (s ∷ ss) all =
-    ap (λ l. l ∷ map known ss) (All-head (IsFresh o) (seat_of s) (map seat_of ss) all).0 ∙ ap (λ ls. [] ∷ ls) (fresh-known o ss (All-tail (IsFresh o) (seat_of s) (map seat_of ss) all))
+    ap (λ l. l ∷ map seat_known ss) (All-head (SeatIsAtOpening o) (seat_of s) (map seat_of ss) all).0 ∙ ap (λ ls. [] ∷ ls) (fresh-known o ss (All-tail (SeatIsAtOpening o) (seat_of s) (map seat_of ss) all))
 
-pub fresh-origins : (o : Origin) (ss : List TaskSeat) → All (IsFresh o) (map seat_of ss) → map seat_origin ss ≡ replicate (length ss) o
+pub fresh-origins : (o : Origin) (ss : List TaskSeat) → All (SeatIsAtOpening o) (map seat_of ss) → map task_seat_origin ss ≡ replicate (length ss) o
 fresh-origins o [] all = refl
 fresh-origins o (s ∷ ss) all =
-    ap (λ l. l ∷ map seat_origin ss) (All-head (IsFresh o) (seat_of s) (map seat_of ss) all).1 ∙ ap (λ ls. o ∷ ls) (fresh-origins o ss (All-tail (IsFresh o) (seat_of s) (map seat_of ss) all))
+    ap (λ l. l ∷ map task_seat_origin ss) (All-head (SeatIsAtOpening o) (seat_of s) (map seat_of ss) all).1 ∙ ap (λ ls. o ∷ ls) (fresh-origins o ss (All-tail (SeatIsAtOpening o) (seat_of s) (map seat_of ss) all))
 
-pub unused-held : (ss : List TaskSeat) → All IsUnused (map sender ss) → map seats.held ss ≡ replicate (length ss) None
+pub unused-held : (ss : List TaskSeat) → All IsUnused (map sender ss) → map seats.seat_held ss ≡ replicate (length ss) None
 unused-held [] all = refl
 unused-held (s ∷ ss) all =
-    ap (λ l. l ∷ map seats.held ss) (All-head IsUnused (sender s) (map sender ss) all).1 ∙ ap (λ ls. None ∷ ls) (unused-held ss (All-tail IsUnused (sender s) (map sender ss) all))
+    ap (λ l. l ∷ map seats.seat_held ss) (All-head IsUnused (sender s) (map sender ss) all).1 ∙ ap (λ ls. None ∷ ls) (unused-held ss (All-tail IsUnused (sender s) (map sender ss) all))
 
 drop_none : (n : ℕ) (xs : List Post) → xs ≡ [] → drop n xs ≡ []
 drop_none zero xs e = e
 drop_none (suc n) [] e = refl
 drop_none (suc n) (x ∷ xs) e = absurd (cc)
 
-pub unused-waiting : (ss : List PostSender) (rs : List PostReceiver) → EachRing IsWhole ss rs → All IsUnused ss → posts_waiting ss rs ≡ replicate (length ss) []
+pub unused-waiting : (ss : List PostSender) (rs : List PostReceiver) → EachRing LostNoBuffer ss rs → All IsUnused ss → posts_waiting ss rs ≡ replicate (length ss) []
 unused-waiting [] rs each all = refl
 unused-waiting (s ∷ ss) [] each all = absurd each
 unused-waiting (s ∷ ss) (r ∷ rs) each all =

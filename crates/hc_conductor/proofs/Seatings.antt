@@ -9,6 +9,6 @@ use Rattle.std.proofs.lemmas.Grind.{common_steps}
 pub moved-on : {A B : Type 0} (f : A → B) (all more : List A) (a : A) (before left items : List B) → more ≡ all ++ a ∷ [] → before ≡ f a ∷ left → map f all ++ before ≡ items → map f more ++ left ≡ items
 moved-on f all more a before left items e step i = grind (arith, common_steps)
 
--- each is told by its place, and so is one more
-pub told-on : {A : Type 0} (f : A → ℕ) (g : ℕ → ℕ) (all more : List A) (a : A) → more ≡ all ++ a ∷ [] → f a ≡ g (length all) → map f all ≡ map g (range_with_len 0 (length all)) → map f more ≡ map g (range_with_len 0 (length more))
-told-on f g all more a e own i = grind (arith, common_steps, map-range_with_len_more, map-append, length-append)
+-- each is given by its place, and so is one more
+pub answer_given-on : {A : Type 0} (f : A → ℕ) (g : ℕ → ℕ) (all more : List A) (a : A) → more ≡ all ++ a ∷ [] → f a ≡ g (length all) → map f all ≡ map g (range_with_len 0 (length all)) → map f more ≡ map g (range_with_len 0 (length more))
+answer_given-on f g all more a e own i = grind (arith, common_steps, map-range_with_len_more, map-append, length-append)

@@ -13,7 +13,7 @@ use Rattle.hc_rings.specs.Post.{Post}
 use Rattle.hc_rings.specs.Ring.{given_back, left, posted, taken}
 use Rattle.hc_rings.proofs.lemmas.Same.{ends-still, sender-same}
 use Rattle.hc_conductor.specs.Taking.{AreTaken, AreTakenFrom, EachTakesKnown, TakesKnown}
-use Rattle.hc_conductor.specs.Together.{AreJoined, EachRing, IsWhole, KnowAll, posts_waiting, waiting_between}
+use Rattle.hc_conductor.specs.Together.{AreJoined, EachRing, LostNoBuffer, KnowAll, posts_waiting, waiting_between}
 
 -- ---- one post that is known comes out
 
@@ -23,10 +23,10 @@ first_known n (x ∷ l) m b few p = grind (arith, common_steps)
 
 pub one-known : (n : ℕ) (old mid back new : PostReceiver) (post : Post) → IsPrefix (left old) (post ∷ left mid) → taken mid ≡ taken old ++ post ∷ []
     → taken back ≡ taken mid → left back ≡ left mid → TakesKnown n back new → TakesKnown (suc n) old new
-one-known n old mid back new post first one behind still others few =
+one-known n old mid back new post first one after_it still others few =
     let known = first_known n (left old) (left mid) post few first in
     others (omega (arith, known.0, ap length still))
-    ∙ (ap (λ ps. ps ++ take n (left back)) (behind ∙ one)
+    ∙ (ap (λ ps. ps ++ take n (left back)) (after_it ∙ one)
     ∙ (append_assoc (taken old) (post ∷ []) (take n (left back))
     ∙ ap (λ ps. taken old ++ ps) (ap (λ l. post ∷ take n l) still ∙ sym known.1)))
 
@@ -37,7 +37,7 @@ one-known n old mid back new post first one behind still others few =
 record AllTaken (s : PostSender) (r r' : PostReceiver) (posts : List Post) : Type 0 where
   pub posts_are : posts ≡ waiting_between s r
   pub joined : AreJoined s r'
-  pub whole : IsWhole s r → IsWhole s r'
+  pub whole : LostNoBuffer s r → LostNoBuffer s r'
   pub none : waiting_between s r' ≡ []
 
 drop_all : {X : Type 0} (xs : List X) → drop (length xs) xs ≡ []
@@ -81,7 +81,7 @@ ring-taken n most s r r' posts all count takes came =
 pub record EachTaken (ss : List PostSender) (rs rs' : List PostReceiver) (posts : List (List Post)) : Type 0 where
   pub posts_are : posts ≡ posts_waiting ss rs
   pub joined : EachRing AreJoined ss rs'
-  pub whole : EachRing IsWhole ss rs → EachRing IsWhole ss rs'
+  pub whole : EachRing LostNoBuffer ss rs → EachRing LostNoBuffer ss rs'
   pub none : All (λ ps. ps ≡ []) (posts_waiting ss rs')
 
 abbrev IsEmpty : List Post → Type 0
@@ -115,9 +115,9 @@ pub waiting-taken : (ss0 ss : List PostSender) (ns : List ℕ) (rs0 rs1 rs rs' :
     → posts_waiting ss rs1 ≡ posts_waiting ss0 rs0 → ns ≡ map length (posts_waiting ss0 rs0) → EachTakesKnown ns rs rs' → AreTaken rs rs' posts
     → (posts ≡ posts_waiting ss0 rs0) × EachTaken ss rs rs' posts
 waiting-taken ss0 ss ns rs0 rs1 rs rs' posts know same waits count takes came =
-    let kept = sym waits ∙ ap (posts_waiting ss) same in
-    let all = all-taken ss ns rs rs' posts (subst (EachRing KnowAll ss) same know) (count ∙ ap (λ (pss : List (List Post)). map length pss) kept) takes came in (
-      all.posts_are ∙ sym kept,
+    let unchanged = sym waits ∙ ap (posts_waiting ss) same in
+    let all = all-taken ss ns rs rs' posts (subst (EachRing KnowAll ss) same know) (count ∙ ap (λ (pss : List (List Post)). map length pss) unchanged) takes came in (
+      all.posts_are ∙ sym unchanged,
       all,
     )
 

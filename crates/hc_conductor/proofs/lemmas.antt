@@ -3,4 +3,4 @@ pub mod Crossing
 pub mod Images
 pub mod Joined
 -- What other crates cite.
-pub mod Told
+pub mod AnswerGiven

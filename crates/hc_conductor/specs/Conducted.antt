@@ -5,8 +5,8 @@ use Rattle.hc_conductor.specs.Conducting.{Conducting, IsConducting}
 
 -- core, publisher, the waiting changes with the oldest first, and the rings of posts
 abbrev pub conducting_in : Inside → Conducting
-conducting_in c = record { core = c.core; board = c.publisher; waiting = reverse c.waiting.items; rings = c.rings.items }
+conducting_in c = record { core = c.core; published_state = c.publisher; waiting = reverse c.waiting.items; rings = c.rings.items }
 
 -- what is true of every conductor
-abbrev pub Stands : Inside → Type 0
-Stands c = IsConducting (conducting_in c)
+abbrev pub IsSoundConductor : Inside → Type 0
+IsSoundConductor c = IsConducting (conducting_in c)

@@ -7,5 +7,5 @@ abbrev pub mastering_in : Inside → Mastering
 mastering_in m = record { conductor = m.conductor; seats = m.seats.items }
 
 -- what is true of every master
-abbrev pub Stands : Inside → Type 0
-Stands m = IsMastering (mastering_in m)
+abbrev pub IsSoundMaster : Inside → Type 0
+IsSoundMaster m = IsMastering (mastering_in m)

@@ -1,7 +1,7 @@
 -- What is opened, and why nothing is.
 use Rattle.std.specs.Prelude.{◌≡◌, ℕ, List, [], ◌∷◌, None, Some}
 use Rattle.hc_records.specs.declared.records.Group.{Group}
-use Rattle.hc_records.specs.Edits.{crowded_task}
+use Rattle.hc_records.specs.Edits.{over_limit_task}
 use Rattle.hc_records.specs.Line.{line, opened}
 use Rattle.hc_records.specs.Project.{lowest_fault}
 use Rattle.hc_places.specs.Table.{Table, part_in}
@@ -14,11 +14,11 @@ use Rattle.hc_rings.specs.Ring.{ArePostEnds, PostsEach, held, posted}
 -- the groups are a project's, and no task of its opened line needs more than 16 datagrams
 pub record IsOpenable (groups : List Group) : Type 0 where
   pub project : lowest_fault groups ≡ None
-  pub uncrowded : crowded_task (line (opened groups)) ≡ None
+  pub uncrowded : over_limit_task (line (opened groups)) ≡ None
 
 -- a fault with a task names the lowest task of the opened line that needs more than 16 datagrams; a seat is refused only where the groups can be opened; a growth may be refused of any
 abbrev pub IsOpenFault : List Group → OpenFault → Type 0
-IsOpenFault groups (TooManyDatagrams task) = crowded_task (line (opened groups)) ≡ Some task
+IsOpenFault groups (TooManyDatagrams task) = over_limit_task (line (opened groups)) ≡ Some task
 IsOpenFault groups Memory = Unit {0}
 IsOpenFault groups NoSeat = IsOpenable groups
 

@@ -19,41 +19,41 @@ abbrev pub seat_of : TaskSeat → Seat
 seat_of s = s.viewer.seat
 
 -- the longest list that it saw or learnt
-abbrev pub known : TaskSeat → List Change
-known s = inner.known (seat_of s)
+abbrev pub seat_known : TaskSeat → List Change
+seat_known s = inner.known (seat_of s)
 
 -- which conductor it belongs to
-abbrev pub seat_origin : TaskSeat → Origin
-seat_origin s = inner.seat_origin (seat_of s)
+abbrev pub task_seat_origin : TaskSeat → Origin
+task_seat_origin s = inner.seat_origin (seat_of s)
 
 -- its task
-abbrev pub task_of : TaskSeat → ℕ
-task_of s = (seat_of s).task
+abbrev pub seat_task : TaskSeat → ℕ
+seat_task s = (seat_of s).task
 
 -- the epoch that it viewed last, 0 before any view
-abbrev pub epoch_of : TaskSeat → ℕ
-epoch_of s = s.viewer.epoch
+abbrev pub seat_epoch : TaskSeat → ℕ
+seat_epoch s = s.viewer.epoch
 
 -- the bytes of the task's outputs in that epoch, in the opening's before any view
-abbrev pub size_of : TaskSeat → ℕ
-size_of s = s.viewer.size
+abbrev pub outputs_size : TaskSeat → ℕ
+outputs_size s = s.viewer.size
 
 -- its end of the ring of its posts
 abbrev pub sender : TaskSeat → PostSender
 sender s = s.posts
 
 -- every post that it made, oldest first
-abbrev pub posted : TaskSeat → List Post
-posted s = ring.posted s.posts
+abbrev pub seat_posted : TaskSeat → List Post
+seat_posted s = ring.posted s.posts
 
--- the outputs that wait to be posted, as they stand now
-abbrev pub held : TaskSeat → Option Post
-held s = ring.held s.posts
+-- the outputs that wait to be posted, as they are now
+abbrev pub seat_held : TaskSeat → Option Post
+seat_held s = ring.held s.posts
 
 -- each buffer that was handed out was posted or is held: so it is of every seat that was opened
-abbrev pub PostsEach : TaskSeat → Type 0
-PostsEach s = ring.PostsEach s.posts
+abbrev pub SeatPostsEach : TaskSeat → Type 0
+SeatPostsEach s = ring.PostsEach s.posts
 
 -- nothing of its posts has changed, nor what was viewed last
 abbrev pub SamePosts : TaskSeat → TaskSeat → Type 0
-SamePosts s t = (sender t ≡ sender s) × (epoch_of t ≡ epoch_of s) × (size_of t ≡ size_of s)
+SamePosts s t = (sender t ≡ sender s) × (seat_epoch t ≡ seat_epoch s) × (outputs_size t ≡ outputs_size s)

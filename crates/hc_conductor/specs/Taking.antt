@@ -2,7 +2,7 @@
 use Rattle.std.specs.Prelude.{◌≡◌, ℕ, ◌+◌, ◌≤◌, Bool, true, false, if◌then◌else◌, List, [], ◌∷◌, ◌++◌, filter, length, map, take}
 use Rattle.hc_events.specs.declared.answer.Answer.{Answer}
 use Rattle.hc_events.specs.declared.answer.Answer.TheVariants as answer
-use Rattle.hc_events.specs.Entries.{Record}
+use Rattle.hc_events.specs.Entries.{History}
 use Rattle.hc_events.specs.Steps.{Posts, Step, answers_to, entries_after_all}
 use Rattle.hc_rings.specs.declared.posts.TheConstants.{POSTS_WAITING}
 use Rattle.hc_rings.specs.declared.posts.PostReceiver.{PostReceiver}
@@ -10,7 +10,7 @@ use Rattle.hc_rings.specs.Post.{Post}
 use Rattle.hc_rings.specs.Ring.{SameReceiver, given_back, left, spare_places, taken}
 use Rattle.hc_core.specs.State.{CoreState}
 use Rattle.hc_conductor.specs.declared.taking.Taken.{Taken}
-use Rattle.hc_conductor.specs.Conducting.{Conducting, past_of}
+use Rattle.hc_conductor.specs.Conducting.{Conducting, core_history}
 
 -- a task's post, as an event
 abbrev pub event_of : ℕ → Post → Step
@@ -20,28 +20,28 @@ event_of task post = Posts task post.epoch post.bytes
 abbrev pub events_of : ℕ → List Post → List Step
 events_of task posts = map (event_of task) posts
 
--- the posts of tasks, of which the first has this number, ascending, as events
+-- the posts of tasks from this number on, ascending, as events
 abbrev pub events_of_all : ℕ → List (List Post) → List Step
 events_of_all task [] = []
 events_of_all task (posts ∷ others) = events_of task posts ++ events_of_all (task + 1) others
 
 -- the post was accepted
-abbrev pub is_posted : Answer → Bool
-is_posted answer.Posted = true
-is_posted other = false
+abbrev pub was_accepted : Answer → Bool
+was_accepted answer.Posted = true
+was_accepted other = false
 
 -- how many of the events, one after another, the core accepts as posts
-abbrev pub posted_in : Record → List Step → ℕ
-posted_in past steps = length (filter is_posted (answers_to past steps))
+abbrev pub posted_in : History → List Step → ℕ
+posted_in history steps = length (filter was_accepted (answers_to history steps))
 
 -- one where it is so, else none
 abbrev pub one_if : Bool → ℕ
 one_if b = if b then 1 else 0
 
 -- accepted and refused count the events: a post is refused that the core refuses, and then leaves its record as it was
-pub record Counts (past : Record) (steps : List Step) (told : Taken) : Type 0 where
-  pub accepted : told.accepted ≡ posted_in past steps
-  pub all : told.accepted + told.refused ≡ length steps
+pub record CountsPosts (history : History) (steps : List Step) (answer_given : Taken) : Type 0 where
+  pub accepted : answer_given.accepted ≡ posted_in history steps
+  pub all : answer_given.accepted + answer_given.refused ≡ length steps
 
 -- these posts, so many at most, came out of the ring, in order. Their buffers went back, where a place for each was known; no other buffer did
 pub record AreTakenFrom (most : ℕ) (old new : PostReceiver) (posts : List Post) : Type 0 where
@@ -58,32 +58,32 @@ TakesKnown n old new = n ≤ length (left old) → taken new ≡ taken old ++ ta
 -- of each ring so many, where they are known
 abbrev pub EachTakesKnown : List ℕ → List PostReceiver → List PostReceiver → Type 0
 EachTakesKnown [] [] [] = Unit {0}
-EachTakesKnown (n ∷ ns) (old ∷ olds) (new ∷ news) = TakesKnown n old new × EachTakesKnown ns olds news
-EachTakesKnown ns olds news = ⊥
+EachTakesKnown (n ∷ ns) (old ∷ olds) (new ∷ updates) = TakesKnown n old new × EachTakesKnown ns olds updates
+EachTakesKnown ns olds updates = ⊥
 
 -- of each ring these, at most four
 abbrev pub AreTaken : List PostReceiver → List PostReceiver → List (List Post) → Type 0
 AreTaken [] [] [] = Unit {0}
-AreTaken (old ∷ olds) (new ∷ news) (posts ∷ others) = AreTakenFrom POSTS_WAITING old new posts × AreTaken olds news others
-AreTaken olds news others = ⊥
+AreTaken (old ∷ olds) (new ∷ updates) (posts ∷ others) = AreTakenFrom POSTS_WAITING old new posts × AreTaken olds updates others
+AreTaken olds updates others = ⊥
 
 -- some posts of a task's ring, so many at most, became events of the core, in order
-pub record TakesFrom (task most : ℕ) (before after : CoreState) (old new : PostReceiver) (told : Taken) : Type 0 where
+pub record TakesFrom (task most : ℕ) (before after : CoreState) (old new : PostReceiver) (answer_given : Taken) : Type 0 where
   pub posts : List Post
   pub ring : AreTakenFrom most old new posts
-  pub core : after ≡ record before { past = entries_after_all before.past (events_of task posts) }
-  pub counts : Counts before.past (events_of task posts) told
+  pub core : after ≡ record before { history = entries_after_all before.history (events_of task posts) }
+  pub counts : CountsPosts before.history (events_of task posts) answer_given
 
--- so did some of each ring, of which the first is this task's
-pub record TakesFromAll (task : ℕ) (before after : CoreState) (old new : List PostReceiver) (told : Taken) : Type 0 where
+-- so did some of each ring, from this task's on
+pub record TakesFromAll (task : ℕ) (before after : CoreState) (old new : List PostReceiver) (answer_given : Taken) : Type 0 where
   pub posts : List (List Post)
   pub rings : AreTaken old new posts
-  pub core : after ≡ record before { past = entries_after_all before.past (events_of_all task posts) }
-  pub counts : Counts before.past (events_of_all task posts) told
+  pub core : after ≡ record before { history = entries_after_all before.history (events_of_all task posts) }
+  pub counts : CountsPosts before.history (events_of_all task posts) answer_given
 
 -- some posts of each ring became events of the core, and nothing else did: the tasks ascending and each ring's posts in order
-pub record TakesPosts (old new : Conducting) (told : Taken) : Type 0 where
+pub record TakesPosts (old new : Conducting) (answer_given : Taken) : Type 0 where
   pub posts : List (List Post)
   pub rings : AreTaken old.rings new.rings posts
-  pub entries : past_of new ≡ entries_after_all (past_of old) (events_of_all 0 posts)
-  pub counts : Counts (past_of old) (events_of_all 0 posts) told
+  pub entries : core_history new ≡ entries_after_all (core_history old) (events_of_all 0 posts)
+  pub counts : CountsPosts (core_history old) (events_of_all 0 posts) answer_given

@@ -4,7 +4,7 @@ use mathlib.Core.List.{IsPrefix}
 use Rattle.hc_rings.specs.declared.posts.TheConstants.{POSTS_WAITING, SPARE_BUFFERS}
 use Rattle.hc_rings.specs.declared.posts.PostReceiver.{PostReceiver}
 use Rattle.hc_rings.specs.declared.posts.PostSender.{PostSender}
-use Rattle.hc_rings.specs.Post.{Post, count_of}
+use Rattle.hc_rings.specs.Post.{Post, post_count}
 use Rattle.hc_rings.specs.Ring.{ArePostEnds, PostsEach, given_back, held, known_places, known_spares, left, posted, spare_places, taken}
 
 -- the posts that wait to be taken, the oldest first
@@ -23,8 +23,8 @@ pub record AreJoined (s : PostSender) (r : PostReceiver) : Type 0 where
   pub each : PostsEach s
   pub back : length (given_back r) ≤ SPARE_BUFFERS + length (taken r)
 
--- the two ends of one ring, of which no buffer was lost: each that was handed out was posted or is held, and each that was taken came back
-pub record IsWhole (s : PostSender) (r : PostReceiver) : Type 0 where
+-- the two ends of one ring that lost no buffer: each that was handed out was posted or is held, and each that was taken came back
+pub record LostNoBuffer (s : PostSender) (r : PostReceiver) : Type 0 where
   pub ends : ArePostEnds s r
   pub each : PostsEach s
   pub back : length (given_back r) ≡ SPARE_BUFFERS + length (taken r)
@@ -35,7 +35,7 @@ pub record KnowAll (s : PostSender) (r : PostReceiver) : Type 0 where
   pub joined : AreJoined s r
   pub order : IsPrefix (taken r) (posted s)
   pub left_are : left r ≡ waiting_between s r
-  pub spares : known_spares s + count_of (held s) + length (left r) + length (taken r) ≡ length (given_back r)
+  pub spares : known_spares s + post_count (held s) + length (left r) + length (taken r) ≡ length (given_back r)
   pub places : POSTS_WAITING + 1 ≤ known_places s + length (left r)
   pub room : length (left r) ≤ spare_places r
 

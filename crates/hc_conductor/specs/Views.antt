@@ -1,28 +1,33 @@
 -- What clauses see of a task's view.
 use Rattle.std.specs.Prelude.{ℕ, List}
+use Rattle.hc_places.specs.Table.{Table}
 use Rattle.hc_events.specs.declared.change.Change.{Change}
-use Rattle.hc_publish.specs.Told.{Told}
+use Rattle.hc_publish.specs.ChangesSince.{ChangesSince, table_shown}
 use Rattle.hc_publish.specs.Looks as inner
 use Rattle.hc_publish.specs.Stories.{Origin}
 use Rattle.hc_rings.specs.declared.posts.PostSender.{PostSender}
 use Rattle.hc_conductor.specs.declared.view.TaskView.{TaskView}
 
--- what the copy was told that it looks at
-abbrev pub told_to : TaskView → Told
-told_to v = v.view.told
+-- what the copy got that it looks at
+abbrev pub answered_to : TaskView → ChangesSince
+answered_to v = v.view.changes_since
+
+-- the table of what it shows
+abbrev pub view_table : TaskView → Table
+view_table v = table_shown (answered_to v)
 
 -- the changes that it shows
-abbrev pub shown : TaskView → List Change
-shown v = inner.shown v.view
+abbrev pub view_shown : TaskView → List Change
+view_shown v = inner.shown v.view
 
 -- which conductor its seat belongs to
-abbrev pub view_origin : TaskView → Origin
-view_origin v = inner.view_origin v.view
+abbrev pub task_view_origin : TaskView → Origin
+task_view_origin v = inner.view_origin v.view
 
 -- its task
-abbrev pub task_of : TaskView → ℕ
-task_of v = v.view.task
+abbrev pub view_task : TaskView → ℕ
+view_task v = v.view.task
 
 -- its seat's end of the ring of its posts
-abbrev pub sender : TaskView → PostSender
-sender v = v.posts
+abbrev pub view_sender : TaskView → PostSender
+view_sender v = v.posts

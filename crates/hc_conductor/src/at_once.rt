@@ -4,16 +4,16 @@ ghost use Rattle.std.specs.List.{flat_map};
 ghost use Rattle.hc_records.specs.Lists.{lowest};
 ghost use Rattle.hc_frames.specs.declared.limits.TheConstants.{SETUP_SERIAL};
 ghost use Rattle.hc_events.specs.declared.faults.CoreFault.TheVariants.{Memory};
-ghost use Rattle.hc_events.specs.Calls.{AreSentTogether, frames_size, send_into_faults};
+ghost use Rattle.hc_events.specs.Calls.{AreSentTogether, send_into_faults, arena_sent};
 ghost use Rattle.hc_events.specs.Owed.{owed_blocks};
-ghost use Rattle.hc_events.specs.Sendings.{size_of};
+ghost use Rattle.hc_events.specs.Sendings.{sent_frame_size};
 ghost use Rattle.hc_events.specs.Steps.{SendsTasks, entries_after, proposal, sent_text};
 ghost use Rattle.hc_sendings.specs.Refusals.{early_faults};
 ghost use Rattle.hc_core.specs.Filled.{CanBeFilled};
 ghost use Rattle.hc_core.specs.Proposed.{IsProposal};
 ghost use Rattle.hc_core.specs.declared.arena.TheConstants.{LARGEST_FRAME};
-ghost use Rattle.hc_conductor.specs.AtOnce.{CanFillPart, part_at, sizes_of};
-ghost use Rattle.hc_conductor.specs.Conducting.{SameLists, past_of};
+ghost use Rattle.hc_conductor.specs.AtOnce.{CanFillPart, part_written_at, sizes_of};
+ghost use Rattle.hc_conductor.specs.Conducting.{SameLists, core_history};
 
 use crate::conductor::Conductor;
 use hc_core::keeping::Core;
@@ -33,22 +33,22 @@ struct TaskParts<'a> {
 }
 
 impl PartWork for TaskParts<'_> {
-    ghost can_work = { λ parts part bytes. CanFillPart parts.core.now.past parts.frames.now parts.tasks.now part bytes };
+    ghost can_work = { λ parts part bytes. CanFillPart parts.core.now.history parts.frames.now parts.tasks.now part bytes };
 
-    ghost leaves = { λ parts part bytes. part_at parts.core.now.past parts.frames.now parts.tasks.now part };
+    ghost leaves = { λ parts part bytes. part_written_at parts.core.now.history parts.frames.now parts.tasks.now part };
 
     fn work(&self, part: usize, bytes: &mut [u8]) {
         self.core.fill_part(self.frames, self.tasks[part], bytes);
     }
 }
 
-// The bytes of each task's part; there are eight tasks at most, so deep is this recursion.
+/// Writes the size of each task's part to `sizes`, in bytes. The recursion is as deep as there are tasks: eight at most.
 fn put_sizes(core: &Core, frames: &[Sending], tasks: &[u8], sizes: &mut [u32])
-    requires can { All (CanBeFilled core.now.past) frames.now }
+    requires can { All (CanBeFilled core.now.history) frames.now }
     requires few { length frames.now ≤ SETUP_SERIAL }
     requires exact { length sizes.old ≡ length tasks.now }
-    requires small { sum (sizes_of core.now.past frames.now tasks.now) < 2 ^ 32 }
-    ensures { sizes.new ≡ sizes_of core.now.past frames.now tasks.now }
+    requires small { sum (sizes_of core.now.history frames.now tasks.now) < 2 ^ 32 }
+    ensures { sizes.new ≡ sizes_of core.now.history frames.now tasks.now }
 {
     let Some((task, rest)) = tasks.split_first() else {
         return;
@@ -58,7 +58,7 @@ fn put_sizes(core: &Core, frames: &[Sending], tasks: &[u8], sizes: &mut [u32])
     put_sizes(core, frames, rest, others);
 }
 
-// Fills the frames of a proposal into a slice of their exact size, each task's part by a worker of its own.
+/// Fills the frames of a proposal into an arena of exactly their size. Each task's part has a worker of its own.
 fn fill_at_once<R: Threads + Sync, G: Gate + Sync>(
     rt: &R,
     core: &Core,
@@ -68,15 +68,15 @@ fn fill_at_once<R: Threads + Sync, G: Gate + Sync>(
     gate: &G,
 )
     requires together { AreSentTogether tasks.now }
-    requires proposal { frames.now ≡ proposal core.now.past tasks.now }
-    requires can { All (CanBeFilled core.now.past) frames.now }
+    requires proposal { frames.now ≡ proposal core.now.history tasks.now }
+    requires can { All (CanBeFilled core.now.history) frames.now }
     requires few { length frames.now ≤ SETUP_SERIAL }
-    requires present { IsProposal core.now.past frames.now }
-    requires most { sum_by size_of frames.now ≤ LARGEST_FRAME * length frames.now }
-    requires exact { length arena.old ≡ sum_by size_of frames.now }
-    ensures { arena.new ≡ flat_map (sent_text core.now.past) frames.now }
+    requires present { IsProposal core.now.history frames.now }
+    requires most { sum_by sent_frame_size frames.now ≤ LARGEST_FRAME * length frames.now }
+    requires exact { length arena.old ≡ sum_by sent_frame_size frames.now }
+    ensures { arena.new ≡ flat_map (sent_text core.now.history) frames.now }
 {
-    // no task of a plan is crowded, so the frames are few
+    // no task of a plan is over its limit, so the frames are few
     let _ = core.plan().places();
     let mut sizes = [0; TASKS as usize];
     let sizes = &mut sizes[..tasks.len()];
@@ -89,7 +89,8 @@ fn fill_at_once<R: Threads + Sync, G: Gate + Sync>(
     each_at_once(rt, Parts::of(arena, sizes), &work, gate);
 }
 
-// Fills them at the front of the arena.
+/// Fills the frames of a proposal into the first `size` bytes of the arena. Each task's part has a worker of its own. The rest
+/// of the arena stays as it was.
 fn fill_front_at_once<R: Threads + Sync, G: Gate + Sync>(
     rt: &R,
     core: &Core,
@@ -100,14 +101,14 @@ fn fill_front_at_once<R: Threads + Sync, G: Gate + Sync>(
     gate: &G,
 )
     requires together { AreSentTogether tasks.now }
-    requires proposal { frames.now ≡ proposal core.now.past tasks.now }
-    requires can { All (CanBeFilled core.now.past) frames.now }
+    requires proposal { frames.now ≡ proposal core.now.history tasks.now }
+    requires can { All (CanBeFilled core.now.history) frames.now }
     requires few { length frames.now ≤ SETUP_SERIAL }
-    requires present { IsProposal core.now.past frames.now }
+    requires present { IsProposal core.now.history frames.now }
     requires most { size ≤ LARGEST_FRAME * length frames.now }
-    requires size { size ≡ sum_by size_of frames.now }
+    requires size { size ≡ sum_by sent_frame_size frames.now }
     requires room { size ≤ length arena.old }
-    ensures { arena.new ≡ flat_map (sent_text core.now.past) frames.now ++ drop size arena.old }
+    ensures { arena.new ≡ flat_map (sent_text core.now.history) frames.now ++ drop size arena.old }
 {
     let (front, _) = arena.split_at_mut(size);
     fill_at_once(rt, core, tasks, frames, front, gate);
@@ -115,9 +116,9 @@ fn fill_front_at_once<R: Threads + Sync, G: Gate + Sync>(
 
 impl Conductor {
     /// Tasks are sent as `send` sends them, with the same answers, frames and bytes, each task's part of the arena written
-    /// by a worker of its own, all at once. Each worker calls the gate once, with its task's place among the tasks,
-    /// before it writes. It returns once all are done. A part for which the system makes no thread is written in this
-    /// one; no clause says that the workers run at once.
+    /// by a worker of its own, all at once. Each worker calls the gate once, with its task's place among the tasks, before
+    /// it writes. It returns once all are done. A part is written in this thread where the system makes none for it; no
+    /// clause says that the workers run at once.
     pub fn send_at_once<R: Threads + Sync, G: Gate + Sync>(
         &mut self,
         rt: &R,
@@ -127,13 +128,13 @@ impl Conductor {
         gate: &G,
     ) -> Result<Vec<Sending>, CoreFault>
         requires { AreSentTogether tasks.now }
-        ensures frames { IfOk result (λ frames. frames.items ≡ proposal (past_of self.old) tasks.now) }
-        ensures sent { OnOk result (arena.new ≡ flat_map (sent_text (past_of self.old)) (proposal (past_of self.old) tasks.now) ++ drop (frames_size (past_of self.old) tasks.now) arena.old) }
-        ensures accepted { OnOk result (lowest (send_into_faults (past_of self.old) tasks.now (length arena.old)) ≡ None) }
-        ensures entries { OnOk result (past_of self.new ≡ entries_after (past_of self.old) (SendsTasks tasks.now)) }
+        ensures frames { IfOk result (λ frames. frames.items ≡ proposal (core_history self.old) tasks.now) }
+        ensures sent { OnOk result (arena.new ≡ arena_sent (core_history self.old) tasks.now arena.old) }
+        ensures accepted { OnOk result (lowest (send_into_faults (core_history self.old) tasks.now (length arena.old)) ≡ None) }
+        ensures entries { OnOk result (core_history self.new ≡ entries_after (core_history self.old) (SendsTasks tasks.now)) }
         ensures lists { SameLists self.old self.new }
-        ensures refused { IfErr result (λ fault. fault ≢ Memory → lowest (send_into_faults (past_of self.old) tasks.now (length arena.old)) ≡ Some fault) }
-        ensures early { IfSome (lowest (early_faults (length (owed_blocks (past_of self.old))) tasks.now)) (λ fault. result ≡ Err fault) }
+        ensures refused { IfErr result (λ fault. fault ≢ Memory → lowest (send_into_faults (core_history self.old) tasks.now (length arena.old)) ≡ Some fault) }
+        ensures early { IfSome (lowest (early_faults (length (owed_blocks (core_history self.old))) tasks.now)) (λ fault. result ≡ Err fault) }
         ensures unchanged { OnErr result (self.new ≡ self.old) }
         ensures untouched { OnErr result (arena.new ≡ arena.old) }
     {

@@ -16,7 +16,7 @@ pub struct Conductor {
 }
 
 impl Model for Conductor {
-    ghost use Rattle.hc_conductor.specs.Conducted.{Stands, conducting_in};
+    ghost use Rattle.hc_conductor.specs.Conducted.{IsSoundConductor, conducting_in};
     ghost use Rattle.hc_conductor.specs.Conducting.{Conducting};
     ghost use Rattle.hc_rings.specs.contracts.posts.PostReceiver as receiver;
     ghost use Rattle.std.specs.Coded.{codes};
@@ -27,5 +27,5 @@ impl Model for Conductor {
 
     ghost view = { conducting_in };
 
-    ghost invariant = { Stands };
+    ghost invariant = { IsSoundConductor };
 }

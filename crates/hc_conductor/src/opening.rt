@@ -6,12 +6,12 @@ ghost use Rattle.hc_records.specs.Line.{line, opened};
 ghost use Rattle.hc_places.specs.Table.{table_of};
 ghost use Rattle.hc_events.specs.Accepted.{just_opened};
 ghost use Rattle.hc_publish.specs.Seats as inner;
-ghost use Rattle.hc_publish.specs.Seats.{IsFresh};
+ghost use Rattle.hc_publish.specs.Seats.{SeatIsAtOpening};
 ghost use Rattle.hc_rings.specs.declared.post_buffer.TheConstants.{LARGEST_IMAGE};
-ghost use Rattle.hc_conductor.specs.Conducting.{origin_of, pending, published};
+ghost use Rattle.hc_conductor.specs.Conducting.{conductor_origin, conductor_pending, conductor_published};
 ghost use Rattle.hc_conductor.specs.Openings.{AreEnds, IsOpenFault, IsOpenable, IsUnused, output_bytes};
-ghost use Rattle.hc_conductor.specs.Seats.{epoch_of, seat_of, sender, size_of};
-ghost use Rattle.hc_conductor.specs.Together.{EachRing, IsWhole};
+ghost use Rattle.hc_conductor.specs.Seats.{seat_epoch, seat_of, sender, outputs_size};
+ghost use Rattle.hc_conductor.specs.Together.{EachRing, LostNoBuffer};
 
 use crate::conductor::Conductor;
 use crate::seat::TaskSeat;
@@ -27,9 +27,10 @@ use hc_rings::{PostReceiver, PostSender, post_ring};
 use std::alloc::{AllocError, Global};
 use std::sync::Wait;
 
-// The core at the opening.
+/// The core of a project at its opening. `TooManyDatagrams` with the lowest task that needs more than 16 datagrams; `Memory` if
+/// a growth is refused.
 fn core_of(alloc: Global, project: Project) -> Result<Core, OpenFault>
-    ensures opened { IfOk result (λ core. core ≡ record { past = just_opened project; taken = just_opened project }) }
+    ensures opened { IfOk result (λ core. core ≡ record { history = just_opened project; taken = just_opened project }) }
     ensures openable { OnOk result (IsOpenable project) }
     ensures refused { IfErr result (IsOpenFault project) }
 {
@@ -40,11 +41,11 @@ fn core_of(alloc: Global, project: Project) -> Result<Core, OpenFault>
     }
 }
 
-// Both ends of a ring of posts for each task.
+/// Both ends of a ring of posts for each of the eight tasks. `AllocError` if a growth is refused.
 fn rings(alloc: Global) -> Result<(Vec<PostSender>, Vec<PostReceiver>), AllocError>
     ensures count { IfOk result (λ ends. (length ends.0.items ≡ TASKS) × (length ends.1.items ≡ TASKS)) }
     ensures ends { IfOk result (λ ends. AreEnds ends.0.items ends.1.items) }
-    ensures whole { IfOk result (λ ends. EachRing IsWhole ends.0.items ends.1.items) }
+    ensures whole { IfOk result (λ ends. EachRing LostNoBuffer ends.0.items ends.1.items) }
     ensures unused { IfOk result (λ ends. All IsUnused ends.0.items) }
 {
     let mut senders = Vec::with_capacity(alloc, usize::from(TASKS))?;
@@ -57,7 +58,7 @@ fn rings(alloc: Global) -> Result<(Vec<PostSender>, Vec<PostReceiver>), AllocErr
     Ok((senders, receivers))
 }
 
-// Each seat for its task, with its end of the task's ring.
+/// The seat of each task, in order, with its end of the task's ring, epoch 0, and the size of its outputs in bytes.
 fn task_seats(
     room: Vec<TaskSeat>,
     seats: Vec<Seat>,
@@ -72,8 +73,8 @@ fn task_seats(
     requires fits { (task : ℕ) → output_bytes places.now task ≤ LARGEST_IMAGE }
     ensures seats { map seat_of result.items ≡ seats.items }
     ensures senders { map sender result.items ≡ senders.items }
-    ensures epochs { All (λ seat. epoch_of seat ≡ 0) result.items }
-    ensures sizes { map size_of result.items ≡ map (output_bytes places.now) (range_with_len 0 (length seats.items)) }
+    ensures epochs { All (λ seat. seat_epoch seat ≡ 0) result.items }
+    ensures sizes { map outputs_size result.items ≡ map (output_bytes places.now) (range_with_len 0 (length seats.items)) }
 {
     let mut all = room;
     let mut senders = senders.into_iter();
@@ -93,7 +94,7 @@ fn task_seats(
 }
 
 /// Opens a project: a conductor whose core has it opened, where nothing is published yet, and a seat for each of the
-/// eight tasks, that of task i at place i. What a seat posts comes in at the conductor's ring of its task; it has the
+/// eight tasks, task i's at place i. What a seat posts comes in at the conductor's ring of its task; it has the
 /// opening's output bytes, and nothing is posted yet. `TooManyDatagrams` with the lowest task of the opening line that
 /// needs more than 16 datagrams; `Memory` where a growth was refused; `NoSeat` where a seat was. The project is then
 /// dropped. All growths but those of later events and changes are made here.
@@ -102,16 +103,16 @@ pub fn open<R: Wait>(
     alloc: Global,
     project: Project,
 ) -> Result<(Conductor, Vec<TaskSeat>), OpenFault>
-    ensures core { IfOk result (λ opened. opened.0.core ≡ record { past = just_opened project; taken = just_opened project }) }
-    ensures lists { IfOk result (λ opened. (published opened.0 ≡ []) × (pending opened.0 ≡ []) × (opened.0.waiting ≡ [])) }
-    ensures groups { IfOk result (λ opened. (origin_of opened.0).groups ≡ project) }
+    ensures core { IfOk result (λ opened. opened.0.core ≡ record { history = just_opened project; taken = just_opened project }) }
+    ensures lists { IfOk result (λ opened. (conductor_published opened.0 ≡ []) × (conductor_pending opened.0 ≡ []) × (opened.0.waiting ≡ [])) }
+    ensures groups { IfOk result (λ opened. (conductor_origin opened.0).groups ≡ project) }
     ensures tasks { IfOk result (λ opened. map inner.task_of (map seat_of opened.1.items) ≡ range_with_len 0 TASKS) }
-    ensures fresh { IfOk result (λ opened. All (IsFresh (origin_of opened.0)) (map seat_of opened.1.items)) }
+    ensures fresh { IfOk result (λ opened. All (SeatIsAtOpening (conductor_origin opened.0)) (map seat_of opened.1.items)) }
     ensures rings { IfOk result (λ opened. AreEnds (map sender opened.1.items) opened.0.rings) }
     ensures unused { IfOk result (λ opened. All IsUnused (map sender opened.1.items)) }
-    ensures whole { IfOk result (λ opened. EachRing IsWhole (map sender opened.1.items) opened.0.rings) }
-    ensures epochs { IfOk result (λ opened. All (λ seat. epoch_of seat ≡ 0) opened.1.items) }
-    ensures sizes { IfOk result (λ both. map size_of both.1.items ≡ map (output_bytes (table_of (line (opened project)))) (range_with_len 0 TASKS)) }
+    ensures whole { IfOk result (λ opened. EachRing LostNoBuffer (map sender opened.1.items) opened.0.rings) }
+    ensures epochs { IfOk result (λ opened. All (λ seat. seat_epoch seat ≡ 0) opened.1.items) }
+    ensures sizes { IfOk result (λ both. map outputs_size both.1.items ≡ map (output_bytes (table_of (line (opened project)))) (range_with_len 0 TASKS)) }
     ensures openable { OnOk result (IsOpenable project) }
     ensures refused { IfErr result (IsOpenFault project) }
 {

@@ -1,10 +1,10 @@
 //! Changes go from the core to the views.
 ghost use Rattle.std.specs.Prelude.{◌≡◌, [], ◌++◌, OnErr, OnOk, reverse};
+ghost use Rattle.hc_conductor.specs.Conducting.{changes_with, IsConducting, PublishesAll, all_taken, conductor_origin, core_history, conductor_pending, conductor_published};
 ghost use mathlib.Core.List.{IsPrefix};
 ghost use Rattle.hc_events.specs.Changes.{AreLegal};
-ghost use Rattle.hc_publish.specs.Board as board;
-ghost use Rattle.hc_publish.specs.Seats.{carried, note_origin};
-ghost use Rattle.hc_conductor.specs.Conducting.{IsConducting, TellsAll, all_taken, origin_of, past_of, pending, published};
+ghost use Rattle.hc_publish.specs.PublishedState as published_state;
+ghost use Rattle.hc_publish.specs.Seats.{noted_changes, note_origin};
 
 use crate::conductor::Conductor;
 use hc_core::keeping::Core;
@@ -15,12 +15,13 @@ use std::alloc::{AllocError, Global};
 use std::mem;
 use std::sync::Wait;
 
-// Appends changes from the back of the list. Where a growth is refused, the change goes back.
+/// Appends changes from the back of the list until it is empty. `AllocError` if a growth is refused; the change then goes back
+/// to the list's end.
 fn append_all(publisher: &mut Publisher, waiting: &mut Vec<Change>) -> Result<(), AllocError>
-    requires { AreLegal (board.origin_of publisher.old).groups (board.published publisher.old ++ board.pending publisher.old ++ reverse waiting.old.items) }
-    ensures published { board.published publisher.new ≡ board.published publisher.old }
-    ensures origin { board.origin_of publisher.new ≡ board.origin_of publisher.old }
-    ensures all { board.pending publisher.new ++ reverse waiting.new.items ≡ board.pending publisher.old ++ reverse waiting.old.items }
+    requires { AreLegal (published_state.origin_of publisher.old).groups (changes_with publisher.old waiting.old.items) }
+    ensures published { published_state.published publisher.new ≡ published_state.published publisher.old }
+    ensures origin { published_state.origin_of publisher.new ≡ published_state.origin_of publisher.old }
+    ensures all { published_state.pending publisher.new ++ reverse waiting.new.items ≡ published_state.pending publisher.old ++ reverse waiting.old.items }
     ensures whole { OnOk result (waiting.new.items ≡ []) }
 {
     while let Some(change) = waiting.pop() {
@@ -32,8 +33,8 @@ fn append_all(publisher: &mut Publisher, waiting: &mut Vec<Change>) -> Result<()
     Ok(())
 }
 
-// Hands the core the memory of good answers that both copies have taken in, for the next ones. No line has more
-// datagrams than 16 in each of the eight tasks.
+/// Hands the core the memory of good answers that both copies have taken in, for the next answers. A line has 16 datagrams in
+/// each of eight tasks at most, so there are no more.
 fn give_back(publisher: &Publisher, core: &mut Core)
     ensures { core.new ≡ core.old }
 {
@@ -46,24 +47,24 @@ fn give_back(publisher: &Publisher, core: &mut Core)
 }
 
 impl Conductor {
-    // Appends the changes that wait, in order.
+    /// Appends the waiting changes, in order. `AllocError` if a growth is refused; the rest then waits.
     fn append(&mut self) -> Result<(), AllocError>
         ensures core { self.new.core ≡ self.old.core }
-        ensures published { published self.new ≡ published self.old }
-        ensures origin { origin_of self.new ≡ origin_of self.old }
+        ensures published { conductor_published self.new ≡ conductor_published self.old }
+        ensures origin { conductor_origin self.new ≡ conductor_origin self.old }
         ensures all { all_taken self.new ≡ all_taken self.old }
         ensures whole { OnOk result (self.new.waiting ≡ []) }
         ensures rings { self.new.rings ≡ self.old.rings }
-        ensures stands { IsConducting self.new }
+        ensures is_placed { IsConducting self.new }
     {
         append_all(&mut self.publisher, &mut self.waiting)
     }
 
-    // Takes the core's changes, where none waits.
+    /// Takes the core's changes, while none waits.
     fn take_changes(&mut self, alloc: Global)
         requires { self.old.waiting ≡ [] }
-        ensures core { self.new.core ≡ record { past = past_of self.old; taken = past_of self.old } }
-        ensures board { self.new.board ≡ self.old.board }
+        ensures core { self.new.core ≡ record { history = core_history self.old; taken = core_history self.old } }
+        ensures published_state { self.new.published_state ≡ self.old.published_state }
         ensures more { IsPrefix (all_taken self.old) (all_taken self.new) }
         ensures rings { self.new.rings ≡ self.old.rings }
     {
@@ -73,35 +74,36 @@ impl Conductor {
         self.waiting = changes;
     }
 
-    // Shows all that was appended, where nothing waits.
+    /// Publishes all that was appended, while no change waits. `AllocError` if a growth is refused; what is shown is then as it
+    /// was.
     fn show<R: Wait>(&mut self, rt: &R) -> Result<(), AllocError>
         requires { self.old.waiting ≡ [] }
         ensures core { self.new.core ≡ self.old.core }
-        ensures origin { origin_of self.new ≡ origin_of self.old }
+        ensures origin { conductor_origin self.new ≡ conductor_origin self.old }
         ensures waiting { self.new.waiting ≡ [] }
         ensures all { all_taken self.new ≡ all_taken self.old }
-        ensures shown { OnOk result (pending self.new ≡ []) }
-        ensures kept { OnErr result (published self.new ≡ published self.old) }
+        ensures shown { OnOk result (conductor_pending self.new ≡ []) }
+        ensures unchanged { OnErr result (conductor_published self.new ≡ conductor_published self.old) }
         ensures rings { self.new.rings ≡ self.old.rings }
-        ensures stands { IsConducting self.new }
+        ensures is_placed { IsConducting self.new }
     {
         self.publisher.publish(rt)
     }
 
     /// Shows the views to come all that the core's events changed so far: the changes that wait from before are
     /// appended in order, then those of the core since the last taking, and then all of them are published. After Ok
-    /// the published list tells all the record's news. It waits while a view of the old copy lives. `AllocError`
-    /// where a growth was refused: then nothing new is published, nothing is lost or told twice, and a later call
-    /// goes on where this one stopped.
+    /// the published list says all the record's updates. It waits while a view of the old copy lives. `AllocError`
+    /// where a growth was refused: then nothing new is published, nothing is lost or reported twice, and a later
+    /// call goes on where this one stopped.
     pub fn publish<R: Wait>(&mut self, rt: &R, alloc: Global) -> Result<(), AllocError>
-        ensures record { past_of self.new ≡ past_of self.old }
-        ensures origin { origin_of self.new ≡ origin_of self.old }
+        ensures record { core_history self.new ≡ core_history self.old }
+        ensures origin { conductor_origin self.new ≡ conductor_origin self.old }
         ensures rings { self.new.rings ≡ self.old.rings }
         ensures all { IsPrefix (all_taken self.old) (all_taken self.new) }
-        ensures stands { IsConducting self.new }
-        ensures told { OnOk result (TellsAll self.new) }
-        ensures shown { OnOk result (published self.new ≡ all_taken self.new) }
-        ensures kept { OnErr result (published self.new ≡ published self.old) }
+        ensures is_placed { IsConducting self.new }
+        ensures answer_given { OnOk result (PublishesAll self.new) }
+        ensures shown { OnOk result (conductor_published self.new ≡ all_taken self.new) }
+        ensures unchanged { OnErr result (conductor_published self.new ≡ conductor_published self.old) }
     {
         self.append()?;
         self.take_changes(alloc);
@@ -113,17 +115,17 @@ impl Conductor {
 
     /// A note of what is published, for each seat of this conductor to learn.
     pub fn note(&self) -> Note
-        ensures carried { carried result ≡ published self.now }
-        ensures origin { note_origin result ≡ origin_of self.now }
+        ensures carried { noted_changes result ≡ conductor_published self.now }
+        ensures origin { note_origin result ≡ conductor_origin self.now }
     {
         self.publisher.note()
     }
 
-    /// The core, whose record is the conductor's. All that was taken from it tells the news of its record as it was
-    /// then (`stands`).
+    /// The core, whose record is the conductor's. All that was taken from it gives the updates of its record as it
+    /// was then (`is_placed`).
     pub fn core(&self) -> &Core
         ensures core { result.now ≡ self.now.core }
-        ensures stands { IsConducting self.now }
+        ensures is_placed { IsConducting self.now }
     {
         &self.core
     }

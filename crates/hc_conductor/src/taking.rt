@@ -4,7 +4,7 @@ ghost use Rattle.hc_records.specs.declared.limits.TheConstants.{TASKS};
 ghost use Rattle.hc_events.specs.Steps.{answer_to, entries_after};
 ghost use Rattle.hc_rings.specs.declared.posts.TheConstants.{POSTS_WAITING};
 ghost use Rattle.hc_conductor.specs.Conducting.{SameChanges};
-ghost use Rattle.hc_conductor.specs.Taking.{EachTakesKnown, TakesFrom, TakesFromAll, TakesKnown, TakesPosts, event_of, is_posted, one_if};
+ghost use Rattle.hc_conductor.specs.Taking.{EachTakesKnown, TakesFrom, TakesFromAll, TakesKnown, TakesPosts, event_of, was_accepted, one_if};
 
 use crate::conductor::Conductor;
 use hc_core::keeping::Core;
@@ -26,7 +26,7 @@ const NOTHING: Taken = Taken {
     refused: 0,
 };
 
-// One more post.
+/// The count with one more post, accepted or refused.
 fn with_one(others: Taken, is_accepted: bool) -> Taken
     requires { others.accepted + others.refused < POSTS_WAITING }
     ensures accepted { result.accepted ≡ one_if is_accepted + others.accepted }
@@ -46,10 +46,10 @@ fn with_one(others: Taken, is_accepted: bool) -> Taken
     }
 }
 
-// Hands the core a task's post, and tells whether it was accepted.
+/// Hands the core a task's post, and answers whether the core accepted it.
 fn is_accepted(core: &mut Core, task: u8, post: &PostBuffer) -> bool
-    ensures core { core.new ≡ record core.old { past = entries_after core.old.past (event_of task post.now) } }
-    ensures told { is_posted (answer_to core.old.past (event_of task post.now)) ≡ result }
+    ensures core { core.new ≡ record core.old { history = entries_after core.old.history (event_of task post.now) } }
+    ensures answer_given { was_accepted (answer_to core.old.history (event_of task post.now)) ≡ result }
 {
     match core.post(task, post.epoch(), post.bytes()) {
         Ok(()) => true,
@@ -57,7 +57,8 @@ fn is_accepted(core: &mut Core, task: u8, post: &PostBuffer) -> bool
     }
 }
 
-// Hands the core posts of a task's ring, so many at most; so deep is this recursion.
+/// Hands the core up to `most` posts of a task's ring, the oldest first, and counts them. The recursion is as deep as there are
+/// posts: four at most.
 fn take_some(core: &mut Core, task: u8, ring: &mut PostReceiver, most: u32) -> Taken
     requires { most ≤ POSTS_WAITING }
     ensures taken { TakesFrom task most core.old core.new ring.old ring.new result }
@@ -74,8 +75,8 @@ fn take_some(core: &mut Core, task: u8, ring: &mut PostReceiver, most: u32) -> T
     with_one(take_some(core, task, ring, most - 1), accepted)
 }
 
-// Hands the core posts of each ring, of each so many at most, the first ring being this task's; there are eight, so deep
-// is this recursion.
+/// Hands the core up to `most` posts of each ring, and counts them. The first ring is the given task's, the next one the next
+/// task's. The recursion is as deep as there are rings: eight at most.
 pub(crate) fn take_all(core: &mut Core, task: u8, rings: &mut [PostReceiver], most: &[u32]) -> Taken
     requires tasks { task + length rings.old ≤ TASKS }
     requires each { length most.now ≡ length rings.old }

@@ -2,10 +2,10 @@
 ghost use Rattle.std.specs.Prelude.{◌≡◌, All, [], length, map};
 ghost use Rattle.hc_events.specs.Steps.{entries_after_all};
 ghost use Rattle.hc_rings.specs.Ring as ring;
-ghost use Rattle.hc_conductor.specs.Conducting.{SameChanges, past_of};
+ghost use Rattle.hc_conductor.specs.Conducting.{SameChanges, core_history};
 ghost use Rattle.hc_conductor.specs.Seats.{sender, viewer_of};
-ghost use Rattle.hc_conductor.specs.Taking.{Counts, events_of_all};
-ghost use Rattle.hc_conductor.specs.Together.{AreJoined, EachRing, IsWhole, KnowAll, posts_waiting};
+ghost use Rattle.hc_conductor.specs.Taking.{CountsPosts, events_of_all};
+ghost use Rattle.hc_conductor.specs.Together.{AreJoined, EachRing, LostNoBuffer, KnowAll, posts_waiting};
 
 use crate::conductor::Conductor;
 use crate::seat::TaskSeat;
@@ -13,12 +13,13 @@ use crate::taking::{Taken, take_all};
 use hc_records::limits::TASKS;
 use hc_rings::PostReceiver;
 
-// Lets both ends of each ring know what the other did, and counts what waits; there are eight, so deep is this recursion.
+/// Brings both ends of each ring up to date with one another, and writes to `counts` how many posts wait. The recursion is as
+/// deep as there are seats: eight at most.
 fn look(rings: &mut [PostReceiver], seats: &mut [TaskSeat], counts: &mut [u32])
     requires joined { EachRing AreJoined (map sender seats.old) rings.old }
     requires each { length counts.old ≡ length seats.old }
     ensures known { EachRing KnowAll (map sender seats.new) rings.new }
-    ensures whole { EachRing IsWhole (map sender seats.old) rings.old → EachRing IsWhole (map sender seats.new) rings.new }
+    ensures whole { EachRing LostNoBuffer (map sender seats.old) rings.old → EachRing LostNoBuffer (map sender seats.new) rings.new }
     ensures viewers { map viewer_of seats.new ≡ map viewer_of seats.old }
     ensures held { map ring.held (map sender seats.new) ≡ map ring.held (map sender seats.old) }
     ensures waiting { posts_waiting (map sender seats.new) rings.new ≡ posts_waiting (map sender seats.old) rings.old }
@@ -40,18 +41,18 @@ fn look(rings: &mut [PostReceiver], seats: &mut [TaskSeat], counts: &mut [u32])
 impl Conductor {
     /// How many posts of each task wait to be taken, task i's at place i, for a thread that holds the conductor and all
     /// its seats, in the order of their tasks; also where they worked in threads of their own before. Each seat then
-    /// knows of a place for every post that doesn't wait, and of every buffer that is free: so its next `post` is refused
-    /// for no want of a place, and its next `hold`, where no buffer of its ring was lost, just where four of its posts
-    /// wait. It waits for nobody and takes no memory.
+    /// knows of a place for every post that doesn't wait, and of every buffer that is free: so its next `post` isn't
+    /// refused for a missing place, and its next `hold`, where its ring lost no buffer, is refused just where four of its
+    /// posts wait. It waits for nobody and takes no memory.
     pub fn posts_waiting(&mut self, seats: &mut [TaskSeat]) -> [u32; TASKS as usize]
         requires { EachRing AreJoined (map sender seats.old) self.old.rings }
         ensures known { EachRing KnowAll (map sender seats.new) self.new.rings }
-        ensures whole { EachRing IsWhole (map sender seats.old) self.old.rings → EachRing IsWhole (map sender seats.new) self.new.rings }
+        ensures whole { EachRing LostNoBuffer (map sender seats.old) self.old.rings → EachRing LostNoBuffer (map sender seats.new) self.new.rings }
         ensures viewers { map viewer_of seats.new ≡ map viewer_of seats.old }
         ensures held { map ring.held (map sender seats.new) ≡ map ring.held (map sender seats.old) }
         ensures waiting { posts_waiting (map sender seats.new) self.new.rings ≡ posts_waiting (map sender seats.old) self.old.rings }
         ensures counts { result ≡ map length (posts_waiting (map sender seats.old) self.old.rings) }
-        ensures record { past_of self.new ≡ past_of self.old }
+        ensures record { core_history self.new ≡ core_history self.old }
         ensures changes { SameChanges self.old self.new }
     {
         let mut counts = [0; TASKS as usize];
@@ -65,11 +66,11 @@ impl Conductor {
     /// takes no memory.
     pub fn take_all_posts(&mut self, seats: &mut [TaskSeat]) -> Taken
         requires { EachRing AreJoined (map sender seats.old) self.old.rings }
-        ensures entries { past_of self.new ≡ entries_after_all (past_of self.old) (events_of_all 0 (posts_waiting (map sender seats.old) self.old.rings)) }
-        ensures counts { Counts (past_of self.old) (events_of_all 0 (posts_waiting (map sender seats.old) self.old.rings)) result }
+        ensures entries { core_history self.new ≡ entries_after_all (core_history self.old) (events_of_all 0 (posts_waiting (map sender seats.old) self.old.rings)) }
+        ensures counts { CountsPosts (core_history self.old) (events_of_all 0 (posts_waiting (map sender seats.old) self.old.rings)) result }
         ensures changes { SameChanges self.old self.new }
         ensures joined { EachRing AreJoined (map sender seats.new) self.new.rings }
-        ensures whole { EachRing IsWhole (map sender seats.old) self.old.rings → EachRing IsWhole (map sender seats.new) self.new.rings }
+        ensures whole { EachRing LostNoBuffer (map sender seats.old) self.old.rings → EachRing LostNoBuffer (map sender seats.new) self.new.rings }
         ensures none { All (λ posts. posts ≡ []) (posts_waiting (map sender seats.new) self.new.rings) }
         ensures viewers { map viewer_of seats.new ≡ map viewer_of seats.old }
         ensures held { map ring.held (map sender seats.new) ≡ map ring.held (map sender seats.old) }

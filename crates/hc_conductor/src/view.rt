@@ -1,6 +1,6 @@
 //! What a task looks at.
 ghost use Rattle.std.specs.Prelude.{◌≤◌, ℕ};
-ghost use Rattle.hc_publish.specs.Told.{table_shown};
+ghost use Rattle.hc_publish.specs.ChangesSince.{table_shown};
 ghost use Rattle.hc_rings.specs.declared.post_buffer.TheConstants.{LARGEST_IMAGE};
 ghost use Rattle.hc_conductor.specs.Openings.{IsOpenable, output_bytes};
 
@@ -13,6 +13,6 @@ mod reading;
 pub struct TaskView {
     pub(crate) view: View,
     pub(crate) posts: PostSender,
-    ghost openable: { IsOpenable view.told.groups },
-    ghost fits: { (task : ℕ) → output_bytes (table_shown view.told) task ≤ LARGEST_IMAGE },
+    ghost openable: { IsOpenable view.changes_since.groups },
+    ghost fits: { (task : ℕ) → output_bytes (table_shown view.changes_since) task ≤ LARGEST_IMAGE },
 }

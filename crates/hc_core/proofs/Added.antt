@@ -8,16 +8,16 @@ use Rattle.hc_events.specs.declared.answer.Answer.TheVariants as answer
 use Rattle.hc_events.specs.declared.answer.Outcome.{Outcome}
 use Rattle.hc_events.specs.Answering.{Judged, Verdict, Good, Wrong, Stale, judged_by}
 use Rattle.hc_events.specs.Arrivals.{Arrival, Part}
-use Rattle.hc_events.specs.Changes.{Answered, news_of}
-use Rattle.hc_events.specs.Entries.{Record, Came}
+use Rattle.hc_events.specs.Changes.{Answered, updates_of}
+use Rattle.hc_events.specs.Entries.{History, Came}
 use Rattle.hc_events.specs.Heads.{Datagram, Block, Head, Item}
-use Rattle.hc_events.specs.Images.{fresh, fresh_by, fresh_item}
-use Rattle.hc_events.specs.Steps.{inputs_of, outcome_for, outcome_of, told_of, wrong_of}
-use Rattle.hc_core.specs.Goods.{is_inputs}
-use Rattle.hc_core.proofs.Told.{are-inputs}
+use Rattle.hc_events.specs.Images.{new_answer, new_answer_by, new_answer_item}
+use Rattle.hc_events.specs.Steps.{inputs_of, outcome_for, outcome_of, judged_answer, wrong_of}
+use Rattle.hc_core.specs.GoodAnswers.{is_inputs}
+use Rattle.hc_core.proofs.AnswerGiven.{are-inputs}
 
 -- a judged datagram is counted once where it is a good answer, and not else
-item_counted : (item : Item) (bytes : List ℕ) → length (fresh_item item bytes) ≡ cond (is_inputs (inputs_of item)) 1 0
+item_counted : (item : Item) (bytes : List ℕ) → length (new_answer_item item bytes) ≡ cond (is_inputs (inputs_of item)) 1 0
 item_counted (Datagram task d) bytes = refl
 item_counted (Block station number) bytes = refl
 
@@ -25,28 +25,28 @@ wrong_counted : (item : Item) (expected got : ℕ) → ◌≡◌ {A = ℕ} 0 (co
 wrong_counted (Datagram task d) expected got = refl
 wrong_counted (Block station number) expected got = refl
 
-one_counted : (head : Head) (part : Part) (verdict : Verdict) → length (fresh (record { head = head; part = part; verdict = verdict })) ≡ cond (is_inputs (outcome_of head part verdict)) 1 0
+one_counted : (head : Head) (part : Part) (verdict : Verdict) → length (new_answer (record { head = head; part = part; verdict = verdict })) ≡ cond (is_inputs (outcome_of head part verdict)) 1 0
 one_counted head part Good = item_counted head.item part.bytes
 one_counted head part Wrong = wrong_counted head.item head.expected part.counter
 one_counted head part Stale = refl
 
-all_counted : (judged : List Judged) → length (flat_map fresh judged) ≡ count_by is_inputs (map outcome_for judged)
+all_counted : (judged : List Judged) → length (flat_map new_answer judged) ≡ count_by is_inputs (map outcome_for judged)
 all_counted [] = refl
 all_counted (item ∷ judged) =
-    length-append (fresh item) (flat_map fresh judged)
-    ∙ ap (λ (n : ℕ). n + length (flat_map fresh judged)) (one_counted item.head item.part item.verdict)
+    length-append (new_answer item) (flat_map new_answer judged)
+    ∙ ap (λ (n : ℕ). n + length (flat_map new_answer judged)) (one_counted item.head item.part item.verdict)
     ∙ ap (λ (n : ℕ). cond (is_inputs (outcome_for item)) 1 0 + n) (all_counted judged)
     ∙ sym (sum_by-cons (λ outcome. cond (is_inputs outcome) 1 0) (outcome_for item) (map outcome_for judged))
 
 -- an arrival adds so many as it has good answers
-news_added : (past : Record) (arrival : Arrival) → length (news_of (Came arrival ∷ past)) ≡ length (news_of past) + length (fresh_by past arrival)
-news_added past arrival = omega (arith, length-append (news_of past) (map Answered (fresh_by past arrival)), length-map (fresh_by past arrival) Answered)
+updates_added : (history : History) (arrival : Arrival) → length (updates_of (Came arrival ∷ history)) ≡ length (updates_of history) + length (new_answer_by history arrival)
+updates_added history arrival = omega (arith, length-append (updates_of history) (map Answered (new_answer_by history arrival)), length-map (new_answer_by history arrival) Answered)
 
-pub inputs-added : (past : Record) (arrival : Arrival) (outcomes : List Outcome) → told_of (judged_by past arrival) ≡ answer.Answered outcomes
-    → length (news_of (Came arrival ∷ past)) ≡ length (news_of past) + count_by is_inputs outcomes
-inputs-added past arrival outcomes told =
-    news_added past arrival
-    ∙ ap (λ (n : ℕ). length (news_of past) + n) (all_counted (judged_by past arrival) ∙ ap (λ (all : List Outcome). count_by is_inputs all) (sym (are-inputs (judged_by past arrival) outcomes told).told))
+pub inputs-added : (history : History) (arrival : Arrival) (outcomes : List Outcome) → judged_answer (judged_by history arrival) ≡ answer.Answered outcomes
+    → length (updates_of (Came arrival ∷ history)) ≡ length (updates_of history) + count_by is_inputs outcomes
+inputs-added history arrival outcomes answer_given =
+    updates_added history arrival
+    ∙ ap (λ (n : ℕ). length (updates_of history) + n) (all_counted (judged_by history arrival) ∙ ap (λ (all : List Outcome). count_by is_inputs all) (sym (are-inputs (judged_by history arrival) outcomes answer_given).answer_given))
 
-pub none-added : (past : Record) (arrival : Arrival) → fresh_by past arrival ≡ [] → length (news_of (Came arrival ∷ past)) ≡ length (news_of past) + 0
-none-added past arrival none = news_added past arrival ∙ ap (λ goods. length (news_of past) + length goods) none
+pub none-added : (history : History) (arrival : Arrival) → new_answer_by history arrival ≡ [] → length (updates_of (Came arrival ∷ history)) ≡ length (updates_of history) + 0
+none-added history arrival none = updates_added history arrival ∙ ap (λ good_answers. length (updates_of history) + length good_answers) none

@@ -20,19 +20,19 @@ use Rattle.hc_records.proofs.lemmas.Lines.{declared_slaves}
 use Rattle.hc_records.proofs.lemmas.Projects.{project-few}
 use Rattle.hc_events.proofs.lemmas.BlockSizes.{Sized, line-sized}
 use Rattle.hc_plan.specs.Configuration.{block_at}
-use Rattle.hc_plan.specs.Reports.{name_of}
+use Rattle.hc_plan.specs.Reports.{found_name}
 use Rattle.hc_plan.proofs.lemmas.Configured.{configured-block}
 use Rattle.hc_events.specs.declared.answer.Outcome.{Outcome}
 use Rattle.hc_events.specs.Heads.{Head, Item, Datagram, Block}
 use Rattle.hc_events.specs.Sendings.{has_room}
 use Rattle.hc_events.specs.WriteFrames.{block_bytes, blocks_beside, blocks_bytes}
-use Rattle.hc_owed.specs.Board.{Board, Knowledge, kept_of, lacks}
-use Rattle.hc_owed.specs.Laws.{IsKeptAt, IsNextOwed, known_with, owed_from, same_name}
+use Rattle.hc_owed.specs.RegisterState.{RegisterState, Knowledge, register_state_of, lacks}
+use Rattle.hc_owed.specs.Laws.{IsRightAt, IsNextOwed, known_with, owed_from, same_name}
 use Rattle.hc_owed.specs.declared.owed.OwedBlock.{OwedBlock}
 use Rattle.hc_sendings.specs.declared.write_frames.PlacedBlock.{PlacedBlock}
 use Rattle.hc_sendings.specs.declared.writes.AwaitedBlock.{AwaitedBlock}
-use Rattle.hc_sendings.specs.WriteFrames.{WriteFrame, block_of, joined}
-use Rattle.hc_core.specs.Chosen.{CanConfirm, CanMark, IsAwaitedAt, IsChosenFrom, IsNext, IsPlaced, bytes_of, is_done, known_if}
+use Rattle.hc_sendings.specs.WriteFrames.{WriteFrame, block_of, block_joined}
+use Rattle.hc_core.specs.Chosen.{CanConfirm, CanMark, IsAwaitedAt, IsChosenFrom, IsNext, IsLineBlock, block_bytes_in, write_is_done, known_if}
 
 -- which blocks a frame carries
 
@@ -69,7 +69,7 @@ chosen-zero known state place most frame none =
 
 -- a block joins, and then those after it
 pub chosen-more : (known : Knowledge) (state : State) (place most left : ℕ) (old new : WriteFrame) (next : PlacedBlock) → IsNext known state place next → has_room old.bytes (length next.block.block.bytes) ≡ true
-    → most ≡ suc left → IsChosenFrom known state (next.place + 1) left (joined next old) new → IsChosenFrom known state place most old new
+    → most ≡ suc left → IsChosenFrom known state (next.place + 1) left (block_joined next old) new → IsChosenFrom known state place most old new
 chosen-more known state place most left old new next is room more step =
     let later = take left (blocks_beside (old.bytes + block_bytes next.block) (owed_from known state (next.place + 1))) in
     let beside : blocks_beside old.bytes (owed_from known state place) ≡ next.block ∷ blocks_beside (old.bytes + block_bytes next.block) (owed_from known state (next.place + 1)) =
@@ -81,7 +81,7 @@ chosen-more known state place most left old new next is room more step =
       blocks = step.blocks ∙ ap (λ front. front ++ later) (map-append block_of old.blocks (next ∷ [])) ∙ append_assoc (map block_of old.blocks) (next.block ∷ []) later
           ∙ ap (λ more. map block_of old.blocks ++ more) (sym all);
       bytes = subst (λ more. new.bytes ≡ old.bytes + blocks_bytes more) (sym all) (omega (arith, step.bytes, sum));
-      placed = λ at. step.placed (All-append (IsPlaced state) old.blocks (next ∷ []) at (All-cons (IsPlaced state) next [] is.at (All-nil (IsPlaced state))));
+      placed = λ at. step.placed (All-append (IsLineBlock state) old.blocks (next ∷ []) at (All-cons (IsLineBlock state) next [] is.at (All-nil (IsLineBlock state))));
     }
 
 -- blocks that are sent
@@ -92,27 +92,27 @@ lacks_with known name block lacking =
     (λ t. ap (λ b. not (option_map_or (bytes_eq block.block.bytes) (cond b None (known block.station block.number)) false)) t)
     (λ t. ap (λ b. not (option_map_or (bytes_eq block.block.bytes) (cond b None (known block.station block.number)) false)) t ∙ lacking)
 
-abbrev pub mark-first : (board : Board) (placed : PlacedBlock) (rest : List PlacedBlock) (can : CanMark board (placed ∷ rest)) → IsKeptAt board placed.place can.known can.state placed.block
-mark-first board placed rest can = record { right = can.right; project = can.project; stands = All-head (IsPlaced can.state) placed rest can.placed }
+abbrev pub mark-first : (register_state : RegisterState) (placed : PlacedBlock) (rest : List PlacedBlock) (can : CanMark register_state (placed ∷ rest)) → IsRightAt register_state placed.place can.known can.state placed.block
+mark-first register_state placed rest can = record { right = can.right; project = can.project; is_placed = All-head (IsLineBlock can.state) placed rest can.placed }
 
-pub mark-lacks : (board : Board) (placed : PlacedBlock) (rest : List PlacedBlock) (can : CanMark board (placed ∷ rest)) → lacks can.known placed.block ≡ true
-mark-lacks board placed rest can = All-head (λ (one : PlacedBlock). lacks can.known one.block ≡ true) placed rest can.lacking
+pub mark-lacks : (register_state : RegisterState) (placed : PlacedBlock) (rest : List PlacedBlock) (can : CanMark register_state (placed ∷ rest)) → lacks can.known placed.block ≡ true
+mark-lacks register_state placed rest can = All-head (λ (one : PlacedBlock). lacks can.known one.block ≡ true) placed rest can.lacking
 
-abbrev pub mark-rest : (board new : Board) (placed : PlacedBlock) (rest : List PlacedBlock) (can : CanMark board (placed ∷ rest)) → new ≡ kept_of (known_with (name_of placed.block) None can.known) can.state → CanMark new rest
-mark-rest board new placed rest can sent = record {
-  known = known_with (name_of placed.block) None can.known;
+abbrev pub mark-rest : (register_state new : RegisterState) (placed : PlacedBlock) (rest : List PlacedBlock) (can : CanMark register_state (placed ∷ rest)) → new ≡ register_state_of (known_with (found_name placed.block) None can.known) can.state → CanMark new rest
+mark-rest register_state new placed rest can sent = record {
+  known = known_with (found_name placed.block) None can.known;
   state = can.state;
   project = can.project;
   right = sent;
-  placed = All-tail (IsPlaced can.state) placed rest can.placed;
+  placed = All-tail (IsLineBlock can.state) placed rest can.placed;
   lacking =
-      All-weaker (λ (one : PlacedBlock). lacks can.known one.block ≡ true) (λ (one : PlacedBlock). lacks (known_with (name_of placed.block) None can.known) one.block ≡ true)
-      (λ one lacking. lacks_with can.known (name_of placed.block) one.block lacking) rest (All-tail (λ (one : PlacedBlock). lacks can.known one.block ≡ true) placed rest can.lacking);
+      All-weaker (λ (one : PlacedBlock). lacks can.known one.block ≡ true) (λ (one : PlacedBlock). lacks (known_with (found_name placed.block) None can.known) one.block ≡ true)
+      (λ one lacking. lacks_with can.known (found_name placed.block) one.block lacking) rest (All-tail (λ (one : PlacedBlock). lacks can.known one.block ≡ true) placed rest can.lacking);
 }
 
 -- a place that has a block is one of those that are kept
-pub kept-within : (board : Board) (known : Knowledge) (state : State) (n : ℕ) (block : LineBlock) → board ≡ kept_of known state → slice_get (places state) n ≡ Some (Some block) → n < length board.known
-kept-within board known state n block right at = search (rules, slice_get_within, length-map)
+pub unchanged-within : (register_state : RegisterState) (known : Knowledge) (state : State) (n : ℕ) (block : LineBlock) → register_state ≡ register_state_of known state → slice_get (places state) n ≡ Some (Some block) → n < length register_state.known
+unchanged-within register_state known state n block right at = search (rules, slice_get_within, length-map)
 
 pub no_items : {X : Type 0} (xs : List X) → length xs ≡ 0 → xs ≡ []
 no_items [] none = refl
@@ -120,15 +120,15 @@ no_items (x ∷ xs) none = cc
 
 -- blocks that are answered
 
-stands_among : (all : List (Option LineBlock)) (n : ℕ) (block : LineBlock) → slice_get all n ≡ Some (Some block) → Contains (standing all) block
-stands_among [] n block at = cc
-stands_among (one ∷ all) zero block at =
+is_placed_among : (all : List (Option LineBlock)) (n : ℕ) (block : LineBlock) → slice_get all n ≡ Some (Some block) → Contains (standing all) block
+is_placed_among [] n block at = cc
+is_placed_among (one ∷ all) zero block at =
     subst (λ found. Contains (option_to_list found ++ standing all) block) (sym (same_Some one (Some block) at))
     (Contains-append_left (block ∷ []) (standing all) block (0, omega arith, refl))
-stands_among (one ∷ all) (suc n) block at = Contains-append_right (option_to_list one) (standing all) block (stands_among all n block at)
+is_placed_among (one ∷ all) (suc n) block at = Contains-append_right (option_to_list one) (standing all) block (is_placed_among all n block at)
 
 pub placed-inside : (state : State) (n : ℕ) (block : LineBlock) → lowest_fault (groups_of state.groups) ≡ None → slice_get (places state) n ≡ Some (Some block) → Contains (line_blocks (line state)) block
-placed-inside state n block project at = subst (λ all. Contains all block) (places-hold state project) (stands_among (places state) n block at)
+placed-inside state n block project at = subst (λ all. Contains all block) (places-hold state project) (is_placed_among (places state) n block at)
 
 abbrev station_in : Item → ℕ
 station_in (Datagram task d) = 0
@@ -146,66 +146,52 @@ configured-at state block at project =
     ap (λ n. block_at (line state) n block.number) station ∙ ap (block_at (line state) at.found.station) number
     ∙ configured-block (line state) (line state) at.found (project-distinct state.groups project) (placed-inside state block.place at.found project at.at)
 
-pub first-awaited : (board : Board) (state : State) (block : AwaitedBlock) (rest : List AwaitedBlock) (can : CanConfirm board state (block ∷ rest)) → IsAwaitedAt state block
-first-awaited board state block rest can = All-head (IsAwaitedAt state) block rest can.placed
+pub first-awaited : (register_state : RegisterState) (block : AwaitedBlock) (rest : List AwaitedBlock) (can : CanConfirm register_state (block ∷ rest)) → IsAwaitedAt can.state block
+first-awaited register_state block rest can = All-head (IsAwaitedAt can.state) block rest can.placed
 
-abbrev pub confirm-first : (board : Board) (state : State) (block : AwaitedBlock) (rest : List AwaitedBlock) → CanConfirm board state (block ∷ rest) → CanConfirm board state (block ∷ [])
-confirm-first board state block rest can = record {
+abbrev pub confirm-first : (register_state : RegisterState) (block : AwaitedBlock) (rest : List AwaitedBlock) → CanConfirm register_state (block ∷ rest) → CanConfirm register_state (block ∷ [])
+confirm-first register_state block rest can = record {
   known = can.known;
+  state = can.state;
   project = can.project;
   right = can.right;
-  placed = All-cons (IsAwaitedAt state) block [] (first-awaited board state block rest can) (All-nil (IsAwaitedAt state));
+  placed = All-cons (IsAwaitedAt can.state) block [] (first-awaited register_state block rest can) (All-nil (IsAwaitedAt can.state));
 }
 
-abbrev pub confirm-rest : (board new : Board) (state : State) (block : AwaitedBlock) (rest : List AwaitedBlock) (outcome : Outcome) (can : CanConfirm board state (block ∷ rest))
-    → new ≡ kept_of (known_if state block outcome can.known) state → CanConfirm new state rest
-confirm-rest board new state block rest outcome can confirmed = record {
-  known = known_if state block outcome can.known;
+abbrev pub confirm-rest : (register_state new : RegisterState) (block : AwaitedBlock) (rest : List AwaitedBlock) (outcome : Outcome) (can : CanConfirm register_state (block ∷ rest))
+    → new ≡ register_state_of (known_if can.state block outcome can.known) can.state → CanConfirm new rest
+confirm-rest register_state new block rest outcome can confirmed = record {
+  known = known_if can.state block outcome can.known;
+  state = can.state;
   project = can.project;
   right = confirmed;
-  placed = All-tail (IsAwaitedAt state) block rest can.placed;
+  placed = All-tail (IsAwaitedAt can.state) block rest can.placed;
 }
 
 -- what is known once a block's write is done
-pub confirmed-known : (board new : Board) (state : State) (block : AwaitedBlock) (bytes : RegisterBlock) (outcome : Outcome) (can : CanConfirm board state (block ∷ [])) → is_done outcome ≡ true
-    → Some bytes ≡ block_at (line state) block.station block.number
-    → ((known : Knowledge) (kept_state : State) (found : LineBlock) → IsKeptAt board block.place known kept_state found → bytes.bytes ≡ found.block.bytes → new ≡ kept_of (known_with (name_of found) (Some bytes.bytes) known) kept_state)
-    → new ≡ kept_of (known_if state block outcome can.known) state
-confirmed-known board new state block bytes outcome can done configured confirmed =
-    let at = first-awaited board state block [] can in
-    let own : bytes ≡ at.found.block = same_Some bytes at.found.block (configured ∙ configured-at state block at can.project) in
+pub confirmed-known : (register_state new : RegisterState) (block : AwaitedBlock) (outcome : Outcome) (can : CanConfirm register_state (block ∷ [])) → write_is_done outcome ≡ true
+    → ((known : Knowledge) (state : State) (found : LineBlock) → IsRightAt register_state block.place known state found → new ≡ register_state_of (known_with (found_name found) (Some found.block.bytes) known) state)
+    → new ≡ register_state_of (known_if can.state block outcome can.known) can.state
+confirmed-known register_state new block outcome can done confirmed =
+    let state = can.state in
+    let at = first-awaited register_state block [] can in
     let station : at.found.station ≡ block.station = sym (ap (λ (head : Head). station_in head.item) at.head) in
     let number : at.found.number ≡ block.number = sym (ap (λ (head : Head). number_in head.item) at.head) in
-    confirmed can.known state at.found (record { right = can.right; project = can.project; stands = at.at }) (ap (λ (one : RegisterBlock). one.bytes) own)
-    ∙ ap (λ n. kept_of (known_with (n, at.found.number) (Some bytes.bytes) can.known) state) station
-    ∙ ap (λ n. kept_of (known_with (block.station, n) (Some bytes.bytes) can.known) state) number
-    ∙ ap (λ (found : Option RegisterBlock). kept_of (known_with (block.station, block.number) (option_map (λ (one : RegisterBlock). one.bytes) found) can.known) state) configured
-    ∙ sym (ap (λ b. kept_of (cond b (known_with (block.station, block.number) (bytes_of state block) can.known) can.known) state) done)
+    confirmed can.known state at.found (record { right = can.right; project = can.project; is_placed = at.at })
+    ∙ ap (λ n. register_state_of (known_with (n, at.found.number) (Some at.found.block.bytes) can.known) state) station
+    ∙ ap (λ n. register_state_of (known_with (block.station, n) (Some at.found.block.bytes) can.known) state) number
+    ∙ ap (λ (found : Option RegisterBlock). register_state_of (known_with (block.station, block.number) (option_map (λ (one : RegisterBlock). one.bytes) found) can.known) state) (sym (configured-at state block at can.project))
+    ∙ sym (ap (λ b. register_state_of (cond b (known_with (block.station, block.number) (block_bytes_in state block) can.known) can.known) state) done)
 
-pub undone : (board : Board) (state : State) (block : AwaitedBlock) (outcome : Outcome) (can : CanConfirm board state (block ∷ [])) → is_done outcome ≡ false → board ≡ kept_of (known_if state block outcome can.known) state
-undone board state block outcome can other =
-    can.right ∙ sym (ap (λ b. kept_of (cond b (known_with (block.station, block.number) (bytes_of state block) can.known) can.known) state) other)
+pub undone : (register_state : RegisterState) (block : AwaitedBlock) (outcome : Outcome) (can : CanConfirm register_state (block ∷ [])) → write_is_done outcome ≡ false
+    → register_state ≡ register_state_of (known_if can.state block outcome can.known) can.state
+undone register_state block outcome can other =
+    can.right ∙ sym (ap (λ b. register_state_of (cond b (known_with (block.station, block.number) (block_bytes_in can.state block) can.known) can.known) can.state) other)
 
--- the next owed block, by its name
-
-pub configured-block_at : (state : State) (place : ℕ) (block : LineBlock) (station number : ℕ) → lowest_fault (groups_of state.groups) ≡ None → slice_get (places state) place ≡ Some (Some block) → station ≡ block.station
-    → number ≡ block.number → block_at (line state) station number ≡ Some block.block
-configured-block_at state place block station number project at first second =
-    ap (λ n. block_at (line state) n number) first ∙ ap (block_at (line state) block.station) second
-    ∙ configured-block (line state) (line state) block (project-distinct state.groups project) (placed-inside state place block project at)
-
-pub next-is : (known : Knowledge) (state : State) (place : ℕ) (found : OwedBlock) (block : RegisterBlock) → lowest_fault (groups_of state.groups) ≡ None → (is : IsNextOwed known state place found)
-    → Some block ≡ block_at (line state) found.station found.number → IsNext known state place (record { place = found.place; block = record { station = found.station; number = found.number; block = block } })
-next-is known state place found block project is configured =
-    let own : block ≡ is.block.block = same_Some block is.block.block (configured ∙ configured-block_at state found.place is.block found.station found.number project is.stands is.station is.number) in
-    let same : record { station = found.station; number = found.number; block = block } ≡ is.block =
-    ap (λ n. let one : LineBlock = record { station = n; number = found.number; block = block } in one) is.station
-    ∙ ap (λ n. let one : LineBlock = record { station = is.block.station; number = n; block = block } in one) is.number
-    ∙ ap (λ b. let one : LineBlock = record { station = is.block.station; number = is.block.number; block = b } in one) own in
-    record {
-      at = is.stands ∙ ap (λ (one : LineBlock). Some (Some one)) (sym same);
-      next = is.next ∙ ap (λ (one : LineBlock). one ∷ owed_from known state (found.place + 1)) (sym same);
-    }
+pub awaited-within : (register_state : RegisterState) (block : AwaitedBlock) → CanConfirm register_state (block ∷ []) → block.place < length register_state.known
+awaited-within register_state block can =
+    let at = first-awaited register_state block [] can in
+    unchanged-within register_state can.known can.state block.place at.found can.right at.at
 
 -- a place of a project's line is low
 pub place-low : (state : State) (n : ℕ) (block : LineBlock) → lowest_fault (groups_of state.groups) ≡ None → slice_get (places state) n ≡ Some (Some block) → n < 32768
@@ -220,20 +206,21 @@ placed-sized state n block project at = (All-contains Sized (line_blocks (line s
 
 -- the same condition, of blocks that are cut
 
-abbrev pub can-cut : (board : Board) (blocks : List PlacedBlock) (first : PlacedBlock) (rest : List PlacedBlock) → blocks ≡ first ∷ rest → CanMark board blocks → CanMark board (first ∷ rest)
-can-cut board blocks first rest cut can = record {
+abbrev pub can-cut : (register_state : RegisterState) (blocks : List PlacedBlock) (first : PlacedBlock) (rest : List PlacedBlock) → blocks ≡ first ∷ rest → CanMark register_state blocks → CanMark register_state (first ∷ rest)
+can-cut register_state blocks first rest cut can = record {
   known = can.known;
   state = can.state;
   project = can.project;
   right = can.right;
-  placed = subst (All (IsPlaced can.state)) cut can.placed;
+  placed = subst (All (IsLineBlock can.state)) cut can.placed;
   lacking = subst (All (λ (one : PlacedBlock). lacks can.known one.block ≡ true)) cut can.lacking;
 }
 
-abbrev pub confirm-cut : (board : Board) (state : State) (blocks : List AwaitedBlock) (first : AwaitedBlock) (rest : List AwaitedBlock) → blocks ≡ first ∷ rest → CanConfirm board state blocks → CanConfirm board state (first ∷ rest)
-confirm-cut board state blocks first rest cut can = record {
+abbrev pub confirm-cut : (register_state : RegisterState) (blocks : List AwaitedBlock) (first : AwaitedBlock) (rest : List AwaitedBlock) → blocks ≡ first ∷ rest → CanConfirm register_state blocks → CanConfirm register_state (first ∷ rest)
+confirm-cut register_state blocks first rest cut can = record {
   known = can.known;
+  state = can.state;
   project = can.project;
   right = can.right;
-  placed = subst (All (IsAwaitedAt state)) cut can.placed;
+  placed = subst (All (IsAwaitedAt can.state)) cut can.placed;
 }

@@ -12,78 +12,73 @@ use Rattle.std.proofs.lemmas.Bool.Decides.{nat_tests}
 use Rattle.hc_events.specs.declared.faults.CoreFault.TheVariants.{Room}
 use Rattle.hc_events.specs.Accepted.{IsWrite}
 use Rattle.hc_events.specs.Calls.{room_faults}
-use Rattle.hc_events.specs.Entries.{Record}
+use Rattle.hc_events.specs.Entries.{History}
 use Rattle.hc_events.specs.Owed.{is_owed, known_bytes, owed_blocks}
 use Rattle.hc_events.specs.Points.{line_of, state_of}
 use Rattle.hc_events.specs.WriteFrames.{block_datagram, blocks_beside, blocks_bytes, writes_text}
 use Rattle.hc_events.proofs.lemmas.Fronts.{front-all, write-front}
-use Rattle.hc_owed.specs.Board.{kept_of, lacks}
+use Rattle.hc_owed.specs.RegisterState.{register_state_of, lacks}
 use Rattle.hc_owed.specs.Laws.{owed_from}
 use Rattle.hc_sendings.specs.declared.write_frames.PlacedBlock.{PlacedBlock}
 use Rattle.hc_sendings.specs.WriteFrames.{WriteFrame, block_of, no_blocks, placed_datagram, placed_text}
 use Rattle.hc_core.specs.Agreement.{Agree, CoreParts}
-use Rattle.hc_core.specs.Chosen.{CanMark, IsChosenFrom, IsPlaced, KeepsBlocks}
+use Rattle.hc_core.specs.Chosen.{CanMark, IsChosenFrom, IsLineBlock, KeepsBlocks}
 use Rattle.hc_core.specs.Written.{first_blocks}
 
 -- what is kept of the blocks is right for the line
-abbrev pub keeps-blocks : (kept : CoreParts) (past taken : Record) → Agree kept past taken → KeepsBlocks kept.owed kept.plan
-keeps-blocks kept past taken agree = record {
-  known = known_bytes past;
-  project = subst (λ (state : State). lowest_fault (groups_of state.groups) ≡ None) (sym agree.state) agree.project;
-  right = agree.known ∙ ap (kept_of (known_bytes past)) (sym agree.state);
-}
+abbrev pub stays-blocks : (unchanged : CoreParts) (history taken : History) → Agree unchanged history taken → KeepsBlocks unchanged.owed
+stays-blocks unchanged history taken agree = record { known = known_bytes history; state = state_of history; project = agree.project; right = agree.known }
 
 -- the blocks that are chosen from the first place on
-pub record AreFirst (past : Record) (most : ℕ) (frame : WriteFrame) : Type 0 where
-  pub blocks : map block_of frame.blocks ≡ first_blocks most past
-  pub bytes : frame.bytes ≡ blocks_bytes (first_blocks most past)
-  pub placed : All (IsPlaced (state_of past)) frame.blocks
+pub record AreFirst (history : History) (most : ℕ) (frame : WriteFrame) : Type 0 where
+  pub blocks : map block_of frame.blocks ≡ first_blocks most history
+  pub bytes : frame.bytes ≡ blocks_bytes (first_blocks most history)
+  pub placed : All (IsLineBlock (state_of history)) frame.blocks
 
-from_first : (past : Record) → lowest_fault (groups_of (state_of past).groups) ≡ None → owed_from (known_bytes past) (state_of past) 0 ≡ owed_blocks past
-from_first past project = ap (filter (lacks (known_bytes past))) (places-hold (state_of past) project)
+from_first : (history : History) → lowest_fault (groups_of (state_of history).groups) ≡ None → owed_from (known_bytes history) (state_of history) 0 ≡ owed_blocks history
+from_first history project = ap (filter (lacks (known_bytes history))) (places-hold (state_of history) project)
 
-first_from : (past : Record) (most : ℕ) (old new : WriteFrame) → lowest_fault (groups_of (state_of past).groups) ≡ None → old ≡ no_blocks → IsChosenFrom (known_bytes past) (state_of past) 0 most old new → AreFirst past most new
-first_from past most old new project none chosen =
-    let own = subst (λ frame. IsChosenFrom (known_bytes past) (state_of past) 0 most frame new) none chosen in
-    let first : take most (blocks_beside 0 (owed_from (known_bytes past) (state_of past) 0)) ≡ first_blocks most past = ap (λ blocks. take most (blocks_beside 0 blocks)) (from_first past project) in
+first_from : (history : History) (most : ℕ) (old new : WriteFrame) → lowest_fault (groups_of (state_of history).groups) ≡ None → old ≡ no_blocks → IsChosenFrom (known_bytes history) (state_of history) 0 most old new → AreFirst history most new
+first_from history most old new project none chosen =
+    let own = subst (λ frame. IsChosenFrom (known_bytes history) (state_of history) 0 most frame new) none chosen in
+    let first : take most (blocks_beside 0 (owed_from (known_bytes history) (state_of history) 0)) ≡ first_blocks most history = ap (λ blocks. take most (blocks_beside 0 blocks)) (from_first history project) in
     let sum = own.bytes in
     record {
       blocks = own.blocks ∙ first;
-      bytes = none_before new.bytes (blocks_bytes (take most (blocks_beside 0 (owed_from (known_bytes past) (state_of past) 0)))) sum ∙ ap blocks_bytes first;
-      placed = own.placed (All-nil (IsPlaced (state_of past)));
+      bytes = none_before new.bytes (blocks_bytes (take most (blocks_beside 0 (owed_from (known_bytes history) (state_of history) 0)))) sum ∙ ap blocks_bytes first;
+      placed = own.placed (All-nil (IsLineBlock (state_of history)));
     }
   where
     none_before : (n m : ℕ) → n ≡ 0 + m → n ≡ m
     none_before n m same = omega (arith, same)
 
-pub are-first : (kept : CoreParts) (past taken : Record) (most : ℕ) (old new : WriteFrame) → Agree kept past taken → old ≡ no_blocks → IsChosenFrom (known_bytes past) kept.plan 0 most old new → AreFirst past most new
-are-first kept past taken most old new agree none chosen =
-    first_from past most old new agree.project none (subst (λ (state : State). IsChosenFrom (known_bytes past) state 0 most old new) agree.state chosen)
+pub are-first : (unchanged : CoreParts) (history taken : History) (most : ℕ) (old new : WriteFrame) → Agree unchanged history taken → old ≡ no_blocks → IsChosenFrom (known_bytes history) (state_of history) 0 most old new → AreFirst history most new
+are-first unchanged history taken most old new agree none chosen = first_from history most old new agree.project none chosen
 
 -- they are owed
 
-placed_owed : (past : Record) (placed : List PlacedBlock) → All (λ block. is_owed past block ≡ true) (map block_of placed) → All (λ (one : PlacedBlock). lacks (known_bytes past) one.block ≡ true) placed
-placed_owed past [] all = All-nil (λ (one : PlacedBlock). lacks (known_bytes past) one.block ≡ true)
-placed_owed past (one ∷ placed) all =
-    All-cons (λ (other : PlacedBlock). lacks (known_bytes past) other.block ≡ true) one placed (All-head (λ (block : LineBlock). is_owed past block ≡ true) one.block (map block_of placed) all)
-    (placed_owed past placed (All-tail (λ (block : LineBlock). is_owed past block ≡ true) one.block (map block_of placed) all))
+placed_owed : (history : History) (placed : List PlacedBlock) → All (λ block. is_owed history block ≡ true) (map block_of placed) → All (λ (one : PlacedBlock). lacks (known_bytes history) one.block ≡ true) placed
+placed_owed history [] all = All-nil (λ (one : PlacedBlock). lacks (known_bytes history) one.block ≡ true)
+placed_owed history (one ∷ placed) all =
+    All-cons (λ (other : PlacedBlock). lacks (known_bytes history) other.block ≡ true) one placed (All-head (λ (block : LineBlock). is_owed history block ≡ true) one.block (map block_of placed) all)
+    (placed_owed history placed (All-tail (λ (block : LineBlock). is_owed history block ≡ true) one.block (map block_of placed) all))
 
-pub all-lacking : (past : Record) (placed : List PlacedBlock) → IsWrite (owed_blocks past) (map block_of placed) → All (λ (one : PlacedBlock). lacks (known_bytes past) one.block ≡ true) placed
-all-lacking past placed write =
-    let front = write-front (owed_blocks past) (map block_of placed) write in
-    placed_owed past placed
-    (front-all (λ block. is_owed past block ≡ true) (map block_of placed) front.rest
-    (subst (All (λ (block : LineBlock). is_owed past block ≡ true)) front.joined (filter_passes (is_owed past) (line_blocks (line_of past)))))
+pub all-lacking : (history : History) (placed : List PlacedBlock) → IsWrite (owed_blocks history) (map block_of placed) → All (λ (one : PlacedBlock). lacks (known_bytes history) one.block ≡ true) placed
+all-lacking history placed write =
+    let front = write-front (owed_blocks history) (map block_of placed) write in
+    placed_owed history placed
+    (front-all (λ block. is_owed history block ≡ true) (map block_of placed) front.rest
+    (subst (All (λ (block : LineBlock). is_owed history block ≡ true)) front.joined (filter_passes (is_owed history) (line_blocks (line_of history)))))
 
-abbrev pub can-mark : (kept : CoreParts) (past taken : Record) (placed shown : List PlacedBlock) → shown ≡ placed → Agree kept past taken → IsWrite (owed_blocks past) (map block_of placed) → All (IsPlaced (state_of past)) placed
-    → CanMark kept.owed shown
-can-mark kept past taken placed shown same agree write at = record {
-  known = known_bytes past;
-  state = state_of past;
+abbrev pub can-mark : (unchanged : CoreParts) (history taken : History) (placed shown : List PlacedBlock) → shown ≡ placed → Agree unchanged history taken → IsWrite (owed_blocks history) (map block_of placed) → All (IsLineBlock (state_of history)) placed
+    → CanMark unchanged.owed shown
+can-mark unchanged history taken placed shown same agree write at = record {
+  known = known_bytes history;
+  state = state_of history;
   project = agree.project;
   right = agree.known;
-  placed = subst (All (IsPlaced (state_of past))) (sym same) at;
-  lacking = subst (All (λ (one : PlacedBlock). lacks (known_bytes past) one.block ≡ true)) (sym same) (all-lacking past placed write);
+  placed = subst (All (IsLineBlock (state_of history))) (sym same) at;
+  lacking = subst (All (λ (one : PlacedBlock). lacks (known_bytes history) one.block ≡ true)) (sym same) (all-lacking history placed write);
 }
 
 -- the frame that writes them

@@ -12,20 +12,20 @@ use Rattle.hc_registers.specs.Blocks.{LineBlock, line_blocks}
 use Rattle.hc_registers.specs.RankPlaces.{places}
 use Rattle.hc_plan.proofs.lemmas.Configured.{configured-block}
 use Rattle.hc_plan.specs.Configuration.{block_at}
-use Rattle.hc_events.specs.Entries.{Record}
+use Rattle.hc_events.specs.Entries.{History}
 use Rattle.hc_events.specs.Points.{line_of, state_of}
 use Rattle.hc_events.specs.Owed.{is_owed, known_bytes, owed_blocks}
 use Rattle.hc_owed.specs.Laws as owed
 use Rattle.hc_core.specs.Agreement.{Agree, CoreParts}
 
 -- a block's place is one of those that are kept
-pub place-within : (kept : CoreParts) (past taken : Record) (n : ℕ) (block : LineBlock) → Agree kept past taken → slice_get (places (state_of past)) n ≡ Some (Some block) → n < length kept.owed.known
-place-within kept past taken n block agree at = search (rules, slice_get_within, length-map)
+pub place-within : (unchanged : CoreParts) (history taken : History) (n : ℕ) (block : LineBlock) → Agree unchanged history taken → slice_get (places (state_of history)) n ≡ Some (Some block) → n < length unchanged.owed.known
+place-within unchanged history taken n block agree at = search (rules, slice_get_within, length-map)
 
--- what is kept stands at it
-pub place-kept : (kept : CoreParts) (past taken : Record) (n : ℕ) (block : LineBlock) → Agree kept past taken → slice_get (places (state_of past)) n ≡ Some (Some block)
-    → owed.IsKeptAt kept.owed n (known_bytes past) (state_of past) block
-place-kept kept past taken n block agree at = record { right = agree.known; project = agree.project; stands = at }
+-- what is kept is at it
+pub place-unchanged : (unchanged : CoreParts) (history taken : History) (n : ℕ) (block : LineBlock) → Agree unchanged history taken → slice_get (places (state_of history)) n ≡ Some (Some block)
+    → owed.IsRightAt unchanged.owed n (known_bytes history) (state_of history) block
+place-unchanged unchanged history taken n block agree at = record { right = agree.known; project = agree.project; is_placed = at }
 
 -- so it does with each owed one
 
@@ -34,11 +34,11 @@ each-is P [] index block all is = cc
 each-is P (first ∷ blocks) zero block all is = subst P (same_Some first block is) (All-head P first blocks all)
 each-is P (first ∷ blocks) (suc index) block all is = each-is P blocks index block (All-tail P first blocks all) is
 
-owed_among : (past : Record) → All (Contains (line_blocks (line_of past))) (owed_blocks past)
-owed_among past = All-passing (Contains (line_blocks (line_of past))) (is_owed past) (line_blocks (line_of past)) (λ k d within passes. All-contains_itself (line_blocks (line_of past)) k d within)
+owed_among : (history : History) → All (Contains (line_blocks (line_of history))) (owed_blocks history)
+owed_among history = All-passing (Contains (line_blocks (line_of history))) (is_owed history) (line_blocks (line_of history)) (λ k d within passes. All-contains_itself (line_blocks (line_of history)) k d within)
 
-pub owed-configured : (past : Record) (index : ℕ) (block : LineBlock) → lowest_fault (groups_of (state_of past).groups) ≡ None → slice_get (owed_blocks past) index ≡ Some block
-    → block_at (line_of past) block.station block.number ≡ Some block.block
-owed-configured past index block project is =
-    let inside = each-is (Contains (line_blocks (line_of past))) (owed_blocks past) index block (owed_among past) is in
+pub owed-configured : (history : History) (index : ℕ) (block : LineBlock) → lowest_fault (groups_of (state_of history).groups) ≡ None → slice_get (owed_blocks history) index ≡ Some block
+    → block_at (line_of history) block.station block.number ≡ Some block.block
+owed-configured history index block project is =
+    let inside = each-is (Contains (line_blocks (line_of history))) (owed_blocks history) index block (owed_among history) is in
     search (rules, configured-block, project-distinct)

@@ -1,4 +1,4 @@
--- What is kept of the register blocks behind an edit that is prepared.
+-- What is kept of the register blocks after an edit that is prepared.
 use Rattle.std.proofs.Common.{◌≡◌, ℕ, ◌+◌, ◌<◌, ◌≤◌, false, List, length, map, sym, ap, ◌∙◌, subst, length-append, Option, Some, None, arith}
 use Rattle.std.specs.Prelude.{Ok}
 use Rattle.std.proofs.lemmas.List.{length-map}
@@ -17,9 +17,9 @@ use Rattle.hc_registers.specs.RankDifferences.{Differ}
 use Rattle.hc_registers.specs.RankPlaces.{places, stations}
 use Rattle.hc_registers.proofs.lemmas.RanksDeclared.{declared-stations}
 use Rattle.hc_plan.specs.Prepared.{IsPrepared, PreparedEdit}
-use Rattle.hc_owed.specs.Board.{Board}
-use Rattle.hc_owed.specs.Laws.{IsEdited}
-use Rattle.hc_owed.specs.Room.{CanAdmit, OwedRoom}
+use Rattle.hc_owed.specs.RegisterState.{RegisterState}
+use Rattle.hc_owed.specs.Laws.{RegistersAreEdited}
+use Rattle.hc_owed.specs.Room.{RegistersCanAdmit, OwedRoom}
 use Rattle.hc_core.specs.Prepared.{CanFollow, DeclaresWith, HasSlaveRoom}
 
 -- a group that is declared
@@ -35,7 +35,7 @@ next-project edit group prepared named =
     subst (λ (state : State). lowest_fault (groups_of state.groups) ≡ None) (declared-next edit group prepared named)
     (accepted-project edit.old edit.new edit.report.swap.edit prepared.project prepared.accepted)
 
-abbrev pub can-admit : (owed : Board) (edit : PreparedEdit) (slaves : Option OwedRoom) (room : OwedRoom) → CanFollow owed edit slaves → slaves ≡ Some room → CanAdmit owed room
+abbrev pub can-admit : (owed : RegisterState) (edit : PreparedEdit) (slaves : Option OwedRoom) (room : OwedRoom) → CanFollow owed edit slaves → slaves ≡ Some room → RegistersCanAdmit owed room
 can-admit owed edit slaves room can is = record {
   known = can.known;
   old = edit.old;
@@ -51,8 +51,8 @@ can-admit owed edit slaves room can is = record {
 pub none-declared : (count : ℕ) (edit : Edit) (slaves : Option OwedRoom) → HasSlaveRoom count edit slaves → slaves ≡ None → declares edit ≡ false
 none-declared count edit slaves has is = subst (HasSlaveRoom count edit) is has
 
-abbrev pub can-change : (owed : Board) (edit : PreparedEdit) (slaves : Option OwedRoom) (gone : Gone) (blocks : List RankedBlock) → CanFollow owed edit slaves → slaves ≡ None → gone ≡ edit.gone → blocks ≡ edit.blocks
-    → IsEdited owed gone blocks
+abbrev pub can-change : (owed : RegisterState) (edit : PreparedEdit) (slaves : Option OwedRoom) (gone : Gone) (blocks : List RankedBlock) → CanFollow owed edit slaves → slaves ≡ None → gone ≡ edit.gone → blocks ≡ edit.blocks
+    → RegistersAreEdited owed gone blocks
 can-change owed edit slaves gone blocks can is left moved = record {
   known = can.known;
   old = edit.old;
@@ -80,7 +80,7 @@ few-declared old new edit count project accepted many group named =
     let same : length (stations (changed old (Declare group))) ≡ length (stations new) = ap (λ (state : State). length (stations state)) next in
     omega (arith, few, own, more, same, many)
 
--- the memory for them is that of an edit of this state
+-- they have the memory of an edit of this state
 
-pub room-told : (count other : ℕ) (edit asked : Edit) (slaves : Option OwedRoom) → HasSlaveRoom count edit slaves → count ≡ other → edit ≡ asked → HasSlaveRoom other asked slaves
-room-told count other edit asked slaves has many is = subst (λ (n : ℕ). HasSlaveRoom n asked slaves) many (subst (λ (e : Edit). HasSlaveRoom count e slaves) is has)
+pub room-answer_given : (count other : ℕ) (edit asked : Edit) (slaves : Option OwedRoom) → HasSlaveRoom count edit slaves → count ≡ other → edit ≡ asked → HasSlaveRoom other asked slaves
+room-answer_given count other edit asked slaves has many is = subst (λ (n : ℕ). HasSlaveRoom n asked slaves) many (subst (λ (e : Edit). HasSlaveRoom count e slaves) is has)

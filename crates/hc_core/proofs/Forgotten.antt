@@ -1,4 +1,4 @@
--- What is kept stays right behind a slave that was forgotten, and when that is refused.
+-- What is kept stays right after a slave that was forgotten, and when that is refused.
 use Rattle.std.proofs.Common.{◌≡◌, ℕ, ◌+◌, Bool, true, false, cond, not, ◌||◌, List, [], ◌∷◌, length, refl, sym, ap, ◌∙◌, Option, Some, None}
 use Rattle.std.specs.Prelude.{find, is_none, is_some, position, IfErr, IsErrAnd, Result, Ok, Err}
 use Rattle.std.specs.List.{list_any, position_from}
@@ -16,17 +16,17 @@ use Rattle.hc_records.proofs.lemmas.Choices.{by_bool, member-by}
 use Rattle.hc_plan.specs.Configuration.{found_or, position_of}
 use Rattle.hc_events.specs.declared.faults.CoreFault.{CoreFault}
 use Rattle.hc_events.specs.declared.faults.CoreFault.TheVariants.{Absent, UnknownStation}
-use Rattle.hc_events.specs.Entries.{Record, Forgot}
+use Rattle.hc_events.specs.Entries.{History, Forgot}
 use Rattle.hc_events.specs.Faults.{edit_refusal}
 use Rattle.hc_events.specs.Owed.{is_in_line, known_bytes}
 use Rattle.hc_events.specs.Points.{state_of}
 use Rattle.hc_events.specs.Steps.{forget_faults}
 use Rattle.hc_images.specs.Packed.{Packed}
-use Rattle.hc_owed.specs.Board.{Board, kept_of}
+use Rattle.hc_owed.specs.RegisterState.{RegisterState, register_state_of}
 use Rattle.hc_owed.specs.Laws.{known_without}
 use Rattle.hc_sendings.specs.Waiting.{forgot}
 use Rattle.hc_core.proofs.Awaits.{waits-forgot}
-use Rattle.hc_core.proofs.Known.{kept-alike, known-forgot}
+use Rattle.hc_core.proofs.Known.{unchanged-alike, known-forgot}
 use Rattle.hc_core.specs.Agreement.{Agree, CoreParts}
 use Rattle.hc_core.specs.Values.{HoldsValues}
 
@@ -86,10 +86,10 @@ some_or_none (Some x) = refl
 abbrev faults_by : Bool → Bool → List (Bool × CoreFault)
 faults_by declared present = (not declared, UnknownStation) ∷ (not present, Absent) ∷ []
 
-declared_too : (history : Record) (station : ℕ) → is_in_line history station ≡ true → is_declared_station (state_of history) station ≡ true
+declared_too : (history : History) (station : ℕ) → is_in_line history station ≡ true → is_declared_station (state_of history) station ≡ true
 declared_too history station inside = declared_any station 1 (state_of history).groups (sym (found_any (is_at station) (line (state_of history))) ∙ inside)
 
-faults_are : (history : Record) (station : ℕ) → forget_faults history station ≡ faults_by (is_declared_station (state_of history) station) (is_in_line history station)
+faults_are : (history : History) (station : ℕ) → forget_faults history station ≡ faults_by (is_declared_station (state_of history) station) (is_in_line history station)
 faults_are history station =
     ap (λ absent. (not (is_declared_station (state_of history) station), UnknownStation) ∷ (absent, Absent) ∷ []) (some_or_none (slave_at (state_of history) station))
 
@@ -105,7 +105,7 @@ refused_by false None fault e = (refl, ap (λ (one : EditFault). Some (edit_refu
     same_fault : (a b : EditFault) → found_or None a ≡ Err b → a ≡ b
     same_fault a b e = cc
 
-pub forget-refused : (history : Record) (station : ℕ) (fault : EditFault) → position_of (state_of history) station ≡ Err fault → lowest (forget_faults history station) ≡ Some (edit_refusal fault)
+pub forget-refused : (history : History) (station : ℕ) (fault : EditFault) → position_of (state_of history) station ≡ Err fault → lowest (forget_faults history station) ≡ Some (edit_refusal fault)
 forget-refused history station fault e =
     let state = state_of history in
     let is = refused_by (is_declared_station state station) (position (is_at station) (line state)) fault e in
@@ -122,37 +122,37 @@ found_ok : (fault : EditFault) (found : Option ℕ) (n : ℕ) → found_or found
 found_ok fault None n e = cc
 found_ok fault (Some m) n e = refl
 
-pub forget-inside : (history : Record) (station n : ℕ) → position_of (state_of history) station ≡ Ok n → is_in_line history station ≡ true
+pub forget-inside : (history : History) (station n : ℕ) → position_of (state_of history) station ≡ Ok n → is_in_line history station ≡ true
 forget-inside history station n e =
     let state = state_of history in
     sym (has_position state station) ∙ found_ok (cond (is_declared_station state station) edit.Absent edit.UnknownStation) (position (is_at station) (line state)) n e
 
-pub forget-accepted : (history : Record) (station n : ℕ) → position_of (state_of history) station ≡ Ok n → lowest (forget_faults history station) ≡ None
+pub forget-accepted : (history : History) (station n : ℕ) → position_of (state_of history) station ≡ Ok n → lowest (forget_faults history station) ≡ None
 forget-accepted history station n e =
     let inside = forget-inside history station n e in
     ap lowest (faults_are history station)
     ∙ ap (λ present. lowest (faults_by (is_declared_station (state_of history) station) present)) inside
     ∙ ap (λ declared. lowest (faults_by declared true)) (declared_too history station inside)
 
--- what is kept behind it
+-- what is kept after it
 
-values_forgot : (history : Record) (station : ℕ) (packed : Packed) → HoldsValues history packed → HoldsValues (Forgot station ∷ history) packed
+values_forgot : (history : History) (station : ℕ) (packed : Packed) → HoldsValues history packed → HoldsValues (Forgot station ∷ history) packed
 values_forgot history station packed holds = holds
 
-pub agree-forgot : (kept : CoreParts) (history taken : Record) (station : ℕ) (owed : Board) → is_in_line history station ≡ true → owed ≡ kept_of (known_without station (known_bytes history)) (state_of history)
-    → Agree kept history taken → Agree (record kept { awaited = forgot station kept.awaited; owed = owed }) (Forgot station ∷ history) taken
-agree-forgot kept history taken station owed inside right agree = record {
+pub agree-forgot : (unchanged : CoreParts) (history taken : History) (station : ℕ) (owed : RegisterState) → is_in_line history station ≡ true → owed ≡ register_state_of (known_without station (known_bytes history)) (state_of history)
+    → Agree unchanged history taken → Agree (record unchanged { awaited = forgot station unchanged.awaited; owed = owed }) (Forgot station ∷ history) taken
+agree-forgot unchanged history taken station owed inside right agree = record {
   accepted = (inside, agree.accepted);
   state = agree.state;
   project = agree.project;
   uncrowded = agree.uncrowded;
   serial = agree.serial;
   left = agree.left;
-  waits = waits-forgot history kept.awaited station agree.waits;
+  waits = waits-forgot history unchanged.awaited station agree.waits;
   slots = agree.slots;
   dates = agree.dates;
-  values = values_forgot history station kept.outputs agree.values;
+  values = values_forgot history station unchanged.outputs agree.values;
   known = right
-      ∙ kept-alike (known_without station (known_bytes history)) (known_bytes (Forgot station ∷ history)) (state_of history) (λ other number. sym (known-forgot history station other number));
-  tells = record { told = agree.tells.told; legal = agree.tells.legal; exact = agree.tells.exact; behind = agree.tells.behind };
+      ∙ unchanged-alike (known_without station (known_bytes history)) (known_bytes (Forgot station ∷ history)) (state_of history) (λ other number. sym (known-forgot history station other number));
+  shows = record { answer_given = agree.shows.answer_given; legal = agree.shows.legal; exact = agree.shows.exact; after_it = agree.shows.after_it };
 }

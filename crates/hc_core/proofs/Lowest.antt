@@ -1,4 +1,4 @@
--- The lowest fault of two lists, one behind the other.
+-- The lowest fault of two lists, one after the other.
 use Rattle.std.proofs.Common.{◌≡◌, Bool, true, false, List, [], ◌∷◌, ◌++◌, refl, Some, None}
 use Rattle.hc_records.specs.Lists.{lowest}
 
@@ -12,7 +12,7 @@ lowest-none [] more none = refl
 lowest-none ((true, own) ∷ faults) more none = cc
 lowest-none ((false, own) ∷ faults) more none = lowest-none faults more none
 
-pub lowest-behind : {F : Type 0} (faults others : List (Bool × F)) → lowest faults ≡ None → lowest (faults ++ others) ≡ lowest others
-lowest-behind [] others none = refl
-lowest-behind ((true, fault) ∷ faults) others none = cc
-lowest-behind ((false, fault) ∷ faults) others none = lowest-behind faults others none
+pub lowest-after_it : {F : Type 0} (faults others : List (Bool × F)) → lowest faults ≡ None → lowest (faults ++ others) ≡ lowest others
+lowest-after_it [] others none = refl
+lowest-after_it ((true, fault) ∷ faults) others none = cc
+lowest-after_it ((false, fault) ∷ faults) others none = lowest-after_it faults others none

@@ -1,4 +1,4 @@
--- In a project's line a block is told by its slave's station address and its number.
+-- In a project's line a block is given by its slave's station address and its number.
 use Rattle.std.proofs.Common.{◌≡◌, ◌==◌, Bool, true, false, List, [], ◌∷◌, filter, refl, sym, ◌∙◌, None, rules}
 use Rattle.std.specs.Prelude.{All, Contains}
 use Rattle.std.proofs.lemmas.Bool.{and_parts, eqb-true}
@@ -11,7 +11,7 @@ use Rattle.hc_records.proofs.lemmas.Stations.{stations}
 use Rattle.hc_records.proofs.lemmas.Choices.{by_bool}
 use Rattle.hc_registers.specs.Blocks.{LineBlock, line_blocks}
 use Rattle.hc_plan.proofs.lemmas.Configured.{configured-block}
-use Rattle.hc_events.specs.Entries.{Record, Wrote}
+use Rattle.hc_events.specs.Entries.{History, Wrote}
 use Rattle.hc_events.specs.Points.{line_of, state_of}
 use Rattle.hc_events.specs.Heads.{block_item, same_item}
 use Rattle.hc_events.specs.Owed.{is_owed, owed_blocks}
@@ -38,21 +38,21 @@ filter-alike : {X : Type 0} (p q : X → Bool) (xs : List X) → All (λ x. p x 
 filter-alike p q [] all = refl
 filter-alike {X} p q (x ∷ xs) all = search (rules, All-head, All-tail, filter-alike p q xs (All-tail (λ y. p y ≡ q y) x xs all))
 
-pub own-names : (past : Record) → lowest_fault (groups_of (state_of past).groups) ≡ None → HasOwnNames (line_of past)
-own-names past project = λ a b in_a in_b same. one-name (line_of past) (project-distinct (state_of past).groups project) a b in_a in_b same
+pub own-names : (history : History) → lowest_fault (groups_of (state_of history).groups) ≡ None → HasOwnNames (line_of history)
+own-names history project = λ a b in_a in_b same. one-name (line_of history) (project-distinct (state_of history).groups project) a b in_a in_b same
 
 -- so a frame of writes leaves what is owed
 
-wrote_alike : (past : Record) (blocks : List LineBlock) (other : LineBlock) → HasOwnNames (line_of past) → IsWrite (owed_blocks past) blocks → Contains (line_blocks (line_of past)) other
-    → is_owed (Wrote blocks ∷ past) other ≡ is_owed past other
-wrote_alike past blocks other names write inside =
+wrote_alike : (history : History) (blocks : List LineBlock) (other : LineBlock) → HasOwnNames (line_of history) → IsWrite (owed_blocks history) blocks → Contains (line_blocks (line_of history)) other
+    → is_owed (Wrote blocks ∷ history) other ≡ is_owed history other
+wrote_alike history blocks other names write inside =
     by_bool (sends (block_item other) (Wrote blocks))
-    (λ t. let owed = written-is_owed past blocks other t in owed ∙ sym (wrote-owes past blocks other names write inside owed))
-    (λ t. others-as_before past blocks other t)
+    (λ t. let owed = written-is_owed history blocks other t in owed ∙ sym (wrote-owes history blocks other names write inside owed))
+    (λ t. others-as_before history blocks other t)
 
-pub owed-wrote : (past : Record) (blocks : List LineBlock) → lowest_fault (groups_of (state_of past).groups) ≡ None → IsWrite (owed_blocks past) blocks
-    → owed_blocks (Wrote blocks ∷ past) ≡ owed_blocks past
-owed-wrote past blocks project write =
-    let all = line_blocks (line_of past) in
-    filter-alike (is_owed (Wrote blocks ∷ past)) (is_owed past) all
-    (All-weaker (Contains all) (λ (x : LineBlock). is_owed (Wrote blocks ∷ past) x ≡ is_owed past x) (λ x inside. wrote_alike past blocks x (own-names past project) write inside) all (All-contains_itself all))
+pub owed-wrote : (history : History) (blocks : List LineBlock) → lowest_fault (groups_of (state_of history).groups) ≡ None → IsWrite (owed_blocks history) blocks
+    → owed_blocks (Wrote blocks ∷ history) ≡ owed_blocks history
+owed-wrote history blocks project write =
+    let all = line_blocks (line_of history) in
+    filter-alike (is_owed (Wrote blocks ∷ history)) (is_owed history) all
+    (All-weaker (Contains all) (λ (x : LineBlock). is_owed (Wrote blocks ∷ history) x ≡ is_owed history x) (λ x inside. wrote_alike history blocks x (own-names history project) write inside) all (All-contains_itself all))

@@ -2,25 +2,25 @@
 use Rattle.std.proofs.Common.{◌≡◌, ◌≤◌, List, [], arith, None, rules}
 use Rattle.std.proofs.lemmas.List.{append-nil}
 use Rattle.hc_records.specs.declared.records.Group.{Group}
-use Rattle.hc_records.specs.Edits.{crowded_task}
+use Rattle.hc_records.specs.Edits.{over_limit_task}
 use Rattle.hc_records.specs.Line.{State, groups_of, line, opened}
 use Rattle.hc_records.specs.Project.{lowest_fault}
 use Rattle.hc_frames.specs.declared.limits.TheConstants.{SETUP_SERIAL}
 use Rattle.hc_events.specs.Accepted.{just_opened}
 use Rattle.hc_sendings.specs.Waiting.{nothing}
-use Rattle.hc_images.specs.Image.{HasNone, Image}
-use Rattle.hc_images.specs.Packed.{Holds, Packed}
+use Rattle.hc_images.specs.Image.{HasNone, DatagramImage}
+use Rattle.hc_images.specs.Packed.{HoldsOutputValues, Packed}
 use Rattle.hc_places.specs.Table.{table_of}
-use Rattle.hc_owed.specs.Board.{Board, kept_of, nothing_known}
+use Rattle.hc_owed.specs.RegisterState.{RegisterState, register_state_of, nothing_known}
 use Rattle.hc_core.proofs.Awaits.{waits-opened}
-use Rattle.hc_core.proofs.Known.{kept-alike}
+use Rattle.hc_core.proofs.Known.{unchanged-alike}
 use Rattle.hc_core.specs.Agreement.{Agree}
 use Rattle.hc_core.specs.Serials.{HaveNone, Serials}
 
 none_sent : 0 ≤ SETUP_SERIAL
 none_sent = omega arith
 
-pub agree-opened : (groups : List Group) (inputs : Image) (serials : Serials) (outputs : Packed) (owed : Board) → lowest_fault (groups_of (opened groups).groups) ≡ None → crowded_task (line (opened groups)) ≡ None → HasNone inputs → HaveNone serials → owed ≡ kept_of nothing_known (opened groups) → Holds (table_of (line (opened groups))) (λ variable k. 0) outputs
+pub agree-opened : (groups : List Group) (inputs : DatagramImage) (serials : Serials) (outputs : Packed) (owed : RegisterState) → lowest_fault (groups_of (opened groups).groups) ≡ None → over_limit_task (line (opened groups)) ≡ None → HasNone inputs → HaveNone serials → owed ≡ register_state_of nothing_known (opened groups) → HoldsOutputValues (table_of (line (opened groups))) (λ variable k. 0) outputs
     → Agree (record {
       plan = opened groups;
       serial = 0;
@@ -31,10 +31,10 @@ pub agree-opened : (groups : List Group) (inputs : Image) (serials : Serials) (o
       owed = owed;
       changes = [];
     }) (just_opened groups) (just_opened groups)
-agree-opened groups inputs serials outputs owed project uncrowded none undated unknown zeros = search (rules, none_sent, waits-opened, kept-alike, append-nil)
+agree-opened groups inputs serials outputs owed project uncrowded none undated unknown zeros = search (rules, none_sent, waits-opened, unchanged-alike, append-nil)
 
 abbrev pub IsProject : State → Type 0
 IsProject state = lowest_fault (groups_of state.groups) ≡ None
 
 abbrev pub IsUncrowded : State → Type 0
-IsUncrowded state = crowded_task (line state) ≡ None
+IsUncrowded state = over_limit_task (line state) ≡ None

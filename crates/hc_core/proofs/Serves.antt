@@ -12,38 +12,38 @@ use Rattle.hc_events.specs.declared.answer.Answer.TheVariants as answer
 use Rattle.hc_events.specs.declared.faults.CoreFault.{CoreFault}
 use Rattle.hc_events.specs.declared.faults.CoreFault.TheVariants as fault
 use Rattle.hc_events.specs.Calls.{MayAnswer, takes_memory}
-use Rattle.hc_events.specs.Entries.{Record, Edited, Forgot, Posted}
+use Rattle.hc_events.specs.Entries.{History, Edited, Forgot, Posted}
 use Rattle.hc_events.specs.Faults.{edit_refusal}
 use Rattle.hc_events.specs.Owed.{owed_blocks}
 use Rattle.hc_events.specs.Points.{state_of}
-use Rattle.hc_events.specs.Steps.{Step, Edits, Posts, SendsTasks, SendsWrite, SendsWrites, Reads, Forgets, answer_to, edit_refused, entries_after, forget_faults, post_faults, task_faults, told_of_edit, write_faults}
-use Rattle.hc_core.specs.Early.{TellsEarly}
+use Rattle.hc_events.specs.Steps.{Step, Edits, Posts, SendsTasks, SendsWrite, SendsWrites, Reads, Forgets, answer_to, edit_refused, entries_after, forget_faults, post_faults, task_faults, edit_answer, write_faults}
+use Rattle.hc_core.specs.Early.{ShowsEarly}
 use Rattle.hc_core.specs.Serving.{MayAnswerAll, answer_of, answer_of_edit, answer_of_forget, answer_of_post, answer_or_memory}
 use Rattle.hc_core.specs.State.{CoreState}
 
--- an answer that is the event's, or want of memory
+-- an answer that is the event's, or `Memory`
 
-pub answer-served : {E : Type 0} (old new : Record) (step : Step) (result : Result Answer E) → takes_memory step ≡ true → IfOk result (λ told. told ≡ answer_to old step) → OnOk result (new ≡ entries_after old step) → OnErr result (new ≡ old)
+pub answer-served : {E : Type 0} (old new : History) (step : Step) (result : Result Answer E) → takes_memory step ≡ true → IfOk result (λ answer_given. answer_given ≡ answer_to old step) → OnOk result (new ≡ entries_after old step) → OnErr result (new ≡ old)
     → MayAnswer old step (answer_or_memory result) new
 answer-served old new step result takes answers entries same = search rules
 
--- a core fault is want of memory or not
+-- a core fault is `Memory` or not
 
 -- a register write, and tasks
 
-pub write-served : (old new : Record) (result : Result Answer CoreFault) → IfOk result (λ told. told ≡ answer_to old SendsWrite)
+pub write-served : (old new : History) (result : Result Answer CoreFault) → IfOk result (λ answer_given. answer_given ≡ answer_to old SendsWrite)
     → IfErr result (λ found. found ≢ fault.Memory → lowest (write_faults old (owed_blocks old)) ≡ Some found) → OnOk result (new ≡ entries_after old SendsWrite) → OnErr result (new ≡ old) → MayAnswer old SendsWrite (answer_of result) new
 write-served old new result answers names entries same = search rules
 
-pub writes-served : (old new : Record) (result : Result Answer CoreFault) → IfOk result (λ told. told ≡ answer_to old SendsWrites)
+pub writes-served : (old new : History) (result : Result Answer CoreFault) → IfOk result (λ answer_given. answer_given ≡ answer_to old SendsWrites)
     → IfErr result (λ found. found ≢ fault.Memory → lowest (write_faults old (owed_blocks old)) ≡ Some found) → OnOk result (new ≡ entries_after old SendsWrites) → OnErr result (new ≡ old) → MayAnswer old SendsWrites (answer_of result) new
 writes-served old new result answers names entries same = search rules
 
-pub tasks-served : (old new : Record) (tasks : List ℕ) (result : Result Answer CoreFault) → IfOk result (λ told. told ≡ answer_to old (SendsTasks tasks))
+pub tasks-served : (old new : History) (tasks : List ℕ) (result : Result Answer CoreFault) → IfOk result (λ answer_given. answer_given ≡ answer_to old (SendsTasks tasks))
     → IfErr result (λ found. found ≢ fault.Memory → lowest (task_faults old tasks) ≡ Some found) → OnOk result (new ≡ entries_after old (SendsTasks tasks)) → OnErr result (new ≡ old) → MayAnswer old (SendsTasks tasks) (answer_of result) new
 tasks-served old new tasks result answers names entries same = search rules
 
--- what is told whatever memory does
+-- what is reported whatever memory does
 
 pub if-some : {X : Type 0} (P Q : X → Type 0) (found : Option X) → ((x : X) → P x → Q x) → IfSome found P → IfSome found Q
 if-some P Q found next is = search rules
@@ -63,61 +63,61 @@ accepted_edit found made next e = search rules
 refused_edit : (found : Option EditFault) (made : State) (one : EditFault) → refused_by found made ≡ Err one → found ≡ Some one
 refused_edit found made one e = search rules
 
-abbrev IsWant : EditFault → Type 0
-IsWant found = (found ≡ edit.Memory) ⊎ (found ≢ edit.Memory)
+abbrev IsOutOfMemory : EditFault → Type 0
+IsOutOfMemory found = (found ≡ edit.Memory) ⊎ (found ≢ edit.Memory)
 
-is_want : (found : EditFault) → IsWant found
-is_want other = search rules
+is_out_of_memory : (found : EditFault) → IsOutOfMemory found
+is_out_of_memory other = search rules
 
-edit_or : (old new : Record) (change : Edit) (found : EditFault) → (found ≢ edit.Memory → edited (state_of old) change ≡ Err found) → new ≡ old → IsWant found → MayAnswer old (Edits change) (answer.Refused (edit_refusal found)) new
+edit_or : (old new : History) (change : Edit) (found : EditFault) → (found ≢ edit.Memory → edited (state_of old) change ≡ Err found) → new ≡ old → IsOutOfMemory found → MayAnswer old (Edits change) (answer.Refused (edit_refusal found)) new
 edit_or old new change found names same (inl memory) = search rules
 edit_or old new change found names same (inr other) =
     let refused = refused_edit (lowest (edit_faults (state_of old) change)) (changed (state_of old) change) found (names other) in
     let is : edit_refused old change ≡ Some (edit_refusal found) = ap (option_map edit_refusal) refused in
     search rules
 
-pub edit-served : (old new : Record) (change : Edit) (result : Result Answer EditFault) → IfOk result (λ told. told ≡ told_of_edit (state_of old) (state_after (state_of old) change))
+pub edit-served : (old new : History) (change : Edit) (result : Result Answer EditFault) → IfOk result (λ answer_given. answer_given ≡ edit_answer (state_of old) (state_after (state_of old) change))
     → OnOk result (edited (state_of old) change ≡ Ok (state_after (state_of old) change)) → IfErr result (λ found. found ≢ edit.Memory → edited (state_of old) change ≡ Err found)
     → OnOk result (new ≡ Edited change ∷ old) → OnErr result (new ≡ old) → MayAnswer old (Edits change) (answer_of_edit result) new
-edit-served old new change (Ok told) answers accepted names entries same =
+edit-served old new change (Ok answer_given) answers accepted names entries same =
     let none = accepted_edit (lowest (edit_faults (state_of old) change)) (changed (state_of old) change) (state_after (state_of old) change) accepted in
     let is : edit_refused old change ≡ None = ap (option_map edit_refusal) none in
     search rules
-edit-served old new change (Err found) answers accepted names entries same = edit_or old new change found names same (is_want found)
+edit-served old new change (Err found) answers accepted names entries same = edit_or old new change found names same (is_out_of_memory found)
 
--- one more event behind others
+-- one more event after others
 
-pub all-answered : (past between next : Record) (steps : List Step) (answers : List Answer) (step : Step) (told : Answer) → MayAnswerAll past steps answers between → MayAnswer between step told next → TellsEarly between step told
-    → MayAnswerAll past (steps ++ step ∷ []) (answers ++ told ∷ []) next
-all-answered past between next [] [] step told all one early = search rules
-all-answered past between next [] (other ∷ answers) step told all one early = absurd all
-all-answered past between next (first ∷ steps) [] step told all one early = absurd all
-all-answered past between next (first ∷ steps) (other ∷ answers) step told all one early =
-    (all.0, all.1, all-answered all.0 between next steps answers step told all.2 one early, all.3)
+pub all-answered : (history between next : History) (steps : List Step) (answers : List Answer) (step : Step) (answer_given : Answer) → MayAnswerAll history steps answers between → MayAnswer between step answer_given next → ShowsEarly between step answer_given
+    → MayAnswerAll history (steps ++ step ∷ []) (answers ++ answer_given ∷ []) next
+all-answered history between next [] [] step answer_given all one early = search rules
+all-answered history between next [] (other ∷ answers) step answer_given all one early = absurd all
+all-answered history between next (first ∷ steps) [] step answer_given all one early = absurd all
+all-answered history between next (first ∷ steps) (other ∷ answers) step answer_given all one early =
+    (all.0, all.1, all-answered all.0 between next steps answers step answer_given all.2 one early, all.3)
 
 -- what a call's result says of the record alone
 
-pub past-behind : {X E : Type 0} (result : Result X E) (old new : CoreState) (next : Record) → OnOk result (new ≡ record old { past = next }) → OnOk result (new.past ≡ next)
-past-behind result old new next entries = search rules
+pub history-after : {X E : Type 0} (result : Result X E) (old new : CoreState) (next : History) → OnOk result (new ≡ record old { history = next }) → OnOk result (new.history ≡ next)
+history-after result old new next entries = search rules
 
-pub past-same : {X E : Type 0} (result : Result X E) (old new : CoreState) → OnErr result (new ≡ old) → OnErr result (new.past ≡ old.past)
-past-same result old new same = search rules
+pub history-same : {X E : Type 0} (result : Result X E) (old new : CoreState) → OnErr result (new ≡ old) → OnErr result (new.history ≡ old.history)
+history-same result old new same = search rules
 
-pub taken-same : {X E : Type 0} (result : Result X E) (old new : CoreState) (next : Record) → OnOk result (new ≡ record old { past = next }) → OnErr result (new ≡ old) → new.taken ≡ old.taken
+pub taken-same : {X E : Type 0} (result : Result X E) (old new : CoreState) (next : History) → OnOk result (new ≡ record old { history = next }) → OnErr result (new ≡ old) → new.taken ≡ old.taken
 taken-same result old new next entries same = search rules
 
-pub read-served : {E : Type 0} (past : Record) (task : ℕ) (result : Result Answer E) → IfOk result (λ told. told ≡ answer_to past (Reads task)) → MayAnswer past (Reads task) (answer_or_memory result) past
-read-served past task result answers = search rules
+pub read-served : {E : Type 0} (history : History) (task : ℕ) (result : Result Answer E) → IfOk result (λ answer_given. answer_given ≡ answer_to history (Reads task)) → MayAnswer history (Reads task) (answer_or_memory result) history
+read-served history task result answers = search rules
 
 -- a post takes no memory
 
-pub post-served : {X : Type 0} (old new : Record) (task epoch : ℕ) (bytes : List ℕ) (result : Result X CoreFault) → OnOk result (lowest (post_faults old task epoch bytes) ≡ None) → IfErr result (λ found. lowest (post_faults old task epoch bytes) ≡ Some found)
+pub post-served : {X : Type 0} (old new : History) (task epoch : ℕ) (bytes : List ℕ) (result : Result X CoreFault) → OnOk result (lowest (post_faults old task epoch bytes) ≡ None) → IfErr result (λ found. lowest (post_faults old task epoch bytes) ≡ Some found)
     → OnOk result (new ≡ Posted task bytes ∷ old) → OnErr result (new ≡ old) → MayAnswer old (Posts task epoch bytes) (answer_of_post result) new
 post-served old new task epoch bytes result accepted names entries same = search rules
 
 -- nor does forgetting a slave
 
-pub forget-served : {X : Type 0} (old new : Record) (station : ℕ) (result : Result X CoreFault) → OnOk result (lowest (forget_faults old station) ≡ None) → IfErr result (λ found. lowest (forget_faults old station) ≡ Some found)
+pub forget-served : {X : Type 0} (old new : History) (station : ℕ) (result : Result X CoreFault) → OnOk result (lowest (forget_faults old station) ≡ None) → IfErr result (λ found. lowest (forget_faults old station) ≡ Some found)
     → OnOk result (new ≡ Forgot station ∷ old) → OnErr result (new ≡ old) → MayAnswer old (Forgets station) (answer_of_forget result) new
 forget-served old new station result accepted names entries same = search rules
 

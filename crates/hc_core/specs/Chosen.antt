@@ -6,14 +6,14 @@ use Rattle.hc_records.specs.Project.{lowest_fault}
 use Rattle.hc_registers.specs.Blocks.{LineBlock, RegisterBlock}
 use Rattle.hc_registers.specs.RankPlaces.{places}
 use Rattle.hc_plan.specs.Configuration.{block_at}
-use Rattle.hc_plan.specs.Reports.{name_of}
+use Rattle.hc_plan.specs.Reports.{found_name}
 use Rattle.hc_events.specs.declared.answer.Outcome.{Outcome}
 use Rattle.hc_events.specs.declared.answer.Outcome.TheVariants.{Inputs, WrongCount, Stale, Done, Missed}
-use Rattle.hc_events.specs.Answering.{Judged, is_news}
+use Rattle.hc_events.specs.Answering.{Judged, is_current}
 use Rattle.hc_events.specs.Heads.{is_block, write_head}
 use Rattle.hc_events.specs.Steps.{outcome_for}
 use Rattle.hc_events.specs.WriteFrames.{blocks_beside, blocks_bytes}
-use Rattle.hc_owed.specs.Board.{Board, Knowledge, kept_of, lacks}
+use Rattle.hc_owed.specs.RegisterState.{RegisterState, Knowledge, register_state_of, lacks}
 use Rattle.hc_owed.specs.Laws.{known_with, owed_from}
 use Rattle.hc_sendings.specs.declared.write_frames.PlacedBlock.{PlacedBlock}
 use Rattle.hc_sendings.specs.declared.writes.AwaitedBlock.{AwaitedBlock}
@@ -21,39 +21,40 @@ use Rattle.hc_sendings.specs.Judging.{written_head}
 use Rattle.hc_sendings.specs.WriteFrames.{WriteFrame, block_of}
 
 -- what is kept of the blocks is right for a project's state
-pub record KeepsBlocks (board : Board) (state : State) : Type 0 where
+pub record KeepsBlocks (register_state : RegisterState) : Type 0 where
   pub known : Knowledge
+  pub state : State
   pub project : lowest_fault (groups_of state.groups) ≡ None
-  pub right : board ≡ kept_of known state
+  pub right : register_state ≡ register_state_of known state
 
 -- a block is the one of the line at its place
-abbrev pub IsPlaced : State → PlacedBlock → Type 0
-IsPlaced state placed = slice_get (places state) placed.place ≡ Some (Some placed.block)
+abbrev pub IsLineBlock : State → PlacedBlock → Type 0
+IsLineBlock state placed = slice_get (places state) placed.place ≡ Some (Some placed.block)
 
 -- a block is the first one that is lacking at a place or after it, and the others are lacking after its place
 pub record IsNext (known : Knowledge) (state : State) (place : ℕ) (placed : PlacedBlock) : Type 0 where
-  pub at : IsPlaced state placed
+  pub at : IsLineBlock state placed
   pub next : owed_from known state place ≡ placed.block ∷ owed_from known state (placed.place + 1)
 
 -- the blocks that are lacking from a place on joined a frame: as many as it had room for, but so many at most
 pub record IsChosenFrom (known : Knowledge) (state : State) (place most : ℕ) (old new : WriteFrame) : Type 0 where
   pub blocks : map block_of new.blocks ≡ map block_of old.blocks ++ take most (blocks_beside old.bytes (owed_from known state place))
   pub bytes : new.bytes ≡ old.bytes + blocks_bytes (take most (blocks_beside old.bytes (owed_from known state place)))
-  pub placed : All (IsPlaced state) old.blocks → All (IsPlaced state) new.blocks
+  pub placed : All (IsLineBlock state) old.blocks → All (IsLineBlock state) new.blocks
 
--- blocks can be marked as sent: they stand at their places, and they are lacking
-pub record CanMark (board : Board) (blocks : List PlacedBlock) : Type 0 where
+-- blocks can be marked as sent: they are at their places, and they are lacking
+pub record CanMark (register_state : RegisterState) (blocks : List PlacedBlock) : Type 0 where
   pub known : Knowledge
   pub state : State
   pub project : lowest_fault (groups_of state.groups) ≡ None
-  pub right : board ≡ kept_of known state
-  pub placed : All (IsPlaced state) blocks
+  pub right : register_state ≡ register_state_of known state
+  pub placed : All (IsLineBlock state) blocks
   pub lacking : All (λ placed. lacks known placed.block ≡ true) blocks
 
 -- what is known once they are sent: nothing of any of them
 abbrev pub known_sent : List PlacedBlock → Knowledge → Knowledge
 known_sent [] known = known
-known_sent (placed ∷ blocks) known = known_sent blocks (known_with (name_of placed.block) None known)
+known_sent (placed ∷ blocks) known = known_sent blocks (known_with (found_name placed.block) None known)
 
 -- a block that is awaited is the one of the line at its place
 pub record IsAwaitedAt (state : State) (block : AwaitedBlock) : Type 0 where
@@ -62,27 +63,28 @@ pub record IsAwaitedAt (state : State) (block : AwaitedBlock) : Type 0 where
   pub head : written_head block ≡ write_head found
 
 -- what is kept is right for a project's state, of whose line these blocks are
-pub record CanConfirm (board : Board) (state : State) (blocks : List AwaitedBlock) : Type 0 where
+pub record CanConfirm (register_state : RegisterState) (blocks : List AwaitedBlock) : Type 0 where
   pub known : Knowledge
+  pub state : State
   pub project : lowest_fault (groups_of state.groups) ≡ None
-  pub right : board ≡ kept_of known state
+  pub right : register_state ≡ register_state_of known state
   pub placed : All (IsAwaitedAt state) blocks
 
 -- a block's write is done
-abbrev pub is_done : Outcome → Bool
-is_done (Inputs task d) = false
-is_done (WrongCount expected got) = false
-is_done Stale = false
-is_done Done = true
-is_done Missed = false
+abbrev pub write_is_done : Outcome → Bool
+write_is_done (Inputs task d) = false
+write_is_done (WrongCount expected got) = false
+write_is_done Stale = false
+write_is_done Done = true
+write_is_done Missed = false
 
 -- the bytes that a line configures for an awaited block
-abbrev pub bytes_of : State → AwaitedBlock → Option (List ℕ)
-bytes_of state block = option_map (λ (found : RegisterBlock). found.bytes) (block_at (line state) block.station block.number)
+abbrev pub block_bytes_in : State → AwaitedBlock → Option (List ℕ)
+block_bytes_in state block = option_map (λ (found : RegisterBlock). found.bytes) (block_at (line state) block.station block.number)
 
 -- what is known of the blocks once they are answered: of each whose write is done the bytes that the line configures
 abbrev pub known_if : State → AwaitedBlock → Outcome → Knowledge → Knowledge
-known_if state block outcome known = if is_done outcome then known_with (block.station, block.number) (bytes_of state block) known else known
+known_if state block outcome known = if write_is_done outcome then known_with (block.station, block.number) (block_bytes_in state block) known else known
 
 -- block by block, as far as there are outcomes
 abbrev pub known_done : State → List AwaitedBlock → List Outcome → Knowledge → Knowledge
@@ -91,7 +93,7 @@ known_done state (block ∷ blocks) [] known = known
 known_done state (block ∷ blocks) (outcome ∷ outcomes) known = known_done state blocks outcomes (known_if state block outcome known)
 
 -- an arrival's datagrams are those of register blocks, one at least isn't stale, and these are their outcomes
-pub record AreWritten (datagrams : List Judged) (outcomes : List Outcome) : Type 0 where
-  pub news : list_any is_news datagrams ≡ true
+pub record AreWriteOutcomes (datagrams : List Judged) (outcomes : List Outcome) : Type 0 where
+  pub updates : list_any is_current datagrams ≡ true
   pub blocks : list_any (λ datagram. is_block datagram.head.item) datagrams ≡ true
-  pub told : outcomes ≡ map outcome_for datagrams
+  pub answer_given : outcomes ≡ map outcome_for datagrams

@@ -6,7 +6,7 @@ use Rattle.hc_groups.specs.Edits.{own_fault}
 use Rattle.hc_events.specs.declared.answer.Answer.{Answer}
 use Rattle.hc_events.specs.declared.answer.Answer.TheVariants as answer
 use Rattle.hc_events.specs.declared.faults.CoreFault.{CoreFault}
-use Rattle.hc_events.specs.Entries.{Record}
+use Rattle.hc_events.specs.Entries.{History}
 use Rattle.hc_events.specs.Faults.{edit_refusal, frame_refusal}
 use Rattle.hc_events.specs.Owed.{owed_blocks}
 use Rattle.hc_events.specs.Points.{state_of}
@@ -14,16 +14,16 @@ use Rattle.hc_events.specs.Steps.{Step, Edits, Posts, SendsTasks, SendsWrite, Se
 use Rattle.hc_sendings.specs.Refusals.{early_faults}
 
 -- the fault of an event that is judged before memory is taken: of an edit the one that it has by itself, of tasks that there is no such task or that blocks are owed, of any other event each that it has
-abbrev pub early_fault : Record → Step → Option CoreFault
-early_fault past (Edits edit) = option_map edit_refusal (own_fault (state_of past).groups edit)
-early_fault past (Posts task epoch bytes) = lowest (post_faults past task epoch bytes)
-early_fault past (SendsTasks tasks) = lowest (early_faults (length (owed_blocks past)) tasks)
-early_fault past SendsWrite = lowest (write_faults past (owed_blocks past))
-early_fault past SendsWrites = lowest (write_faults past (owed_blocks past))
-early_fault past (Arrives bytes) = option_map frame_refusal (fault_in bytes)
-early_fault past (Reads task) = lowest (read_faults task)
-early_fault past (Forgets station) = lowest (forget_faults past station)
+abbrev pub early_fault : History → Step → Option CoreFault
+early_fault history (Edits edit) = option_map edit_refusal (own_fault (state_of history).groups edit)
+early_fault history (Posts task epoch bytes) = lowest (post_faults history task epoch bytes)
+early_fault history (SendsTasks tasks) = lowest (early_faults (length (owed_blocks history)) tasks)
+early_fault history SendsWrite = lowest (write_faults history (owed_blocks history))
+early_fault history SendsWrites = lowest (write_faults history (owed_blocks history))
+early_fault history (Arrives bytes) = option_map frame_refusal (fault_in bytes)
+early_fault history (Reads task) = lowest (read_faults task)
+early_fault history (Forgets station) = lowest (forget_faults history station)
 
--- it is told
-abbrev pub TellsEarly : Record → Step → Answer → Type 0
-TellsEarly past step told = IfSome (early_fault past step) (λ fault. told ≡ answer.Refused fault)
+-- it is reported
+abbrev pub ShowsEarly : History → Step → Answer → Type 0
+ShowsEarly history step answer_given = IfSome (early_fault history step) (λ fault. answer_given ≡ answer.Refused fault)

@@ -2,11 +2,11 @@
 use Rattle.std.specs.Prelude.{◌≡◌, ◌≤◌, ◌*◌, ℕ, All, List, length, map, None}
 use Rattle.std.specs.List.{flat_map}
 use Rattle.hc_records.specs.declared.limits.TheConstants.{MOST_DATAGRAMS, TASKS}
-use Rattle.hc_records.specs.Edits.{crowded_task}
+use Rattle.hc_records.specs.Edits.{over_limit_task}
 use Rattle.hc_frames.specs.declared.limits.TheConstants.{SETUP_SERIAL}
 use Rattle.hc_events.specs.declared.answer.Answer.TheVariants as answer
 use Rattle.hc_events.specs.Calls.{AreSentTogether}
-use Rattle.hc_events.specs.Entries.{Record}
+use Rattle.hc_events.specs.Entries.{History}
 use Rattle.hc_events.specs.Outputs.{sent_data}
 use Rattle.hc_events.specs.Points.{line_of}
 use Rattle.hc_events.specs.Sendings.{Frame}
@@ -16,24 +16,24 @@ use Rattle.hc_core.specs.Filled.{CanBeFilled}
 use Rattle.hc_core.specs.Proposed.{IsProposal}
 
 -- proposed, filled and committed with no event between: each frame can be filled, they are no more than there are serials, and they are what the event answers and leaves
-pub record IsSending (past : Record) (frames : List Frame) (is : IsProposal past frames) : Type 0 where
-  pub filled : All (CanBeFilled past) frames
+pub record IsSending (history : History) (frames : List Frame) (is : IsProposal history frames) : Type 0 where
+  pub filled : All (CanBeFilled history) frames
   pub few : length frames ≤ SETUP_SERIAL
-  pub answer : answer_to past (SendsTasks is.tasks) ≡ answer.Sent (map (sent_text past) frames)
-  pub entries : entries_after past (SendsTasks is.tasks) ≡ with_sent past frames
+  pub answer : answer_to history (SendsTasks is.tasks) ≡ answer.Sent (map (sent_text history) frames)
+  pub entries : entries_after history (SendsTasks is.tasks) ≡ with_sent history frames
 
 -- so are any frames that are a present proposal of the record
 abbrev pub PiecesAreTheEvent : Type 0
-PiecesAreTheEvent = (past : Record) (frames : List Frame) (is : IsProposal past frames) → IsSending past frames is
+PiecesAreTheEvent = (history : History) (frames : List Frame) (is : IsProposal history frames) → IsSending history frames is
 
 -- the parts of tasks that are sent together, joined in their order, are the frames that are proposed for them, one after another
 abbrev pub PartsAreTheProposal : Type 0
 PartsAreTheProposal =
-    (past : Record) (tasks : List ℕ) → AreSentTogether tasks
-    → flat_map (λ task. part_text (sent_data past) task (proposal past tasks)) tasks ≡ flat_map (sent_text past) (proposal past tasks)
+    (history : History) (tasks : List ℕ) → AreSentTogether tasks
+    → flat_map (λ task. part_text (sent_data history) task (proposal history tasks)) tasks ≡ flat_map (sent_text history) (proposal history tasks)
 
 -- a proposal of an uncrowded line has at most as many frames as a line has datagrams
 abbrev pub ProposalsAreFew : Type 0
 ProposalsAreFew =
-    (past : Record) (frames : List Frame) → crowded_task (line_of past) ≡ None → IsProposal past frames
+    (history : History) (frames : List Frame) → over_limit_task (line_of history) ≡ None → IsProposal history frames
     → length frames ≤ MOST_DATAGRAMS * TASKS

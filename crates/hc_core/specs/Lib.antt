@@ -9,12 +9,12 @@ pub mod LastData
 pub mod Lines
 pub mod Texts
 pub mod Records
-pub mod News
+pub mod Update
 pub mod Serials
 pub mod Agreement
 pub mod Waits
 pub mod Prepared
 pub mod Values
-pub mod Goods
+pub mod GoodAnswers
 pub mod Firsts
 pub mod Chosen

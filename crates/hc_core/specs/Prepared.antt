@@ -7,43 +7,43 @@ use Rattle.hc_records.specs.Edits.{declares}
 use Rattle.hc_registers.specs.RankPlaces.{stations}
 use Rattle.hc_places.specs.Table.{table_of}
 use Rattle.hc_images.specs.Moves.{Moves}
-use Rattle.hc_owed.specs.Board.{Board, Knowledge, kept_of}
-use Rattle.hc_owed.specs.Room.{IsRoomFor, OwedRoom}
+use Rattle.hc_owed.specs.RegisterState.{RegisterState, Knowledge, register_state_of}
+use Rattle.hc_owed.specs.Room.{IsOwedRoomFor, OwedRoom}
 use Rattle.hc_plan.specs.Prepared.{IsPrepared, PreparedEdit}
 use Rattle.hc_events.specs.declared.change.Change.{Change}
-use Rattle.hc_events.specs.Changes.{news_of}
+use Rattle.hc_events.specs.Changes.{updates_of}
 use Rattle.hc_events.specs.Points.{line_of, state_of}
 use Rattle.hc_core.specs.State.{CoreState}
 
--- the core for which an edit is prepared, and what the edit makes of its line
+-- the core that an edit is prepared for, and what the edit makes of its line
 pub record CoreEdit : Type 0 where
   pub core : CoreState
   pub edit : PreparedEdit
 
--- an edit declares a group, and there is memory for its slaves behind so many others
+-- an edit declares a group, and there is memory for its slaves after so many others
 pub record DeclaresWith (count : ℕ) (edit : Edit) (room : OwedRoom) : Type 0 where
   pub group : Group
   pub named : edit ≡ Declare group
-  pub fits : IsRoomFor count group.slaves room
+  pub fits : IsOwedRoomFor count group.slaves room
 
--- memory for the slaves that an edit declares behind so many others, and none where it declares none
+-- memory for the slaves that an edit declares after so many others, and none where it declares none
 abbrev pub HasSlaveRoom : ℕ → Edit → Option OwedRoom → Type 0
 HasSlaveRoom count edit None = declares edit ≡ false
 HasSlaveRoom count edit (Some room) = DeclaresWith count edit room
 
 -- what is kept of the register blocks is right for the state before a prepared edit, and there is memory for the slaves that it declares
-pub record CanFollow (owed : Board) (edit : PreparedEdit) (memory : Option OwedRoom) : Type 0 where
+pub record CanFollow (owed : RegisterState) (edit : PreparedEdit) (memory : Option OwedRoom) : Type 0 where
   pub known : Knowledge
-  pub right : owed ≡ kept_of known edit.old
+  pub right : owed ≡ register_state_of known edit.old
   pub prepared : IsPrepared edit
   pub slaves : HasSlaveRoom (length (stations edit.old)) edit.report.swap.edit memory
 
 -- the edit is one of the core's line, output values are to move as it says, there is memory for the slaves that it declares, and memory without a change in it has room for the changes that nobody took and one more
-pub record IsReady (core : CoreState) (edit : PreparedEdit) (moves : Moves) (memory : Option OwedRoom) (room : List Change) (capacity : ℕ) : Type 0 where
-  pub made : edit.old ≡ state_of core.past
+pub record CanBeCarriedOut (core : CoreState) (edit : PreparedEdit) (moves : Moves) (memory : Option OwedRoom) (room : List Change) (capacity : ℕ) : Type 0 where
+  pub made : edit.old ≡ state_of core.history
   pub prepared : IsPrepared edit
-  pub table : moves.before ≡ table_of (line_of core.past)
+  pub table : moves.before ≡ table_of (line_of core.history)
   pub change : moves.change ≡ edit.report.swap.change
   pub slaves : HasSlaveRoom (length (stations edit.old)) edit.report.swap.edit memory
   pub empty : room ≡ []
-  pub fits : length (news_of core.past) < length (news_of core.taken) + capacity
+  pub fits : length (updates_of core.history) < length (updates_of core.taken) + capacity

@@ -6,10 +6,10 @@ use Rattle.hc_events.specs.declared.answer.Answer.TheVariants as answer
 use Rattle.hc_events.specs.declared.faults.CoreFault.{CoreFault}
 use Rattle.hc_events.specs.declared.faults.CoreFault.TheVariants.{Memory}
 use Rattle.hc_events.specs.Calls.{AreSentTogether, MayAnswer}
-use Rattle.hc_events.specs.Entries.{Record}
+use Rattle.hc_events.specs.Entries.{History}
 use Rattle.hc_events.specs.Faults.{edit_refusal}
 use Rattle.hc_events.specs.Steps.{Step, SendsTasks}
-use Rattle.hc_core.specs.Early.{TellsEarly}
+use Rattle.hc_core.specs.Early.{ShowsEarly}
 
 -- what the caller keeps to: tasks that are sent together are at least one, at most eight, and none twice; of any other event nothing
 abbrev pub IsAsked : Step → Type 0
@@ -18,32 +18,33 @@ IsAsked step = Unit {0}
 
 -- what an event is answered, by what the call that serves it gave: its answer, or a refusal
 abbrev pub answer_of : Result Answer CoreFault → Answer
-answer_of (Ok told) = told
+answer_of (Ok answer_given) = answer_given
 answer_of (Err fault) = answer.Refused fault
 
--- that of a post, by what its call gave: posted, or a refusal
+-- the answer to a post, by what its call gave: posted, or a refusal
 abbrev pub answer_of_post : {X : Type 0} → Result X CoreFault → Answer
 answer_of_post (Ok done) = answer.Posted
 answer_of_post (Err fault) = answer.Refused fault
 
--- that of forgetting a slave, by what its call gave: forgotten, or a refusal
+-- the answer to forgetting a slave, by what its call gave: forgotten, or a refusal
 abbrev pub answer_of_forget : {X : Type 0} → Result X CoreFault → Answer
 answer_of_forget (Ok done) = answer.Forgotten
 answer_of_forget (Err fault) = answer.Refused fault
 
--- that of an edit, by what its call gave: its answer, or a refusal by the edit's fault
+-- the answer to an edit, by what its call gave: its answer, or a refusal by the edit's fault
 abbrev pub answer_of_edit : Result Answer EditFault → Answer
-answer_of_edit (Ok told) = told
+answer_of_edit (Ok answer_given) = answer_given
 answer_of_edit (Err fault) = answer.Refused (edit_refusal fault)
 
--- that of a call that can fail for want of memory alone: its answer, or the refusal for it
+-- the answer of a call that can fail with `Memory` alone: its answer, or the refusal for it
 abbrev pub answer_or_memory : {E : Type 0} → Result Answer E → Answer
-answer_or_memory (Ok told) = told
+answer_or_memory (Ok answer_given) = answer_given
 answer_or_memory (Err error) = answer.Refused Memory
 
--- events one after another, each with its answer, and the record that they leave; a fault that is judged before memory is taken is told
-abbrev pub MayAnswerAll : Record → List Step → List Answer → Record → Type 0
-MayAnswerAll past [] [] next = next ≡ past
-MayAnswerAll past [] (told ∷ answers) next = ⊥
-MayAnswerAll past (step ∷ steps) [] next = ⊥
-MayAnswerAll past (step ∷ steps) (told ∷ answers) next = (between : Record) × MayAnswer past step told between × MayAnswerAll between steps answers next × TellsEarly past step told
+-- events one after another, each with its answer, and the record that they leave; a fault that is judged before memory is taken is
+-- reported
+abbrev pub MayAnswerAll : History → List Step → List Answer → History → Type 0
+MayAnswerAll history [] [] next = next ≡ history
+MayAnswerAll history [] (answer_given ∷ answers) next = ⊥
+MayAnswerAll history (step ∷ steps) [] next = ⊥
+MayAnswerAll history (step ∷ steps) (answer_given ∷ answers) next = (between : History) × MayAnswer history step answer_given between × MayAnswerAll between steps answers next × ShowsEarly history step answer_given

@@ -6,43 +6,43 @@ use Rattle.hc_events.specs.declared.answer.Answer.TheVariants as answer
 use Rattle.hc_events.specs.declared.faults.CoreFault.{CoreFault}
 use Rattle.hc_events.specs.declared.sending.TheConstants.{FRAME_BLOCKS}
 use Rattle.hc_events.specs.Calls.{room_faults, write_size}
-use Rattle.hc_events.specs.Entries.{Record}
+use Rattle.hc_events.specs.Entries.{History}
 use Rattle.hc_events.specs.Owed.{owed_blocks}
 use Rattle.hc_events.specs.Points.{next_serial}
-use Rattle.hc_events.specs.Steps.{SendsWrite, SendsWrites, answer_to, told_of_writes, write_faults}
+use Rattle.hc_events.specs.Steps.{SendsWrite, SendsWrites, answer_to, writes_answer, write_faults}
 use Rattle.hc_events.specs.WriteFrames.{frame_blocks, writes_size, writes_text}
 use Rattle.hc_core.specs.declared.writing.SentWrites.{SentWrites}
 
--- the frame that writes the first owed block, as the event's answer has it, stands in front of what the slice had behind it
-pub record HoldsWrite (past : Record) (old new : List ℕ) (size : ℕ) : Type 0 where
+-- the frame that writes the first owed block, as the event's answer has it, is before what the slice had after it
+pub record HoldsWrite (history : History) (old new : List ℕ) (size : ℕ) : Type 0 where
   pub text : List ℕ
-  pub told : answer_to past SendsWrite ≡ answer.WriteSent text
-  pub counted : size ≡ write_size (owed_blocks past)
+  pub answer_given : answer_to history SendsWrite ≡ answer.WriteSent text
+  pub counted : size ≡ write_size (owed_blocks history)
   pub holds : new ≡ text ++ drop size old
 
 -- the first owed blocks of one frame, so many at most
-abbrev pub first_blocks : ℕ → Record → List LineBlock
-first_blocks most past = take most (frame_blocks (owed_blocks past))
+abbrev pub first_blocks : ℕ → History → List LineBlock
+first_blocks most history = take most (frame_blocks (owed_blocks history))
 
 -- one block alone, or as many as a frame holds
 abbrev pub IsMost : ℕ → Type 0
 IsMost most = (most ≡ 1) ⊎ (most ≡ FRAME_BLOCKS)
 
 -- what refuses their frame in a slice of so many bytes: what refuses the event, and then a slice that is too short
-abbrev pub first_into_faults : ℕ → Record → ℕ → List (Bool × CoreFault)
-first_into_faults most past bytes = write_faults past (owed_blocks past) ++ room_faults (writes_size (first_blocks most past)) bytes
+abbrev pub first_into_faults : ℕ → History → ℕ → List (Bool × CoreFault)
+first_into_faults most history bytes = write_faults history (owed_blocks history) ++ room_faults (writes_size (first_blocks most history)) bytes
 
 -- the frame that writes these blocks is at the front of the slice, followed by what the slice had there; its size and the number of its blocks
-pub record HoldsBlocks (past : Record) (blocks : List LineBlock) (old new : List ℕ) (sent : SentWrites) : Type 0 where
+pub record HoldsBlocks (history : History) (blocks : List LineBlock) (old new : List ℕ) (sent : SentWrites) : Type 0 where
   pub size : sent.size ≡ writes_size blocks
   pub count : sent.blocks ≡ length blocks
-  pub holds : new ≡ writes_text (next_serial past) blocks ++ drop sent.size old
+  pub holds : new ≡ writes_text (next_serial history) blocks ++ drop sent.size old
 
 -- the same of the first owed blocks, as many as a frame holds: as the event's answer has them
-pub record HoldsWrites (past : Record) (old new : List ℕ) (sent : SentWrites) : Type 0 where
-  pub told : answer_to past SendsWrites ≡ told_of_writes (next_serial past) (frame_blocks (owed_blocks past))
-  pub blocks : HoldsBlocks past (frame_blocks (owed_blocks past)) old new sent
+pub record HoldsWrites (history : History) (old new : List ℕ) (sent : SentWrites) : Type 0 where
+  pub answer_given : answer_to history SendsWrites ≡ writes_answer (next_serial history) (frame_blocks (owed_blocks history))
+  pub blocks : HoldsBlocks history (frame_blocks (owed_blocks history)) old new sent
 
--- the answer to a frame with this text that writes so many blocks: that of a single write where it is one
+-- the answer to a frame with this text that writes so many blocks: a single write's where it is one
 abbrev pub sent_answer : List ℕ → ℕ → Answer
 sent_answer text blocks = if blocks == 1 then answer.WriteSent text else answer.WritesSent text

@@ -1,11 +1,11 @@
 //! How many changes an arrival would add.
 ghost use Rattle.std.specs.Prelude.{◌≡◌, ◌+◌, ◌≤◌, ◌∷◌, count_by, length};
 ghost use Rattle.hc_events.specs.Answering.{judged_by};
-ghost use Rattle.hc_events.specs.Changes.{news_of};
+ghost use Rattle.hc_events.specs.Changes.{updates_of};
 ghost use Rattle.hc_events.specs.Entries.{Came};
-ghost use Rattle.hc_events.specs.Outcomes.{told_with};
-ghost use Rattle.hc_events.specs.Steps.{told_of};
-ghost use Rattle.hc_core.specs.Goods.{is_inputs};
+ghost use Rattle.hc_events.specs.Outcomes.{arrived_answer};
+ghost use Rattle.hc_events.specs.Steps.{judged_answer};
+ghost use Rattle.hc_core.specs.GoodAnswers.{is_inputs};
 
 use crate::keeping::Core;
 use hc_events::answer::{Arrived, Outcome};
@@ -50,8 +50,8 @@ impl Core {
         arrived: Arrived,
         outcomes: &[Outcome],
     ) -> usize
-        requires { told_of (judged_by self.now.past arrival.now) ≡ told_with arrived outcomes.now }
-        ensures { length (news_of (Came arrival.now ∷ self.now.past)) ≡ length (news_of self.now.past) + result }
+        requires { judged_answer (judged_by self.now.history arrival.now) ≡ arrived_answer arrived outcomes.now }
+        ensures { length (updates_of (Came arrival.now ∷ self.now.history)) ≡ length (updates_of self.now.history) + result }
     {
         let _ = arrival;
         match arrived {

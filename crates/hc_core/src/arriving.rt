@@ -8,13 +8,13 @@ ghost use Rattle.hc_events.specs.Answering.{judged_by};
 ghost use Rattle.hc_events.specs.Arrivals.{arrival_in};
 ghost use Rattle.hc_events.specs.Entries.{Came};
 ghost use Rattle.hc_events.specs.Faults.{frame_refusal};
-ghost use Rattle.hc_events.specs.Outcomes.{told_with};
-ghost use Rattle.hc_events.specs.Steps.{Arrives, answer_to, entries_after, told_of};
-ghost use Rattle.hc_core.specs.Chosen.{AreWritten};
+ghost use Rattle.hc_events.specs.Outcomes.{arrived_answer};
+ghost use Rattle.hc_events.specs.Steps.{Arrives, answer_to, entries_after, judged_answer};
+ghost use Rattle.hc_core.specs.Chosen.{AreWriteOutcomes};
 ghost use Rattle.hc_sendings.specs.declared.awaited.TheConstants.{FRAME_DATAGRAMS};
 
 use crate::choosing::confirm;
-use crate::goods::{put_changes, put_goods};
+use crate::good_answers::{put_changes, put_good_answers};
 use crate::keeping::Core;
 use hc_events::answer::{Answer, Arrived, Outcome};
 use hc_events::faults::CoreFault;
@@ -24,7 +24,7 @@ use std::alloc::{AllocError, Global};
 
 /// Empties the list of an arrival that answers neither a frame of tasks nor one of several register writes.
 fn empty_unless_answered(arrived: Arrived, outcomes: &mut Vec<Outcome>)
-    ensures told { told_with arrived outcomes.new.items ≡ told_with arrived outcomes.old.items }
+    ensures answer_given { arrived_answer arrived outcomes.new.items ≡ arrived_answer arrived outcomes.old.items }
     ensures none { arrived ≢ Answered → arrived ≢ Written → outcomes.new.items ≡ [] }
     ensures capacity { vec_capacity outcomes.new ≡ vec_capacity outcomes.old }
 {
@@ -41,11 +41,11 @@ impl Core {
     /// A stale arrival is recorded, and nothing else changes.
     pub(crate) fn take_stale(&mut self, bytes: &[u8], arrival: &Returned<'_>)
         requires read { arrival_in bytes.now ≡ Ok arrival.now }
-        requires told { told_of (judged_by self.old.past arrival.now) ≡ answer.Stale }
-        ensures { self.new ≡ record self.old { past = Came arrival.now ∷ self.old.past } }
+        requires answer_given { judged_answer (judged_by self.old.history arrival.now) ≡ answer.Stale }
+        ensures { self.new ≡ record self.old { history = Came arrival.now ∷ self.old.history } }
     {
         let _ = arrival;
-        self.past = self.past.came(bytes);
+        self.history = self.history.came(bytes);
     }
 
     /// The answer to a frame of tasks: the data of its good answers are what the tasks read from now on.
@@ -58,38 +58,46 @@ impl Core {
         outcomes: &[Outcome],
     ) -> Result<(), AllocError>
         requires read { arrival_in bytes.now ≡ Ok arrival.now }
-        requires told { told_of (judged_by self.old.past arrival.now) ≡ answer.Answered outcomes.now }
-        ensures taken { OnOk result (self.new ≡ record self.old { past = Came arrival.now ∷ self.old.past }) }
+        requires answer_given { judged_answer (judged_by self.old.history arrival.now) ≡ answer.Answered outcomes.now }
+        ensures taken { OnOk result (self.new ≡ record self.old { history = Came arrival.now ∷ self.old.history }) }
         ensures unchanged { OnErr result (self.new ≡ self.old) }
     {
-        // a look at the core tells its invariant, by which the changes fit an image
-        let _ = &self.past;
-        self.fresh.clear();
-        put_changes(alloc, &mut self.buffers, &mut self.fresh, outcomes, arrival)?;
-        self.changes.append(&mut self.fresh)?;
-        put_goods(&mut self.inputs, &mut self.data_serials, outcomes, arrival);
+        // a look at the core gives its invariant: the changes fit an image
+        let _ = &self.history;
+        self.new_answer.clear();
+        put_changes(
+            alloc,
+            &mut self.buffers,
+            &mut self.new_answer,
+            outcomes,
+            arrival,
+        )?;
+        self.changes.append(&mut self.new_answer)?;
+        put_good_answers(&mut self.inputs, &mut self.data_serials, outcomes, arrival);
         self.awaited.end(arrival.serial());
-        self.past = self.past.came(bytes);
+        self.history = self.history.came(bytes);
         Ok(())
     }
 
     /// The answer to a frame of register writes: each block whose write is done is known, and the others stay owed. `outcomes`
     /// has of each block, in the frame's order, what it is.
+    #[inline(always)]
     pub(crate) fn take_writes(&mut self, bytes: &[u8], arrival: &Returned<'_>, outcomes: &[Outcome])
         requires read { arrival_in bytes.now ≡ Ok arrival.now }
-        requires told { AreWritten (judged_by self.old.past arrival.now) outcomes.now }
-        ensures { self.new ≡ record self.old { past = Came arrival.now ∷ self.old.past } }
+        requires answer_given { AreWriteOutcomes (judged_by self.old.history arrival.now) outcomes.now }
+        ensures { self.new ≡ record self.old { history = Came arrival.now ∷ self.old.history } }
     {
         let blocks = self.awaited.written(arrival.serial());
-        confirm(&mut self.owed, &self.plan, blocks, outcomes);
+        confirm(&mut self.owed, blocks, outcomes);
         self.awaited.end(arrival.serial());
-        self.past = self.past.came(bytes);
+        self.history = self.history.came(bytes);
     }
 
     /// What an arrival that was read as a frame changes, by what it is: `judge` gives that, and the list of what it is for each
     /// datagram. It is recorded. It takes memory where the list of the changes grows, and for the data of good answers, which go
     /// into buffers that came back (`give_back`) as long as there are some. `AllocError` where a growth was refused, and nothing
     /// changed.
+    #[inline(always)]
     pub fn take_arrival(
         &mut self,
         alloc: Global,
@@ -99,11 +107,11 @@ impl Core {
         outcomes: &[Outcome],
     ) -> Result<(), AllocError>
         requires read { arrival_in bytes.now ≡ Ok arrival.now }
-        requires told { told_of (judged_by self.old.past arrival.now) ≡ told_with arrived outcomes.now }
-        ensures taken { OnOk result (self.new ≡ record self.old { past = Came arrival.now ∷ self.old.past }) }
+        requires answer_given { judged_answer (judged_by self.old.history arrival.now) ≡ arrived_answer arrived outcomes.now }
+        ensures taken { OnOk result (self.new ≡ record self.old { history = Came arrival.now ∷ self.old.history }) }
         ensures unchanged { OnErr result (self.new ≡ self.old) }
     {
-        let _ = &self.past;
+        let _ = &self.history;
         match arrived {
             Arrived::Answered => self.take_inputs(alloc, bytes, arrival, outcomes)?,
             Arrived::WriteDone => self.take_writes(bytes, arrival, &[Outcome::Done]),
@@ -119,12 +127,13 @@ impl Core {
     /// datagram, in the frame's order, what it is; else it is empty. It takes memory where the list has room for fewer
     /// than the frame's datagrams, 115 at most, alone: `AllocError` where that was refused. The list's room never
     /// falls.
+    #[inline(always)]
     pub fn judge(
         &self,
         arrival: &Returned<'_>,
         outcomes: &mut Vec<Outcome>,
     ) -> Result<Arrived, AllocError>
-        ensures answer { IfOk result (λ arrived. told_with arrived outcomes.new.items ≡ told_of (judged_by self.now.past arrival.now)) }
+        ensures answer { IfOk result (λ arrived. arrived_answer arrived outcomes.new.items ≡ judged_answer (judged_by self.now.history arrival.now)) }
         ensures none { result ≢ Ok Answered → result ≢ Ok Written → outcomes.new.items ≡ [] }
         ensures room { OnErr result (vec_capacity outcomes.old < FRAME_DATAGRAMS) }
         ensures capacity { vec_capacity outcomes.old ≤ vec_capacity outcomes.new }
@@ -136,12 +145,12 @@ impl Core {
     }
 
     /// An arrival, any bytes. One that can't be read as a frame is refused, whatever memory does, and nothing
-    /// changes. Else it is recorded, and its answer tells datagram by datagram what it is. `AllocError` where a
+    /// changes. Else it is recorded, and its answer gives datagram by datagram what it is. `AllocError` where a
     /// growth was refused, and nothing changed.
     pub(crate) fn arrive(&mut self, alloc: Global, bytes: &[u8]) -> Result<Answer, AllocError>
-        ensures answer { IfOk result (λ told. told ≡ answer_to self.old.past (Arrives bytes.now)) }
+        ensures answer { IfOk result (λ answer_given. answer_given ≡ answer_to self.old.history (Arrives bytes.now)) }
         ensures early { IfSome (fault_in bytes.now) (λ fault. result ≡ Ok (answer.Refused (frame_refusal fault))) }
-        ensures entries { OnOk result (self.new ≡ record self.old { past = entries_after self.old.past (Arrives bytes.now) }) }
+        ensures entries { OnOk result (self.new ≡ record self.old { history = entries_after self.old.history (Arrives bytes.now) }) }
         ensures unchanged { OnErr result (self.new ≡ self.old) }
     {
         let arrival = match read_frame(bytes) {
@@ -158,7 +167,7 @@ impl Core {
     /// one of several register writes, the list has of each datagram, in the frame's order, what it is; else it is
     /// empty. It takes memory where the list has no room for these outcomes, 115 at most; where the list of the changes
     /// grows; and for the data of good answers, which go into buffers that came back (`give_back`) as long as there are
-    /// some. A fault of the frame, 20 to 27, is told whatever memory does, and `Memory` where a growth was refused;
+    /// some. A fault of the frame, 20 to 27, is reported whatever memory does, and `Memory` where a growth was refused;
     /// then nothing changed, and the list is empty. The list's room never falls.
     pub fn arrive_into(
         &mut self,
@@ -166,8 +175,8 @@ impl Core {
         bytes: &[u8],
         outcomes: &mut Vec<Outcome>,
     ) -> Result<Arrived, CoreFault>
-        ensures answer { IfOk result (λ arrived. told_with arrived outcomes.new.items ≡ answer_to self.old.past (Arrives bytes.now)) }
-        ensures entries { OnOk result (self.new ≡ record self.old { past = entries_after self.old.past (Arrives bytes.now) }) }
+        ensures answer { IfOk result (λ arrived. arrived_answer arrived outcomes.new.items ≡ answer_to self.old.history (Arrives bytes.now)) }
+        ensures entries { OnOk result (self.new ≡ record self.old { history = entries_after self.old.history (Arrives bytes.now) }) }
         ensures refused { IfErr result (λ fault. fault ≢ Memory → option_map frame_refusal (fault_in bytes.now) ≡ Some fault) }
         ensures early { IfSome (fault_in bytes.now) (λ fault. result ≡ Err (frame_refusal fault)) }
         ensures none { result ≢ Ok Answered → result ≢ Ok Written → outcomes.new.items ≡ [] }

@@ -33,7 +33,7 @@ impl Buffers {
         ensures { IfOk result (λ copy. copy ≡ bytes.now) }
     {
         let mut buffer = match self.free.pop() {
-            Some(kept) => kept,
+            Some(unchanged) => unchanged,
             None => Vec::new(alloc),
         };
         buffer.clear();

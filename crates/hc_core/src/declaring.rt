@@ -1,9 +1,9 @@
-//! What is kept of the register blocks behind an edit: the slaves that it declares are taken in, in memory that was
+//! What is kept of the register blocks after an edit: the slaves that it declares are taken in, in memory that was
 //! taken before, or it loses those that left and compares what moved.
 ghost use Rattle.std.specs.Prelude.{◌≡◌, ◌+◌, ◌<◌, IfOk, length};
 ghost use Rattle.hc_records.specs.declared.edit.Edit.TheVariants.{Declare};
 ghost use Rattle.hc_records.specs.declared.records.Group.{Group};
-ghost use Rattle.hc_owed.specs.Board.{kept_of};
+ghost use Rattle.hc_owed.specs.RegisterState.{register_state_of};
 ghost use Rattle.hc_owed.specs.Laws.{known_over};
 ghost use Rattle.hc_core.specs.Prepared.{CanFollow, HasSlaveRoom};
 
@@ -28,10 +28,10 @@ pub(crate) fn slave_room(
     }
 }
 
-/// Brings what is kept of the blocks behind a prepared edit. Nothing can be refused.
+/// Brings what is kept of the blocks after a prepared edit. Nothing can be refused.
 pub(crate) fn follow(owed: &mut Owed, edit: &PreparedEdit, slaves: Option<OwedRoom>)
     requires { CanFollow owed.old edit.now slaves }
-    ensures { (can : CanFollow owed.old edit.now slaves) → owed.new ≡ kept_of (known_over edit.now.old can.known) edit.now.new }
+    ensures { (can : CanFollow owed.old edit.now slaves) → owed.new ≡ register_state_of (known_over edit.now.old can.known) edit.now.new }
 {
     match slaves {
         Some(room) => owed.admit(room),

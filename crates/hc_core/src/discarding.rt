@@ -5,11 +5,11 @@ ghost use Rattle.hc_events.specs.declared.answer.Arrived.TheVariants.{Answered, 
 ghost use Rattle.hc_events.specs.Answering.{judged_by};
 ghost use Rattle.hc_events.specs.Arrivals.{arrival_in};
 ghost use Rattle.hc_events.specs.Entries.{Came};
-ghost use Rattle.hc_events.specs.Outcomes.{told_with};
-ghost use Rattle.hc_events.specs.Steps.{Arrives, answer_to, entries_after, told_of};
+ghost use Rattle.hc_events.specs.Outcomes.{arrived_answer};
+ghost use Rattle.hc_events.specs.Steps.{Arrives, answer_to, entries_after, judged_answer};
 ghost use Rattle.hc_sendings.specs.declared.awaited.TheConstants.{FRAME_DATAGRAMS};
 
-use crate::goods::put_goods;
+use crate::good_answers::put_good_answers;
 use crate::keeping::Core;
 use hc_events::answer::{Arrived, Outcome};
 use hc_frames::reading::Returned;
@@ -21,17 +21,17 @@ impl Core {
     /// and no change is left.
     fn discard_inputs(&mut self, bytes: &[u8], arrival: &Returned<'_>, outcomes: &[Outcome])
         requires read { arrival_in bytes.now ≡ Ok arrival.now }
-        requires told { told_of (judged_by self.old.past arrival.now) ≡ answer.Answered outcomes.now }
-        ensures { self.new ≡ record { past = Came arrival.now ∷ self.old.past; taken = Came arrival.now ∷ self.old.past } }
+        requires answer_given { judged_answer (judged_by self.old.history arrival.now) ≡ answer.Answered outcomes.now }
+        ensures { self.new ≡ record { history = Came arrival.now ∷ self.old.history; taken = Came arrival.now ∷ self.old.history } }
     {
-        // a look at the core tells its invariant, by which the data fit an image
-        let _ = &self.past;
-        put_goods(&mut self.inputs, &mut self.data_serials, outcomes, arrival);
+        // a look at the core gives its invariant: the data fit an image
+        let _ = &self.history;
+        put_good_answers(&mut self.inputs, &mut self.data_serials, outcomes, arrival);
         self.awaited.end(arrival.serial());
-        let came = self.past.came(bytes);
+        let came = self.history.came(bytes);
         self.changes.clear();
         self.taken = Snapshot::of(&came);
-        self.past = came;
+        self.history = came;
     }
 
     /// What an arrival changes, by what it is; no change is left.
@@ -43,8 +43,8 @@ impl Core {
         outcomes: &[Outcome],
     )
         requires read { arrival_in bytes.now ≡ Ok arrival.now }
-        requires told { told_of (judged_by self.old.past arrival.now) ≡ told_with arrived outcomes.now }
-        ensures { self.new ≡ record { past = Came arrival.now ∷ self.old.past; taken = Came arrival.now ∷ self.old.past } }
+        requires answer_given { judged_answer (judged_by self.old.history arrival.now) ≡ arrived_answer arrived outcomes.now }
+        ensures { self.new ≡ record { history = Came arrival.now ∷ self.old.history; taken = Came arrival.now ∷ self.old.history } }
     {
         match arrived {
             Arrived::Answered => return self.discard_inputs(bytes, arrival, outcomes),
@@ -68,8 +68,8 @@ impl Core {
         outcomes: &mut Vec<Outcome>,
     ) -> Result<Arrived, AllocError>
         requires { arrival_in bytes.now ≡ Ok arrival.now }
-        ensures answer { IfOk result (λ arrived. told_with arrived outcomes.new.items ≡ answer_to self.old.past (Arrives bytes.now)) }
-        ensures entries { OnOk result (self.new ≡ record { past = entries_after self.old.past (Arrives bytes.now); taken = entries_after self.old.past (Arrives bytes.now) }) }
+        ensures answer { IfOk result (λ arrived. arrived_answer arrived outcomes.new.items ≡ answer_to self.old.history (Arrives bytes.now)) }
+        ensures entries { OnOk result (self.new ≡ record { history = entries_after self.old.history (Arrives bytes.now); taken = entries_after self.old.history (Arrives bytes.now) }) }
         ensures none { result ≢ Ok Answered → result ≢ Ok Written → outcomes.new.items ≡ [] }
         ensures room { OnErr result (vec_capacity outcomes.old < FRAME_DATAGRAMS) }
         ensures capacity { vec_capacity outcomes.old ≤ vec_capacity outcomes.new }

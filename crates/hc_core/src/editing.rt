@@ -6,7 +6,7 @@ ghost use Rattle.hc_groups.specs.Edits.{own_fault};
 ghost use Rattle.hc_events.specs.declared.answer.Answer.TheVariants as answer;
 ghost use Rattle.hc_events.specs.Entries.{Edited};
 ghost use Rattle.hc_events.specs.Points.{state_of};
-ghost use Rattle.hc_events.specs.Steps.{told_of_edit};
+ghost use Rattle.hc_events.specs.Steps.{edit_answer};
 
 use crate::declaring::follow;
 use crate::keeping::Core;
@@ -18,8 +18,8 @@ use hc_records::faults::EditFault;
 use std::alloc::Global;
 use std::snapshot::Snapshot;
 
-/// What is told of an accepted edit.
-fn told_of(report: &Report) -> Answer
+/// What is said of an accepted edit.
+fn judged_answer(report: &Report) -> Answer
     ensures { result ≡ answer.Edited report.now.epoch report.now.recut report.now.moved }
 {
     Answer::Edited {
@@ -30,17 +30,17 @@ fn told_of(report: &Report) -> Answer
 }
 
 impl Core {
-    /// Works out what an edit would make of the core; nothing changes. What is answered tells what the edit would
+    /// Works out what an edit would make of the core; nothing changes. What is answered says what the edit would
     /// cost, and `carry_out` carries it out as long as nothing else was accepted and no change was taken. The
     /// faults are those of `edit`, the lowest whose condition holds, or `Memory` where a growth was refused: all
-    /// memory of the edit is taken here. A fault that the edit has by itself, of the faults 1 to 11, is told
+    /// memory of the edit is taken here. A fault that the edit has by itself, of the faults 1 to 11, is reported
     /// whatever memory does.
     pub fn prepare(&mut self, alloc: Global, edit: &Edit) -> Result<CoreEdit, EditFault>
-        ensures made { IfOk result (λ ready. ready.core ≡ self.old) }
-        ensures edit { IfOk result (λ ready. ready.edit.report.swap.edit ≡ edit.now) }
-        ensures accepted { OnOk result (edited (state_of self.old.past) edit.now ≡ Ok (state_after (state_of self.old.past) edit.now)) }
-        ensures refused { IfErr result (λ fault. fault ≢ Memory → edited (state_of self.old.past) edit.now ≡ Err fault) }
-        ensures own { IfSome (own_fault (state_of self.old.past).groups edit.now) (λ fault. result ≡ Err fault) }
+        ensures made { IfOk result (λ core_edit. core_edit.core ≡ self.old) }
+        ensures edit { IfOk result (λ core_edit. core_edit.edit.report.swap.edit ≡ edit.now) }
+        ensures accepted { OnOk result (edited (state_of self.old.history) edit.now ≡ Ok (state_after (state_of self.old.history) edit.now)) }
+        ensures refused { IfErr result (λ fault. fault ≢ Memory → edited (state_of self.old.history) edit.now ≡ Err fault) }
+        ensures own { IfSome (own_fault (state_of self.old.history).groups edit.now) (λ fault. result ≡ Err fault) }
         ensures unchanged { self.new ≡ self.old }
     {
         let prepared = self.plan.prepare(alloc, edit)?;
@@ -62,15 +62,14 @@ impl Core {
         })
     }
 
-    /// Carries a prepared edit out: a new epoch begins, in which nothing is awaited and no datagram has data;
-    /// output variables that keep a place keep their values, and the value of any other is 0; the blocks that it
-    /// moved are owed unless their slaves are known to have their bytes, and of a declared group's slaves none is
-    /// in the line. The edit was prepared for the core as
-    /// it is. Nothing can be refused, and it takes no memory.
-    pub fn carry_out(&mut self, ready: CoreEdit) -> Answer
-        requires { ready.core ≡ self.old }
-        ensures answer { result ≡ told_of_edit (state_of self.old.past) (state_after (state_of self.old.past) ready.edit.report.swap.edit) }
-        ensures entries { self.new ≡ record self.old { past = Edited ready.edit.report.swap.edit ∷ self.old.past } }
+    /// Carries a prepared edit out: a new epoch begins, where nothing is awaited and no datagram has data; output
+    /// variables that keep a place keep their values, and the value of any other is 0; the blocks that it moved
+    /// are owed unless their slaves are known to have their bytes, and of a declared group's slaves none is in
+    /// the line. The edit was prepared for the core as it is. Nothing can be refused, and it takes no memory.
+    pub fn carry_out(&mut self, core_edit: CoreEdit) -> Answer
+        requires { core_edit.core ≡ self.old }
+        ensures answer { result ≡ edit_answer (state_of self.old.history) (state_after (state_of self.old.history) core_edit.edit.report.swap.edit) }
+        ensures entries { self.new ≡ record self.old { history = Edited core_edit.edit.report.swap.edit ∷ self.old.history } }
     {
         let CoreEdit {
             edit,
@@ -78,31 +77,31 @@ impl Core {
             slaves,
             room,
             core: _,
-        } = ready;
+        } = core_edit;
         self.awaited.clear();
         self.inputs.clear();
         self.data_serials.clear();
         follow(&mut self.owed, &edit, slaves);
         self.outputs.change(moves, &edit.report().swap);
         let report = self.plan.carry_out(edit);
-        let told = told_of(&report);
-        self.past = self.past.edited(report.swap.edit());
+        let answer_given = judged_answer(&report);
+        self.history = self.history.edited(report.swap.edit());
         add_swap(&mut self.changes, room, report.swap);
-        told
+        answer_given
     }
 
     /// An edit, prepared and carried out. Otherwise the lowest fault whose condition holds, or `Memory` where a
     /// growth was refused, and nothing changed. A fault that the edit has by itself, of the faults 1 to 11, is
-    /// told whatever memory does.
+    /// reported whatever memory does.
     pub(crate) fn edit(&mut self, alloc: Global, edit: &Edit) -> Result<Answer, EditFault>
-        ensures answer { IfOk result (λ told. told ≡ told_of_edit (state_of self.old.past) (state_after (state_of self.old.past) edit.now)) }
-        ensures accepted { OnOk result (edited (state_of self.old.past) edit.now ≡ Ok (state_after (state_of self.old.past) edit.now)) }
-        ensures refused { IfErr result (λ fault. fault ≢ Memory → edited (state_of self.old.past) edit.now ≡ Err fault) }
-        ensures own { IfSome (own_fault (state_of self.old.past).groups edit.now) (λ fault. result ≡ Err fault) }
-        ensures entries { OnOk result (self.new ≡ record self.old { past = Edited edit.now ∷ self.old.past }) }
+        ensures answer { IfOk result (λ answer_given. answer_given ≡ edit_answer (state_of self.old.history) (state_after (state_of self.old.history) edit.now)) }
+        ensures accepted { OnOk result (edited (state_of self.old.history) edit.now ≡ Ok (state_after (state_of self.old.history) edit.now)) }
+        ensures refused { IfErr result (λ fault. fault ≢ Memory → edited (state_of self.old.history) edit.now ≡ Err fault) }
+        ensures own { IfSome (own_fault (state_of self.old.history).groups edit.now) (λ fault. result ≡ Err fault) }
+        ensures entries { OnOk result (self.new ≡ record self.old { history = Edited edit.now ∷ self.old.history }) }
         ensures unchanged { OnErr result (self.new ≡ self.old) }
     {
-        let ready = self.prepare(alloc, edit)?;
-        Ok(self.carry_out(ready))
+        let core_edit = self.prepare(alloc, edit)?;
+        Ok(self.carry_out(core_edit))
     }
 }

@@ -3,9 +3,9 @@ ghost use Rattle.std.specs.Prelude.{◌≡◌, ◌+◌, ◌^◌, ◌<◌, ◌≤
 ghost use Rattle.hc_records.specs.declared.limits.TheConstants.{TASKS};
 ghost use Rattle.hc_frames.specs.Sizes.{frame_bytes};
 ghost use Rattle.hc_frames.specs.declared.limits.TheConstants.{MAX_ETHERCAT};
-ghost use Rattle.hc_events.specs.Sendings.{size_of};
+ghost use Rattle.hc_events.specs.Sendings.{sent_frame_size};
 ghost use Rattle.hc_events.specs.Steps.{sent_text};
-ghost use Rattle.hc_sendings.specs.Texts.{carried_bytes, text_of};
+ghost use Rattle.hc_sendings.specs.Texts.{carried_bytes, frame_text_of};
 ghost use Rattle.hc_images.specs.Packed.{sent_bytes};
 ghost use Rattle.hc_core.specs.Filled.{CanBeFilled};
 
@@ -38,7 +38,7 @@ fn write_values(out: &mut [u8], frame: &Sending, outputs: &Outputs)
     requires known { All (λ named. named.0 < TASKS) frame.now.datagrams }
     requires size { 2 + carried_bytes (sent_bytes outputs.now) frame.now.datagrams ≤ MAX_ETHERCAT }
     requires exact { length out.old ≡ frame_bytes (carried_bytes (sent_bytes outputs.now) frame.now.datagrams) }
-    ensures { out.new ≡ text_of (sent_bytes outputs.now) frame.now }
+    ensures { out.new ≡ frame_text_of (sent_bytes outputs.now) frame.now }
 {
     write_frame(out, frame, &Values { outputs });
 }
@@ -48,7 +48,7 @@ fn values_text(alloc: Global, frame: &Sending, outputs: &Outputs) -> Result<Item
     requires serial { frame.now.serial < 2 ^ 40 }
     requires known { All (λ named. named.0 < TASKS) frame.now.datagrams }
     requires size { 2 + carried_bytes (sent_bytes outputs.now) frame.now.datagrams ≤ MAX_ETHERCAT }
-    ensures { IfOk result (λ text. text ≡ text_of (sent_bytes outputs.now) frame.now) }
+    ensures { IfOk result (λ text. text ≡ frame_text_of (sent_bytes outputs.now) frame.now) }
 {
     frame_text(alloc, frame, &Values { outputs })
 }
@@ -58,9 +58,9 @@ impl Core {
     /// the values of its output variables, and zeros at every other bit. Such are the frames that `propose`
     /// gives, as long as they are the present proposal, and a present `preview`. It takes no memory.
     pub fn fill(&self, frame: &Sending, out: &mut [u8])
-        requires frame { CanBeFilled self.now.past frame.now }
-        requires exact { length out.old ≡ size_of frame.now }
-        ensures { out.new ≡ sent_text self.now.past frame.now }
+        requires frame { CanBeFilled self.now.history frame.now }
+        requires exact { length out.old ≡ sent_frame_size frame.now }
+        ensures { out.new ≡ sent_text self.now.history frame.now }
     {
         let _ = frame.datagrams();
         write_values(out, frame, &self.outputs);
@@ -68,8 +68,8 @@ impl Core {
 
     /// The text of a frame.
     fn text(&self, alloc: Global, frame: &Sending) -> Result<Items<u8>, AllocError>
-        requires { CanBeFilled self.now.past frame.now }
-        ensures { IfOk result (λ text. text ≡ sent_text self.now.past frame.now) }
+        requires { CanBeFilled self.now.history frame.now }
+        ensures { IfOk result (λ text. text ≡ sent_text self.now.history frame.now) }
     {
         let _ = frame.datagrams();
         values_text(alloc, frame, &self.outputs)
@@ -81,8 +81,8 @@ impl Core {
         alloc: Global,
         frames: &[Sending],
     ) -> Result<Items<Items<u8>>, AllocError>
-        requires { All (CanBeFilled self.now.past) frames.now }
-        ensures { IfOk result (λ texts. texts ≡ map (sent_text self.now.past) frames.now) }
+        requires { All (CanBeFilled self.now.history) frames.now }
+        ensures { IfOk result (λ texts. texts ≡ map (sent_text self.now.history) frames.now) }
     {
         let mut texts = Vec::with_capacity(alloc, frames.len())?;
         for frame in frames {

@@ -15,15 +15,15 @@ impl Core {
     /// slave has the address; `Absent` where that slave isn't in the line. Then nothing changed. It takes no memory
     /// (this project's profile).
     pub fn forget(&mut self, station: u16) -> Result<(), CoreFault>
-        ensures accepted { OnOk result (lowest (forget_faults self.old.past station) ≡ None) }
-        ensures entries { OnOk result (self.new ≡ record self.old { past = Forgot station ∷ self.old.past }) }
-        ensures refused { IfErr result (λ fault. lowest (forget_faults self.old.past station) ≡ Some fault) }
+        ensures accepted { OnOk result (lowest (forget_faults self.old.history station) ≡ None) }
+        ensures entries { OnOk result (self.new ≡ record self.old { history = Forgot station ∷ self.old.history }) }
+        ensures refused { IfErr result (λ fault. lowest (forget_faults self.old.history station) ≡ Some fault) }
         ensures unchanged { OnErr result (self.new ≡ self.old) }
     {
         self.plan.position(station)?;
         self.awaited.forget(station);
         self.owed.forget(station);
-        self.past = self.past.forgot(station);
+        self.history = self.history.forgot(station);
         Ok(())
     }
 }

@@ -1,6 +1,6 @@
 //! What a core keeps.
 use crate::buffers::Buffers;
-use crate::past::Past;
+use crate::history::HistoryGhost;
 use crate::serials::Serials;
 use hc_events::change::Change;
 use hc_events::sending::Sending;
@@ -14,8 +14,8 @@ use std::marker::Model;
 use std::snapshot::Snapshot;
 
 /// The line, the next serial, what is awaited, the input image and the serials of its data, the output values, the known
-/// and the owed register blocks, and the changes that nobody took. Contracts see the record of what was accepted, and that
-/// record as it was when the changes were taken last.
+/// and the owed register blocks, and the changes that nobody took. Contracts see the history of what was accepted, and
+/// that record as it was when the changes were taken last.
 pub struct Core {
     pub(crate) plan: Plan,
     pub(crate) serial: u64,
@@ -27,14 +27,14 @@ pub struct Core {
     pub(crate) owed: Owed,
     pub(crate) changes: Vec<Change>,
     // the changes of one arrival until all of them are there
-    pub(crate) fresh: Vec<Change>,
+    pub(crate) new_answer: Vec<Change>,
     pub(crate) buffers: Buffers,
     // a list for the frames of sendings by `step`, which is used again
     pub(crate) frames: Vec<Sending>,
     // the blocks of register writes while they are sent, in room that is used again
     pub(crate) writes: WriteFrame,
-    pub(crate) past: Past,
-    pub(crate) taken: Snapshot<Past>,
+    pub(crate) history: HistoryGhost,
+    pub(crate) taken: Snapshot<HistoryGhost>,
 }
 
 impl Drop for Core {
@@ -48,11 +48,11 @@ impl Drop for Core {
             outputs: _,
             owed: _,
             changes: _,
-            fresh: _,
+            new_answer: _,
             buffers: _,
             frames: _,
             writes: _,
-            past: _,
+            history: _,
             taken: _,
         } = self;
     }

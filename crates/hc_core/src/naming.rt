@@ -1,5 +1,5 @@
-//! What a datagram that came back names by its own address (ETG.1000.4, 5.4; logical addresses: this project's profile). In
-//! a frame that is answered that is what was sent: see the laws `addresses_are_those_sent` and `answered_are_named`.
+//! What a datagram that came back names by its own address (ETG.1000.4, 5.4; logical addresses: this project's profile). An
+//! answered frame has what was sent: see the laws `addresses_are_those_sent` and `answered_are_named`.
 ghost use Rattle.std.specs.Prelude.{◌≡◌};
 ghost use Rattle.hc_events.specs.Names.{named_at, written_at};
 

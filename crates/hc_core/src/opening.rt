@@ -1,13 +1,13 @@
 //! The opening of a project's line.
 ghost use Rattle.std.specs.Prelude.{◌≡◌, IfErr, IfOk, None, OnOk};
-ghost use Rattle.hc_records.specs.Edits.{crowded_task};
+ghost use Rattle.hc_records.specs.Edits.{over_limit_task};
 ghost use Rattle.hc_records.specs.Line.{line, opened};
-ghost use Rattle.hc_places.specs.Layout.{NamesCrowded};
+ghost use Rattle.hc_places.specs.Layout.{NamesOverLimit};
 ghost use Rattle.hc_events.specs.Accepted.{just_opened};
 
 use crate::buffers::Buffers;
+use crate::history::HistoryGhost;
 use crate::keeping::Core;
-use crate::past::Past;
 use crate::serials::Serials;
 use hc_images::inputs::Inputs;
 use hc_images::outputs::Outputs;
@@ -26,11 +26,11 @@ impl Core {
     /// owed, and there is no change. Otherwise `TooManyDatagrams` with the lowest task that needs more than 16,
     /// or `Memory` where a growth was refused; the project is then dropped.
     pub fn new(alloc: Global, project: Project) -> Result<Core, EditFault>
-        ensures opened { IfOk result (λ core. core ≡ record { past = just_opened project; taken = just_opened project }) }
-        ensures accepted { OnOk result (crowded_task (line (opened project)) ≡ None) }
-        ensures refused { IfErr result (NamesCrowded (line (opened project))) }
+        ensures opened { IfOk result (λ core. core ≡ record { history = just_opened project; taken = just_opened project }) }
+        ensures accepted { OnOk result (over_limit_task (line (opened project)) ≡ None) }
+        ensures refused { IfErr result (NamesOverLimit (line (opened project))) }
     {
-        let past = Past::opened(&project);
+        let history = HistoryGhost::opened(&project);
         let plan = Plan::new(alloc, project)?;
         let awaited = Awaited::new(alloc)?;
         let inputs = Inputs::new(alloc)?;
@@ -38,7 +38,7 @@ impl Core {
         let outputs = Outputs::new(alloc, plan.places())?;
         let data_serials = Serials::new(alloc)?;
         let writes = WriteFrame::new(alloc)?;
-        let taken = Snapshot::of(&past);
+        let taken = Snapshot::of(&history);
         Ok(Core {
             plan,
             serial: 0,
@@ -48,11 +48,11 @@ impl Core {
             outputs,
             owed,
             changes: Vec::new(alloc),
-            fresh: Vec::new(alloc),
+            new_answer: Vec::new(alloc),
             buffers: Buffers::new(alloc),
             frames: Vec::new(alloc),
             writes,
-            past,
+            history,
             taken,
         })
     }

@@ -27,13 +27,13 @@ fn write_part(out: &mut [u8], frames: &[Sending], task: u8, outputs: &Outputs)
 
 impl Core {
     /// The bytes of a task's part of frames of the present line, such as a present proposal: its datagrams, the
-    /// 16 bytes before those of a frame whose first one is the task's, and the zeros behind those of a frame
+    /// 16 bytes before those of a frame whose first one is the task's, and the zeros after those of a frame
     /// whose last one is; 0 where it has none. So many frames as there are serials have bytes that a `usize`
     /// counts; a proposal has no more. It takes no memory.
     pub fn part_size(&self, frames: &[Sending], task: u8) -> usize
-        requires frames { All (CanBeFilled self.now.past) frames.now }
+        requires frames { All (CanBeFilled self.now.history) frames.now }
         requires few { length frames.now ≤ SETUP_SERIAL }
-        ensures { result ≡ part_size (line_of self.now.past) task frames.now }
+        ensures { result ≡ part_size (line_of self.now.history) task frames.now }
     {
         part_size(&self.plan, frames, task)
     }
@@ -42,9 +42,9 @@ impl Core {
     /// `fill` writes it: the parts of a proposal's tasks, joined in their order, are its frames. It takes no
     /// memory.
     pub fn fill_part(&self, frames: &[Sending], task: u8, out: &mut [u8])
-        requires frames { All (CanBeFilled self.now.past) frames.now }
-        requires exact { length out.old ≡ part_size (line_of self.now.past) task frames.now }
-        ensures { out.new ≡ part_text (sent_data self.now.past) task frames.now }
+        requires frames { All (CanBeFilled self.now.history) frames.now }
+        requires exact { length out.old ≡ part_size (line_of self.now.history) task frames.now }
+        ensures { out.new ≡ part_text (sent_data self.now.history) task frames.now }
     {
         write_part(out, frames, task, &self.outputs);
     }

@@ -15,9 +15,9 @@ impl Core {
     /// number is over 7; `StalePost` where another epoch has begun; `PostLength` where there are more or fewer
     /// bytes; and of several the first of these. Then nothing changed. It takes no memory.
     pub fn post(&mut self, task: u8, epoch: u32, bytes: &[u8]) -> Result<(), CoreFault>
-        ensures accepted { OnOk result (lowest (post_faults self.old.past task epoch bytes.now) ≡ None) }
-        ensures entries { OnOk result (self.new ≡ record self.old { past = Posted task bytes.now ∷ self.old.past }) }
-        ensures refused { IfErr result (λ fault. lowest (post_faults self.old.past task epoch bytes.now) ≡ Some fault) }
+        ensures accepted { OnOk result (lowest (post_faults self.old.history task epoch bytes.now) ≡ None) }
+        ensures entries { OnOk result (self.new ≡ record self.old { history = Posted task bytes.now ∷ self.old.history }) }
+        ensures refused { IfErr result (λ fault. lowest (post_faults self.old.history task epoch bytes.now) ≡ Some fault) }
         ensures unchanged { OnErr result (self.new ≡ self.old) }
     {
         if task >= TASKS {
@@ -30,7 +30,7 @@ impl Core {
             return Err(CoreFault::PostLength);
         }
         self.outputs.post(self.plan.places(), Task(task), bytes);
-        self.past = self.past.posted(task, bytes);
+        self.history = self.history.posted(task, bytes);
         Ok(())
     }
 }

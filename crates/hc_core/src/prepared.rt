@@ -21,27 +21,27 @@ use std::snapshot::Snapshot;
 
 /// What an edit makes of a core: of its line, of the values of its output variables, and of its changes. It is
 /// good for the core as it was when the edit was prepared: contracts see that (`core`), and `edit`, from which a
-/// caller tells what the edit would cost.
+/// caller says what the edit would cost.
 #[derive(Drop)]
 pub struct CoreEdit {
     pub(crate) edit: PreparedEdit,
     pub(crate) moves: Moves,
     // for the slaves that the edit declares
     pub(crate) slaves: Option<OwedRoom>,
-    // has room for the changes that nobody took, and for the swap behind them
+    // has room for the changes that nobody took, and for the swap after them
     pub(crate) room: Vec<Change>,
     pub(crate) core: Snapshot<Core>,
 }
 
 impl Model for CoreEdit {
     ghost use Rattle.std.specs.Prelude.{vec_capacity};
-    ghost use Rattle.hc_core.specs.Prepared.{CoreEdit, IsReady};
+    ghost use Rattle.hc_core.specs.Prepared.{CoreEdit, CanBeCarriedOut};
 
     ghost Value = { CoreEdit };
 
     ghost view = { λ it. record { core = it.core.value; edit = it.edit } };
 
-    ghost invariant = { λ it. IsReady it.core.value it.edit it.moves it.slaves it.room.items (vec_capacity it.room) };
+    ghost invariant = { λ it. CanBeCarriedOut it.core.value it.edit it.moves it.slaves it.room.items (vec_capacity it.room) };
 }
 
 impl CoreEdit {
@@ -52,7 +52,7 @@ impl CoreEdit {
     /// to be written, with their bytes, and the slaves that would leave.
     pub fn edit(&self) -> &PreparedEdit
         ensures edit { result.now ≡ self.now.edit }
-        ensures made { result.now.old ≡ state_of self.now.core.past }
+        ensures made { result.now.old ≡ state_of self.now.core.history }
     {
         &self.edit
     }
@@ -80,7 +80,7 @@ pub(crate) fn edit_memory(
     Ok((moves, slaves, room))
 }
 
-/// Adds a swap behind changes, in memory that has room for all of them where their own has none.
+/// Adds a swap after changes, in memory that has room for all of them where their own has none.
 pub(crate) fn add_swap(changes: &mut Vec<Change>, room: Vec<Change>, swap: Swap)
     requires room { length changes.old.items < vec_capacity room }
     requires empty { room.items ≡ [] }

@@ -1,11 +1,11 @@
-//! What a core tells of itself and to tasks.
+//! What a core says of itself and to tasks.
 ghost use Rattle.std.specs.Prelude.{◌≡◌, ◌<◌, ◌≤◌, ◌⊎◌, IfOk, IfSome, None, Ok, length};
 ghost use Rattle.std.specs.Option.{option_copied};
 ghost use Rattle.hc_records.specs.declared.limits.TheConstants.{MOST_DATAGRAMS, TASKS};
 ghost use Rattle.hc_records.specs.Lists.{lowest};
 ghost use Rattle.hc_events.specs.declared.answer.Answer.TheVariants as answer;
 ghost use Rattle.hc_events.specs.Owed.{owed_blocks};
-ghost use Rattle.hc_events.specs.Accepted.{IsReachable, StandsIn};
+ghost use Rattle.hc_events.specs.Accepted.{IsReachable, IsInLine};
 ghost use Rattle.hc_events.specs.Ages.{data_serial};
 ghost use Rattle.hc_events.specs.Images.{slot_of};
 ghost use Rattle.hc_events.specs.Outputs.{sent_data};
@@ -23,25 +23,25 @@ use std::alloc::{AllocError, Global};
 
 impl Core {
     /// The plan of the present line. Its epoch is the number of accepted edits, and the record has what each one
-    /// has to which events lead (`reachable`), for which the laws of such records ask.
+    /// has that events lead to (`reachable`), for which the laws of such records ask.
     pub fn plan(&self) -> &Plan
-        ensures state { result.now ≡ state_of self.now.past }
-        ensures reachable { IsReachable self.now.past }
-        ensures epoch { (state_of self.now.past).epoch ≡ epoch_of self.now.past }
+        ensures state { result.now ≡ state_of self.now.history }
+        ensures reachable { IsReachable self.now.history }
+        ensures epoch { (state_of self.now.history).epoch ≡ epoch_of self.now.history }
     {
         &self.plan
     }
 
     /// The serial of the next sending, which is the number of sendings before it.
     pub fn next_serial(&self) -> u64
-        ensures { result ≡ next_serial self.now.past }
+        ensures { result ≡ next_serial self.now.history }
     {
         self.serial
     }
 
     /// How many register blocks of the present line are owed. It takes no memory, and walks over nothing.
     pub fn owed(&self) -> u32
-        ensures { result ≡ length (owed_blocks self.now.past) }
+        ensures { result ≡ length (owed_blocks self.now.history) }
     {
         self.owed.count()
     }
@@ -49,10 +49,10 @@ impl Core {
     /// What a task reads of one of its datagrams, lent: the data of the last good answer in the present epoch, or none
     /// where it had none; none too where the task is over 7, or the number over 15. It takes no memory.
     pub fn data(&self, task: u8, number: u8) -> Option<&[u8]>
-        ensures slot { task < TASKS → number < MOST_DATAGRAMS → option_copied result ≡ slot_of self.now.past task number }
+        ensures slot { task < TASKS → number < MOST_DATAGRAMS → option_copied result ≡ slot_of self.now.history task number }
         ensures none { TASKS ≤ task ⊎ MOST_DATAGRAMS ≤ number → option_copied result ≡ None }
     {
-        // a look at the plan tells the core's invariant, by which the image shows the record's data
+        // a look at the plan gives the core's invariant: the image shows the history's data
         let _ = &self.plan;
         if task >= TASKS || usize::from(number) >= MOST_DATAGRAMS {
             return None;
@@ -60,13 +60,13 @@ impl Core {
         self.inputs.data(Task(task), number)
     }
 
-    /// The serial of the sending that those data answer, which tells how old they are beside `next_serial`; none where
+    /// The serial of the sending that those data answer, which says how old they are beside `next_serial`; none where
     /// `data` gives none. It takes no memory.
     pub fn data_serial(&self, task: u8, number: u8) -> Option<u64>
-        ensures serial { task < TASKS → number < MOST_DATAGRAMS → result ≡ data_serial self.now.past task number }
+        ensures serial { task < TASKS → number < MOST_DATAGRAMS → result ≡ data_serial self.now.history task number }
         ensures none { TASKS ≤ task ⊎ MOST_DATAGRAMS ≤ number → result ≡ None }
     {
-        // a look at the plan tells the core's invariant, by which the serials are the record's
+        // a look at the plan gives the core's invariant: the serials are the history's
         let _ = &self.plan;
         if task >= TASKS || usize::from(number) >= MOST_DATAGRAMS {
             return None;
@@ -77,17 +77,17 @@ impl Core {
     /// The output values of a datagram of the present line, lent, as it is sent now: at the place of each output variable
     /// the bits of its value, and 0 at every other bit. They are as many bytes as the datagram has. It takes no memory.
     pub fn outputs(&self, task: u8, number: u8) -> &[u8]
-        requires { StandsIn (line_of self.now.past) (task, number) }
-        ensures { result.now ≡ sent_data self.now.past task number }
+        requires { IsInLine (line_of self.now.history) (task, number) }
+        ensures { result.now ≡ sent_data self.now.history task number }
     {
-        // a look at the plan tells the core's invariant, by which the outputs have the record's values
+        // a look at the plan gives the core's invariant, by which the outputs have the record's values
         let _ = &self.plan;
         self.outputs.bytes(task, number)
     }
 
     /// The image of a task as it is kept.
     fn image(&self, alloc: Global, task: u8) -> Result<Answer, AllocError>
-        ensures answer { IfOk result (λ told. told ≡ answer_to self.now.past (Reads task)) }
+        ensures answer { IfOk result (λ answer_given. answer_given ≡ answer_to self.now.history (Reads task)) }
         ensures early { IfSome (lowest (read_faults task)) (λ fault. result ≡ Ok (answer.Refused fault)) }
     {
         if task >= TASKS {
@@ -103,9 +103,9 @@ impl Core {
     /// data of its last good answer in this epoch, or none where it had none. A task over 7 is refused with
     /// `NoSuchTask`, whatever memory does. `AllocError` where a growth was refused.
     pub fn read(&self, alloc: Global, task: u8) -> Result<Answer, AllocError>
-        ensures answer { IfOk result (λ told. told ≡ answer_to self.now.past (Reads task)) }
+        ensures answer { IfOk result (λ answer_given. answer_given ≡ answer_to self.now.history (Reads task)) }
         ensures early { IfSome (lowest (read_faults task)) (λ fault. result ≡ Ok (answer.Refused fault)) }
-        ensures shows { IfOk result (λ told. task < TASKS → ShowsLastData self.now.past task told) }
+        ensures shows { IfOk result (λ answer_given. task < TASKS → ShowsLastData self.now.history task answer_given) }
     {
         self.image(alloc, task)
     }

@@ -20,21 +20,21 @@ use std::alloc::Global;
 use std::mem;
 
 impl Core {
-    /// The frames in which 1 to 8 distinct tasks would be sent next, in their order, with the next serials; none
+    /// The frames where 1 to 8 distinct tasks would be sent next, in their order, with the next serials; none
     /// where the tasks have no datagram. Nothing is sent by it. They can be filled (`fill`, `fill_part`), and
     /// committed as long as they are the present proposal (`commit`). `NoSuchTask` where a number is over 7;
     /// `Unprogrammed` where register blocks are owed, with their number; `SerialsSpent` where too few serials
-    /// are left; and of several the first of these. `Memory` where a growth was refused, and only behind the
+    /// are left; and of several the first of these. `Memory` where a growth was refused, and only after the
     /// first two.
     pub fn propose(&self, alloc: Global, tasks: &[u8]) -> Result<Vec<Sending>, CoreFault>
         requires { AreSentTogether tasks.now }
-        ensures frames { IfOk result (λ frames. frames.items ≡ proposal self.now.past tasks.now) }
-        ensures present { IfOk result (λ frames. IsProposal self.now.past frames.items) }
-        ensures filled { IfOk result (λ frames. All (CanBeFilled self.now.past) frames.items) }
+        ensures frames { IfOk result (λ frames. frames.items ≡ proposal self.now.history tasks.now) }
+        ensures present { IfOk result (λ frames. IsProposal self.now.history frames.items) }
+        ensures filled { IfOk result (λ frames. All (CanBeFilled self.now.history) frames.items) }
         ensures few { IfOk result (λ frames. length frames.items ≤ SETUP_SERIAL) }
-        ensures accepted { OnOk result (lowest (task_faults self.now.past tasks.now) ≡ None) }
-        ensures refused { IfErr result (λ fault. fault ≢ Memory → lowest (task_faults self.now.past tasks.now) ≡ Some fault) }
-        ensures early { IfSome (lowest (early_faults (length (owed_blocks self.now.past)) tasks.now)) (λ fault. result ≡ Err fault) }
+        ensures accepted { OnOk result (lowest (task_faults self.now.history tasks.now) ≡ None) }
+        ensures refused { IfErr result (λ fault. fault ≢ Memory → lowest (task_faults self.now.history tasks.now) ≡ Some fault) }
+        ensures early { IfSome (lowest (early_faults (length (owed_blocks self.now.history)) tasks.now)) (λ fault. result ≡ Err fault) }
     {
         let mut frames = Vec::new(alloc);
         self.propose_into(tasks, &mut frames)?;
@@ -46,13 +46,13 @@ impl Core {
     /// (this project's profile). The list's room never falls.
     pub fn propose_into(&self, tasks: &[u8], frames: &mut Vec<Sending>) -> Result<(), CoreFault>
         requires { AreSentTogether tasks.now }
-        ensures frames { OnOk result (frames.new.items ≡ proposal self.now.past tasks.now) }
-        ensures present { OnOk result (IsProposal self.now.past frames.new.items) }
-        ensures filled { OnOk result (All (CanBeFilled self.now.past) frames.new.items) }
+        ensures frames { OnOk result (frames.new.items ≡ proposal self.now.history tasks.now) }
+        ensures present { OnOk result (IsProposal self.now.history frames.new.items) }
+        ensures filled { OnOk result (All (CanBeFilled self.now.history) frames.new.items) }
         ensures few { OnOk result (length frames.new.items ≤ SETUP_SERIAL) }
-        ensures accepted { OnOk result (lowest (task_faults self.now.past tasks.now) ≡ None) }
-        ensures refused { IfErr result (λ fault. fault ≢ Memory → lowest (task_faults self.now.past tasks.now) ≡ Some fault) }
-        ensures early { IfSome (lowest (early_faults (length (owed_blocks self.now.past)) tasks.now)) (λ fault. result ≡ Err fault) }
+        ensures accepted { OnOk result (lowest (task_faults self.now.history tasks.now) ≡ None) }
+        ensures refused { IfErr result (λ fault. fault ≢ Memory → lowest (task_faults self.now.history tasks.now) ≡ Some fault) }
+        ensures early { IfSome (lowest (early_faults (length (owed_blocks self.now.history)) tasks.now)) (λ fault. result ≡ Err fault) }
         ensures room { IfErr result (λ fault. fault ≡ Memory → vec_capacity frames.old < MOST_DATAGRAMS * TASKS) }
         ensures capacity { vec_capacity frames.old ≤ vec_capacity frames.new }
         ensures none { OnErr result (frames.new.items ≡ []) }
@@ -65,8 +65,8 @@ impl Core {
     /// where the task has no such datagram, there is no such task, or no serial is left. It can be filled.
     /// Nothing is sent by it. It takes no memory.
     pub fn preview(&self, task: u8, number: u8) -> Option<Sending>
-        ensures frame { result ≡ preview self.now.past task number }
-        ensures filled { IfSome result (CanBeFilled self.now.past) }
+        ensures frame { result ≡ preview self.now.history task number }
+        ensures filled { IfSome result (CanBeFilled self.now.history) }
     {
         preview(&self.plan, self.serial, task, number)
     }
@@ -74,12 +74,12 @@ impl Core {
     /// All frames of the present proposal are sent, in their order: each is recorded, and is awaited from now on.
     /// It takes no memory.
     pub fn commit(&mut self, frames: &[Sending])
-        requires { IsProposal self.old.past frames.now }
-        ensures { self.new ≡ record self.old { past = with_sent self.old.past frames.now } }
+        requires { IsProposal self.old.history frames.now }
+        ensures { self.new ≡ record self.old { history = with_sent self.old.history frames.now } }
     {
         self.awaited.send(frames);
         self.serial += frames.len() as u64;
-        self.past.sent_all(frames);
+        self.history.sent_all(frames);
     }
 
     /// Tasks are sent: the texts of the frames that are proposed into a list, which are then committed.
@@ -90,10 +90,10 @@ impl Core {
         frames: &mut Vec<Sending>,
     ) -> Result<Answer, CoreFault>
         requires { AreSentTogether tasks.now }
-        ensures answer { IfOk result (λ told. told ≡ answer_to self.old.past (SendsTasks tasks.now)) }
-        ensures entries { OnOk result (self.new ≡ record self.old { past = entries_after self.old.past (SendsTasks tasks.now) }) }
-        ensures refused { IfErr result (λ fault. fault ≢ Memory → lowest (task_faults self.old.past tasks.now) ≡ Some fault) }
-        ensures early { IfSome (lowest (early_faults (length (owed_blocks self.old.past)) tasks.now)) (λ fault. result ≡ Err fault) }
+        ensures answer { IfOk result (λ answer_given. answer_given ≡ answer_to self.old.history (SendsTasks tasks.now)) }
+        ensures entries { OnOk result (self.new ≡ record self.old { history = entries_after self.old.history (SendsTasks tasks.now) }) }
+        ensures refused { IfErr result (λ fault. fault ≢ Memory → lowest (task_faults self.old.history tasks.now) ≡ Some fault) }
+        ensures early { IfSome (lowest (early_faults (length (owed_blocks self.old.history)) tasks.now)) (λ fault. result ≡ Err fault) }
         ensures unchanged { OnErr result (self.new ≡ self.old) }
     {
         self.propose_into(tasks, frames)?;
@@ -105,15 +105,15 @@ impl Core {
     /// The same, in a list that is used again.
     pub(crate) fn send(&mut self, alloc: Global, tasks: &[u8]) -> Result<Answer, CoreFault>
         requires { AreSentTogether tasks.now }
-        ensures answer { IfOk result (λ told. told ≡ answer_to self.old.past (SendsTasks tasks.now)) }
-        ensures entries { OnOk result (self.new ≡ record self.old { past = entries_after self.old.past (SendsTasks tasks.now) }) }
-        ensures refused { IfErr result (λ fault. fault ≢ Memory → lowest (task_faults self.old.past tasks.now) ≡ Some fault) }
-        ensures early { IfSome (lowest (early_faults (length (owed_blocks self.old.past)) tasks.now)) (λ fault. result ≡ Err fault) }
+        ensures answer { IfOk result (λ answer_given. answer_given ≡ answer_to self.old.history (SendsTasks tasks.now)) }
+        ensures entries { OnOk result (self.new ≡ record self.old { history = entries_after self.old.history (SendsTasks tasks.now) }) }
+        ensures refused { IfErr result (λ fault. fault ≢ Memory → lowest (task_faults self.old.history tasks.now) ≡ Some fault) }
+        ensures early { IfSome (lowest (early_faults (length (owed_blocks self.old.history)) tasks.now)) (λ fault. result ≡ Err fault) }
         ensures unchanged { OnErr result (self.new ≡ self.old) }
     {
         let mut frames = mem::replace(&mut self.frames, Vec::new(alloc));
-        let told = self.send_by(alloc, tasks, &mut frames);
+        let answer_given = self.send_by(alloc, tasks, &mut frames);
         self.frames = frames;
-        told
+        answer_given
     }
 }

@@ -2,7 +2,7 @@
 ghost use Rattle.std.specs.Prelude.{◌≡◌, All, IfOk, OnErr, map};
 ghost use Rattle.hc_events.specs.Calls.{AreSentTogether, MayAnswer};
 ghost use Rattle.hc_events.specs.Steps.{Arrives, Edits, Forgets, Posts, Reads, SendsTasks, SendsWrite, SendsWrites, step_of};
-ghost use Rattle.hc_core.specs.Early.{TellsEarly};
+ghost use Rattle.hc_core.specs.Early.{ShowsEarly};
 ghost use Rattle.hc_core.specs.Lines.{IsLineAfter};
 ghost use Rattle.hc_core.specs.LastData.{GoesWithoutThem, IsAsWithoutStale, ReadsShowLastData, StaleLeavesNothing, TasksReadLastData};
 ghost use Rattle.hc_core.specs.Serving.{IsAsked, MayAnswerAll, answer_of, answer_of_edit, answer_of_forget, answer_of_post, answer_or_memory};
@@ -16,61 +16,61 @@ use hc_records::faults::EditFault;
 use std::alloc::{AllocError, Global};
 
 /// The answer, or that the event was refused.
-fn answer_of(told: Result<Answer, CoreFault>) -> Answer
-    ensures { result ≡ answer_of told }
+fn answer_of(answer_given: Result<Answer, CoreFault>) -> Answer
+    ensures { result ≡ answer_of answer_given }
 {
-    match told {
-        Ok(told) => told,
+    match answer_given {
+        Ok(answer_given) => answer_given,
         Err(fault) => Answer::Refused(fault),
     }
 }
 
 /// The same of a post.
-fn answer_of_post(told: Result<(), CoreFault>) -> Answer
-    ensures { result ≡ answer_of_post told }
+fn answer_of_post(answer_given: Result<(), CoreFault>) -> Answer
+    ensures { result ≡ answer_of_post answer_given }
 {
-    match told {
+    match answer_given {
         Ok(()) => Answer::Posted,
         Err(fault) => Answer::Refused(fault),
     }
 }
 
 /// The same of forgetting a slave.
-fn answer_of_forget(told: Result<(), CoreFault>) -> Answer
-    ensures { result ≡ answer_of_forget told }
+fn answer_of_forget(answer_given: Result<(), CoreFault>) -> Answer
+    ensures { result ≡ answer_of_forget answer_given }
 {
-    match told {
+    match answer_given {
         Ok(()) => Answer::Forgotten,
         Err(fault) => Answer::Refused(fault),
     }
 }
 
 /// The same of an edit.
-fn answer_of_edit(told: Result<Answer, EditFault>) -> Answer
-    ensures { result ≡ answer_of_edit told }
+fn answer_of_edit(answer_given: Result<Answer, EditFault>) -> Answer
+    ensures { result ≡ answer_of_edit answer_given }
 {
-    match told {
-        Ok(told) => told,
+    match answer_given {
+        Ok(answer_given) => answer_given,
         Err(fault) => Answer::Refused(CoreFault::from(fault)),
     }
 }
 
-/// The answer, or want of memory.
-fn answer_or_memory(told: Result<Answer, AllocError>) -> Answer
-    ensures { result ≡ answer_or_memory told }
+/// The answer, or `Memory`.
+fn answer_or_memory(answer_given: Result<Answer, AllocError>) -> Answer
+    ensures { result ≡ answer_or_memory answer_given }
 {
-    match told {
-        Ok(told) => told,
+    match answer_given {
+        Ok(answer_given) => answer_given,
         Err(_) => Answer::Refused(CoreFault::Memory),
     }
 }
 
 impl Core {
-    /// Serves an edit.
+    /// Serves an edit. It is a function of its own in the built code too, so that no other event pays for its locals.
     #[inline(never)]
     fn serve_edit(&mut self, alloc: Global, edit: &Edit) -> Answer
-        ensures answer { MayAnswer self.old.past (Edits edit.now) result self.new.past }
-        ensures early { TellsEarly self.old.past (Edits edit.now) result }
+        ensures answer { MayAnswer self.old.history (Edits edit.now) result self.new.history }
+        ensures early { ShowsEarly self.old.history (Edits edit.now) result }
         ensures taken { self.new.taken ≡ self.old.taken }
     {
         answer_of_edit(self.edit(alloc, edit))
@@ -78,8 +78,8 @@ impl Core {
 
     /// Serves a post.
     fn serve_post(&mut self, task: u8, epoch: u32, bytes: &[u8]) -> Answer
-        ensures answer { MayAnswer self.old.past (Posts task epoch bytes.now) result self.new.past }
-        ensures early { TellsEarly self.old.past (Posts task epoch bytes.now) result }
+        ensures answer { MayAnswer self.old.history (Posts task epoch bytes.now) result self.new.history }
+        ensures early { ShowsEarly self.old.history (Posts task epoch bytes.now) result }
         ensures taken { self.new.taken ≡ self.old.taken }
     {
         answer_of_post(self.post(task, epoch, bytes))
@@ -88,8 +88,8 @@ impl Core {
     /// Serves a sending of tasks.
     fn serve_tasks(&mut self, alloc: Global, tasks: &[u8]) -> Answer
         requires { AreSentTogether tasks.now }
-        ensures answer { MayAnswer self.old.past (SendsTasks tasks.now) result self.new.past }
-        ensures early { TellsEarly self.old.past (SendsTasks tasks.now) result }
+        ensures answer { MayAnswer self.old.history (SendsTasks tasks.now) result self.new.history }
+        ensures early { ShowsEarly self.old.history (SendsTasks tasks.now) result }
         ensures taken { self.new.taken ≡ self.old.taken }
     {
         answer_of(self.send(alloc, tasks))
@@ -97,8 +97,8 @@ impl Core {
 
     /// Serves a register write.
     fn serve_write(&mut self, alloc: Global) -> Answer
-        ensures answer { MayAnswer self.old.past SendsWrite result self.new.past }
-        ensures early { TellsEarly self.old.past SendsWrite result }
+        ensures answer { MayAnswer self.old.history SendsWrite result self.new.history }
+        ensures early { ShowsEarly self.old.history SendsWrite result }
         ensures taken { self.new.taken ≡ self.old.taken }
     {
         answer_of(self.write(alloc))
@@ -106,8 +106,8 @@ impl Core {
 
     /// Serves several register writes in one frame.
     fn serve_writes(&mut self, alloc: Global) -> Answer
-        ensures answer { MayAnswer self.old.past SendsWrites result self.new.past }
-        ensures early { TellsEarly self.old.past SendsWrites result }
+        ensures answer { MayAnswer self.old.history SendsWrites result self.new.history }
+        ensures early { ShowsEarly self.old.history SendsWrites result }
         ensures taken { self.new.taken ≡ self.old.taken }
     {
         answer_of(self.write_all(alloc))
@@ -115,8 +115,8 @@ impl Core {
 
     /// Serves an arrival.
     fn serve_arrival(&mut self, alloc: Global, bytes: &[u8]) -> Answer
-        ensures answer { MayAnswer self.old.past (Arrives bytes.now) result self.new.past }
-        ensures early { TellsEarly self.old.past (Arrives bytes.now) result }
+        ensures answer { MayAnswer self.old.history (Arrives bytes.now) result self.new.history }
+        ensures early { ShowsEarly self.old.history (Arrives bytes.now) result }
         ensures taken { self.new.taken ≡ self.old.taken }
     {
         answer_or_memory(self.arrive(alloc, bytes))
@@ -124,27 +124,32 @@ impl Core {
 
     /// Serves a read.
     fn serve_read(&self, alloc: Global, task: u8) -> Answer
-        ensures answer { MayAnswer self.now.past (Reads task) result self.now.past }
-        ensures early { TellsEarly self.now.past (Reads task) result }
+        ensures answer { MayAnswer self.now.history (Reads task) result self.now.history }
+        ensures early { ShowsEarly self.now.history (Reads task) result }
     {
         answer_or_memory(self.read(alloc, task))
     }
 
     /// Serves the forgetting of a slave.
     fn serve_forget(&mut self, station: u16) -> Answer
-        ensures answer { MayAnswer self.old.past (Forgets station) result self.new.past }
-        ensures early { TellsEarly self.old.past (Forgets station) result }
+        ensures answer { MayAnswer self.old.history (Forgets station) result self.new.history }
+        ensures early { ShowsEarly self.old.history (Forgets station) result }
         ensures taken { self.new.taken ≡ self.old.taken }
     {
         answer_of_forget(self.forget(station))
     }
 
-    /// Serves an event by its kind. Edits have a function of their own in the built code too, so that no other event pays for
-    /// their locals.
-    fn serve(&mut self, alloc: Global, event: Event<'_>) -> Answer
+    /// Serves an event: the answer is the definition's (`answer_to`) for the history of what was accepted, and what it accepts is
+    /// recorded; or `Memory`, where the event takes some, and nothing changed. A fault that is judged before memory is taken is
+    /// reported whatever memory does (`early_fault`): a fault that an edit has by itself, of the faults 1 to 11; of tasks to be sent
+    /// that there is no such task, or that blocks are owed; every fault of a write, a read, a post, a slave to be forgotten and a
+    /// frame that can't be read. Tasks that are sent together are 1 to 8, and none twice. An arrival that is reported to be stale
+    /// leaves nothing: whatever comes after it is answered as if it hadn't come, what tasks read too.
+    pub fn step(&mut self, alloc: Global, event: Event<'_>) -> Answer
         requires { IsAsked (step_of event) }
-        ensures answer { MayAnswer self.old.past (step_of event.entry) result self.new.past }
-        ensures early { TellsEarly self.old.past (step_of event.entry) result }
+        ensures answer { MayAnswer self.old.history (step_of event.entry) result self.new.history }
+        ensures early { ShowsEarly self.old.history (step_of event.entry) result }
+        ensures stale { StaleLeavesNothing self.old.history result self.new.history }
         ensures taken { self.new.taken ≡ self.old.taken }
     {
         match event {
@@ -159,27 +164,10 @@ impl Core {
         }
     }
 
-    /// Serves an event: the answer is that of the definition (`answer_to`) for the record of what was accepted,
-    /// and what it accepts is recorded; or want of memory, where the event takes some, and nothing changed.
-    /// A fault that is judged before memory is taken is told whatever memory does (`early_fault`): a fault that
-    /// an edit has by itself, of the faults 1 to 11; of tasks to be sent that there is no such task, or that
-    /// blocks are owed; every fault of a write, a read, a post, a slave to be forgotten and a frame that can't be read. Tasks that are
-    /// sent together are 1 to 8, and none twice. An arrival that is told to be stale leaves nothing: whatever
-    /// comes behind it is answered as if it hadn't come, what tasks read too.
-    pub fn step(&mut self, alloc: Global, event: Event<'_>) -> Answer
-        requires { IsAsked (step_of event) }
-        ensures answer { MayAnswer self.old.past (step_of event.entry) result self.new.past }
-        ensures early { TellsEarly self.old.past (step_of event.entry) result }
-        ensures stale { StaleLeavesNothing self.old.past result self.new.past }
-        ensures taken { self.new.taken ≡ self.old.taken }
-    {
-        self.serve(alloc, event)
-    }
-
     /// Serves events one after another. The room for the answers is taken first.
     fn serve_all(&mut self, alloc: Global, events: &[Event<'_>]) -> Result<Vec<Answer>, AllocError>
         requires { All (λ event. IsAsked (step_of event)) events.now }
-        ensures answers { IfOk result (λ answers. MayAnswerAll self.old.past (map step_of events.now) answers.items self.new.past) }
+        ensures answers { IfOk result (λ answers. MayAnswerAll self.old.history (map step_of events.now) answers.items self.new.history) }
         ensures taken { self.new.taken ≡ self.old.taken }
         ensures unchanged { OnErr result (self.new ≡ self.old) }
     {
@@ -194,21 +182,21 @@ impl Core {
     /// Serves events one after another, each as `step` does. The room for the answers is taken first: after
     /// `AllocError` no event was served, and nothing changed.
     ///
-    /// Behind the events the line is the one to which the edits among them lead, refused ones changing
-    /// nothing; `plan` gives what configuring that line from nothing makes of it. Whatever a task reads,
-    /// between the events (`shown`) or behind them (`reads`), is of each datagram that it has in the present
-    /// line the data of the last good answer in the present epoch, or none where there was none in it; that
-    /// answer's frame was sent in a line with the same places. A stale frame changes nothing: all that comes
-    /// is answered as if none had come, and without the events that were answered `Stale` or refused for want of
-    /// memory the others have the answers that they have, and lead to a record that says the same (`without`).
+    /// After the events the line is the one that the edits among them lead to, refused ones changing nothing;
+    /// `plan` gives what configuring that line from nothing makes of it. Whatever a task reads, between the
+    /// events (`shown`) or after them (`reads`), is of each datagram that it has in the present line the data of
+    /// the last good answer in the present epoch, or none where there was none in it; that answer's frame was
+    /// sent in a line with the same places. A stale frame changes nothing: all that comes is answered as if none
+    /// had come, and without the events that were answered `Stale` or refused with `Memory` the others have the
+    /// answers that they have, and lead to a history that says the same (`without`).
     pub fn run(&mut self, alloc: Global, events: &[Event<'_>]) -> Result<Vec<Answer>, AllocError>
         requires { All (λ event. IsAsked (step_of event)) events.now }
-        ensures answers { IfOk result (λ answers. MayAnswerAll self.old.past (map step_of events.now) answers.items self.new.past) }
-        ensures line { IfOk result (λ answers. IsLineAfter self.old.past (map step_of events.now) answers.items self.new.past) }
-        ensures shown { IfOk result (λ answers. ReadsShowLastData self.old.past (map step_of events.now) answers.items) }
-        ensures reads { TasksReadLastData self.new.past }
-        ensures stale { IsAsWithoutStale self.new.past }
-        ensures without { IfOk result (λ answers. GoesWithoutThem self.old.past (map step_of events.now) answers.items self.new.past) }
+        ensures answers { IfOk result (λ answers. MayAnswerAll self.old.history (map step_of events.now) answers.items self.new.history) }
+        ensures line { IfOk result (λ answers. IsLineAfter self.old.history (map step_of events.now) answers.items self.new.history) }
+        ensures shown { IfOk result (λ answers. ReadsShowLastData self.old.history (map step_of events.now) answers.items) }
+        ensures reads { TasksReadLastData self.new.history }
+        ensures stale { IsAsWithoutStale self.new.history }
+        ensures without { IfOk result (λ answers. GoesWithoutThem self.old.history (map step_of events.now) answers.items self.new.history) }
         ensures taken { self.new.taken ≡ self.old.taken }
         ensures unchanged { OnErr result (self.new ≡ self.old) }
     {

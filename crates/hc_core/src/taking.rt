@@ -2,7 +2,7 @@
 ghost use Rattle.std.specs.Prelude.{◌≡◌};
 ghost use Rattle.hc_events.specs.Changes.{SwapsLeadFrom};
 ghost use Rattle.hc_events.specs.Points.{state_of};
-ghost use Rattle.hc_core.specs.News.{TellNews, untaken};
+ghost use Rattle.hc_core.specs.Update.{ShowUpdates, untaken};
 
 use crate::keeping::Core;
 use hc_events::change::Change;
@@ -11,15 +11,16 @@ use std::mem;
 use std::snapshot::Snapshot;
 
 impl Core {
-    /// The changes since they were taken last, or since the opening, in order: what was news since then, legal
-    /// from the state as it was then, with swaps that lead from its line to the present one. Each swap carries
-    /// only what differs: the tasks whose table differs, and the variables whose place differs, as many as
+    /// The changes since they were taken last, or since the opening, in order: what was updates since then,
+    /// legal from the state as it was then, with swaps that lead from its line to the present one. Each swap
+    /// carries only what differs: the tasks whose table differs, and the variables whose place differs, as many
+    /// as
     /// `Swap::places` answers. They are no longer kept, and the record stays. It takes no memory: `alloc` is for
     /// the empty list that is kept from now on.
     pub fn take_changes(&mut self, alloc: Global) -> Vec<Change>
-        ensures news { TellNews self.old.taken self.old.past result.items }
+        ensures updates { ShowUpdates self.old.taken self.old.history result.items }
         ensures lead { SwapsLeadFrom (state_of self.old.taken) result.items }
-        ensures taken { self.new ≡ record { past = self.old.past; taken = self.old.past } }
+        ensures taken { self.new ≡ record { history = self.old.history; taken = self.old.history } }
     {
         self.take_changes_into(Vec::new(alloc))
     }
@@ -27,13 +28,13 @@ impl Core {
     /// The same, and a list is handed in for the changes to come: what it holds is dropped, and its room is
     /// kept. Who hands back the list of the taking before grows none anew. It takes no memory.
     pub fn take_changes_into(&mut self, spare: Vec<Change>) -> Vec<Change>
-        ensures news { TellNews self.old.taken self.old.past result.items }
+        ensures updates { ShowUpdates self.old.taken self.old.history result.items }
         ensures lead { SwapsLeadFrom (state_of self.old.taken) result.items }
-        ensures taken { self.new ≡ record { past = self.old.past; taken = self.old.past } }
+        ensures taken { self.new ≡ record { history = self.old.history; taken = self.old.history } }
     {
         let mut next = spare;
         next.clear();
-        self.taken = Snapshot::of(&self.past);
+        self.taken = Snapshot::of(&self.history);
         mem::replace(&mut self.changes, next)
     }
 
@@ -46,10 +47,10 @@ impl Core {
 
     /// The changes since they were taken last, or since the opening, are dropped, as if they were taken. It takes no memory.
     pub fn discard_changes(&mut self)
-        ensures { self.new ≡ record { past = self.old.past; taken = self.old.past } }
+        ensures { self.new ≡ record { history = self.old.history; taken = self.old.history } }
     {
         self.changes.clear();
-        let now = Snapshot::of(&self.past);
+        let now = Snapshot::of(&self.history);
         self.taken = now;
     }
 }

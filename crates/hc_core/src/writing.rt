@@ -10,7 +10,7 @@ ghost use Rattle.hc_events.specs.WriteFrames.{writes_size, writes_text};
 ghost use Rattle.hc_events.specs.declared.faults.CoreFault.TheVariants.{Memory};
 ghost use Rattle.hc_core.specs.Written.{HoldsBlocks, HoldsWrite, HoldsWrites, IsMost, first_blocks, first_into_faults, sent_answer};
 
-use crate::choosing::{choose, mark_sent};
+use crate::choosing::{choose_first, mark_sent};
 use crate::keeping::Core;
 use hc_events::answer::Answer;
 use hc_events::faults::CoreFault;
@@ -43,8 +43,8 @@ impl Core {
     /// Whether a register write can be sent: `NothingOwed` where no block is owed; `SerialsSpent` where no serial is left;
     /// and of both the first.
     fn can_write(&self) -> Result<(), CoreFault>
-        ensures accepted { OnOk result (lowest (write_faults self.now.past (owed_blocks self.now.past)) ≡ None) }
-        ensures refused { IfErr result (λ fault. lowest (write_faults self.now.past (owed_blocks self.now.past)) ≡ Some fault) }
+        ensures accepted { OnOk result (lowest (write_faults self.now.history (owed_blocks self.now.history)) ≡ None) }
+        ensures refused { IfErr result (λ fault. lowest (write_faults self.now.history (owed_blocks self.now.history)) ≡ Some fault) }
     {
         if self.owed.count() == 0 {
             return Err(CoreFault::NothingOwed);
@@ -56,21 +56,22 @@ impl Core {
     }
 
     /// The first owed blocks, one or as many as a frame holds, are sent in one frame with the next serial: it is put at the
-    /// front of `out`. It takes no memory.
+    /// front of `out`. It takes no memory. It is inlined, so that one block's write has no loop over blocks.
+    #[inline(always)]
     fn write_first(&mut self, most: usize, out: &mut [u8]) -> Result<SentWrites, CoreFault>
         requires { IsMost most }
-        ensures written { IfOk result (HoldsBlocks self.old.past (first_blocks most self.old.past) out.old out.new) }
-        ensures accepted { OnOk result (lowest (first_into_faults most self.old.past (length out.old)) ≡ None) }
-        ensures entries { OnOk result (self.new ≡ record self.old { past = Wrote (first_blocks most self.old.past) ∷ self.old.past }) }
-        ensures refused { IfErr result (λ fault. lowest (first_into_faults most self.old.past (length out.old)) ≡ Some fault) }
+        ensures written { IfOk result (HoldsBlocks self.old.history (first_blocks most self.old.history) out.old out.new) }
+        ensures accepted { OnOk result (lowest (first_into_faults most self.old.history (length out.old)) ≡ None) }
+        ensures entries { OnOk result (self.new ≡ record self.old { history = Wrote (first_blocks most self.old.history) ∷ self.old.history }) }
+        ensures refused { IfErr result (λ fault. lowest (first_into_faults most self.old.history (length out.old)) ≡ Some fault) }
         ensures unchanged { OnErr result (self.new ≡ self.old) }
         ensures untouched { OnErr result (out.new ≡ out.old) }
     {
         self.can_write()?;
         self.writes.clear();
-        choose(&mut self.writes, &self.owed, &self.plan, 0, most);
+        choose_first(&mut self.writes, &self.owed, most);
         let size = self.writes.write_into(out, self.serial)?;
-        self.past = self.past.wrote(&self.writes);
+        self.history = self.history.wrote(&self.writes);
         self.awaited.write(self.serial, self.writes.blocks());
         mark_sent(&mut self.owed, self.writes.blocks());
         self.serial += 1;
@@ -80,45 +81,36 @@ impl Core {
         })
     }
 
-    /// The bytes of the frame that `write_first` would put into a slice, once it can be sent.
-    fn first_size(&mut self, most: usize) -> Result<usize, CoreFault>
-        requires { IsMost most }
-        ensures size { IfOk result (λ size. size ≡ writes_size (first_blocks most self.old.past)) }
-        ensures accepted { OnOk result (lowest (write_faults self.old.past (owed_blocks self.old.past)) ≡ None) }
-        ensures refused { IfErr result (λ fault. lowest (write_faults self.old.past (owed_blocks self.old.past)) ≡ Some fault) }
-        ensures unchanged { self.new ≡ self.old }
-    {
-        self.can_write()?;
-        self.writes.clear();
-        choose(&mut self.writes, &self.owed, &self.plan, 0, most);
-        Ok(self.writes.size())
-    }
-
     /// The same frame in memory of its own.
     fn write_text(&mut self, alloc: Global, most: usize) -> Result<(Items<u8>, usize), CoreFault>
         requires { IsMost most }
-        ensures text { IfOk result (λ sent. sent.0 ≡ writes_text (next_serial self.old.past) (first_blocks most self.old.past)) }
-        ensures count { IfOk result (λ sent. sent.1 ≡ length (first_blocks most self.old.past)) }
-        ensures accepted { OnOk result (lowest (write_faults self.old.past (owed_blocks self.old.past)) ≡ None) }
-        ensures entries { OnOk result (self.new ≡ record self.old { past = Wrote (first_blocks most self.old.past) ∷ self.old.past }) }
-        ensures refused { IfErr result (λ fault. fault ≢ Memory → lowest (write_faults self.old.past (owed_blocks self.old.past)) ≡ Some fault) }
-        ensures early { IfSome (lowest (write_faults self.old.past (owed_blocks self.old.past))) (λ fault. result ≡ Err fault) }
+        ensures text { IfOk result (λ sent. sent.0 ≡ writes_text (next_serial self.old.history) (first_blocks most self.old.history)) }
+        ensures count { IfOk result (λ sent. sent.1 ≡ length (first_blocks most self.old.history)) }
+        ensures accepted { OnOk result (lowest (write_faults self.old.history (owed_blocks self.old.history)) ≡ None) }
+        ensures entries { OnOk result (self.new ≡ record self.old { history = Wrote (first_blocks most self.old.history) ∷ self.old.history }) }
+        ensures refused { IfErr result (λ fault. fault ≢ Memory → lowest (write_faults self.old.history (owed_blocks self.old.history)) ≡ Some fault) }
+        ensures early { IfSome (lowest (write_faults self.old.history (owed_blocks self.old.history))) (λ fault. result ≡ Err fault) }
         ensures unchanged { OnErr result (self.new ≡ self.old) }
     {
-        let size = self.first_size(most)?;
-        let mut text = Vec::from_elem(alloc, 0, size)?;
-        let sent = self.write_first(most, &mut text)?;
-        Ok((Items::of(text), sent.blocks))
+        self.can_write()?;
+        self.writes.clear();
+        choose_first(&mut self.writes, &self.owed, most);
+        let text = self.writes.text(alloc, self.serial)?;
+        self.history = self.history.wrote(&self.writes);
+        self.awaited.write(self.serial, self.writes.blocks());
+        mark_sent(&mut self.owed, self.writes.blocks());
+        self.serial += 1;
+        Ok((text, self.writes.blocks().len()))
     }
 
     /// The first owed block is sent, with the next serial. `NothingOwed` where no block is owed;
     /// `SerialsSpent` where no serial is left; and of both the first. `Memory` where a growth was refused, and
-    /// only behind these. Where it is refused, nothing changed.
+    /// only after these. Where it is refused, nothing changed.
     pub(crate) fn write(&mut self, alloc: Global) -> Result<Answer, CoreFault>
-        ensures answer { IfOk result (λ told. told ≡ answer_to self.old.past SendsWrite) }
-        ensures entries { OnOk result (self.new ≡ record self.old { past = entries_after self.old.past SendsWrite }) }
-        ensures refused { IfErr result (λ fault. fault ≢ Memory → lowest (write_faults self.old.past (owed_blocks self.old.past)) ≡ Some fault) }
-        ensures early { IfSome (lowest (write_faults self.old.past (owed_blocks self.old.past))) (λ fault. result ≡ Err fault) }
+        ensures answer { IfOk result (λ answer_given. answer_given ≡ answer_to self.old.history SendsWrite) }
+        ensures entries { OnOk result (self.new ≡ record self.old { history = entries_after self.old.history SendsWrite }) }
+        ensures refused { IfErr result (λ fault. fault ≢ Memory → lowest (write_faults self.old.history (owed_blocks self.old.history)) ≡ Some fault) }
+        ensures early { IfSome (lowest (write_faults self.old.history (owed_blocks self.old.history))) (λ fault. result ≡ Err fault) }
         ensures unchanged { OnErr result (self.new ≡ self.old) }
     {
         self.can_write()?;
@@ -129,25 +121,25 @@ impl Core {
 
     /// The first owed blocks are sent in one frame, as many as it holds, with the next serial. Refused as `write` is.
     pub(crate) fn write_all(&mut self, alloc: Global) -> Result<Answer, CoreFault>
-        ensures answer { IfOk result (λ told. told ≡ answer_to self.old.past SendsWrites) }
-        ensures entries { OnOk result (self.new ≡ record self.old { past = entries_after self.old.past SendsWrites }) }
-        ensures refused { IfErr result (λ fault. fault ≢ Memory → lowest (write_faults self.old.past (owed_blocks self.old.past)) ≡ Some fault) }
-        ensures early { IfSome (lowest (write_faults self.old.past (owed_blocks self.old.past))) (λ fault. result ≡ Err fault) }
+        ensures answer { IfOk result (λ answer_given. answer_given ≡ answer_to self.old.history SendsWrites) }
+        ensures entries { OnOk result (self.new ≡ record self.old { history = entries_after self.old.history SendsWrites }) }
+        ensures refused { IfErr result (λ fault. fault ≢ Memory → lowest (write_faults self.old.history (owed_blocks self.old.history)) ≡ Some fault) }
+        ensures early { IfSome (lowest (write_faults self.old.history (owed_blocks self.old.history))) (λ fault. result ≡ Err fault) }
         ensures unchanged { OnErr result (self.new ≡ self.old) }
     {
         let (text, blocks) = self.write_text(alloc, FRAME_BLOCKS)?;
         Ok(sent_answer(text, blocks))
     }
 
-    /// The first owed block is sent, with the next serial: its frame stands at the front of `out`, and its size
-    /// is answered. `NothingOwed` where no block is owed; `SerialsSpent` where no serial is left; `Room` with
-    /// the size needed where `out` is shorter; and of several the first of these. Then nothing changed, and
-    /// the write counts as not given. It takes no memory.
+    /// The first owed block is sent, with the next serial: its frame is at the front of `out`, and its size is
+    /// answered. `NothingOwed` where no block is owed; `SerialsSpent` where no serial is left; `Room` with the
+    /// size needed where `out` is shorter; and of several the first of these. Then nothing changed, and the
+    /// write counts as not given. It takes no memory.
     pub fn write_into(&mut self, out: &mut [u8]) -> Result<usize, CoreFault>
-        ensures written { IfOk result (HoldsWrite self.old.past out.old out.new) }
-        ensures accepted { OnOk result (lowest (write_into_faults self.old.past (length out.old)) ≡ None) }
-        ensures entries { OnOk result (self.new ≡ record self.old { past = entries_after self.old.past SendsWrite }) }
-        ensures refused { IfErr result (λ fault. lowest (write_into_faults self.old.past (length out.old)) ≡ Some fault) }
+        ensures written { IfOk result (HoldsWrite self.old.history out.old out.new) }
+        ensures accepted { OnOk result (lowest (write_into_faults self.old.history (length out.old)) ≡ None) }
+        ensures entries { OnOk result (self.new ≡ record self.old { history = entries_after self.old.history SendsWrite }) }
+        ensures refused { IfErr result (λ fault. lowest (write_into_faults self.old.history (length out.old)) ≡ Some fault) }
         ensures unchanged { OnErr result (self.new ≡ self.old) }
         ensures untouched { OnErr result (out.new ≡ out.old) }
     {
@@ -162,10 +154,10 @@ impl Core {
     /// given. One block has the frame that `write_into` sends. Until it is answered the same blocks are sent again. It takes no
     /// memory (ETG.1000.4, 5.3 and 5.4; this project's profile).
     pub fn write_all_into(&mut self, out: &mut [u8]) -> Result<SentWrites, CoreFault>
-        ensures written { IfOk result (HoldsWrites self.old.past out.old out.new) }
-        ensures accepted { OnOk result (lowest (write_all_into_faults self.old.past (length out.old)) ≡ None) }
-        ensures entries { OnOk result (self.new ≡ record self.old { past = entries_after self.old.past SendsWrites }) }
-        ensures refused { IfErr result (λ fault. lowest (write_all_into_faults self.old.past (length out.old)) ≡ Some fault) }
+        ensures written { IfOk result (HoldsWrites self.old.history out.old out.new) }
+        ensures accepted { OnOk result (lowest (write_all_into_faults self.old.history (length out.old)) ≡ None) }
+        ensures entries { OnOk result (self.new ≡ record self.old { history = entries_after self.old.history SendsWrites }) }
+        ensures refused { IfErr result (λ fault. lowest (write_all_into_faults self.old.history (length out.old)) ≡ Some fault) }
         ensures unchanged { OnErr result (self.new ≡ self.old) }
         ensures untouched { OnErr result (out.new ≡ out.old) }
     {

@@ -9,7 +9,7 @@ use Rattle.hc_records.specs.declared.keys.Key.{Key}
 use Rattle.hc_records.specs.declared.keys.TheConstants.Key.{START, END}
 use Rattle.hc_records.specs.Keys.{same_key, is_before, is_within}
 use Rattle.hc_records.specs.TaskList.{Keyed}
-use Rattle.hc_records.specs.Packing.{Front, opening, fits, behind, packed}
+use Rattle.hc_records.specs.Packing.{Front, opening, fits, front_with, packed}
 use Rattle.hc_records.specs.Image.{datagram_count}
 use Rattle.hc_records.specs.Boundaries.{later_keys}
 use Rattle.hc_records.specs.Laws.{IsPackable, cuts_from}
@@ -19,9 +19,9 @@ use Rattle.hc_records.proofs.lemmas.KeyOrder.{before-apart, before-other, other-
 use Rattle.hc_records.proofs.lemmas.Lengths.{opening-beginning, opening-fits}
 use Rattle.hc_records.proofs.lemmas.Packed.{place}
 use Rattle.hc_records.proofs.lemmas.SpanCuts.{areas-from, all-from}
-use Rattle.hc_records.proofs.lemmas.Spans.{IsListFrom, cut-all, filter-keeps, list-behind, list-tail}
+use Rattle.hc_records.proofs.lemmas.Spans.{IsListFrom, cut-all, filter-stays, list-after_it, list-tail}
 use Rattle.hc_bitsum.specs.Tree.{HasPlace, HoldsTaskList, Tree}
-use Rattle.hc_cuts.specs.Firsts.{IsCrowded}
+use Rattle.hc_cuts.specs.Firsts.{IsOverLimit}
 use Rattle.hc_cuts.specs.Starts.{next_boundary}
 use Rattle.hc_cuts.proofs.Searched.{boundary-cut}
 use Rattle.hc_cuts.proofs.lemmas.Datagrams.{front_of}
@@ -30,8 +30,8 @@ use Rattle.hc_cuts.proofs.lemmas.Datagrams.{front_of}
 
 number-by : (fitting : Bool) (n m bit : ℕ) (last : Dir) (area : Keyed) (areas : List Keyed)
     → ((k l to : ℕ) (dir : Dir) → cuts_from (front_of k to dir) areas ≡ cuts_from (front_of l to dir) areas)
-    → (if fitting then cuts_from (behind (place fitting (front_of n bit last) area)) areas else area.0 ∷ cuts_from (behind (place fitting (front_of n bit last) area)) areas)
-    ≡ (if fitting then cuts_from (behind (place fitting (front_of m bit last) area)) areas else area.0 ∷ cuts_from (behind (place fitting (front_of m bit last) area)) areas)
+    → (if fitting then cuts_from (front_with (place fitting (front_of n bit last) area)) areas else area.0 ∷ cuts_from (front_with (place fitting (front_of n bit last) area)) areas)
+    ≡ (if fitting then cuts_from (front_with (place fitting (front_of m bit last) area)) areas else area.0 ∷ cuts_from (front_with (place fitting (front_of m bit last) area)) areas)
 number-by fitting n m bit last area areas same = grind arith
 
 cuts-number : (n m bit : ℕ) (last : Dir) (list : List Keyed) → cuts_from (front_of n bit last) list ≡ cuts_from (front_of m bit last) list
@@ -42,7 +42,7 @@ cuts-number n m bit last (area ∷ areas) =
 -- from an area that begins a datagram on, the cuts are those of a list of their own
 
 own-cuts : (front : Front) (area : Keyed) (areas : List Keyed) → area.1 ≤ MOST_AREA_BITS
-    → cuts_from (behind (place false front area)) areas ≡ cuts_from opening (area ∷ areas)
+    → cuts_from (front_with (place false front area)) areas ≡ cuts_from opening (area ∷ areas)
 own-cuts front area areas narrow = grind (arith, cuts-number, opening-beginning, opening-fits)
 
 -- the cuts from a next one on: none at END, else that one and those of the areas from there on
@@ -55,25 +55,25 @@ skipped area areas next before = grind (arith, cond-false, before-apart)
 
 -- where an area doesn't fit, it is the next cut
 cut-here : (first : Key) (front : Front) (area : Keyed) (areas : List Keyed) → IsListFrom first (area ∷ areas)
-    → area.0 ∷ cuts_from (behind (place false front area)) areas ≡ goes_on area.0 (area ∷ areas)
+    → area.0 ∷ cuts_from (front_with (place false front area)) areas ≡ goes_on area.0 (area ∷ areas)
 cut-here first front area areas is =
     let narrow = (All-head IsPackable area areas is.packable).narrow in
     let below = All-head (λ a. is_before a.0 END ≡ true) area areas is.below in
     let whole : areas_from area.0 (area ∷ areas) ≡ area ∷ areas =
-    filter-keeps (λ a. is_within area.0 a.0) (area ∷ areas)
+    filter-stays (λ a. is_within area.0 a.0) (area ∷ areas)
     (All-cons (λ a. is_within area.0 a.0 ≡ true) area areas (within-refl area.0)
-    (All-weaker (λ a. is_before area.0 a.0 ≡ true) (λ a. is_within area.0 a.0 ≡ true) (λ a high. within-from_before area.0 a.0 high) areas (list-behind first area areas is))) in
+    (All-weaker (λ a. is_before area.0 a.0 ≡ true) (λ a. is_within area.0 a.0 ≡ true) (λ a high. within-from_before area.0 a.0 high) areas (list-after_it first area areas is))) in
     ap (λ (keys : List Key). area.0 ∷ keys) (own-cuts front area areas narrow ∙ ap (cuts_from opening) (sym whole))
     ∙ sym (cond-false (same_key area.0 END) [] (area.0 ∷ cuts_from opening (areas_from area.0 (area ∷ areas))) (other-sym END area.0 (before-other area.0 END below)))
 
 step-by : (fitting : Bool) (first : Key) (front : Front) (area : Keyed) (areas : List Keyed) → IsListFrom first (area ∷ areas)
     → ((next : Front) → cuts_from next areas ≡ goes_on (next_cut next areas) areas)
-    → (if fitting then cuts_from (behind (place fitting front area)) areas else area.0 ∷ cuts_from (behind (place fitting front area)) areas)
-    ≡ goes_on (if fitting then next_cut (behind (place fitting front area)) areas else area.0) (area ∷ areas)
+    → (if fitting then cuts_from (front_with (place fitting front area)) areas else area.0 ∷ cuts_from (front_with (place fitting front area)) areas)
+    ≡ goes_on (if fitting then next_cut (front_with (place fitting front area)) areas else area.0) (area ∷ areas)
 step-by true first front area areas is rest =
-    let next = behind (place true front area) in
+    let next = front_with (place true front area) in
     let before : is_before area.0 (next_cut next areas) ≡ true =
-    cut-all (λ key. is_before area.0 key ≡ true) next areas (list-behind first area areas is) (All-head (λ a. is_before a.0 END ≡ true) area areas is.below) in
+    cut-all (λ key. is_before area.0 key ≡ true) next areas (list-after_it first area areas is) (All-head (λ a. is_before a.0 END ≡ true) area areas is.below) in
     rest next ∙ skipped area areas (next_cut next areas) before
 step-by false first front area areas is rest = cut-here first front area areas is
 
@@ -102,7 +102,7 @@ areas-twice low high (area ∷ areas) below =
 pub end-is : (test : Bool) (key : Key) (is : Bool) → test ≡ same_key key END → test ≡ is → same_key key END ≡ is
 end-is test key is ensured tested = sym ensured ∙ tested
 
--- what a search from a key tells of the boundaries behind it
+-- what a search from a key says of the boundaries after it
 pub record Follows (tree : Tree) (from next : Key) : Type 0 where
   pub last : same_key next END ≡ true → later_keys (areas_from from tree.list) ≡ []
   pub more : same_key next END ≡ false → later_keys (areas_from from tree.list) ≡ next ∷ later_keys (areas_from next tree.list)
@@ -125,10 +125,10 @@ follows-cut tree from holds =
     record {
       last = λ last. cuts ∙ cond-true (same_key next END) [] (next ∷ cuts_from opening (areas_from next rest)) last;
       more = λ other.
-          let behind : is_within from next ≡ true = cut-holds (λ key. is_within from key ≡ true) rest is.from other in
+          let front_with : is_within from next ≡ true = cut-holds (λ key. is_within from key ≡ true) rest is.from other in
           cuts ∙ cond-false (same_key next END) [] (next ∷ cuts_from opening (areas_from next rest)) other
           ∙ ap (λ (keys : List Key). next ∷ keys)
-          (ap (cuts_from opening) (areas-twice from next list behind) ∙ sym (later_keys-cuts (areas_from next list) (areas-from next list holds.list).packable));
+          (ap (cuts_from opening) (areas-twice from next list front_with) ∙ sym (later_keys-cuts (areas_from next list) (areas-from next list holds.list).packable));
       place = cut-holds (λ key. HasPlace tree.slaves key) rest (All-filter (λ area. is_within from area.0) (λ area. HasPlace tree.slaves area.0) list holds.places);
     }
 
@@ -136,24 +136,24 @@ pub follows : (tree : Tree) (from next : Key) → HoldsTaskList tree → next �
 follows tree from next holds searched =
     subst (λ (key : Key). Follows tree from key) (sym (searched ∙ boundary-cut from tree.list holds.list)) (follows-cut tree from holds)
 
--- the boundaries up to a key, and those behind it, are all boundaries
-pub record Stands (tree : Tree) (starts : List Key) (from : Key) : Type 0 where
+-- the boundaries up to a key, and those after it, are all boundaries
+pub record IsPlaced (tree : Tree) (starts : List Key) (from : Key) : Type 0 where
   pub keys : starts ++ later_keys (areas_from from tree.list) ≡ START ∷ later_keys (areas_from START tree.list)
 
-stands-all : (tree : Tree) (starts : List Key) (from : Key) → HoldsTaskList tree → Stands tree starts from → starts ++ later_keys (areas_from from tree.list) ≡ START ∷ later_keys tree.list
-stands-all tree starts from holds stands = stands.keys ∙ ap (λ (list : List Keyed). START ∷ later_keys list) (all-from tree.list holds.list)
+is_placed-all : (tree : Tree) (starts : List Key) (from : Key) → HoldsTaskList tree → IsPlaced tree starts from → starts ++ later_keys (areas_from from tree.list) ≡ START ∷ later_keys tree.list
+is_placed-all tree starts from holds is_placed = is_placed.keys ∙ ap (λ (list : List Keyed). START ∷ later_keys list) (all-from tree.list holds.list)
 
-pub begun : (tree : Tree) → Stands tree (START ∷ []) START
+pub begun : (tree : Tree) → IsPlaced tree (START ∷ []) START
 begun tree = record { keys = refl }
 
 -- a search that finds a key goes on from it
 pub goes : (tree : Tree) (starts : List Key) (from next : Key) → HoldsTaskList tree → next ≡ next_boundary from tree.list → same_key next END ≡ false
-    → Stands tree starts from → Stands tree (starts ++ next ∷ []) next
-goes tree starts from next holds searched other stands = record {
+    → IsPlaced tree starts from → IsPlaced tree (starts ++ next ∷ []) next
+goes tree starts from next holds searched other is_placed = record {
   keys =
       append_assoc starts (next ∷ []) (later_keys (areas_from next tree.list))
       ∙ ap (λ (keys : List Key). starts ++ keys) (sym ((follows tree from next holds searched).more other))
-      ∙ stands.keys;
+      ∙ is_placed.keys;
 }
 
 pub goes-place : (tree : Tree) (from next : Key) → HoldsTaskList tree → next ≡ next_boundary from tree.list → same_key next END ≡ false → HasPlace tree.slaves next
@@ -161,9 +161,9 @@ goes-place tree from next holds searched other = (follows tree from next holds s
 
 -- a search that finds none comes to the last boundary
 pub ends : (tree : Tree) (starts : List Key) (from next : Key) → HoldsTaskList tree → next ≡ next_boundary from tree.list → same_key next END ≡ true
-    → Stands tree starts from → starts ≡ START ∷ later_keys tree.list
-ends tree starts from next holds searched last stands =
-    sym (append-end starts) ∙ ap (λ (keys : List Key). starts ++ keys) (sym ((follows tree from next holds searched).last last)) ∙ stands-all tree starts from holds stands
+    → IsPlaced tree starts from → starts ≡ START ∷ later_keys tree.list
+ends tree starts from next holds searched last is_placed =
+    sym (append-end starts) ∙ ap (λ (keys : List Key). starts ++ keys) (sym ((follows tree from next holds searched).last last)) ∙ is_placed-all tree starts from holds is_placed
   where
     append-end : (keys : List Key) → keys ++ [] ≡ keys
     append-end [] = refl
@@ -179,16 +179,16 @@ pub ends-few : (tree : Tree) (starts : List Key) → HoldsTaskList tree → star
     → datagram_count (packed opening tree.list) ≤ MOST_DATAGRAMS
 ends-few tree starts holds is few = grind (arith, count-keys)
 
-crowded-by : (list : List Keyed) → All IsPackable list → 16 ≤ length (later_keys list) → IsCrowded list
-crowded-by [] all many = absurd (omega arith)
-crowded-by (area ∷ areas) all many = let count = count-later_keys area areas all in omega arith
+over_limit-by : (list : List Keyed) → All IsPackable list → 16 ≤ length (later_keys list) → IsOverLimit list
+over_limit-by [] all many = absurd (omega arith)
+over_limit-by (area ∷ areas) all many = let count = count-later_keys area areas all in omega arith
 
--- where 16 keys stand and a search finds another, the task is crowded
+-- where 16 keys are and a search finds another, the task is over its limit
 pub crowds : (tree : Tree) (starts : List Key) (from next : Key) → HoldsTaskList tree → next ≡ next_boundary from tree.list → same_key next END ≡ false
-    → Stands tree starts from → 16 ≤ length starts → IsCrowded tree.list
-crowds tree starts from next holds searched other stands many =
-    let behind = (follows tree from next holds searched).more other in
-    let all : length (starts ++ later_keys (areas_from from tree.list)) ≡ length (START ∷ later_keys tree.list) = ap length (stands-all tree starts from holds stands) in
+    → IsPlaced tree starts from → 16 ≤ length starts → IsOverLimit tree.list
+crowds tree starts from next holds searched other is_placed many =
+    let front_with = (follows tree from next holds searched).more other in
+    let all : length (starts ++ later_keys (areas_from from tree.list)) ≡ length (START ∷ later_keys tree.list) = ap length (is_placed-all tree starts from holds is_placed) in
     let parts = length-append starts (later_keys (areas_from from tree.list)) in
-    let some : length (later_keys (areas_from from tree.list)) ≡ length (next ∷ later_keys (areas_from next tree.list)) = ap length behind in
-    crowded-by tree.list holds.list.packable (omega arith)
+    let some : length (later_keys (areas_from from tree.list)) ≡ length (next ∷ later_keys (areas_from next tree.list)) = ap length front_with in
+    over_limit-by tree.list holds.list.packable (omega arith)

@@ -11,17 +11,17 @@ use Rattle.hc_records.specs.Boundaries.{boundaries, later_keys, width_in}
 use Rattle.hc_records.specs.SpanLaws.{IsTaskList, areas_from}
 use Rattle.hc_records.proofs.lemmas.KeyOrder.{before-apart, before-else, within-apart, within-else, within-from_before, within-refl, within-trans}
 use Rattle.hc_records.proofs.lemmas.SpanCuts.{areas-from}
-use Rattle.hc_records.proofs.lemmas.Spans.{IsListFrom, filter-keeps, list-behind, list-tail}
+use Rattle.hc_records.proofs.lemmas.Spans.{IsListFrom, filter-stays, list-after_it, list-tail}
 use Rattle.hc_bitsum.specs.declared.filled.Filled.{Filled}
-use Rattle.hc_bitsum.specs.Filling.{areas_between, with_areas}
+use Rattle.hc_bitsum.specs.Filling.{areas_between, filled_with_areas}
 use Rattle.hc_bitsum.specs.Tree.{HoldsTaskList, Tree}
 use Rattle.hc_bitsum.proofs.lemmas.Fillings.{with_areas-append}
 use Rattle.hc_cuts.specs.declared.cursor.Cursor.{Cursor}
-use Rattle.hc_cuts.specs.Cursors.{StandsIn, unfilled}
+use Rattle.hc_cuts.specs.Cursors.{IsCursorOf, unfilled}
 use Rattle.hc_cuts.specs.Place.{place_of}
 use Rattle.hc_cuts.specs.Walk.{filled_datagram}
 use Rattle.hc_cuts.proofs.Chain.{areas-twice}
-use Rattle.hc_cuts.proofs.Placed.{StandsAt, found-at, none-before, room-low}
+use Rattle.hc_cuts.proofs.Placed.{IsPlacedAt, found-at, none-before, room-low}
 use Rattle.hc_cuts.proofs.Whole.{length-end}
 use Rattle.hc_cuts.proofs.Walked.{before_cut}
 
@@ -67,8 +67,8 @@ splits-by false first middle until area areas test is low rest =
     let all : All (λ a. is_within middle a.0 ≡ true) (area ∷ areas) =
     All-cons (λ a. is_within middle a.0 ≡ true) area areas here
     (All-weaker (λ a. is_before area.0 a.0 ≡ true) (λ a. is_within middle a.0 ≡ true) (λ a later. within-trans middle area.0 a.0 here (within-from_before area.0 a.0 later)) areas
-    (list-behind first area areas is)) in
-    ap (before_cut until) (sym (filter-keeps (λ a. is_within middle a.0) (area ∷ areas) all))
+    (list-after_it first area areas is)) in
+    ap (before_cut until) (sym (filter-stays (λ a. is_within middle a.0) (area ∷ areas) all))
     ∙ ap (λ (l : List Keyed). l ++ areas_between middle until (area ∷ areas)) (sym (none-before middle (area ∷ areas) all))
 
 splits : (first middle until : Key) (list : List Keyed) → IsListFrom first list → is_within middle until ≡ true
@@ -86,22 +86,22 @@ stretches-join from middle until list is low high =
     ∙ ap (λ (l : List Keyed). areas_between from middle list ++ before_cut until l) (areas-twice from middle list low)
 
 filling-goes_on : (from middle until : Key) (list : List Keyed) (filled : Filled) → IsTaskList list → is_within from middle ≡ true → is_within middle until ≡ true
-    → filled ≡ with_areas unfilled (areas_between from middle list)
-    → with_areas filled (areas_between middle until list) ≡ with_areas unfilled (areas_between from until list)
+    → filled ≡ filled_with_areas unfilled (areas_between from middle list)
+    → filled_with_areas filled (areas_between middle until list) ≡ filled_with_areas unfilled (areas_between from until list)
 filling-goes_on from middle until list filled is low high so_far =
-    ap (λ (f : Filled). with_areas f (areas_between middle until list)) so_far
+    ap (λ (f : Filled). filled_with_areas f (areas_between middle until list)) so_far
     ∙ sym (with_areas-append unfilled (areas_between from middle list) (areas_between middle until list))
-    ∙ ap (with_areas unfilled) (sym (stretches-join from middle until list is low high))
+    ∙ ap (filled_with_areas unfilled) (sym (stretches-join from middle until list is low high))
 
 -- a cursor at the front of a datagram
 
-pub front-stands : (starts : List Key) (list : List Keyed) (key : Key) (datagram : ℕ) → datagram < length starts → slice_index_or starts datagram END ≡ key
-    → StandsIn starts list (record { key = key; datagram = datagram; filled = unfilled })
-front-stands starts list key datagram within is = record {
+pub front-is_placed : (starts : List Key) (list : List Keyed) (key : Key) (datagram : ℕ) → datagram < length starts → slice_index_or starts datagram END ≡ key
+    → IsCursorOf starts list (record { key = key; datagram = datagram; filled = unfilled })
+front-is_placed starts list key datagram within is = record {
   within = within;
   begun = ap (λ (k : Key). is_within k key) is ∙ within-refl key;
   filled =
-      ap (with_areas unfilled) (sym (none-between key list)) ∙ ap (λ (k : Key). with_areas unfilled (areas_between k key list)) (sym is);
+      ap (filled_with_areas unfilled) (sym (none-between key list)) ∙ ap (λ (k : Key). filled_with_areas unfilled (areas_between k key list)) (sym is);
   low = omega arith;
 }
 
@@ -118,27 +118,27 @@ some-start starts list all =
     let same : length (starts ++ END ∷ []) ≡ length (boundaries list) = ap length all in
     omega arith
 
--- from a cursor on, the datagram is filled up to an area that it carries: there the area stands, and a cursor there
+-- from a cursor on, the datagram is filled up to an area that it carries: there the area is, and a cursor there
 
 pub record GoesOn (tree : Tree) (starts : List Key) (datagram : ℕ) (filled : Filled) (key : Key) (bits : ℕ) : Type 0 where
-  pub area : StandsAt (filled_datagram datagram filled) (key, bits) (place_of key tree.list)
-  pub cursor : StandsIn starts tree.list (record { key = key; datagram = datagram; filled = filled })
+  pub area : IsPlacedAt (filled_datagram datagram filled) (key, bits) (place_of key tree.list)
+  pub cursor : IsCursorOf starts tree.list (record { key = key; datagram = datagram; filled = filled })
 
 pub goes-on : (tree : Tree) (starts : List Key) (from : Cursor) (key : Key) (bits : ℕ) (filled : Filled) → HoldsTaskList tree → starts ++ END ∷ [] ≡ boundaries tree.list
-    → StandsIn starts tree.list from → is_within from.key key ≡ true
+    → IsCursorOf starts tree.list from → is_within from.key key ≡ true
     → (from.datagram + 1 < length starts → is_before key (slice_index_or starts (from.datagram + 1) END) ≡ true) → width_in tree.list key ≡ bits → 0 < bits
-    → filled ≡ with_areas from.filled (areas_between from.key key tree.list) → GoesOn tree starts from.datagram filled key bits
-goes-on tree starts from key bits filled holds all stands low next width some is =
+    → filled ≡ filled_with_areas from.filled (areas_between from.key key tree.list) → GoesOn tree starts from.datagram filled key bits
+goes-on tree starts from key bits filled holds all is_placed low next width some is =
     let first = slice_index_or starts from.datagram END in
-    let behind : is_within first key ≡ true = within-trans first from.key key stands.begun low in
-    let whole : filled ≡ with_areas unfilled (areas_between first key tree.list) =
-    is ∙ filling-goes_on first from.key key tree.list from.filled holds.list stands.begun low stands.filled in
-    let area = found-at tree starts from.datagram first key END bits filled holds all stands.within refl behind next width some whole in
+    let after_it : is_within first key ≡ true = within-trans first from.key key is_placed.begun low in
+    let whole : filled ≡ filled_with_areas unfilled (areas_between first key tree.list) =
+    is ∙ filling-goes_on first from.key key tree.list from.filled holds.list is_placed.begun low is_placed.filled in
+    let area = found-at tree starts from.datagram first key END bits filled holds all is_placed.within refl after_it next width some whole in
     record {
       area = area;
       cursor = record {
-        within = stands.within;
-        begun = behind;
+        within = is_placed.within;
+        begun = after_it;
         filled = whole;
         low = room-low (filled_datagram from.datagram filled) (key, bits) area.room;
       };

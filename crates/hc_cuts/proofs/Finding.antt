@@ -9,44 +9,44 @@ use Rattle.hc_records.specs.TaskList.{Keyed}
 use Rattle.hc_records.specs.declared.keys.TheConstants.Key.{END}
 use Rattle.hc_records.specs.Boundaries.{boundaries}
 use Rattle.hc_cuts.specs.declared.cursor.Cursor.{Cursor}
-use Rattle.hc_cuts.specs.Cursors.{StandsIn}
-use Rattle.hc_cuts.specs.Starts.{Kept}
-use Rattle.hc_cuts.specs.LineCursors.{StandInTasks}
-use Rattle.hc_cuts.specs.Kept.{IsCut}
+use Rattle.hc_cuts.specs.Cursors.{IsCursorOf}
+use Rattle.hc_cuts.specs.Starts.{TaskCuts}
+use Rattle.hc_cuts.specs.LineCursors.{AreInTasks}
+use Rattle.hc_cuts.specs.TaskCuts.{IsCut}
 
--- one that stands in any task stands in each
+-- one that is in any task is in each
 
-pub all-stand : (tasks : List Kept) (start : Cursor) → length tasks ≡ 8 → All IsCut tasks
-    → ((starts : List Key) (list : List Keyed) → starts ++ END ∷ [] ≡ boundaries list → StandsIn starts list start) → StandInTasks tasks (replicate 8 start)
-all-stand tasks start eight cut stands = λ task kept cursor low.
-    let own = slice_index_or tasks task kept in
-    subst (λ (c : Cursor). StandsIn own.starts own.tree.list c) (sym (get_or-replicate 8 task start cursor low)) (stands own.starts own.tree.list (cut task kept (omega arith)))
+pub all-are_placed : (tasks : List TaskCuts) (start : Cursor) → length tasks ≡ 8 → All IsCut tasks
+    → ((starts : List Key) (list : List Keyed) → starts ++ END ∷ [] ≡ boundaries list → IsCursorOf starts list start) → AreInTasks tasks (replicate 8 start)
+all-are_placed tasks start eight cut is_placed = λ task unchanged cursor low.
+    let own = slice_index_or tasks task unchanged in
+    subst (λ (c : Cursor). IsCursorOf own.starts own.tree.list c) (sym (get_or-replicate 8 task start cursor low)) (is_placed own.starts own.tree.list (cut task unchanged (omega arith)))
 
 -- a task by its number
 
-pub kept-same : (inside tasks : List Kept) (number : ℕ) (own : Kept) → inside ≡ tasks → own ≡ slice_index_or inside number own → slice_index_or tasks number own ≡ own
-kept-same inside tasks number own is at = ap (λ (all : List Kept). slice_index_or all number own) (sym is) ∙ sym at
+pub unchanged-same : (inside tasks : List TaskCuts) (number : ℕ) (own : TaskCuts) → inside ≡ tasks → own ≡ slice_index_or inside number own → slice_index_or tasks number own ≡ own
+unchanged-same inside tasks number own is at = ap (λ (all : List TaskCuts). slice_index_or all number own) (sym is) ∙ sym at
 
 -- one of them is put elsewhere in its task
 
-moved-by : (tasks : List Kept) (cursors : List Cursor) (number : ℕ) (own : Kept) (new : Cursor) → number < length tasks → number < length cursors → StandInTasks tasks cursors
-    → slice_index_or tasks number own ≡ own → StandsIn own.starts own.tree.list new
-    → (same : Bool) (task : ℕ) (kept : Kept) (cursor : Cursor) → (task == number) ≡ same → task < 8
-    → StandsIn (slice_index_or tasks task kept).starts (slice_index_or tasks task kept).tree.list (slice_index_or (slice_set cursors number new) task cursor)
-moved-by tasks cursors number own new there within before at stands true task kept cursor test low =
+moved-by : (tasks : List TaskCuts) (cursors : List Cursor) (number : ℕ) (own : TaskCuts) (new : Cursor) → number < length tasks → number < length cursors → AreInTasks tasks cursors
+    → slice_index_or tasks number own ≡ own → IsCursorOf own.starts own.tree.list new
+    → (same : Bool) (task : ℕ) (unchanged : TaskCuts) (cursor : Cursor) → (task == number) ≡ same → task < 8
+    → IsCursorOf (slice_index_or tasks task unchanged).starts (slice_index_or tasks task unchanged).tree.list (slice_index_or (slice_set cursors number new) task cursor)
+moved-by tasks cursors number own new there within before at is_placed true task unchanged cursor test low =
     let same : task ≡ number = grind (arith, nat_tests) in
-    let here : own ≡ slice_index_or tasks task kept =
-    sym at ∙ get_or_default tasks number own kept there ∙ ap (λ (n : ℕ). slice_index_or tasks n kept) (sym same) in
-    subst (λ (c : Cursor). StandsIn (slice_index_or tasks task kept).starts (slice_index_or tasks task kept).tree.list c)
+    let here : own ≡ slice_index_or tasks task unchanged =
+    sym at ∙ get_or_default tasks number own unchanged there ∙ ap (λ (n : ℕ). slice_index_or tasks n unchanged) (sym same) in
+    subst (λ (c : Cursor). IsCursorOf (slice_index_or tasks task unchanged).starts (slice_index_or tasks task unchanged).tree.list c)
     (sym (get_or-set_at cursors number task new cursor same within))
-    (subst (λ (k : Kept). StandsIn k.starts k.tree.list new) here stands)
-moved-by tasks cursors number own new there within before at stands false task kept cursor test low =
+    (subst (λ (k : TaskCuts). IsCursorOf k.starts k.tree.list new) here is_placed)
+moved-by tasks cursors number own new there within before at is_placed false task unchanged cursor test low =
     let other : task ≢ number = grind (arith, nat_tests) in
-    subst (λ (c : Cursor). StandsIn (slice_index_or tasks task kept).starts (slice_index_or tasks task kept).tree.list c)
-    (sym (get_or-set_other cursors number task new cursor other)) (before task kept cursor low)
+    subst (λ (c : Cursor). IsCursorOf (slice_index_or tasks task unchanged).starts (slice_index_or tasks task unchanged).tree.list c)
+    (sym (get_or-set_other cursors number task new cursor other)) (before task unchanged cursor low)
 
-pub one-moved : (inside tasks : List Kept) (cursors : List Cursor) (number : ℕ) (own : Kept) (new : Cursor) → inside ≡ tasks → number < length inside → number < length cursors
-    → StandInTasks tasks cursors → own ≡ slice_index_or inside number own → StandsIn own.starts own.tree.list new → StandInTasks tasks (slice_set cursors number new)
-one-moved inside tasks cursors number own new is there within before at stands = λ task kept cursor low.
-    moved-by tasks cursors number own new (subst (λ (all : List Kept). number < length all) is there) within before (kept-same inside tasks number own is at) stands
-    (task == number) task kept cursor refl low
+pub one-moved : (inside tasks : List TaskCuts) (cursors : List Cursor) (number : ℕ) (own : TaskCuts) (new : Cursor) → inside ≡ tasks → number < length inside → number < length cursors
+    → AreInTasks tasks cursors → own ≡ slice_index_or inside number own → IsCursorOf own.starts own.tree.list new → AreInTasks tasks (slice_set cursors number new)
+one-moved inside tasks cursors number own new is there within before at is_placed = λ task unchanged cursor low.
+    moved-by tasks cursors number own new (subst (λ (all : List TaskCuts). number < length all) is there) within before (unchanged-same inside tasks number own is at) is_placed
+    (task == number) task unchanged cursor refl low

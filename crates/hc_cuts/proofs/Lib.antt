@@ -4,7 +4,7 @@ pub mod Counted
 pub mod Cursors
 pub mod Firsts
 pub mod Placed
-pub mod KeptBy
+pub mod UnchangedBy
 pub mod Repaired
 pub mod Searched
 pub mod Walked
@@ -15,6 +15,6 @@ pub mod Lines
 pub mod Rows
 pub mod Setting
 pub mod Taking
-pub mod Turned
-pub mod Turns
+pub mod WidthsApplied
+pub mod WidthsApply
 pub mod Wider

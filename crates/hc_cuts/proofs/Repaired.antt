@@ -1,4 +1,4 @@
--- A boundary that a repair keeps or searches: in both cases it is packing's next one, and the count is that of the definition.
+-- A boundary that a repair keeps or searches: in both cases it is packing's next one, and the count is the definition's.
 use Rattle.std.specs.Prelude.{Contains, Option, Some, None, drop, not, slice_index_or}
 use Rattle.std.specs.List.{list_any}
 use Rattle.std.proofs.Common.{◌≡◌, ℕ, suc, Bool, true, false, List, [], ◌∷◌, ◌++◌, refl, sym, ap, subst, ◌∙◌, arith, if◌then◌else◌}
@@ -38,7 +38,7 @@ clear-key (Some hull) span key clear low high = clear-by (meets_hull (Some hull)
 clear-agree : (hulls : Hulls) (old new : List Keyed) (span : Interval) → DifferInside hulls old new → meets_either hulls span ≡ false → Agree span.0 span.1 old new
 clear-agree hulls old new span inside clear = grind (arith, or_parts, clear-key)
 
--- up to a next boundary within which lists agree, it is that of both
+-- up to a next boundary within which lists agree, both have it
 same-next : (xs ys : List Keyed) (from next : Key) → IsTaskList xs → IsTaskList ys → next ≡ next_boundary from xs → Agree from next xs ys → next ≡ next_boundary from ys
 same-next xs ys from next is is' searched agree =
     let agree' : Agree from next (areas_from from xs) (areas_from from ys) =
@@ -93,9 +93,9 @@ old-next before from next is found =
     let contains = found-span from next (START ∷ later_keys before) found in
     (span-alone before (from, next) is contains).next ∙ sym (boundary-cut from before is)
 
-pub kept-next : (hulls : Hulls) (before list : List Keyed) (old : List Key) (from next : Key) → IsTaskList before → IsTaskList list → DifferInside hulls before list
+pub unchanged-next : (hulls : Hulls) (before list : List Keyed) (old : List Key) (from next : Key) → IsTaskList before → IsTaskList list → DifferInside hulls before list
     → old ≡ START ∷ later_keys before → following from old ≡ Some next → meets_either hulls (from, next) ≡ false → next ≡ next_boundary from list
-kept-next hulls before list old from next is is' inside are found clear =
+unchanged-next hulls before list old from next is is' inside are found clear =
     let follows = subst (λ (keys : List Key). following from keys ≡ Some next) are found in
     same-next before list from next is is' (old-next before from next is follows) (clear-agree hulls before list (from, next) inside clear)
 
@@ -103,9 +103,9 @@ kept-next hulls before list old from next is is' inside are found clear =
 abbrev pub settles : Hulls → List Key → Interval → Bool
 settles hulls old span = is_settled_by (drop 1 old) hulls.outputs hulls.inputs span
 
-pub kept-settled : (hulls : Hulls) (before : List Keyed) (old : List Key) (from next : Key) → old ≡ START ∷ later_keys before → following from old ≡ Some next
+pub unchanged-settled : (hulls : Hulls) (before : List Keyed) (old : List Key) (from next : Key) → old ≡ START ∷ later_keys before → following from old ≡ Some next
     → meets_either hulls (from, next) ≡ false → settles hulls old (from, next) ≡ true
-kept-settled hulls before old from next are found clear = grind (arith, and_from, among)
+unchanged-settled hulls before old from next are found clear = grind (arith, and_from, among)
 
 -- a searched span isn't settled: its key was no boundary, or the old span from there meets a hull
 

@@ -3,10 +3,10 @@ pub mod Datagrams
 pub mod Found
 pub mod HullKeys
 pub mod Inside
-pub mod KeptPlaces
+pub mod UnchangedPlaces
 pub mod Repairs
 pub mod Absent
 pub mod Named
 pub mod Projects
-pub mod Told
-pub mod Turning
+pub mod AnswerGiven
+pub mod Applying

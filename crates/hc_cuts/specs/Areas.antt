@@ -10,12 +10,16 @@ use Rattle.hc_records.specs.declared.records.Dir.TheVariants.{Out, In}
 use Rattle.hc_records.specs.Area.{width}
 use Rattle.hc_records.specs.TaskList.{Keyed, belongs}
 
+-- the areas of each slave of a line, in the order of their ranks
+abbrev pub AreaLine : Type 0
+AreaLine = List (List Area)
+
 -- the areas of each slave of a declared group; none where the group isn't present
-abbrev pub present_areas : Declared → List (List Area)
+abbrev pub present_areas : Declared → AreaLine
 present_areas declared = map (λ slave. if declared.present then slave.areas else []) declared.group.slaves
 
 -- those of all declared slaves: the first slave has rank 1
-abbrev pub areas_by_rank : List Declared → List (List Area)
+abbrev pub areas_by_rank : List Declared → AreaLine
 areas_by_rank groups = flat_map present_areas groups
 
 -- the width that an area has in a task, under a key of a direction
@@ -24,20 +28,20 @@ own_width task dir None = 0
 own_width task dir (Some area) = if (area.task == task) && same_dir area.dir dir then width area else 0
 
 -- the areas of the slave with a rank; no slave has rank 0
-abbrev pub areas_at : List (List Area) → ℕ → List Area
-areas_at slaves rank = slice_index_or ([] ∷ slaves) rank []
+abbrev pub areas_of_rank : AreaLine → ℕ → List Area
+areas_of_rank slaves rank = slice_index_or ([] ∷ slaves) rank []
 
 -- the area that a key names, if its slave has one
-abbrev pub area_in : List (List Area) → Key → Option Area
-area_in slaves key = slice_get (areas_at slaves key.rank) key.area
+abbrev pub area_in : AreaLine → Key → Option Area
+area_in slaves key = slice_get (areas_of_rank slaves key.rank) key.area
 
 -- the width of a key in a task, by the areas of its slave
 abbrev pub slave_width : ℕ → List Area → Key → ℕ
 slave_width task areas key = own_width task key.dir (slice_get areas key.area)
 
 -- and by those of all slaves
-abbrev pub width_at : ℕ → List (List Area) → Key → ℕ
-width_at task slaves key = slave_width task (areas_at slaves key.rank) key
+abbrev pub width_at : ℕ → AreaLine → Key → ℕ
+width_at task slaves key = slave_width task (areas_of_rank slaves key.rank) key
 
 -- the areas of a slave that a task has in a direction, from a place in its record on, with their keys and widths
 abbrev pub area_list : ℕ → Dir → ℕ → ℕ → List Area → List Keyed
@@ -47,11 +51,11 @@ area_list task dir rank index (area ∷ areas) =
     then (record { dir = dir; rank = rank; area = index }, width area) ∷ area_list task dir rank (index + 1) areas
     else area_list task dir rank (index + 1) areas
 
--- those of slaves in a row, the first of which has a rank
-abbrev pub rank_list : ℕ → Dir → ℕ → List (List Area) → List Keyed
+-- those of slaves in a row, from a rank on
+abbrev pub rank_list : ℕ → Dir → ℕ → AreaLine → List Keyed
 rank_list task dir rank [] = []
 rank_list task dir rank (areas ∷ slaves) = area_list task dir rank 0 areas ++ rank_list task dir (rank + 1) slaves
 
 -- a task's list, by the areas of all slaves
-abbrev pub list_by : ℕ → List (List Area) → List Keyed
+abbrev pub list_by : ℕ → AreaLine → List Keyed
 list_by task slaves = rank_list task Out 1 slaves ++ rank_list task In 1 slaves

@@ -7,16 +7,16 @@ use Rattle.hc_records.specs.declared.records.Dir.TheVariants.{Out}
 use Rattle.hc_records.specs.Keys.{is_within}
 use Rattle.hc_records.specs.TaskList.{Keyed}
 use Rattle.hc_bitsum.specs.declared.filled.Filled.{Filled}
-use Rattle.hc_bitsum.specs.Filling.{areas_between, with_areas}
+use Rattle.hc_bitsum.specs.Filling.{areas_between, filled_with_areas}
 use Rattle.hc_cuts.specs.declared.cursor.Cursor.{Cursor}
 
 -- the empty datagram
 abbrev pub unfilled : Filled
 unfilled = record { bit = 0; last = Out }
 
--- by the keys at which a task's datagrams begin and by its areas: the cursor's key isn't before its datagram, and the datagram is filled by the areas from its first key on that come before the cursor's key
-pub record StandsIn (starts : List Key) (list : List Keyed) (cursor : Cursor) : Type 0 where
+-- by the keys where a task's datagrams begin and by its areas: the cursor's key isn't before its datagram, and the datagram is filled by the areas from its first key on that come before the cursor's key
+pub record IsCursorOf (starts : List Key) (list : List Keyed) (cursor : Cursor) : Type 0 where
   pub within : cursor.datagram < length starts
   pub begun : is_within (slice_index_or starts cursor.datagram END) cursor.key ≡ true
-  pub filled : cursor.filled ≡ with_areas unfilled (areas_between (slice_index_or starts cursor.datagram END) cursor.key list)
+  pub filled : cursor.filled ≡ filled_with_areas unfilled (areas_between (slice_index_or starts cursor.datagram END) cursor.key list)
   pub low : cursor.filled.bit ≤ MOST_AREA_BITS

@@ -1,4 +1,4 @@
--- The keys at which the datagrams of a task's list begin.
+-- The keys where the datagrams of a task's list begin.
 use Rattle.std.specs.Prelude.{◌<◌, List, [], ◌∷◌}
 use Rattle.hc_records.specs.declared.limits.TheConstants.{MOST_DATAGRAMS}
 use Rattle.hc_records.specs.declared.keys.Key.{Key}
@@ -13,5 +13,5 @@ first_keys [] = []
 first_keys (area ∷ areas) = area.0 ∷ later_keys (area ∷ areas)
 
 -- packing the list gives more than 16 datagrams
-abbrev pub IsCrowded : List Keyed → Type 0
-IsCrowded list = MOST_DATAGRAMS < datagram_count (packed opening list)
+abbrev pub IsOverLimit : List Keyed → Type 0
+IsOverLimit list = MOST_DATAGRAMS < datagram_count (packed opening list)

@@ -13,7 +13,7 @@ abbrev pub IsOf : (Key → Bool) → Dir → Key → Type 0
 IsOf test dir key = (key.dir ≡ dir) × (test key ≡ true)
 
 -- the least and the greatest such key
-pub record Reaches (test : Key → Bool) (dir : Dir) (interval : Interval) : Type 0 where
+pub record IsHullOf (test : Key → Bool) (dir : Dir) (interval : Interval) : Type 0 where
   pub first : IsOf test dir interval.0
   pub last : IsOf test dir interval.1
   pub least : (key : Key) → IsOf test dir key → is_within interval.0 key ≡ true
@@ -22,7 +22,7 @@ pub record Reaches (test : Key → Bool) (dir : Dir) (interval : Interval) : Typ
 -- none where no key is such a one
 abbrev pub IsHull : (Key → Bool) → Dir → Option Interval → Type 0
 IsHull test dir None = (key : Key) → key.dir ≡ dir → test key ≡ false
-IsHull test dir (Some interval) = Reaches test dir interval
+IsHull test dir (Some interval) = IsHullOf test dir interval
 
 -- the hulls of all keys that pass a test: of the outputs, and of the inputs
 pub record AreHulls (test : Key → Bool) (hulls : Hulls) : Type 0 where

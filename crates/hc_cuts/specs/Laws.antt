@@ -4,10 +4,10 @@ use Rattle.std.specs.List.{flat_map}
 use Rattle.hc_records.specs.declared.limits.TheConstants.{MOST_DATAGRAMS}
 use Rattle.hc_records.specs.TaskList.{Keyed}
 use Rattle.hc_records.specs.Laws.{FitsOneDatagram}
-use Rattle.hc_cuts.specs.Firsts.{IsCrowded}
+use Rattle.hc_cuts.specs.Firsts.{IsOverLimit}
 
--- a crowded list has no cut in its order into at most 16 parts that fit a datagram each
-abbrev pub CrowdedHasNoCut : Type 0
-CrowdedHasNoCut =
-    (list : List Keyed) (parts : List (List Keyed)) → IsCrowded list → flat_map (λ part. part) parts ≡ list
+-- a over its limit list has no cut in its order into at most 16 parts that fit a datagram each
+abbrev pub OverLimitHasNoCut : Type 0
+OverLimitHasNoCut =
+    (list : List Keyed) (parts : List (List Keyed)) → IsOverLimit list → flat_map (λ part. part) parts ≡ list
     → All FitsOneDatagram parts → MOST_DATAGRAMS < length parts

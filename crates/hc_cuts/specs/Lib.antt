@@ -13,9 +13,9 @@ pub mod Walk
 pub mod Areas
 pub mod LineCursors
 pub mod LineKeeping
-pub mod Kept
+pub mod TaskCuts
 pub mod Recut
 pub mod Room
-pub mod Turn
+pub mod ApplyWidths
 pub mod Widths
 pub mod inner

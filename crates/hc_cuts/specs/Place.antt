@@ -1,4 +1,4 @@
--- Where one area of a task stands.
+-- Where one area of a task is.
 use Rattle.std.specs.Prelude.{Bool, List, find, Option}
 use Rattle.hc_records.specs.declared.keys.Key.{Key}
 use Rattle.hc_records.specs.Keys.{same_key}

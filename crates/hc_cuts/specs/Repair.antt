@@ -4,12 +4,13 @@ use Rattle.hc_records.specs.declared.keys.Key.{Key}
 use Rattle.hc_records.specs.declared.keys.TheConstants.Key.{START, END}
 use Rattle.hc_records.specs.Keys.{same_key}
 use Rattle.hc_records.specs.TaskList.{Keyed}
-use Rattle.hc_records.specs.Boundaries.{Interval, boundaries, meets_hull, unsettled_spans, width_in}
+use Rattle.hc_records.specs.Boundaries.{Interval, boundaries, meets_hull, unsettled_spans, width_in, is_touched}
 use Rattle.hc_records.specs.SpanLaws.{IsTaskList}
 use Rattle.hc_cuts.specs.declared.hulls.Hulls.{Hulls}
 use Rattle.hc_cuts.specs.Spans.{unsettled_by}
+use Rattle.hc_cuts.specs.Hulls.{AreHulls}
 
--- a span has a key in common with the hull of the outputs or with that of the inputs
+-- a span has a key in common with the hull of the outputs or of the inputs
 abbrev pub meets_either : Hulls → Interval → Bool
 meets_either hulls span = meets_hull hulls.outputs span || meets_hull hulls.inputs span
 
@@ -17,18 +18,23 @@ meets_either hulls span = meets_hull hulls.outputs span || meets_hull hulls.inpu
 abbrev pub DifferInside : Hulls → List Keyed → List Keyed → Type 0
 DifferInside hulls old new = (key : Key) → meets_either hulls (key, key) ≡ false → width_in old key ≡ width_in new key
 
--- boundaries, without END, of a task's areas before, from which the present ones differ inside the hulls alone
+-- boundaries, without END, of a task's areas before; the present ones differ from them inside the hulls alone
 pub record AreOfBefore (starts : List Key) (hulls : Hulls) (present : List Keyed) : Type 0 where
   pub before : List Keyed
   pub list : IsTaskList before
   pub keys : starts ++ END ∷ [] ≡ boundaries before
   pub inside : DifferInside hulls before present
 
+-- boundaries without END are those of a list before, and the hulls those of the keys whose widths differ since
+pub record IsBefore (starts : List Key) (hulls : Hulls) (present before : List Keyed) : Type 0 where
+  pub keys : starts ++ END ∷ [] ≡ boundaries before
+  pub differ : AreHulls (is_touched before present) hulls
+
 -- the spans between new boundaries that aren't settled, by the old boundaries and by these hulls
 abbrev pub unsettled_between : Hulls → List Key → List Key → ℕ
 unsettled_between hulls old new = unsettled_by (drop 1 old) hulls.outputs hulls.inputs START (drop 1 new)
 
--- the boundary behind a key, of those at which datagrams begin and END; none where no datagram begins at the key
+-- the boundary after a key, of those where datagrams begin and END; none where no datagram begins at the key
 abbrev pub following : Key → List Key → Option Key
 following from [] = None
 following from (key ∷ keys) = if same_key from key then Some (slice_index_or keys 0 END) else following from keys

@@ -1,4 +1,4 @@
--- The spans of a task that aren't settled, by the keys at which its later datagrams begin.
+-- The spans of a task that aren't settled, by the keys where its later datagrams begin.
 use Rattle.std.specs.Prelude.{ℕ, ◌&&◌, ◌||◌, not, Bool, List, [], ◌∷◌, ◌++◌, length, filter, Option}
 use Rattle.std.specs.List.{list_any}
 use Rattle.hc_records.specs.declared.keys.Key.{Key}

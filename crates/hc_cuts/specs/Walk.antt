@@ -4,10 +4,10 @@ use Rattle.hc_records.specs.declared.records.Dir.TheVariants.{Out}
 use Rattle.hc_records.specs.declared.keys.Key.{Key}
 use Rattle.hc_records.specs.TaskList.{Keyed}
 use Rattle.hc_records.specs.Packing.{Front, Placed}
-use Rattle.hc_records.specs.SpanLaws.{areas_from, carried}
+use Rattle.hc_records.specs.SpanLaws.{areas_from, places_in_span}
 use Rattle.hc_bitsum.specs.declared.filled.Filled.{Filled}
 
--- the datagram with a number, before an area stands in it
+-- the datagram with a number, before an area is in it
 abbrev pub blank_datagram : ℕ → Front
 blank_datagram datagram = record { datagram = datagram; bit = 0; last = Out }
 
@@ -17,4 +17,4 @@ filled_datagram datagram filled = record { datagram = datagram; bit = filled.bit
 
 -- the areas from a key on that the datagram with a number carries, each with its place
 abbrev pub span_places : ℕ → Key → List Keyed → List Placed
-span_places datagram from list = carried (blank_datagram datagram) (areas_from from list)
+span_places datagram from list = places_in_span (blank_datagram datagram) (areas_from from list)

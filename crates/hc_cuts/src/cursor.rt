@@ -11,8 +11,8 @@ use hc_bitsum::tree::SumTree;
 use hc_records::keys::Key;
 use hc_records::records::Dir;
 
-/// The number of the datagram that carries a key, by the keys at which datagrams begin: the last of them
-/// that doesn't come behind it.
+/// The number of the datagram that carries a key, by the keys where datagrams begin: the last of them
+/// that doesn't come after it. Half of those that are left go in each step.
 fn carrier(starts: &[Key], key: Key) -> usize
     requires some { 0 < length starts.now }
     requires first { is_within (slice_index_or starts.now 0 END) key ≡ true }
@@ -20,12 +20,18 @@ fn carrier(starts: &[Key], key: Key) -> usize
     ensures begun { is_within (slice_index_or starts.now result END) key ≡ true }
     ensures next { result + 1 < length starts.now → is_before key (slice_index_or starts.now (result + 1) END) ≡ true }
 {
-    for i in 1..starts.len() {
-        if key.is_before(starts[i]) {
-            return i - 1;
+    let mut begun = 0;
+    let mut left = starts.len();
+    while left > 1 {
+        let half = left / 2;
+        if key.is_before(starts[begun + half]) {
+            left = half;
+        } else {
+            begun += half;
+            left -= half;
         }
     }
-    starts.len() - 1
+    begun
 }
 
 /// A key, the number of the datagram that carries it, and how far that is filled before the key. What it
@@ -45,19 +51,19 @@ impl Cursor {
     ghost use Rattle.hc_records.specs.declared.keys.TheConstants.Key.{END};
     ghost use Rattle.hc_records.specs.declared.limits.TheConstants.{MOST_DATAGRAMS};
     ghost use Rattle.hc_bitsum.specs.Tree.{HoldsTaskList};
-    ghost use Rattle.hc_cuts.specs.Cursors.{StandsIn};
+    ghost use Rattle.hc_cuts.specs.Cursors.{IsCursorOf};
     ghost use Rattle.hc_cuts.specs.Place.{place_of};
 
     /// Before the first area of a task, any task. It takes no memory.
     pub fn start() -> Cursor
-        ensures { (starts : List Key) → (list : List Keyed) → starts ++ END ∷ [] ≡ boundaries list → StandsIn starts list result }
+        ensures { (starts : List Key) → (list : List Keyed) → starts ++ END ∷ [] ≡ boundaries list → IsCursorOf starts list result }
     {
         Cursor::at_front(Key::START, 0)
     }
 
     /// At the first key of the datagram with a number.
     fn at_front(key: Key, datagram: u16) -> Cursor
-        ensures stands { (starts : List Key) → (list : List Keyed) → datagram < length starts → slice_index_or starts datagram END ≡ key → StandsIn starts list result }
+        ensures is_placed { (starts : List Key) → (list : List Keyed) → datagram < length starts → slice_index_or starts datagram END ≡ key → IsCursorOf starts list result }
         ensures key { result.key ≡ key }
         ensures datagram { result.datagram ≡ datagram }
     {
@@ -71,7 +77,7 @@ impl Cursor {
         }
     }
 
-    /// Whether a key lies in the cursor's datagram, at the cursor's key or behind it.
+    /// Whether a key lies in the cursor's datagram, at the cursor's key or after it.
     fn leads_to(self, starts: &[Key], key: Key) -> bool
         requires { self.datagram < length starts.now }
         ensures low { IsTrue result → is_within self.key key ≡ true }
@@ -81,13 +87,13 @@ impl Cursor {
         !key.is_before(self.key) && key.is_before(end)
     }
 
-    /// A cursor from which the filling goes on to a key: this one where it leads there, else one at the
+    /// A cursor where the filling goes on to a key: this one where it leads there, else one at the
     /// front of the datagram that carries the key.
     fn before(self, starts: &[Key], key: Key) -> Cursor
         requires within { self.datagram < length starts.now }
         requires few { length starts.now ≤ MOST_DATAGRAMS }
         requires first { is_within (slice_index_or starts.now 0 END) key ≡ true }
-        ensures stands { (list : List Keyed) → StandsIn starts.now list self → StandsIn starts.now list result }
+        ensures is_placed { (list : List Keyed) → IsCursorOf starts.now list self → IsCursorOf starts.now list result }
         ensures low { is_within result.key key ≡ true }
         ensures next { result.datagram + 1 < length starts.now → is_before key (slice_index_or starts.now (result.datagram + 1) END) ≡ true }
     {
@@ -98,16 +104,16 @@ impl Cursor {
         Cursor::at_front(starts[datagram], datagram as u16)
     }
 
-    /// The place of the area of a task with a key, any key, by the keys at which the task's datagrams begin;
-    /// none where it has no such area, and the cursor stays. Otherwise it then stands at the key.
+    /// The place of the area of a task with a key, any key, by the keys where the task's datagrams begin;
+    /// none where it has no such area, and the cursor stays. Otherwise it then is at the key.
     #[inline(always)]
     pub(crate) fn place(&mut self, task: &SumTree, starts: &[Key], key: Key) -> Option<Placed>
         requires holds { HoldsTaskList task.now }
         requires all { starts.now ++ END ∷ [] ≡ boundaries task.now.list }
         requires few { length starts.now ≤ MOST_DATAGRAMS }
-        requires stood { StandsIn starts.now task.now.list self.old }
+        requires stood { IsCursorOf starts.now task.now.list self.old }
         ensures place { result ≡ place_of key task.now.list }
-        ensures stands { StandsIn starts.now task.now.list self.new }
+        ensures is_placed { IsCursorOf starts.now task.now.list self.new }
     {
         let bits = task.bits(key);
         if bits == 0 {

@@ -1,11 +1,11 @@
-//! The areas of a task and the keys at which its datagrams begin, kept together.
+//! The areas of a task and the keys where its datagrams begin, kept together.
 ghost use Rattle.std.specs.Prelude.{◌≡◌, ◌+◌, ◌*◌, ◌<◌, ◌≤◌, ◌∷◌, ◌++◌, [], IfOk, OnErr, OnOk, length, slice_index_or};
 ghost use Rattle.hc_records.specs.Boundaries.{boundaries};
 ghost use Rattle.hc_records.specs.Image.{datagram_count, inside};
 ghost use Rattle.hc_records.specs.Packing.{opening, packed};
 ghost use Rattle.hc_records.specs.declared.keys.TheConstants.Key.{END};
 ghost use Rattle.hc_records.specs.declared.limits.TheConstants.{MOST_DATAGRAMS};
-ghost use Rattle.hc_cuts.specs.Firsts.{IsCrowded};
+ghost use Rattle.hc_cuts.specs.Firsts.{IsOverLimit};
 ghost use Rattle.hc_cuts.specs.Starts.{most_read};
 
 use crate::cursor::Cursor;
@@ -38,9 +38,9 @@ impl Drop for Cuts {
 }
 
 impl Model for Cuts {
-    ghost use Rattle.hc_cuts.specs.Starts.{Kept};
+    ghost use Rattle.hc_cuts.specs.Starts.{TaskCuts};
 
-    ghost Value = { Kept };
+    ghost Value = { TaskCuts };
 
     ghost view = { λ cuts. record { tree = cuts.tree; starts = cuts.starts.items } };
 
@@ -49,7 +49,7 @@ impl Model for Cuts {
     ghost invariant = { λ cuts. HoldsTaskList cuts.tree };
 }
 
-/// The boundary behind one of those at which datagrams begin: the next of them, or `Key::END`.
+/// The boundary after one of those where datagrams begin: the next of them, or `Key::END`.
 pub(crate) fn end_of(starts: &[Key], i: usize) -> Key
     requires { i < length starts.now }
     ensures { result ≡ slice_index_or (starts.now ++ END ∷ []) (i + 1) END }
@@ -64,19 +64,18 @@ impl Cuts {
     ghost use Rattle.std.specs.Prelude.{◌≡◌, ◌↔◌, ◌+◌, ◌*◌, ◌≤◌, ◌∷◌, ◌++◌, List, [], IfOk, IsTrue, OnErr, OnOk, length};
     ghost use Rattle.hc_records.specs.declared.limits.TheConstants.{MOST_AREA_BITS, MOST_DATAGRAMS, MOST_SLAVES};
     ghost use Rattle.hc_records.specs.TaskList.{Keyed};
-    ghost use Rattle.hc_records.specs.Boundaries.{is_touched, unsettled_spans, width_in};
+    ghost use Rattle.hc_records.specs.Boundaries.{unsettled_spans, width_in};
     ghost use Rattle.hc_bitsum.specs.Tree.{HasPlace, HasRoom, HoldsTaskList, with_width};
-    ghost use Rattle.hc_cuts.specs.Cursors.{StandsIn};
-    ghost use Rattle.hc_cuts.specs.Hulls.{AreHulls};
+    ghost use Rattle.hc_cuts.specs.Cursors.{IsCursorOf};
     ghost use Rattle.hc_cuts.specs.Inputs.{has_inputs};
     ghost use Rattle.hc_cuts.specs.Place.{place_of};
-    ghost use Rattle.hc_cuts.specs.Repair.{AreOfBefore, unsettled_between};
-    ghost use Rattle.hc_cuts.specs.Starts.{kept_empty, with_slaves};
+    ghost use Rattle.hc_cuts.specs.Repair.{AreOfBefore, unsettled_between, IsBefore};
+    ghost use Rattle.hc_cuts.specs.Starts.{empty_task_cuts, cuts_with_slaves};
 
     /// A task without areas of so many slaves, at most 2,048. `AllocError` where a growth was refused.
     pub fn new(alloc: Global, slaves: u16) -> Result<Cuts, AllocError>
         requires { slaves ≤ MOST_SLAVES }
-        ensures { IfOk result (λ cuts. cuts ≡ kept_empty slaves) }
+        ensures { IfOk result (λ cuts. cuts ≡ empty_task_cuts slaves) }
     {
         let tree = SumTree::new(alloc, slaves)?;
         let mut starts = ArrayVec::new();
@@ -104,24 +103,24 @@ impl Cuts {
         self.tree.has_room(slaves)
     }
 
-    /// From now on there are so many slaves, for whom it has room: those behind its own have no areas yet. Its
+    /// From now on there are so many slaves; it has room for them: those after its own have no areas yet. Its
     /// areas and boundaries stay, and its areas are a task's list. It takes no memory.
     pub fn admit(&mut self, slaves: u16)
         requires more { self.old.tree.slaves ≤ slaves }
         requires room { HasRoom self.old.tree.slaves slaves }
-        ensures admitted { self.new ≡ with_slaves slaves self.old }
+        ensures admitted { self.new ≡ cuts_with_slaves slaves self.old }
         ensures holds { HoldsTaskList self.new.tree }
     {
         self.tree.admit(slaves);
     }
 
-    /// Its own areas and boundaries in a tree with places for so many slaves, at most 2,048: those behind its own
+    /// Its own areas and boundaries in a tree with places for so many slaves, at most 2,048: those after its own
     /// have no areas yet. No boundary is searched; the areas are gone over. `AllocError` where a growth was
     /// refused.
     pub fn widened(&self, alloc: Global, slaves: u16) -> Result<Cuts, AllocError>
         requires more { self.now.tree.slaves ≤ slaves }
         requires most { slaves ≤ MOST_SLAVES }
-        ensures widened { IfOk result (λ cuts. cuts ≡ with_slaves slaves self.now) }
+        ensures widened { IfOk result (λ cuts. cuts ≡ cuts_with_slaves slaves self.now) }
         ensures holds { IfOk result (λ cuts. HoldsTaskList cuts.tree) }
     {
         Ok(Cuts {
@@ -141,8 +140,8 @@ impl Cuts {
         }
     }
 
-    /// The boundaries that were last worked out but the last one, `Key::END`: `Key::START`, at which
-    /// the first datagram begins if there is one, and the keys at which the later ones do.
+    /// The boundaries that were last worked out but the last one, `Key::END`: `Key::START`, where
+    /// the first datagram begins if there is one, and the keys where the later ones do.
     pub fn starts(&self) -> &[Key]
         ensures starts { result.now ≡ self.now.starts }
         ensures few { length result.now ≤ MOST_DATAGRAMS }
@@ -170,7 +169,7 @@ impl Cuts {
 
     /// Works out the boundaries after widths were set, and how many of the spans between them aren't
     /// settled: those that don't begin at a boundary of before, or that meet a hull. The boundaries of
-    /// before are those of its areas then, whose widths differ from the present ones inside the hulls
+    /// before are its areas' of that time, whose widths differ from the present ones inside the hulls
     /// alone. A settled span is kept; each other one is searched, in 1 to 104 steps. `TooManyDatagrams`
     /// exactly where packing gives more than 16 datagrams; the boundaries stay as they were, and at most
     /// 16 searches were made. It takes no memory.
@@ -183,13 +182,13 @@ impl Cuts {
         ensures areas { self.new.tree ≡ self.old.tree }
         ensures starts { OnOk result (self.new.starts ++ END ∷ [] ≡ boundaries self.old.tree.list) }
         ensures few { OnOk result (datagram_count (packed opening self.old.tree.list) ≤ MOST_DATAGRAMS) }
-        ensures refused { OnErr result (IsCrowded self.old.tree.list) }
+        ensures refused { OnErr result (IsOverLimit self.old.tree.list) }
         ensures stay { OnErr result (self.new.starts ≡ self.old.starts) }
         ensures least { IfOk result (λ count. steps.old + count ≤ steps.new) }
         ensures most { IfOk result (λ count. steps.new ≤ steps.old + most_read * count) }
         ensures bound { steps.new ≤ steps.old + most_read * MOST_DATAGRAMS }
         ensures judged { IfOk result (λ count. count ≡ unsettled_between hulls.now self.old.starts self.new.starts) }
-        ensures count { IfOk result (λ count. (old : List Keyed) → self.old.starts ++ END ∷ [] ≡ boundaries old → AreHulls (is_touched old self.old.tree.list) hulls.now → count ≡ unsettled_spans old self.old.tree.list) }
+        ensures count { IfOk result (λ count. (old : List Keyed) → IsBefore self.old.starts hulls.now self.old.tree.list old → count ≡ unsettled_spans old self.old.tree.list) }
         ensures spans { IfOk result (λ count. count ≤ MOST_DATAGRAMS) }
     {
         let (starts, count) = repaired_starts(&self.tree, &self.starts, hulls, steps)?;
@@ -198,8 +197,8 @@ impl Cuts {
     }
 
     /// The areas of one of its datagrams with their places, in key order; none where it has no datagram with
-    /// that number. The boundaries are those of its areas, as `cut` leaves them; the areas of the datagram
-    /// alone are gone over. `AllocError` where a growth was refused.
+    /// that number. The boundaries are its areas', as `cut` leaves them; the areas of the datagram alone are
+    /// gone over. `AllocError` where a growth was refused.
     pub fn datagram(&self, alloc: Global, number: u16) -> Result<Vec<Placed>, AllocError>
         requires { self.now.starts ++ END ∷ [] ≡ boundaries self.now.tree.list }
         ensures { IfOk result (λ places. places.items ≡ inside number (packed opening self.now.tree.list)) }
@@ -216,8 +215,8 @@ impl Cuts {
     }
 
     /// The areas of the task with their places, in key order: packed one after another from the empty
-    /// first datagram. The boundaries are those of its areas, as `cut` leaves them. `AllocError` where a
-    /// growth was refused.
+    /// first datagram. The boundaries are its areas', as `cut` leaves them. `AllocError` where a growth
+    /// was refused.
     pub fn places(&self, alloc: Global) -> Result<Vec<Placed>, AllocError>
         requires { self.now.starts ++ END ∷ [] ≡ boundaries self.now.tree.list }
         ensures { IfOk result (λ places. places.items ≡ packed opening self.now.tree.list) }
@@ -241,8 +240,8 @@ impl Cuts {
 
     /// The place of its area with a key, any key: the datagram that carries it, and its first bit there;
     /// none where it has no such area. It is that which `places` gives, without the places of the others:
-    /// the boundaries tell the datagram, and the tree how far it is filled before the area. The boundaries
-    /// are those of its areas, as `cut` leaves them. It takes no memory and no steps.
+    /// the boundaries give the datagram, and the tree how far it is filled before the area. The boundaries
+    /// are its areas', as `cut` leaves them. It takes no memory and no steps.
     pub fn place(&self, key: Key) -> Option<Placed>
         requires { self.now.starts ++ END ∷ [] ≡ boundaries self.now.tree.list }
         ensures { result ≡ place_of key self.now.tree.list }
@@ -250,17 +249,17 @@ impl Cuts {
         self.place_from(&mut Cursor::start(), key)
     }
 
-    /// The place of its area with a key, any key, as `place` gives it, by a cursor that stands in the task,
-    /// as one at the start does. It stands in the task again, at the area if there is one. Where the same
-    /// datagram carries an area at its key or behind it, only the areas between are read, so areas that are
-    /// asked for in key order take few reads. The boundaries are those of its areas, as `cut` leaves them.
-    /// It takes no memory and no steps.
+    /// The place of its area with a key, any key, as `place` gives it, by a cursor that is in the task, as
+    /// one at the start does. It is in the task again, at the area if there is one. Where the same datagram
+    /// carries an area at its key or after it, only the areas between are read, so areas that are asked for
+    /// in key order take few reads. The boundaries are its areas', as `cut` leaves them. It takes no memory
+    /// and no steps.
     #[inline(always)]
     pub fn place_from(&self, cursor: &mut Cursor, key: Key) -> Option<Placed>
         requires cut { self.now.starts ++ END ∷ [] ≡ boundaries self.now.tree.list }
-        requires stood { StandsIn self.now.starts self.now.tree.list cursor.old }
+        requires stood { IsCursorOf self.now.starts self.now.tree.list cursor.old }
         ensures place { result ≡ place_of key self.now.tree.list }
-        ensures stands { StandsIn self.now.starts self.now.tree.list cursor.new }
+        ensures is_placed { IsCursorOf self.now.starts self.now.tree.list cursor.new }
     {
         cursor.place(&self.tree, self.starts.as_slice(), key)
     }

@@ -19,22 +19,21 @@ pub struct Finder<'a> {
 
 impl<'a> Model for Finder<'a> {
     ghost use Rattle.std.specs.Prelude.{List};
-    ghost use Rattle.hc_cuts.specs.Starts.{Kept};
-    ghost use Rattle.hc_cuts.specs.LineCursors.{StandInTasks};
+    ghost use Rattle.hc_cuts.specs.Starts.{TaskCuts};
+    ghost use Rattle.hc_cuts.specs.LineCursors.{AreInTasks};
 
-    ghost Value = { List Kept };
+    ghost Value = { List TaskCuts };
 
     ghost view = { λ finder. finder.cuts.now };
 
-    ghost invariant = { λ finder. StandInTasks finder.cuts.now finder.outputs × StandInTasks finder.cuts.now finder.inputs };
+    ghost invariant = { λ finder. AreInTasks finder.cuts.now finder.outputs × AreInTasks finder.cuts.now finder.inputs };
 }
 
 impl<'a> Finder<'a> {
     ghost use Rattle.std.specs.Prelude.{◌≡◌, List};
-    ghost use Rattle.hc_records.specs.declared.records.Area.{Area};
     ghost use Rattle.hc_cuts.specs.Place.{place_of};
-    ghost use Rattle.hc_cuts.specs.Areas.{list_by};
-    ghost use Rattle.hc_cuts.specs.Kept.{line_kept};
+    ghost use Rattle.hc_cuts.specs.Areas.{list_by, AreaLine};
+    ghost use Rattle.hc_cuts.specs.TaskCuts.{line_cuts};
 
     /// A finder among the tasks of a line. It takes no memory.
     pub fn of(cuts: &'a LineCuts) -> Finder<'a>
@@ -51,7 +50,7 @@ impl<'a> Finder<'a> {
     /// the task has no such area. It takes no memory.
     pub fn place(&mut self, task: Task, key: Key) -> Option<Placed>
         ensures tasks { self.new ≡ self.old }
-        ensures place { (line : List (List Area)) → self.old ≡ line_kept line → result ≡ place_of key (list_by task line) }
+        ensures place { (line : AreaLine) → self.old ≡ line_cuts line → result ≡ place_of key (list_by task line) }
     {
         match key.dir {
             Dir::Out => self.cuts.place_from(&mut self.outputs, task, key),

@@ -4,7 +4,7 @@ ghost use Rattle.hc_records.specs.Image.{datagram_count};
 ghost use Rattle.hc_records.specs.Laws.{IsPackable, cuts_from};
 ghost use Rattle.hc_records.specs.Packing.{opening, packed};
 ghost use Rattle.hc_records.specs.declared.limits.TheConstants.{MOST_DATAGRAMS};
-ghost use Rattle.hc_cuts.specs.Firsts.{IsCrowded, first_keys};
+ghost use Rattle.hc_cuts.specs.Firsts.{IsOverLimit, first_keys};
 
 use crate::packing::Front;
 use arrayvec::ArrayVec;
@@ -16,7 +16,7 @@ use thiserror::Error;
 #[error("too many datagrams")]
 pub struct TooManyDatagrams;
 
-/// Adds the keys of the areas at which a later datagram begins, where one is being filled.
+/// Adds the keys of the areas where a later datagram begins, where one is being filled.
 fn add_cuts(
     keys: &mut ArrayVec<Key, 16>,
     first: Front,
@@ -38,19 +38,19 @@ fn add_cuts(
             }
             keys.push(key);
         }
-        front = front.place(key, bits).behind();
+        front = front.place(key, bits).after_it();
     }
     Ok(())
 }
 
-/// The keys at which the datagrams of a task's list begin, in its order: at most 16. The list has the
+/// The keys where the datagrams of a task's list begin, in its order: at most 16. The list has the
 /// task's keys with their widths, 1 to 11,888 bits. `TooManyDatagrams` exactly where packing gives
 /// more than 16.
 pub fn fold_cuts(list: &[(Key, u16)]) -> Result<ArrayVec<Key, 16>, TooManyDatagrams>
     requires { All IsPackable list.now }
     ensures keys { IfOk result (λ keys. keys.items ≡ first_keys list.now) }
     ensures few { OnOk result (datagram_count (packed opening list.now) ≤ MOST_DATAGRAMS) }
-    ensures refused { OnErr result (IsCrowded list.now) }
+    ensures refused { OnErr result (IsOverLimit list.now) }
 {
     let mut keys = ArrayVec::new();
     if list.is_empty() {
@@ -58,7 +58,7 @@ pub fn fold_cuts(list: &[(Key, u16)]) -> Result<ArrayVec<Key, 16>, TooManyDatagr
     }
     let (key, bits) = list[0];
     keys.push(key);
-    let front = Front::opening().place(key, bits).behind();
+    let front = Front::opening().place(key, bits).after_it();
     add_cuts(&mut keys, front, &list[1..])?;
     Ok(keys)
 }

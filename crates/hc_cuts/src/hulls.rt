@@ -10,9 +10,9 @@ use hc_records::records::Dir;
 /// touched input; none where an edit touches none.
 #[derive(Clone, Copy)]
 pub struct Hulls {
-    /// That of the outputs.
+    /// The outputs' hull.
     pub outputs: Option<(Key, Key)>,
-    /// That of the inputs.
+    /// The inputs' hull.
     pub inputs: Option<(Key, Key)>,
 }
 

@@ -1,14 +1,12 @@
 //! Which datagrams of a task an edit keeps: they carry the areas that they carried, each at its bit.
-ghost use Rattle.std.specs.Prelude.{◌≡◌, ◌&&◌, ◌++◌, ◌∷◌, List, [], false, not, slice_get, true};
+ghost use Rattle.std.specs.Prelude.{◌≡◌, ◌&&◌, ◌++◌, ◌∷◌, List, false, not, slice_get};
 ghost use Rattle.std.specs.Option.{option_map_or};
-ghost use Rattle.hc_records.specs.Boundaries.{boundaries, is_touched, meets_hull};
+ghost use Rattle.hc_records.specs.Boundaries.{meets_hull};
 ghost use Rattle.hc_records.specs.Keys.{is_before, same_key};
-ghost use Rattle.hc_records.specs.SpanLaws.{IsTaskList};
 ghost use Rattle.hc_records.specs.TaskList.{Keyed};
 ghost use Rattle.hc_records.specs.declared.keys.Key.{Key};
 ghost use Rattle.hc_records.specs.declared.keys.TheConstants.Key.{END};
-ghost use Rattle.hc_cuts.specs.Hulls.{AreHulls};
-ghost use Rattle.hc_cuts.specs.Keeping.{is_kept, is_kept_by, is_kept_up_to, is_kept_up_to_by};
+ghost use Rattle.hc_cuts.specs.Keeping.{is_unchanged, is_unchanged_by, is_unchanged_up_to, is_unchanged_up_to_by, AreKnownOfTask, HoldsBefore};
 ghost use Rattle.hc_cuts.specs.Repair.{meets_either};
 
 use crate::cuts::end_of;
@@ -16,7 +14,7 @@ use crate::hulls::Hulls;
 use crate::repair::meets_either;
 use hc_records::keys::Key;
 
-/// Whether the datagram with a number began at a key, by the keys at which datagrams began.
+/// Whether the datagram with a number began at a key, by the keys where datagrams began.
 fn began_at(starts: &[Key], number: usize, key: Key) -> bool
     ensures { result ≡ option_map_or (same_key key) (slice_get starts.now number) false }
 {
@@ -26,38 +24,38 @@ fn began_at(starts: &[Key], number: usize, key: Key) -> bool
     }
 }
 
-/// Whether a datagram began at the key at which its span does, which meets no hull.
-fn is_kept_span(old_starts: &[Key], hulls: &Hulls, number: usize, span: (Key, Key)) -> bool
+/// Whether a datagram began at the key where its span does, which meets no hull.
+fn is_unchanged_span(old_starts: &[Key], hulls: &Hulls, number: usize, span: (Key, Key)) -> bool
     ensures { result ≡ option_map_or (same_key span.0) (slice_get old_starts.now number) false && not (meets_either hulls.now span) }
 {
     began_at(old_starts, number, span.0) && !meets_either(hulls, span)
 }
 
 /// Whether a datagram is kept by these hulls.
-fn is_kept_by(old_starts: &[Key], new_starts: &[Key], hulls: &Hulls, number: usize) -> bool
-    ensures { result ≡ is_kept_by hulls.now old_starts.now new_starts.now number }
+fn is_unchanged_by(old_starts: &[Key], new_starts: &[Key], hulls: &Hulls, number: usize) -> bool
+    ensures { result ≡ is_unchanged_by hulls.now old_starts.now new_starts.now number }
 {
     if number >= new_starts.len() {
         return false;
     }
     let span = (new_starts[number], end_of(new_starts, number));
-    is_kept_span(old_starts, hulls, number, span)
+    is_unchanged_span(old_starts, hulls, number, span)
 }
 
-/// Whether an edit keeps the datagram of a task with a number, from 0: it began at the key at which it
-/// begins now, and the areas up to the next boundary meet no hull of the touched keys. The starts are those
-/// of the task's list before the edit and after it, the keys at which their datagrams begin; a list without
-/// areas has `Key::START` alone. A datagram that isn't there isn't kept. It takes no memory.
-pub fn is_kept(old_starts: &[Key], new_starts: &[Key], hulls: &Hulls, number: u16) -> bool
-    ensures { (old new : List Keyed) → IsTaskList new → old_starts.now ++ END ∷ [] ≡ boundaries old → new_starts.now ++ END ∷ [] ≡ boundaries new → AreHulls (is_touched old new) hulls.now → result ≡ is_kept old new number }
+/// Whether an edit keeps the datagram of a task with a number, from 0: it began at the key where it begins
+/// now, and the areas up to the next boundary meet no hull of the touched keys. The starts are those of the
+/// task's list before the edit and after it, the keys where their datagrams begin; a list without areas has
+/// `Key::START` alone. A datagram that isn't there isn't kept. It takes no memory.
+pub fn is_unchanged(old_starts: &[Key], new_starts: &[Key], hulls: &Hulls, number: u16) -> bool
+    ensures { (old new : List Keyed) → AreKnownOfTask old new old_starts.now new_starts.now hulls.now → result ≡ is_unchanged old new number }
 {
-    is_kept_by(old_starts, new_starts, hulls, usize::from(number))
+    is_unchanged_by(old_starts, new_starts, hulls, usize::from(number))
 }
 
 /// The first key that makes an interval meet a hull, among those up to which it may reach from a key on:
 /// `Key::END` where none does.
 fn first_met(hull: Option<(Key, Key)>, start: Key) -> Key
-    ensures { (key : Key) → is_before key END ≡ true → is_before key result ≡ not (meets_hull hull (start, key)) }
+    ensures { HoldsBefore result (λ key. not (meets_hull hull (start, key))) }
 {
     match hull {
         Some((first, last)) if !last.is_before(start) => first,
@@ -74,7 +72,7 @@ fn lower(one: Key, other: Key) -> Key
 
 /// The first key that makes an interval from another one on meet either hull; `Key::END` where none does.
 fn first_met_of_either(hulls: &Hulls, start: Key) -> Key
-    ensures { (key : Key) → is_before key END ≡ true → is_before key result ≡ not (meets_either hulls.now (start, key)) }
+    ensures { HoldsBefore result (λ key. not (meets_either hulls.now (start, key))) }
 {
     lower(
         first_met(hulls.outputs, start),
@@ -83,8 +81,8 @@ fn first_met_of_either(hulls: &Hulls, start: Key) -> Key
 }
 
 /// The key before which the areas of a datagram are kept by these hulls.
-fn kept_until_by(old_starts: &[Key], new_starts: &[Key], hulls: &Hulls, number: usize) -> Key
-    ensures { (key : Key) → is_before key END ≡ true → is_before key result ≡ is_kept_up_to_by hulls.now old_starts.now new_starts.now number key }
+fn unchanged_until_by(old_starts: &[Key], new_starts: &[Key], hulls: &Hulls, number: usize) -> Key
+    ensures { HoldsBefore result (is_unchanged_up_to_by hulls.now old_starts.now new_starts.now number) }
 {
     match new_starts.get(number) {
         Some(start) if began_at(old_starts, number, *start) => {
@@ -94,12 +92,12 @@ fn kept_until_by(old_starts: &[Key], new_starts: &[Key], hulls: &Hulls, number: 
     }
 }
 
-/// The key before which the areas of a datagram of a task stand where they stood, by the number of the
-/// datagram, from 0: where it began at the key at which it begins now, the first of its keys that makes the
+/// The key before which the areas of a datagram of a task are where they were, by the number of the
+/// datagram, from 0: where it began at the key where it begins now, the first of its keys that makes the
 /// interval from there on meet a hull of the touched keys, or `Key::END` where none does; `Key::START` where
-/// it began elsewhere or isn't there. Starts, hulls and memory as for `is_kept`.
-pub fn kept_until(old_starts: &[Key], new_starts: &[Key], hulls: &Hulls, number: u16) -> Key
-    ensures { (old new : List Keyed) → IsTaskList new → old_starts.now ++ END ∷ [] ≡ boundaries old → new_starts.now ++ END ∷ [] ≡ boundaries new → AreHulls (is_touched old new) hulls.now → (key : Key) → is_before key END ≡ true → is_before key result ≡ is_kept_up_to old new number key }
+/// it began elsewhere or isn't there. Starts, hulls and memory as for `is_unchanged`.
+pub fn unchanged_until(old_starts: &[Key], new_starts: &[Key], hulls: &Hulls, number: u16) -> Key
+    ensures { (old new : List Keyed) → AreKnownOfTask old new old_starts.now new_starts.now hulls.now → HoldsBefore result (is_unchanged_up_to old new number) }
 {
-    kept_until_by(old_starts, new_starts, hulls, usize::from(number))
+    unchanged_until_by(old_starts, new_starts, hulls, usize::from(number))
 }

@@ -3,6 +3,7 @@
 //! plan keeps a `LineCuts`.
 #![tactic(auto)]
 
+mod applying;
 pub mod areas;
 pub mod cursor;
 pub mod cuts;
@@ -19,7 +20,6 @@ mod repair;
 pub mod starts;
 pub mod tasks;
 pub mod touched;
-mod turning;
 mod walk;
 mod widening;
 mod widths;

@@ -10,7 +10,7 @@ use std::marker::Model;
 /// The areas that the slaves of a stretch have in one of the two lines.
 #[derive(Clone, Copy, Debug)]
 pub(crate) enum Side<'a> {
-    /// So many slaves, none of which is present.
+    /// So many slaves, and none is present.
     Absent(usize),
     /// Present slaves, each with the areas of its record.
     Present(&'a [Slave]),
@@ -82,7 +82,7 @@ impl<'a> Side<'a> {
 }
 
 /// What differs between two lines: slaves in a row, with the areas that each has in the one line and in the other. All
-/// other slaves have the same areas in both. It lends what it tells, and takes no memory.
+/// other slaves have the same areas in both. It lends what it gives, and takes no memory.
 #[derive(Debug, Drop)]
 pub struct LineChange<'a> {
     first: u16,
@@ -106,8 +106,7 @@ impl<'a> LineChange<'a> {
     ghost use Rattle.std.specs.Prelude.{◌≡◌, ◌+◌, ◌<◌, ◌∷◌, [], IfNone, IfSome, false, length, replicate, slice_index_or};
     ghost use Rattle.hc_cuts.specs.LineChange.{areas_if, back, changes};
 
-    /// Where the slaves of a group, the first of which has a rank, were in the line or weren't, and are in it afterwards or
-    /// aren't.
+    /// Where the slaves of a group, from a rank on, were in the line or weren't, and are in it afterwards or aren't.
     pub fn of_group(first: u16, slaves: &'a [Slave], was: bool, is: bool) -> LineChange<'a>
         ensures { result ≡ record { first = first; areas_before = areas_if was slaves.now; areas_after = areas_if is slaves.now } }
     {
@@ -129,7 +128,7 @@ impl<'a> LineChange<'a> {
         }
     }
 
-    /// From a line in which no slave is present to one whose slaves have these areas.
+    /// From a line where no slave is present to one whose slaves have these areas.
     pub(crate) fn opening(line: &'a [SlaveAreas<'a>]) -> LineChange<'a>
         ensures { result ≡ record { first = 1; areas_before = replicate (length line.now) []; areas_after = line.now } }
     {

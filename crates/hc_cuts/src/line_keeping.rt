@@ -1,15 +1,11 @@
-//! Which datagrams of the eight tasks an edit keeps, told by what is known of the tasks before they are turned.
-//! The plan keeps it from the turn to the end of an edit, and the parts of its change ask it.
-ghost use Rattle.std.specs.Prelude.{ℕ, ◌<◌, List, slice_index_or};
-ghost use Rattle.hc_records.specs.Boundaries.{is_touched};
-ghost use Rattle.hc_records.specs.declared.limits.TheConstants.{TASKS};
-ghost use Rattle.hc_records.specs.declared.records.Area.{Area};
-ghost use Rattle.hc_cuts.specs.Hulls.{AreHulls, no_hulls};
-ghost use Rattle.hc_cuts.specs.Areas.{list_by};
-ghost use Rattle.hc_cuts.specs.Turn.{AreLines, HasLines};
+//! Which datagrams of the eight tasks an edit keeps, given by what is known of the tasks before they are
+//! turned. The plan keeps it from the turn to the end of an edit, and the parts of its change ask it.
+ghost use Rattle.hc_cuts.specs.Areas.{AreaLine};
+ghost use Rattle.hc_cuts.specs.ApplyWidths.{AreLines, HasLines};
+ghost use Rattle.hc_cuts.specs.LineKeeping.{AreLineHulls};
 
 use crate::hulls::Hulls;
-use crate::keeping::{is_kept, kept_until};
+use crate::keeping::{is_unchanged, unchanged_until};
 use crate::line_change::LineChange;
 use crate::starts::LineStarts;
 use crate::tasks::LineCuts;
@@ -38,7 +34,7 @@ impl Model for Before {
 /// The hulls of the keys of the eight tasks whose widths a change makes differ.
 fn all_hulls(change: &LineChange) -> [Hulls; 8]
     requires { HasLines change.now }
-    ensures { (old new : List (List Area)) → AreLines change.now old new → (task : ℕ) → task < TASKS → AreHulls (is_touched (list_by task old) (list_by task new)) (slice_index_or result task no_hulls) }
+    ensures { (old new : AreaLine) → AreLines change.now old new → AreLineHulls old new result }
 {
     let mut hulls = [Hulls::none(); 8];
     for task in 0..TASKS {
@@ -48,23 +44,20 @@ fn all_hulls(change: &LineChange) -> [Hulls; 8]
 }
 
 impl Before {
-    ghost use Rattle.std.specs.Prelude.{◌≡◌, List, true};
-    ghost use Rattle.hc_records.specs.Keys.{is_before};
+    ghost use Rattle.std.specs.Prelude.{◌≡◌};
     ghost use Rattle.hc_records.specs.declared.keys.Key.{Key};
-    ghost use Rattle.hc_records.specs.declared.keys.TheConstants.Key.{END};
-    ghost use Rattle.hc_records.specs.declared.records.Area.{Area};
-    ghost use Rattle.hc_cuts.specs.Keeping.{is_kept, is_kept_up_to};
-    ghost use Rattle.hc_cuts.specs.Areas.{list_by};
-    ghost use Rattle.hc_cuts.specs.LineKeeping.{StandsBefore};
-    ghost use Rattle.hc_cuts.specs.Kept.{IsLine, line_kept};
+    ghost use Rattle.hc_cuts.specs.Keeping.{is_unchanged, is_unchanged_up_to, HoldsBefore};
+    ghost use Rattle.hc_cuts.specs.Areas.{list_by, AreaLine};
+    ghost use Rattle.hc_cuts.specs.LineKeeping.{IsKnownBefore, AreTasksOfEdit};
+    ghost use Rattle.hc_cuts.specs.TaskCuts.{line_cuts};
     ghost use Rattle.hc_cuts.specs.Recut.{is_touched_by};
-    ghost use Rattle.hc_cuts.specs.Turn.{AreLines, HasLines};
+    ghost use Rattle.hc_cuts.specs.ApplyWidths.{AreLines, HasLines};
 
     /// What is known of the tasks of a line before they are turned into those of the line that a change leads to. It takes
     /// no memory.
     pub fn of(cuts: &LineCuts, change: &LineChange) -> Before
         requires { HasLines change.now }
-        ensures { (old new : List (List Area)) → AreLines change.now old new → cuts.now ≡ line_kept old → StandsBefore old new result }
+        ensures { (old new : AreaLine) → AreLines change.now old new → cuts.now ≡ line_cuts old → IsKnownBefore old new result }
     {
         Before {
             starts: cuts.copied_starts(),
@@ -81,31 +74,31 @@ impl Before {
 
     /// Whether the width of a key of a task differs between the two lines. It takes no memory.
     pub fn is_touched(&self, task: Task) -> bool
-        ensures { (old new : List (List Area)) → StandsBefore old new self.now → result ≡ is_touched_by task old new }
+        ensures { (old new : AreaLine) → IsKnownBefore old new self.now → result ≡ is_touched_by task old new }
     {
         !self.hulls[task.as_index()].are_none()
     }
 
-    /// Whether the datagram of a task, with a number, from 0, is kept: it began at the key at which it
+    /// Whether the datagram of a task, with a number, from 0, is kept: it began at the key where it
     /// begins now, and its keys up to the next boundary meet neither the interval from the least to the
-    /// greatest output whose width differs nor that of the inputs. The tasks are those of the new line,
+    /// greatest output whose width differs nor the inputs' interval. The tasks are the new line's,
     /// turned. A datagram that isn't there isn't kept. It takes no memory.
-    pub fn is_kept(&self, cuts: &LineCuts, task: Task, number: u16) -> bool
-        ensures { (old new : List (List Area)) → IsLine new → StandsBefore old new self.now → cuts.now ≡ line_kept new → result ≡ is_kept (list_by task old) (list_by task new) number }
+    pub fn is_unchanged(&self, cuts: &LineCuts, task: Task, number: u16) -> bool
+        ensures { (old new : AreaLine) → AreTasksOfEdit old new self.now cuts.now → result ≡ is_unchanged (list_by task old) (list_by task new) number }
     {
         let hulls = &self.hulls[task.as_index()];
-        is_kept(self.starts.of_task(task), cuts.starts(task), hulls, number)
+        is_unchanged(self.starts.of_task(task), cuts.starts(task), hulls, number)
     }
 
-    /// The key before which the areas of a datagram stand where they stood, by its task and its number,
-    /// from 0: where it began at the key at which it begins now, the first of its keys up to which the
-    /// interval from there on meets that from the least to the greatest output whose width differs or that of
-    /// the inputs, or `Key::END` where none does; `Key::START` where it began elsewhere or isn't there. The
-    /// tasks are those of the new line, turned. It takes no memory.
-    pub fn kept_until(&self, cuts: &LineCuts, task: Task, number: u16) -> Key
-        ensures { (old new : List (List Area)) → IsLine new → StandsBefore old new self.now → cuts.now ≡ line_kept new → (key : Key) → is_before key END ≡ true → is_before key result ≡ is_kept_up_to (list_by task old) (list_by task new) number key }
+    /// The key before which the areas of a datagram are where they were, by its task and its number, from 0:
+    /// where it began at the key where it begins now, the first of its keys up to which the interval from
+    /// there on meets the one from the least to the greatest output whose width differs, or the inputs' one,
+    /// or `Key::END` where none does; `Key::START` where it began elsewhere or isn't there. The tasks are the
+    /// new line's, turned. It takes no memory.
+    pub fn unchanged_until(&self, cuts: &LineCuts, task: Task, number: u16) -> Key
+        ensures { (old new : AreaLine) → AreTasksOfEdit old new self.now cuts.now → HoldsBefore result (is_unchanged_up_to (list_by task old) (list_by task new) number) }
     {
         let hulls = &self.hulls[task.as_index()];
-        kept_until(self.starts.of_task(task), cuts.starts(task), hulls, number)
+        unchanged_until(self.starts.of_task(task), cuts.starts(task), hulls, number)
     }
 }

@@ -9,7 +9,7 @@ use hc_records::keys::Key;
 use hc_records::limits::MOST_AREA_BITS;
 use std::sync::ledger::Ledger;
 
-/// The key at which the next datagram of a task begins where one begins at a key, with the areas from
+/// The key where the next datagram of a task begins where one begins at a key, with the areas from
 /// there on; `Key::END` where it holds all of them. The key is `Key::START`, for the front of the
 /// list, or one that has a place in the tree, as the keys of its areas have. Each node and area that
 /// is read is a step, at least 1 and at most 104. It takes no memory.

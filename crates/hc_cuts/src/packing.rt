@@ -11,7 +11,7 @@ use hc_records::limits::MOST_AREA_BITS;
 use hc_records::records::Dir;
 use std::marker::Model;
 
-/// An area, its width in bits, and the datagram and the bit at which it begins. It ends within the
+/// An area, its width in bits, and the datagram and the bit where it begins. It ends within the
 /// longest datagram.
 #[derive(Clone, Copy, Debug)]
 pub struct Placed {
@@ -60,7 +60,7 @@ impl Model for Front {
 
 impl Placed {
     ghost use Rattle.std.specs.Prelude.{◌≡◌, ◌+◌, ◌≤◌};
-    ghost use Rattle.hc_records.specs.Packing.{behind};
+    ghost use Rattle.hc_records.specs.Packing.{front_with};
     ghost use Rattle.hc_records.specs.declared.limits.TheConstants.{MOST_AREA_BITS};
 
     /// The area's key.
@@ -92,9 +92,9 @@ impl Placed {
         self.bit
     }
 
-    /// The datagram that is being filled once the area stands.
-    pub fn behind(self) -> Front
-        ensures { result ≡ behind self }
+    /// The datagram that is being filled once the area is.
+    pub fn after_it(self) -> Front
+        ensures { result ≡ front_with self }
     {
         Front {
             datagram: self.datagram,
@@ -117,7 +117,7 @@ impl Front {
         Front::blank(0)
     }
 
-    /// The datagram with a number, before an area stands in it.
+    /// The datagram with a number, before an area is in it.
     pub(crate) fn blank(datagram: u16) -> Front
         ensures { result ≡ blank_datagram datagram }
     {
@@ -140,7 +140,7 @@ impl Front {
         }
     }
 
-    /// The bit at which an area would begin.
+    /// The bit where an area would begin.
     fn beginning(self, key: Key, bits: u16) -> u16
         ensures value { result ≡ beginning self (key, bits) }
         ensures low { result ≤ MOST_AREA_BITS }
@@ -160,8 +160,8 @@ impl Front {
         u32::from(self.beginning(key, bits) + bits) <= MOST_AREA_BITS
     }
 
-    /// Where an area of at most 11,888 bits stands: in this datagram where it fits, else at bit 0 of
-    /// a new one.
+    /// Where an area of at most 11,888 bits is: in this datagram where it fits, else at bit 0 of a
+    /// new one.
     pub fn place(self, key: Key, bits: u16) -> Placed
         requires narrow { bits ≤ MOST_AREA_BITS }
         requires few { self.datagram < 65535 }

@@ -7,7 +7,7 @@ ghost use Rattle.hc_records.specs.Packing.{opening, packed};
 ghost use Rattle.hc_records.specs.declared.keys.TheConstants.Key.{END};
 ghost use Rattle.hc_records.specs.declared.limits.TheConstants.{MOST_DATAGRAMS};
 ghost use Rattle.hc_bitsum.specs.Tree.{CanBegin, HoldsTaskList};
-ghost use Rattle.hc_cuts.specs.Firsts.{IsCrowded};
+ghost use Rattle.hc_cuts.specs.Firsts.{IsOverLimit};
 ghost use Rattle.hc_cuts.specs.Repair.{AreOfBefore, following, meets_either, unsettled_between};
 ghost use Rattle.hc_cuts.specs.Spans.{is_settled_by};
 ghost use Rattle.hc_cuts.specs.Starts.{most_read, next_boundary};
@@ -22,14 +22,14 @@ use hc_bitsum::tree::SumTree;
 use hc_records::keys::Key;
 use std::sync::ledger::Ledger;
 
-/// Whether a span has a key in common with the hull of the outputs or with that of the inputs.
+/// Whether a span has a key in common with the hull of the outputs or of the inputs.
 pub(crate) fn meets_either(hulls: &Hulls, span: (Key, Key)) -> bool
     ensures { result ≡ meets_either hulls.now span }
 {
     meets_hull(hulls.outputs, span) || meets_hull(hulls.inputs, span)
 }
 
-/// The boundary behind a key at which a datagram begins: the key of the next one, or `Key::END`.
+/// The boundary after a key where a datagram begins: the key of the next one, or `Key::END`.
 fn following(starts: &[Key], from: Key) -> Option<Key>
     ensures { result ≡ following from starts.now }
 {
@@ -80,7 +80,7 @@ pub(crate) fn repaired_starts<L: Ledger>(
     ensures starts { IfOk result (λ found. found.0.items ++ END ∷ [] ≡ boundaries task.now.list) }
     ensures few { OnOk result (datagram_count (packed opening task.now.list) ≤ MOST_DATAGRAMS) }
     ensures count { IfOk result (λ found. found.1 ≡ unsettled_between hulls.now old.now found.0.items) }
-    ensures refused { OnErr result (IsCrowded task.now.list) }
+    ensures refused { OnErr result (IsOverLimit task.now.list) }
     ensures least { IfOk result (λ found. steps.old + found.1 ≤ steps.new) }
     ensures most { IfOk result (λ found. steps.new ≤ steps.old + most_read * found.1) }
     ensures bound { steps.new ≤ steps.old + most_read * MOST_DATAGRAMS }

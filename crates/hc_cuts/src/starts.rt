@@ -64,7 +64,7 @@ impl LineStarts {
     /// A copy of those of eight tasks. It takes no memory.
     pub(crate) fn of(tasks: &[Cuts]) -> LineStarts
         requires { length tasks.now ≡ 8 }
-        ensures { result ≡ map (λ kept. kept.starts) tasks.now }
+        ensures { result ≡ map (λ unchanged. unchanged.starts) tasks.now }
     {
         let mut starts = ArrayVec::new();
         for cuts in tasks {

@@ -1,24 +1,24 @@
 //! The keys of a task whose widths differ between two lines.
-ghost use Rattle.std.specs.Prelude.{◌==◌, ◌&&◌, List};
+ghost use Rattle.std.specs.Prelude.{◌==◌, ◌&&◌};
 ghost use Rattle.hc_records.specs.Boundaries.{is_touched};
 ghost use Rattle.hc_records.specs.Keys.{same_key};
 ghost use Rattle.hc_records.specs.declared.records.Area.{Area};
 ghost use Rattle.hc_cuts.specs.Hulls.{AreHulls, TakeIn};
-ghost use Rattle.hc_cuts.specs.Areas.{list_by};
-ghost use Rattle.hc_cuts.specs.Turn.{AreLines, HasLines};
-ghost use Rattle.hc_cuts.specs.Widths.{AreKept, differs};
+ghost use Rattle.hc_cuts.specs.Areas.{list_by, AreaLine};
+ghost use Rattle.hc_cuts.specs.ApplyWidths.{AreLines, HasLines};
+ghost use Rattle.hc_cuts.specs.Widths.{AreBounded, width_differs};
 
 use crate::hulls::Hulls;
 use crate::line_change::LineChange;
-use crate::widths::slave_width;
+use crate::widths::{is_in_task, slave_width};
 use hc_records::keys::Key;
 use hc_records::records::{Area, Dir};
 
 /// Takes a key of a slave that had some areas and has others in, where its width differs.
 fn touch_key(hulls: &mut Hulls, task: u8, key: Key, old: &[Area], new: &[Area])
-    requires old { AreKept old.now }
-    requires new { AreKept new.now }
-    ensures { TakeIn hulls.old hulls.new (λ other. same_key key other && differs task old.now new.now other) }
+    requires old { AreBounded old.now }
+    requires new { AreBounded new.now }
+    ensures { TakeIn hulls.old hulls.new (λ other. same_key key other && width_differs task old.now new.now other) }
 {
     if slave_width(old, task, key) == slave_width(new, task, key) {
         return;
@@ -27,12 +27,15 @@ fn touch_key(hulls: &mut Hulls, task: u8, key: Key, old: &[Area], new: &[Area])
 }
 
 /// Takes the keys of an output and of an input with a place in the record of a slave in, where their widths
-/// differ.
+/// differ: none where the task has that area neither before nor after.
 fn touch_area(hulls: &mut Hulls, task: u8, rank: u16, area: u8, old: &[Area], new: &[Area])
-    requires old { AreKept old.now }
-    requires new { AreKept new.now }
-    ensures { TakeIn hulls.old hulls.new (λ key. (rank == key.rank) && (area == key.area) && differs task old.now new.now key) }
+    requires old { AreBounded old.now }
+    requires new { AreBounded new.now }
+    ensures { TakeIn hulls.old hulls.new (λ key. (rank == key.rank) && (area == key.area) && width_differs task old.now new.now key) }
 {
+    if !is_in_task(old, task, area) && !is_in_task(new, task, area) {
+        return;
+    }
     let output = Key {
         dir: Dir::Out,
         rank,
@@ -49,9 +52,9 @@ fn touch_area(hulls: &mut Hulls, task: u8, rank: u16, area: u8, old: &[Area], ne
 
 /// Takes the keys of a slave that had some areas and has others in, where their widths differ.
 fn touch_slave(hulls: &mut Hulls, task: u8, rank: u16, old: &[Area], new: &[Area])
-    requires old { AreKept old.now }
-    requires new { AreKept new.now }
-    ensures { TakeIn hulls.old hulls.new (λ key. (rank == key.rank) && differs task old.now new.now key) }
+    requires old { AreBounded old.now }
+    requires new { AreBounded new.now }
+    ensures { TakeIn hulls.old hulls.new (λ key. (rank == key.rank) && width_differs task old.now new.now key) }
 {
     for area in 0..old.len().max(new.len()) {
         touch_area(hulls, task, rank, area as u8, old, new);
@@ -62,7 +65,7 @@ fn touch_slave(hulls: &mut Hulls, task: u8, rank: u16, old: &[Area], new: &[Area
 /// where no width does. It takes no memory.
 pub fn touched_hulls(task: u8, change: &LineChange) -> Hulls
     requires { HasLines change.now }
-    ensures { (old new : List (List Area)) → AreLines change.now old new → AreHulls (is_touched (list_by task old) (list_by task new)) result }
+    ensures { (old new : AreaLine) → AreLines change.now old new → AreHulls (is_touched (list_by task old) (list_by task new)) result }
 {
     let mut hulls = Hulls::none();
     for i in 0..change.slaves() {

@@ -3,7 +3,7 @@
 ghost use Rattle.std.specs.Prelude.{◌≡◌, ◌<◌, ◌++◌, All, OnOk, true};
 ghost use Rattle.hc_records.specs.Keys.{is_before};
 ghost use Rattle.hc_records.specs.Laws.{IsPackable};
-ghost use Rattle.hc_records.specs.SpanLaws.{carried, next_cut};
+ghost use Rattle.hc_records.specs.SpanLaws.{places_in_span, next_cut};
 ghost use Rattle.hc_records.specs.declared.keys.TheConstants.Key.{END};
 ghost use Rattle.hc_records.specs.declared.limits.TheConstants.{MOST_DATAGRAMS};
 ghost use Rattle.hc_bitsum.specs.Tree.{HoldsTaskList};
@@ -26,7 +26,7 @@ fn add_areas(
     requires below { All (λ area. is_before area.0 END ≡ true) areas.now }
     requires room { next_cut (blank_datagram datagram) areas.now ≡ END }
     requires few { datagram < MOST_DATAGRAMS }
-    ensures { OnOk result (places.new.items ≡ places.old.items ++ carried (blank_datagram datagram) areas.now) }
+    ensures { OnOk result (places.new.items ≡ places.old.items ++ places_in_span (blank_datagram datagram) areas.now) }
 {
     places.reserve(areas.len())?;
     let mut front = Front::blank(datagram);
@@ -34,7 +34,7 @@ fn add_areas(
         let (key, bits) = *area;
         let place = front.place(key, bits);
         places.push(place)?;
-        front = place.behind();
+        front = place.after_it();
     }
     Ok(())
 }

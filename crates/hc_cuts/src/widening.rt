@@ -1,16 +1,16 @@
 //! Tasks that take in more slaves: in the trees that they have, or in wider ones.
 ghost use Rattle.std.specs.Prelude.{◌≡◌, ◌≤◌, All, IfOk, map};
 ghost use Rattle.hc_records.specs.declared.limits.TheConstants.{MOST_SLAVES};
-ghost use Rattle.hc_cuts.specs.Starts.{with_slaves};
-ghost use Rattle.hc_cuts.specs.Room.{HasKeptRoom};
+ghost use Rattle.hc_cuts.specs.Starts.{cuts_with_slaves};
+ghost use Rattle.hc_cuts.specs.Room.{HasUnchangedRoom};
 
 use crate::cuts::Cuts;
 use std::alloc::{AllocError, Global};
 
-/// From now on each task has so many slaves, for whom its tree has room.
+/// From now on each task has so many slaves; its tree has room for them.
 pub(crate) fn admit_all(tasks: &mut [Cuts], slaves: u16)
-    requires { All (HasKeptRoom slaves) tasks.old }
-    ensures { tasks.new ≡ map (with_slaves slaves) tasks.old }
+    requires { All (HasUnchangedRoom slaves) tasks.old }
+    ensures { tasks.new ≡ map (cuts_with_slaves slaves) tasks.old }
 {
     for task in tasks.iter_mut() {
         task.admit(slaves);
@@ -23,9 +23,9 @@ pub(crate) fn all_widened(
     tasks: &[Cuts],
     slaves: u16,
 ) -> Result<Vec<Cuts>, AllocError>
-    requires few { All (λ kept. kept.tree.slaves ≤ slaves) tasks.now }
+    requires few { All (λ unchanged. unchanged.tree.slaves ≤ slaves) tasks.now }
     requires most { slaves ≤ MOST_SLAVES }
-    ensures { IfOk result (λ wider. wider.items ≡ map (with_slaves slaves) tasks.now) }
+    ensures { IfOk result (λ wider. wider.items ≡ map (cuts_with_slaves slaves) tasks.now) }
 {
     let mut wider = Vec::with_capacity(alloc, tasks.len())?;
     for task in tasks {

@@ -11,10 +11,10 @@ use Rattle.hc_records.specs.Lists.{lowest}
 use Rattle.hc_records.proofs.lemmas.Choices.{by_bool}
 use Rattle.hc_registers.specs.Blocks.{LineBlock, line_blocks}
 use Rattle.hc_events.specs.Arrivals.{Arrival, Part}
-use Rattle.hc_events.specs.Entries.{Record, Came, Wrote}
+use Rattle.hc_events.specs.Entries.{History, Came, Wrote}
 use Rattle.hc_events.specs.Points.{line_of, next_serial}
 use Rattle.hc_events.specs.Heads.{Head, Item, block_item, same_item, write_heads}
-use Rattle.hc_events.specs.Answering.{Judged, answered_by, has_good, judge, judged, judged_by, just_sent, has_head, has_heads}
+use Rattle.hc_events.specs.Answering.{Judged, answered_by, has_good, judge, judged, judged_by, sending_of_heads, has_head, has_heads}
 use Rattle.hc_events.specs.Owed.{confirms, is_owed, known_bytes, last_write, owed_blocks, block_among, write_of}
 use Rattle.hc_events.specs.Steps.{SendsWrites, entries_after, with_writes, write_faults}
 use Rattle.hc_events.specs.WriteFrames.{frame_blocks}
@@ -25,7 +25,7 @@ use Rattle.hc_events.proofs.lemmas.Confirmed.{heads_named, known-came, confirms-
 use Rattle.hc_events.proofs.lemmas.Fronts.{beside-front, front-all}
 use Rattle.hc_events.proofs.lemmas.Live.{others-as_before}
 use Rattle.hc_events.proofs.lemmas.TwoWrites.{InLine}
-use Rattle.hc_events.proofs.Proposals.{frame-some, kept_next, written_next}
+use Rattle.hc_events.proofs.Proposals.{frame-some, unchanged_next, written_next}
 use Rattle.std.proofs.lemmas.Slice.Eq.{bytes_eq-Decides}
 
 and_false : (b : Bool) → false ≡ (b && false)
@@ -82,63 +82,63 @@ found_among P other (first ∷ blocks) all named =
 
 -- so it is with each block of the line
 
-record IsSent (past : Record) (arrival : Arrival) : Type 0 where
-  answered : answered_by (Wrote (frame_blocks (owed_blocks past)) ∷ past) arrival ≡ Some (just_sent (write_heads (frame_blocks (owed_blocks past))))
-  good : list_all has_good (judged_by (Wrote (frame_blocks (owed_blocks past)) ∷ past) arrival) ≡ true
+record IsSent (history : History) (arrival : Arrival) : Type 0 where
+  answered : answered_by (Wrote (frame_blocks (owed_blocks history)) ∷ history) arrival ≡ Some (sending_of_heads (write_heads (frame_blocks (owed_blocks history))))
+  good : list_all has_good (judged_by (Wrote (frame_blocks (owed_blocks history)) ∷ history) arrival) ≡ true
 
-abbrev left_owed : Record → LineBlock → Bool
-left_owed past other = is_owed past other && not (is_carried (frame_blocks (owed_blocks past)) other)
+abbrev left_owed : History → LineBlock → Bool
+left_owed history other = is_owed history other && not (is_carried (frame_blocks (owed_blocks history)) other)
 
-judged_are : (past : Record) (arrival : Arrival) → IsSent past arrival
-    → judged_by (Wrote (frame_blocks (owed_blocks past)) ∷ past) arrival ≡ map (judge []) (zip (write_heads (frame_blocks (owed_blocks past))) arrival.parts)
-judged_are past arrival sent = ap (λ found. option_map_or (judged arrival) found []) sent.answered
+judged_are : (history : History) (arrival : Arrival) → IsSent history arrival
+    → judged_by (Wrote (frame_blocks (owed_blocks history)) ∷ history) arrival ≡ map (judge []) (zip (write_heads (frame_blocks (owed_blocks history))) arrival.parts)
+judged_are history arrival sent = ap (λ found. option_map_or (judged arrival) found []) sent.answered
 
-frame_inside : (past : Record) → All (InLine (line_of past)) (frame_blocks (owed_blocks past))
-frame_inside past =
-    let front = beside-front 0 (owed_blocks past) in
-    front-all (InLine (line_of past)) (frame_blocks (owed_blocks past)) front.rest (subst (All (InLine (line_of past))) front.joined (owed-inside past))
+frame_inside : (history : History) → All (InLine (line_of history)) (frame_blocks (owed_blocks history))
+frame_inside history =
+    let front = beside-front 0 (owed_blocks history) in
+    front-all (InLine (line_of history)) (frame_blocks (owed_blocks history)) front.rest (subst (All (InLine (line_of history))) front.joined (owed-inside history))
 
-carried_known : (past : Record) (arrival : Arrival) (other : LineBlock) → HasOwnNames (line_of past) → IsSent past arrival → InLine (line_of past) other → is_carried (frame_blocks (owed_blocks past)) other ≡ true
-    → is_owed (Came arrival ∷ Wrote (frame_blocks (owed_blocks past)) ∷ past) other ≡ false
-carried_known past arrival other names sent known carried =
-    let blocks = frame_blocks (owed_blocks past) in
-    let next = Wrote blocks ∷ past in
+carried_known : (history : History) (arrival : Arrival) (other : LineBlock) → HasOwnNames (line_of history) → IsSent history arrival → InLine (line_of history) other → is_carried (frame_blocks (owed_blocks history)) other ≡ true
+    → is_owed (Came arrival ∷ Wrote (frame_blocks (owed_blocks history)) ∷ history) other ≡ false
+carried_known history arrival other names sent known carried =
+    let blocks = frame_blocks (owed_blocks history) in
+    let next = Wrote blocks ∷ history in
     let item = block_item other in
-    let fit = ((answers-first next arrival (just_sent (write_heads blocks))).0 sent.answered).fits in
-    let good : list_all has_good (map (judge []) (zip (write_heads blocks) arrival.parts)) ≡ true = sym (ap (list_all has_good) (judged_are past arrival sent)) ∙ sent.good in
+    let fit = ((answers-first next arrival (sending_of_heads (write_heads blocks))).0 sent.answered).fits in
+    let good : list_all has_good (map (judge []) (zip (write_heads blocks) arrival.parts)) ≡ true = sym (ap (list_all has_good) (judged_are history arrival sent)) ∙ sent.good in
     let confirmed : list_any (confirms item) (judged_by next arrival) ≡ true =
-    ap (list_any (confirms item)) (judged_are past arrival sent) ∙ all_confirm item (write_heads blocks) arrival.parts fit (heads_named item blocks ∙ carried) good in
-    let found = found_among (InLine (line_of past)) other blocks (frame_inside past) carried in
+    ap (list_any (confirms item)) (judged_are history arrival sent) ∙ all_confirm item (write_heads blocks) arrival.parts fit (heads_named item blocks ∙ carried) good in
+    let found = found_among (InLine (line_of history)) other blocks (frame_inside history) carried in
     let same : other ≡ found.block = names other found.block known found.known found.same in
     let bytes : known_bytes (Came arrival ∷ next) other.station other.number ≡ Some found.block.block.bytes =
     known-came next arrival other.station other.number
     ∙ ap (λ b. cond b (option_map (λ write. write.1) (last_write next other.station other.number)) (known_bytes next other.station other.number)) confirmed
-    ∙ ap (λ one. option_map (λ write. write.1) (option_or (option_map (write_of (next_serial past)) one) (last_write past other.station other.number))) found.is in
+    ∙ ap (λ one. option_map (λ write. write.1) (option_or (option_map (write_of (next_serial history)) one) (last_write history other.station other.number))) found.is in
     ap (λ one. not (option_map_or (bytes_eq other.block.bytes) one false)) (bytes ∙ ap (λ (b : LineBlock). Some b.block.bytes) (sym same))
     ∙ ap not (bytes_alike other.block.bytes)
 
-others_known : (past : Record) (arrival : Arrival) (other : LineBlock) → IsSent past arrival → is_carried (frame_blocks (owed_blocks past)) other ≡ false
-    → is_owed (Came arrival ∷ Wrote (frame_blocks (owed_blocks past)) ∷ past) other ≡ is_owed past other
-others_known past arrival other sent carried =
-    let blocks = frame_blocks (owed_blocks past) in
-    let next = Wrote blocks ∷ past in
+others_known : (history : History) (arrival : Arrival) (other : LineBlock) → IsSent history arrival → is_carried (frame_blocks (owed_blocks history)) other ≡ false
+    → is_owed (Came arrival ∷ Wrote (frame_blocks (owed_blocks history)) ∷ history) other ≡ is_owed history other
+others_known history arrival other sent carried =
+    let blocks = frame_blocks (owed_blocks history) in
+    let next = Wrote blocks ∷ history in
     let item = block_item other in
     let none : list_any (confirms item) (judged_by next arrival) ≡ false =
     by_bool (list_any (confirms item) (judged_by next arrival))
-    (λ t. let one = confirms-by [] other.station other.number (write_heads blocks) arrival.parts (sym (ap (list_any (confirms item)) (judged_are past arrival sent)) ∙ t) in
+    (λ t. let one = confirms-by [] other.station other.number (write_heads blocks) arrival.parts (sym (ap (list_any (confirms item)) (judged_are history arrival sent)) ∙ t) in
     let never : true ≡ false = sym one.carried ∙ heads_named item blocks ∙ carried in cc)
     (λ t. t) in
     ap (λ one. not (option_map_or (bytes_eq other.block.bytes) one false))
     (known-came next arrival other.station other.number
     ∙ ap (λ b. cond b (option_map (λ write. write.1) (last_write next other.station other.number)) (known_bytes next other.station other.number)) none)
-    ∙ others-as_before past blocks other carried
+    ∙ others-as_before history blocks other carried
 
-owed_left : (past : Record) (arrival : Arrival) (other : LineBlock) → HasOwnNames (line_of past) → IsSent past arrival → InLine (line_of past) other
-    → is_owed (Came arrival ∷ Wrote (frame_blocks (owed_blocks past)) ∷ past) other ≡ left_owed past other
-owed_left past arrival other names sent known =
-    by_bool (is_carried (frame_blocks (owed_blocks past)) other)
-    (λ t. carried_known past arrival other names sent known t ∙ and_false (is_owed past other) ∙ sym (ap (λ b. is_owed past other && not b) t))
-    (λ t. others_known past arrival other sent t ∙ and_true (is_owed past other) ∙ sym (ap (λ b. is_owed past other && not b) t))
+owed_left : (history : History) (arrival : Arrival) (other : LineBlock) → HasOwnNames (line_of history) → IsSent history arrival → InLine (line_of history) other
+    → is_owed (Came arrival ∷ Wrote (frame_blocks (owed_blocks history)) ∷ history) other ≡ left_owed history other
+owed_left history arrival other names sent known =
+    by_bool (is_carried (frame_blocks (owed_blocks history)) other)
+    (λ t. carried_known history arrival other names sent known t ∙ and_false (is_owed history other) ∙ sym (ap (λ b. is_owed history other && not b) t))
+    (λ t. others_known history arrival other sent t ∙ and_true (is_owed history other) ∙ sym (ap (λ b. is_owed history other && not b) t))
 
 -- lists of blocks that pass
 
@@ -179,45 +179,45 @@ none_pass c (x ∷ blocks) all =
 
 -- a frame and its answer
 
-sent_next : (past : Record) (arrival : Arrival) → IsDone past arrival → entries_after past SendsWrites ≡ Wrote (frame_blocks (owed_blocks past)) ∷ past
-sent_next past arrival done =
-    kept_next past (with_writes past (frame_blocks (owed_blocks past))) (lowest (write_faults past (owed_blocks past))) done.sent
-    ∙ written_next past (frame_blocks (owed_blocks past)) (frame-some past done.sent)
+sent_next : (history : History) (arrival : Arrival) → IsDone history arrival → entries_after history SendsWrites ≡ Wrote (frame_blocks (owed_blocks history)) ∷ history
+sent_next history arrival done =
+    unchanged_next history (with_writes history (frame_blocks (owed_blocks history))) (lowest (write_faults history (owed_blocks history))) done.sent
+    ∙ written_next history (frame_blocks (owed_blocks history)) (frame-some history done.sent)
 
-sent_by : (past : Record) (arrival : Arrival) → IsDone past arrival → IsSent past arrival
-sent_by past arrival done =
-    let next = sent_next past arrival done in
+sent_by : (history : History) (arrival : Arrival) → IsDone history arrival → IsSent history arrival
+sent_by history arrival done =
+    let next = sent_next history arrival done in
     record {
       answered = sym (ap (λ entries. answered_by entries arrival) next) ∙ done.answered;
       good = sym (ap (λ entries. list_all has_good (judged_by entries arrival)) next) ∙ done.good;
     }
 
-after_line : (past : Record) (arrival : Arrival) → IsDone past arrival → line_of (after_done past arrival) ≡ line_of past
-after_line past arrival done = ap line_of (sent_next past arrival done)
+after_line : (history : History) (arrival : Arrival) → IsDone history arrival → line_of (after_done history arrival) ≡ line_of history
+after_line history arrival done = ap line_of (sent_next history arrival done)
 
-one_done : (past : Record) (arrival : Arrival) → HasOwnNames (line_of past) → IsDone past arrival
-    → owed_blocks (after_done past arrival) ≡ filter (λ block. not (is_carried (frame_blocks (owed_blocks past)) block)) (owed_blocks past)
-one_done past arrival names done =
-    let blocks = frame_blocks (owed_blocks past) in
-    ap (λ entries. owed_blocks (Came arrival ∷ entries)) (sent_next past arrival done)
-    ∙ filter_both (InLine (line_of past)) (is_owed past) (is_carried blocks) (is_owed (Came arrival ∷ Wrote blocks ∷ past))
-    (λ x known. owed_left past arrival x names (sent_by past arrival done) known) (line_blocks (line_of past)) (All-contains_itself (line_blocks (line_of past)))
+one_done : (history : History) (arrival : Arrival) → HasOwnNames (line_of history) → IsDone history arrival
+    → owed_blocks (after_done history arrival) ≡ filter (λ block. not (is_carried (frame_blocks (owed_blocks history)) block)) (owed_blocks history)
+one_done history arrival names done =
+    let blocks = frame_blocks (owed_blocks history) in
+    ap (λ entries. owed_blocks (Came arrival ∷ entries)) (sent_next history arrival done)
+    ∙ filter_both (InLine (line_of history)) (is_owed history) (is_carried blocks) (is_owed (Came arrival ∷ Wrote blocks ∷ history))
+    (λ x known. owed_left history arrival x names (sent_by history arrival done) known) (line_blocks (line_of history)) (All-contains_itself (line_blocks (line_of history)))
 
-all_done : (past : Record) (arrivals : List Arrival) → HasOwnNames (line_of past) → AreDone past arrivals
-    → owed_blocks (after_all_done past arrivals) ≡ filter (λ block. not (is_carried (carried_blocks past arrivals) block)) (owed_blocks past)
-all_done past [] names done = sym (filter_every (owed_blocks past))
-all_done past (arrival ∷ arrivals) names done =
-    let after = after_done past arrival in
-    let blocks = frame_blocks (owed_blocks past) in
+all_done : (history : History) (arrivals : List Arrival) → HasOwnNames (line_of history) → AreDone history arrivals
+    → owed_blocks (after_all_done history arrivals) ≡ filter (λ block. not (is_carried (carried_blocks history arrivals) block)) (owed_blocks history)
+all_done history [] names done = sym (filter_every (owed_blocks history))
+all_done history (arrival ∷ arrivals) names done =
+    let after = after_done history arrival in
+    let blocks = frame_blocks (owed_blocks history) in
     let others = carried_blocks after arrivals in
-    let names_after : HasOwnNames (line_of after) = subst HasOwnNames (sym (after_line past arrival done.0)) names in
+    let names_after : HasOwnNames (line_of after) = subst HasOwnNames (sym (after_line history arrival done.0)) names in
     all_done after arrivals names_after done.1
-    ∙ ap (filter (λ block. not (is_carried others block))) (one_done past arrival names done.0)
+    ∙ ap (filter (λ block. not (is_carried others block))) (one_done history arrival names done.0)
     ∙ filter_twice (is_carried blocks) (is_carried others) (is_carried (blocks ++ others))
-    (λ x. list_any-append (λ block. same_item (block_item x) (block_item block)) blocks others) (owed_blocks past)
+    (λ x. list_any-append (λ block. same_item (block_item x) (block_item block)) blocks others) (owed_blocks history)
 
-pub done-known : (past : Record) (arrivals : List Arrival) → HasOwnNames (line_of past) → AreDone past arrivals → AreKnown past arrivals
-done-known past arrivals names done = record {
-  owed = all_done past arrivals names done;
-  nothing = λ all. all_done past arrivals names done ∙ none_pass (is_carried (carried_blocks past arrivals)) (owed_blocks past) all;
+pub done-known : (history : History) (arrivals : List Arrival) → HasOwnNames (line_of history) → AreDone history arrivals → AreKnown history arrivals
+done-known history arrivals names done = record {
+  owed = all_done history arrivals names done;
+  nothing = λ all. all_done history arrivals names done ∙ none_pass (is_carried (carried_blocks history arrivals)) (owed_blocks history) all;
 }

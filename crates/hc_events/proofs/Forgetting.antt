@@ -9,16 +9,16 @@ use Rattle.std.proofs.lemmas.List.Elements.{All-nil, All-cons}
 use Rattle.hc_registers.specs.Blocks.{LineBlock}
 use Rattle.hc_events.specs.Answering.{Good, Sending, Stale, Verdict, Wrong, answered_by, followed_by, forgets, is_dropped, is_outdated, judge, judged, judged_by, sending_of, sends, starts_over}
 use Rattle.hc_events.specs.Arrivals.{Arrival, Part}
-use Rattle.hc_events.specs.Awaited.{awaited, is_write}
-use Rattle.hc_events.specs.Entries.{Entry, Record, Forgot}
+use Rattle.hc_events.specs.Awaited.{awaited, is_write_sending}
+use Rattle.hc_events.specs.Entries.{HistoryEntry, History, Forgot}
 use Rattle.hc_events.specs.Forgetting.{IsForgotten, IsStaleFor}
 use Rattle.hc_events.specs.Heads.{Block, Head}
 use Rattle.hc_events.specs.Owed.{if_confirmed, known_bytes, last_write}
-use Rattle.hc_events.proofs.lemmas.Awaited.{alive_other, awaited-fresh, frame-untouched, same_is, unless_again}
+use Rattle.hc_events.proofs.lemmas.Awaited.{awaited_other, awaited-new_answer, frame-untouched, same_is, unless_again}
 
--- what is known behind it
+-- what is known after it
 
-known_if : (history : Record) (station other number : ℕ) (own : Bool) → (other == station) ≡ own → known_bytes (Forgot station ∷ history) other number ≡ cond own None (known_bytes history other number)
+known_if : (history : History) (station other number : ℕ) (own : Bool) → (other == station) ≡ own → known_bytes (Forgot station ∷ history) other number ≡ cond own None (known_bytes history other number)
 known_if history station other number true e = ap (λ b. option_and_then (if_confirmed history (Block other number)) (cond b None (last_write history other number))) e
 known_if history station other number false e = ap (λ b. option_and_then (if_confirmed history (Block other number)) (cond b None (last_write history other number))) e
 
@@ -28,14 +28,14 @@ owed_if block false known = refl
 
 -- a frame of tasks stays awaited
 
-pub frame-stays : (history : Record) (station serial : ℕ) (sending : Sending) → awaited history serial ≡ Some sending → is_write sending ≡ false
+pub frame-stays : (history : History) (station serial : ℕ) (sending : Sending) → awaited history serial ≡ Some sending → is_write_sending sending ≡ false
     → awaited (Forgot station ∷ history) serial ≡ Some (followed_by (Forgot station) sending)
 frame-stays history station serial sending there frame =
-    alive_other serial (Forgot station) (λ heads. refl) refl (sending_of history serial)
+    awaited_other serial (Forgot station) (λ heads. refl) refl (sending_of history serial)
     ∙ ap (option_and_then (unless_again (Forgot station))) there
-    ∙ ap (λ b. cond b None (Some (followed_by (Forgot station) sending))) (frame-untouched (Forgot station) (λ task d. refl) sending.heads sending.since frame ∙ awaited-fresh history serial sending there)
+    ∙ ap (λ b. cond b None (Some (followed_by (Forgot station) sending))) (frame-untouched (Forgot station) (λ task d. refl) sending.heads sending.since frame ∙ awaited-new_answer history serial sending there)
 
-pub is-forgotten : (history : Record) (station : ℕ) → IsForgotten history station
+pub is-forgotten : (history : History) (station : ℕ) → IsForgotten history station
 is-forgotten history station = record {
   own = λ number. known_if history station station number true (same_is station);
   others = λ other number e. known_if history station other number false e;
@@ -48,25 +48,25 @@ is-forgotten history station = record {
   slots = λ task d. refl;
   dates = λ task d. refl;
   values = λ variable k. refl;
-  news = refl;
+  updates = refl;
   frames = λ serial sending there frame. frame-stays history station serial sending there frame;
 }
 
 -- writes of its blocks that were sent before are stale
 
-stale_verdict : (since : List Entry) (station number : ℕ) (head : Head) (part : Part) → list_any (forgets station) since ≡ true → head.item ≡ Block station number → (judge since (head, part)).verdict ≡ Stale
+stale_verdict : (since : List HistoryEntry) (station number : ℕ) (head : Head) (part : Part) → list_any (forgets station) since ≡ true → head.item ≡ Block station number → (judge since (head, part)).verdict ≡ Stale
 stale_verdict since station number head part forgotten is =
     let then' : Verdict = cond (part.counter == head.expected) Good Wrong in
     let outdated : is_outdated (Block station number) since ≡ true =
     or_left (is_dropped (Block station number) since) (list_any (sends (Block station number)) since) (or_left (list_any (forgets station) since) (starts_over since) forgotten) in
     ap (λ item. cond (is_outdated item since) Stale then') is ∙ ap (λ b. cond b Stale then') outdated
 
-all_stale : (since : List Entry) (station : ℕ) (pairs : List (Head × Part)) → list_any (forgets station) since ≡ true → All (IsStaleFor station) (map (judge since) pairs)
+all_stale : (since : List HistoryEntry) (station : ℕ) (pairs : List (Head × Part)) → list_any (forgets station) since ≡ true → All (IsStaleFor station) (map (judge since) pairs)
 all_stale since station [] forgotten = All-nil (IsStaleFor station)
 all_stale since station (pair ∷ pairs) forgotten =
     All-cons (IsStaleFor station) (judge since pair) (map (judge since) pairs) (λ number is. stale_verdict since station number pair.0 pair.1 forgotten is) (all_stale since station pairs forgotten)
 
-pub forgotten-stale : (history : Record) (arrival : Arrival) (sending : Sending) (station : ℕ) → answered_by history arrival ≡ Some sending → list_any (forgets station) sending.since ≡ true
+pub forgotten-stale : (history : History) (arrival : Arrival) (sending : Sending) (station : ℕ) → answered_by history arrival ≡ Some sending → list_any (forgets station) sending.since ≡ true
     → All (IsStaleFor station) (judged_by history arrival)
 forgotten-stale history arrival sending station answered forgotten =
     subst (All (IsStaleFor station)) (sym (ap (λ found. option_map_or (judged arrival) found []) answered)) (all_stale sending.since station (zip sending.heads arrival.parts) forgotten)

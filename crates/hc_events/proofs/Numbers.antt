@@ -3,7 +3,7 @@ use Rattle.std.proofs.Common.{◌≡◌, ℕ, ◌+◌, ◌%◌, List, [], ◌∷
 use Rattle.hc_frames.specs.FrameText.{Datagram, frame_text}
 use Rattle.hc_events.specs.SendingLaws.{ComesAgain, index_in}
 
--- an index is the byte behind the first datagram's command
+-- an index is the byte after the first datagram's command
 
 index_is : (serial : ℕ) (d : Datagram) (ds : List Datagram) → index_in (frame_text serial (d ∷ ds)) ≡ serial % 256
 index_is serial d [] = refl

@@ -15,36 +15,36 @@ use Rattle.hc_frames.specs.Laws.{CanBeCarried}
 use Rattle.hc_frames.specs.Returned.{AllComeBack, ComesBack, IsReturned}
 use Rattle.hc_frames.proofs.lemmas.Returns.{returned-read}
 use Rattle.hc_events.specs.Arrivals.{Arrival, Part, arrival_in, read_unless}
-use Rattle.hc_events.specs.Entries.{Entry, Record, Opened, Edited, Posted, Sent, Wrote, Came, Forgot}
+use Rattle.hc_events.specs.Entries.{HistoryEntry, History, Opened, Edited, Posted, Sent, Wrote, Came, Forgot}
 use Rattle.hc_events.specs.Points.{line_of, next_serial}
-use Rattle.hc_events.specs.Sendings.{Named, length_of}
+use Rattle.hc_events.specs.Sendings.{Named, line_data_length}
 use Rattle.hc_events.specs.Heads.{data_head, data_heads, item_of, write_head, write_heads}
 use Rattle.hc_events.specs.Answering.{Good, Stale, Wrong, has_head, has_heads, is_answer, is_good, judge, judged, sending_of, sends}
-use Rattle.hc_events.specs.Images.{Fresh, fresh}
-use Rattle.hc_events.specs.Steps.{sent_datagram, told_of, told_of_arrival}
+use Rattle.hc_events.specs.Images.{NewAnswer, new_answer}
+use Rattle.hc_events.specs.Steps.{sent_datagram, judged_answer, arrival_answer}
 use Rattle.hc_events.specs.SendingLaws.{heads_of, is_sending}
-use Rattle.hc_events.specs.AnswerLaws.{LeavesOpen, ReturnsWell, good_part, good_parts, sent_datagrams}
+use Rattle.hc_events.specs.AnswerLaws.{LeavesAwaited, ReturnsWell, good_part, good_parts, sent_datagrams}
 use Rattle.hc_events.specs.WriteFrames.{block_datagram}
 use Rattle.hc_events.proofs.lemmas.SentBits.{sent-data}
 use Rattle.hc_events.proofs.lemmas.Answers.{answer-is, chosen, none-ends, none-opened}
-use Rattle.hc_events.proofs.lemmas.Standing.{found-under, sent_at}
+use Rattle.hc_events.proofs.lemmas.Placing.{found-under, sent_at}
 
 -- the frame fits
 
 all_same : (a b c d e f : ℕ) → b ≡ a → d ≡ c → f ≡ e → ((a == b) && (c == d) && (e == f)) ≡ true
 all_same a b c d e f x y z = grind (arith, nat_tests)
 
-head_back : (past : Record) (named : Named) (part : Part) → ComesBack (sent_datagram past named) part → has_head (data_head (line_of past) named) part ≡ true
-head_back past named part back =
-    all_same (code_of Lrw) (code_of part.command) (logical_address named.0 named.1) part.address (length_of (line_of past) named) (length part.bytes)
-    (ap code_of back.command) back.address (back.size ∙ (sent-data past named.0 named.1).size)
+head_back : (history : History) (named : Named) (part : Part) → ComesBack (sent_datagram history named) part → has_head (data_head (line_of history) named) part ≡ true
+head_back history named part back =
+    all_same (code_of Lrw) (code_of part.command) (logical_address named.0 named.1) part.address (line_data_length (line_of history) named) (length part.bytes)
+    (ap code_of back.command) back.address (back.size ∙ (sent-data history named.0 named.1).size)
 
-heads_back : (past : Record) (frame : List Named) (parts : List Part) → AllComeBack (map (sent_datagram past) frame) parts → has_heads (data_heads (line_of past) frame) parts ≡ true
-heads_back past [] [] back = refl
-heads_back past [] (part ∷ parts) back = absurd back
-heads_back past (named ∷ frame) [] back = absurd back
-heads_back past (named ∷ frame) (part ∷ parts) back =
-    ap (λ b. b && has_heads (data_heads (line_of past) frame) parts) (head_back past named part back.0) ∙ heads_back past frame parts back.1
+heads_back : (history : History) (frame : List Named) (parts : List Part) → AllComeBack (map (sent_datagram history) frame) parts → has_heads (data_heads (line_of history) frame) parts ≡ true
+heads_back history [] [] back = refl
+heads_back history [] (part ∷ parts) back = absurd back
+heads_back history (named ∷ frame) [] back = absurd back
+heads_back history (named ∷ frame) (part ∷ parts) back =
+    ap (λ b. b && has_heads (data_heads (line_of history) frame) parts) (head_back history named part back.0) ∙ heads_back history frame parts back.1
 
 write_back : (block : LineBlock) (part : Part) → ComesBack (block_datagram block) part → has_head (write_head block) part ≡ true
 write_back block part back =
@@ -63,7 +63,7 @@ none_carried : (parts : List Part) → AllComeBack [] parts → 0 < length parts
 none_carried [] back some = omega arith
 none_carried (part ∷ parts) back some = back
 
-some_sent : (before : Record) (entry : Entry) (parts : List Part) → AllComeBack (sent_datagrams before entry) parts → 0 < length parts → is_sending entry ≡ true
+some_sent : (before : History) (entry : HistoryEntry) (parts : List Part) → AllComeBack (sent_datagrams before entry) parts → 0 < length parts → is_sending entry ≡ true
 some_sent before (Opened groups) parts back some = absurd (none_carried parts back some)
 some_sent before (Edited edit) parts back some = absurd (none_carried parts back some)
 some_sent before (Posted task bytes) parts back some = absurd (none_carried parts back some)
@@ -72,7 +72,7 @@ some_sent before (Came arrival) parts back some = absurd (none_carried parts bac
 some_sent before (Sent frame) parts back some = refl
 some_sent before (Wrote blocks) parts back some = refl
 
-all_back : (before : Record) (entry : Entry) (parts : List Part) → AllComeBack (sent_datagrams before entry) parts → 0 < length parts → has_heads (heads_of before entry) parts ≡ true
+all_back : (before : History) (entry : HistoryEntry) (parts : List Part) → AllComeBack (sent_datagrams before entry) parts → 0 < length parts → has_heads (heads_of before entry) parts ≡ true
 all_back before (Opened groups) parts back some = absurd (none_carried parts back some)
 all_back before (Edited edit) parts back some = absurd (none_carried parts back some)
 all_back before (Posted task bytes) parts back some = absurd (none_carried parts back some)
@@ -83,33 +83,33 @@ all_back before (Wrote blocks) parts back some = writes_back blocks parts back
 
 -- and its good data are what came back
 
-good_data : (again same : Bool) (goods : List Fresh) → cond (is_good (cond again Stale (cond same Good Wrong))) goods [] ≡ cond (not again && same) goods []
-good_data true same goods = refl
-good_data false true goods = refl
-good_data false false goods = refl
+good_data : (again same : Bool) (good_answers : List NewAnswer) → cond (is_good (cond again Stale (cond same Good Wrong))) good_answers [] ≡ cond (not again && same) good_answers []
+good_data true same good_answers = refl
+good_data false true good_answers = refl
+good_data false false good_answers = refl
 
-data_back : (since : List Entry) (line : List Member) (frame : List Named) (parts : List Part) → flat_map fresh (map (judge since) (zip (data_heads line frame) parts)) ≡ flat_map (good_part since line) (zip frame parts)
+data_back : (since : List HistoryEntry) (line : List Member) (frame : List Named) (parts : List Part) → flat_map new_answer (map (judge since) (zip (data_heads line frame) parts)) ≡ flat_map (good_part since line) (zip frame parts)
 data_back since line [] parts = refl
 data_back since line (named ∷ frame) [] = refl
 data_back since line (named ∷ frame) (part ∷ parts) =
-    ap (λ goods. goods ++ flat_map fresh (map (judge since) (zip (data_heads line frame) parts)))
+    ap (λ good_answers. good_answers ++ flat_map new_answer (map (judge since) (zip (data_heads line frame) parts)))
     (good_data (list_any (sends (item_of named)) since) (part.counter == expected_counter named.0 named.1 line) (record { task = named.0; datagram = named.1; bytes = part.bytes } ∷ []))
-    ∙ ap (λ goods. good_part since line (named, part) ++ goods) (data_back since line frame parts)
+    ∙ ap (λ good_answers. good_part since line (named, part) ++ good_answers) (data_back since line frame parts)
 
-abbrev no_fresh : List Fresh
-no_fresh = []
+abbrev no_new_answer : List NewAnswer
+no_new_answer = []
 
-nothing_of : (good : Bool) (others : List Fresh) → cond good no_fresh no_fresh ++ others ≡ others
+nothing_of : (good : Bool) (others : List NewAnswer) → cond good no_new_answer no_new_answer ++ others ≡ others
 nothing_of true others = refl
 nothing_of false others = refl
 
-write_data : (since : List Entry) (blocks : List LineBlock) (parts : List Part) → flat_map fresh (map (judge since) (zip (write_heads blocks) parts)) ≡ []
+write_data : (since : List HistoryEntry) (blocks : List LineBlock) (parts : List Part) → flat_map new_answer (map (judge since) (zip (write_heads blocks) parts)) ≡ []
 write_data since [] parts = refl
 write_data since (block ∷ blocks) [] = refl
 write_data since (block ∷ blocks) (part ∷ parts) =
-    nothing_of (is_good (judge since (write_head block, part)).verdict) (flat_map fresh (map (judge since) (zip (write_heads blocks) parts))) ∙ write_data since blocks parts
+    nothing_of (is_good (judge since (write_head block, part)).verdict) (flat_map new_answer (map (judge since) (zip (write_heads blocks) parts))) ∙ write_data since blocks parts
 
-entry_data : (since : List Entry) (before : Record) (entry : Entry) (parts : List Part) → flat_map fresh (map (judge since) (zip (heads_of before entry) parts)) ≡ good_parts since (line_of before) entry parts
+entry_data : (since : List HistoryEntry) (before : History) (entry : HistoryEntry) (parts : List Part) → flat_map new_answer (map (judge since) (zip (heads_of before entry) parts)) ≡ good_parts since (line_of before) entry parts
 entry_data since before (Opened groups) parts = refl
 entry_data since before (Edited edit) parts = refl
 entry_data since before (Posted task bytes) parts = refl
@@ -123,8 +123,8 @@ read_back serial ds parts bytes back can =
     let read = returned-read serial ds parts bytes back can in
     ap (λ fault. read_unless fault (reading_of bytes)) read.0 ∙ ap Ok read.1
 
-pub returns-well : (since : List Entry) (entry : Entry) (before : Record) (parts : List Part) (bytes : List ℕ) → IsReturned (next_serial before) (sent_datagrams before entry) parts bytes → CanBeCarried (next_serial before) parts
-    → All (LeavesOpen (next_serial before) (heads_of before entry)) since → ReturnsWell since entry before parts bytes
+pub returns-well : (since : List HistoryEntry) (entry : HistoryEntry) (before : History) (parts : List Part) (bytes : List ℕ) → IsReturned (next_serial before) (sent_datagrams before entry) parts bytes → CanBeCarried (next_serial before) parts
+    → All (LeavesAwaited (next_serial before) (heads_of before entry)) since → ReturnsWell since entry before parts bytes
 returns-well since entry before parts bytes back can leaves =
     let arrival : Arrival = record { serial = next_serial before; parts = parts } in
     let sending = sent_at since before entry in
@@ -138,6 +138,6 @@ returns-well since entry before parts bytes back can leaves =
       read = read;
       answered = found;
       judged = judged_so;
-      told = ap (told_of_arrival (since ++ entry ∷ before)) read ∙ ap told_of judged_so;
-      goods = ap (λ answer. flat_map fresh (option_map_or (judged arrival) answer [])) found ∙ entry_data since before entry parts;
+      answer_given = ap (arrival_answer (since ++ entry ∷ before)) read ∙ ap judged_answer judged_so;
+      good_answers = ap (λ answer. flat_map new_answer (option_map_or (judged arrival) answer [])) found ∙ entry_data since before entry parts;
     }

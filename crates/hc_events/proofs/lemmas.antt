@@ -17,12 +17,12 @@ pub mod Names
 pub mod Once
 pub mod OneWrite
 pub mod Owed
-pub mod SameBehind
+pub mod SameAfter
 pub mod SentBits
 pub mod SentValues
 pub mod Slots
 pub mod StaleStays
-pub mod Standing
+pub mod Placing
 pub mod TwoWrites
 pub mod Views
 pub mod WithoutStale

@@ -8,7 +8,7 @@ use Rattle.hc_records.specs.Image.{datagram_count, output_length, task_places}
 use Rattle.hc_records.specs.Edits.{edit_faults}
 use Rattle.hc_registers.specs.Blocks.{LineBlock}
 use Rattle.hc_frames.specs.declared.limits.TheConstants.{SETUP_SERIAL}
-use Rattle.hc_events.specs.Entries.{Entry, Record, Opened, Edited, Posted, Sent, Wrote, Came, Forgot}
+use Rattle.hc_events.specs.Entries.{HistoryEntry, History, Opened, Edited, Posted, Sent, Wrote, Came, Forgot}
 use Rattle.hc_events.specs.Points.{line_of, next_serial, opened_with, state_of}
 use Rattle.hc_events.specs.Sendings.{Named, sendings_of}
 use Rattle.hc_events.specs.Owed.{is_in_line, owed_blocks}
@@ -16,25 +16,25 @@ use Rattle.hc_events.specs.WriteFrames.{frame_blocks}
 use Rattle.hc_events.specs.Steps.{Step, entries_after_all}
 
 -- a datagram of the line
-abbrev pub StandsIn : List Member → Named → Type 0
-StandsIn line named = named.1 < datagram_count (task_places named.0 line)
+abbrev pub IsInLine : List Member → Named → Type 0
+IsInLine line named = named.1 < datagram_count (task_places named.0 line)
 
 -- a post of a task that there is, with as many bytes as the task has outputs
 pub record IsPost (line : List Member) (task : ℕ) (bytes : List ℕ) : Type 0 where
-  pub stands : task < TASKS
+  pub is_placed : task < TASKS
   pub fits : length bytes ≡ output_length (task_places task line)
 
--- the frames in which tasks are sent, by their datagrams
+-- the frames where tasks are sent, by their datagrams
 abbrev pub frames_of : List Member → ℕ → List ℕ → List (List Named)
 frames_of line serial tasks = map (λ sending. sending.datagrams) (sendings_of line serial tasks)
 
--- one of the frames in which a list of tasks is sent, of datagrams of the line, while nothing is owed
-pub record IsFrame (past : Record) (frame : List Named) : Type 0 where
-  pub programmed : owed_blocks past ≡ []
-  pub stands : All (StandsIn (line_of past)) frame
+-- one of the frames where a list of tasks is sent, of datagrams of the line, while nothing is owed
+pub record IsFrame (history : History) (frame : List Named) : Type 0 where
+  pub programmed : owed_blocks history ≡ []
+  pub is_placed : All (IsInLine (line_of history)) frame
   pub tasks : List ℕ
   pub serial : ℕ
-  pub one : Contains (frames_of (line_of past) serial tasks) frame
+  pub one : Contains (frames_of (line_of history) serial tasks) frame
 
 -- the first of these blocks
 pub record IsFirst (block : LineBlock) (blocks : List LineBlock) : Type 0 where
@@ -47,39 +47,39 @@ pub record IsWrite (owed blocks : List LineBlock) : Type 0 where
   pub first : (blocks ≡ take 1 owed) ⊎ (blocks ≡ frame_blocks owed)
 
 -- an edit that the state accepts, such a post, such a frame, such register blocks, any arrival that can be read, a slave of the line that is forgotten; a project is opened once
-abbrev pub IsAccepted : Record → Entry → Type 0
-IsAccepted past (Opened groups) = ⊥
-IsAccepted past (Edited edit) = lowest (edit_faults (state_of past) edit) ≡ None
-IsAccepted past (Posted task bytes) = IsPost (line_of past) task bytes
-IsAccepted past (Sent frame) = IsFrame past frame
-IsAccepted past (Wrote blocks) = IsWrite (owed_blocks past) blocks
-IsAccepted past (Came arrival) = Unit {0}
-IsAccepted past (Forgot station) = is_in_line past station ≡ true
+abbrev pub IsAccepted : History → HistoryEntry → Type 0
+IsAccepted history (Opened groups) = ⊥
+IsAccepted history (Edited edit) = lowest (edit_faults (state_of history) edit) ≡ None
+IsAccepted history (Posted task bytes) = IsPost (line_of history) task bytes
+IsAccepted history (Sent frame) = IsFrame history frame
+IsAccepted history (Wrote blocks) = IsWrite (owed_blocks history) blocks
+IsAccepted history (Came arrival) = Unit {0}
+IsAccepted history (Forgot station) = is_in_line history station ≡ true
 
--- the record of a project in which nothing has happened, and what events make of it
-abbrev pub just_opened : List Group → Record
+-- the record of a project where nothing has happened, and what events make of it
+abbrev pub just_opened : List Group → History
 just_opened groups = Opened groups ∷ []
 
--- the record to which events lead from a project's opening
-abbrev pub record_of : List Group → List Step → Record
-record_of groups steps = entries_after_all (just_opened groups) steps
+-- the record that events lead to from a project's opening
+abbrev pub history_of : List Group → List Step → History
+history_of groups steps = entries_after_all (just_opened groups) steps
 
--- each entry behind the opening was accepted when it came
-abbrev pub AreAccepted : Record → Type 0
+-- each entry after the opening was accepted when it came
+abbrev pub AreAccepted : History → Type 0
 AreAccepted [] = ⊥
-AreAccepted (Opened groups ∷ past) = past ≡ []
-AreAccepted (entry ∷ past) = IsAccepted past entry × AreAccepted past
+AreAccepted (Opened groups ∷ history) = history ≡ []
+AreAccepted (entry ∷ history) = IsAccepted history entry × AreAccepted history
 
--- what holds of each record to which events lead, and what a law of such records asks for: each entry behind the opening was accepted when it came, and there are no more sendings than serials
-pub record IsReachable (past : Record) : Type 0 where
-  pub accepted : AreAccepted past
-  pub few : next_serial past ≤ SETUP_SERIAL
+-- what holds of each record that events lead to, and what a law of such records asks for: each entry after the opening was accepted when it came, and there are no more sendings than serials
+pub record IsReachable (history : History) : Type 0 where
+  pub accepted : AreAccepted history
+  pub few : next_serial history ≤ SETUP_SERIAL
 
--- a record to which events lead from a project's opening, with that project's groups
-pub record IsLedTo (groups : List Group) (past : Record) : Type 0 where
-  pub reachable : IsReachable past
-  pub groups_are : opened_with past ≡ groups
+-- a record that events lead to from a project's opening, with that project's groups
+pub record IsLedTo (groups : List Group) (history : History) : Type 0 where
+  pub reachable : IsReachable history
+  pub groups_are : opened_with history ≡ groups
 
 -- so is each
 abbrev pub RecordsAreReachable : Type 0
-RecordsAreReachable = (groups : List Group) (steps : List Step) → IsLedTo groups (record_of groups steps)
+RecordsAreReachable = (groups : List Group) (steps : List Step) → IsLedTo groups (history_of groups steps)

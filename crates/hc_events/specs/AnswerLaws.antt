@@ -9,42 +9,42 @@ use Rattle.hc_frames.specs.Laws.{CanBeCarried}
 use Rattle.hc_frames.specs.Returned.{IsReturned}
 use Rattle.hc_events.specs.declared.sending.TheConstants.{FRAME_BLOCKS}
 use Rattle.hc_events.specs.Arrivals.{Arrival, Part, arrival_in}
-use Rattle.hc_events.specs.Entries.{Entry, Record, Opened, Edited, Sent, Wrote, Came}
+use Rattle.hc_events.specs.Entries.{HistoryEntry, History, Opened, Edited, Sent, Wrote, Came}
 use Rattle.hc_events.specs.Points.{line_of, next_serial}
 use Rattle.hc_events.specs.Sendings.{Named}
 use Rattle.hc_events.specs.Heads.{Head, Item, Datagram as DatagramItem, Block, block_item, data_head, item_of, same_item, write_head}
 use Rattle.hc_events.specs.Answering.{Sending, answered_by, has_heads, is_forgetting, is_stale_to, judge, judged, judged_by, sending_of, sends}
-use Rattle.hc_events.specs.Awaited.{awaited, is_write}
-use Rattle.hc_events.specs.Images.{Fresh, fresh_by}
-use Rattle.hc_events.specs.Steps.{Arrives, answer_to, sent_datagram, told_of}
-use Rattle.hc_events.specs.Accepted.{IsReachable, StandsIn}
-use Rattle.hc_events.specs.SendingLaws.{StandsAt, heads_of}
+use Rattle.hc_events.specs.Awaited.{awaited, is_write_sending}
+use Rattle.hc_events.specs.Images.{NewAnswer, new_answer_by}
+use Rattle.hc_events.specs.Steps.{Arrives, answer_to, sent_datagram, judged_answer}
+use Rattle.hc_events.specs.Accepted.{IsReachable, IsInLine}
+use Rattle.hc_events.specs.SendingLaws.{IsSendingAt, heads_of}
 use Rattle.hc_events.specs.Forgetting.{writes_one}
 use Rattle.hc_events.specs.WriteFrames.{block_datagram}
 
 -- an entry leaves a sending to be answered: it is no opening, no accepted edit, and no arrival with the sending's serial, commands, addresses and lengths
-abbrev pub LeavesOpen : ℕ → List Head → Entry → Type 0
-LeavesOpen serial heads (Opened groups) = ⊥
-LeavesOpen serial heads (Edited edit) = ⊥
-LeavesOpen serial heads (Came other) = other.serial ≡ serial → has_heads heads other.parts ≡ false
-LeavesOpen serial heads entry = Unit {0}
+abbrev pub LeavesAwaited : ℕ → List Head → HistoryEntry → Type 0
+LeavesAwaited serial heads (Opened groups) = ⊥
+LeavesAwaited serial heads (Edited edit) = ⊥
+LeavesAwaited serial heads (Came other) = other.serial ≡ serial → has_heads heads other.parts ≡ false
+LeavesAwaited serial heads entry = Unit {0}
 
 -- an arrival is the first answer to a sending: it has the sending's serial and, datagram for datagram, its commands, addresses and lengths, and each entry since left the sending open
-pub record IsFirstAnswer (past : Record) (arrival : Arrival) (sending : Sending) : Type 0 where
-  pub stands : StandsAt past arrival.serial sending
+pub record IsFirstAnswer (history : History) (arrival : Arrival) (sending : Sending) : Type 0 where
+  pub is_placed : IsSendingAt history arrival.serial sending
   pub fits : has_heads sending.heads arrival.parts ≡ true
-  pub left_open : All (LeavesOpen arrival.serial sending.heads) sending.since
+  pub left_open : All (LeavesAwaited arrival.serial sending.heads) sending.since
 
 -- an arrival answers just the sending whose first answer it is
 abbrev pub AnswersTheSerial : Type 0
 AnswersTheSerial =
-    (past : Record) (arrival : Arrival) (sending : Sending)
-    → (answered_by past arrival ≡ Some sending) ↔ IsFirstAnswer past arrival sending
+    (history : History) (arrival : Arrival) (sending : Sending)
+    → (answered_by history arrival ≡ Some sending) ↔ IsFirstAnswer history arrival sending
 
 -- what a sending says of a datagram is what the line says of it: of this datagram of a task, or of one of the line's register blocks,
--- which is the one that the sending's head names, since the head is that of its write
+-- which is the one that the sending's head names, since its write has this head
 abbrev pub IsItemOf : List Member → Item → Head → Type 0
-IsItemOf line (DatagramItem task d) head = StandsIn line (task, d) × (head ≡ data_head line (task, d))
+IsItemOf line (DatagramItem task d) head = IsInLine line (task, d) × (head ≡ data_head line (task, d))
 IsItemOf line (Block station number) head = (block : LineBlock) × Contains (line_blocks line) block × (head ≡ write_head block)
 
 -- the line has the task's datagram or the register block that the head carries, and says of it the same command, address, length and expected working counter
@@ -54,30 +54,30 @@ IsHeadOf line head = IsItemOf line head.item head
 -- a sending that is answered is of the present line: command, address, length and expected working counter of each datagram are those that it has now
 abbrev pub AnsweredAreOfTheLine : Type 0
 AnsweredAreOfTheLine =
-    (past : Record) (arrival : Arrival) (sending : Sending) → IsReachable past → answered_by past arrival ≡ Some sending
-    → All (IsHeadOf (line_of past)) sending.heads
+    (history : History) (arrival : Arrival) (sending : Sending) → IsReachable history → answered_by history arrival ≡ Some sending
+    → All (IsHeadOf (line_of history)) sending.heads
 
 -- something is awaited with an arrival's serial, and the arrival has its commands, addresses and lengths
-pub record IsAwaited (past : Record) (arrival : Arrival) : Type 0 where
+pub record IsAwaited (history : History) (arrival : Arrival) : Type 0 where
   pub sending : Sending
-  pub there : awaited past arrival.serial ≡ Some sending
+  pub there : awaited history arrival.serial ≡ Some sending
   pub fits : has_heads sending.heads arrival.parts ≡ true
 
 -- the sending that an arrival answers, with what is awaited: it says the same, and each datagram is judged as that one's would be
-pub record IsAnsweredAs (past : Record) (arrival : Arrival) (sending : Sending) : Type 0 where
+pub record IsAnsweredAs (history : History) (arrival : Arrival) (sending : Sending) : Type 0 where
   pub answered : Sending
-  pub found : answered_by past arrival ≡ Some answered
+  pub found : answered_by history arrival ≡ Some answered
   pub heads : answered.heads ≡ sending.heads
-  pub judged : judged_by past arrival ≡ judged arrival sending
+  pub judged : judged_by history arrival ≡ judged arrival sending
 
 -- an arrival is no stale one just where it is awaited, and then it answers what is awaited
-pub record AnswersTheAwaited (past : Record) (arrival : Arrival) : Type 0 where
-  pub news : (is_stale_to past arrival ≡ false) ↔ IsAwaited past arrival
-  pub answers : (a : IsAwaited past arrival) → IsAnsweredAs past arrival a.sending
+pub record AnswersTheAwaited (history : History) (arrival : Arrival) : Type 0 where
+  pub updates : (is_stale_to history arrival ≡ false) ↔ IsAwaited history arrival
+  pub answers : (a : IsAwaited history arrival) → IsAnsweredAs history arrival a.sending
 
 -- so it is of any record and any arrival
 abbrev pub AwaitedAreAnswered : Type 0
-AwaitedAreAnswered = (past : Record) (arrival : Arrival) → AnswersTheAwaited past arrival
+AwaitedAreAnswered = (history : History) (arrival : Arrival) → AnswersTheAwaited history arrival
 
 -- the register blocks of a line have names of their own: a station address and a number name one block. So it is in a project's line
 abbrev pub HasOwnNames : List Member → Type 0
@@ -92,50 +92,51 @@ pub record IsBesideOne (older newer : Sending) : Type 0 where
 -- so it is with any two that are awaited: each later frame of several blocks carries all that is awaited, and so does a single write where a single write is. So at most two are awaited, no two of them of several blocks
 abbrev pub TwoWritesAreAwaited : Type 0
 TwoWritesAreAwaited =
-    (past : Record) (low high : ℕ) (older newer : Sending) → IsReachable past → HasOwnNames (line_of past) → low < high
-    → awaited past low ≡ Some older → is_write older ≡ true → awaited past high ≡ Some newer → is_write newer ≡ true
+    (history : History) (low high : ℕ) (older newer : Sending) → IsReachable history → HasOwnNames (line_of history) → low < high
+    → awaited history low ≡ Some older → is_write_sending older ≡ true → awaited history high ≡ Some newer → is_write_sending newer ≡ true
     → IsBesideOne older newer
 
 -- where each register write was sent in a frame of its own, no other write is awaited beside one
 abbrev pub OneWriteIsAwaited : Type 0
 OneWriteIsAwaited =
-    (past : Record) (serial other : ℕ) (write sending : Sending) → IsReachable past → HasOwnNames (line_of past)
-    → list_all writes_one past ≡ true → awaited past serial ≡ Some write → is_write write ≡ true
-    → awaited past other ≡ Some sending → is_write sending ≡ true → other ≡ serial
+    (history : History) (serial other : ℕ) (write sending : Sending) → IsReachable history → HasOwnNames (line_of history)
+    → list_all writes_one history ≡ true → awaited history serial ≡ Some write → is_write_sending write ≡ true
+    → awaited history other ≡ Some sending → is_write_sending sending ≡ true → other ≡ serial
 
 -- a frame of register writes has 74 datagrams at most
 abbrev pub WritesFitAFrame : Type 0
 WritesFitAFrame =
-    (past : Record) (serial : ℕ) (sending : Sending) → IsReachable past → sending_of past serial ≡ Some sending
-    → is_write sending ≡ true → length sending.heads ≤ FRAME_BLOCKS
+    (history : History) (serial : ℕ) (sending : Sending) → IsReachable history → sending_of history serial ≡ Some sending
+    → is_write_sending sending ≡ true → length sending.heads ≤ FRAME_BLOCKS
 
 -- and as long as no slave's registers were forgotten no frame of tasks is awaited beside a register write
 abbrev pub WritesAreAwaitedAlone : Type 0
 WritesAreAwaitedAlone =
-    (past : Record) (serial other : ℕ) (write sending : Sending) → IsReachable past → list_any is_forgetting past ≡ false
-    → awaited past serial ≡ Some write → is_write write ≡ true
-    → awaited past other ≡ Some sending → is_write sending ≡ true
+    (history : History) (serial other : ℕ) (write sending : Sending) → IsReachable history → list_any is_forgetting history ≡ false
+    → awaited history serial ≡ Some write → is_write_sending write ≡ true
+    → awaited history other ≡ Some sending → is_write_sending sending ≡ true
 
--- the datagrams with which a sending goes out
-abbrev pub sent_datagrams : Record → Entry → List Datagram
-sent_datagrams past (Sent frame) = map (sent_datagram past) frame
-sent_datagrams past (Wrote blocks) = map block_datagram blocks
-sent_datagrams past entry = []
+-- the datagrams that a sending goes out with
+abbrev pub sent_datagrams : History → HistoryEntry → List Datagram
+sent_datagrams history (Sent frame) = map (sent_datagram history) frame
+sent_datagrams history (Wrote blocks) = map block_datagram blocks
+sent_datagrams history entry = []
 
 -- of a task's datagram that came back with its expected working counter and wasn't sent again since, the data that came back
-abbrev pub good_part : List Entry → List Member → Named × Part → List Fresh
+abbrev pub good_part : List HistoryEntry → List Member → Named × Part → List NewAnswer
 good_part since line pair =
     if not (list_any (sends (item_of pair.0)) since) && (pair.1.counter == expected_counter pair.0.0 pair.0.1 line)
     then record { task = pair.0.0; datagram = pair.0.1; bytes = pair.1.bytes } ∷ []
     else []
 
 -- the `good_part` of each datagram of a frame with the part in its place, in order, as far as both go; none of an entry that isn't a frame of tasks
-abbrev pub good_parts : List Entry → List Member → Entry → List Part → List Fresh
+abbrev pub good_parts : List HistoryEntry → List Member → HistoryEntry → List Part → List NewAnswer
 good_parts since line (Sent frame) parts = flat_map (good_part since line) (zip frame parts)
 good_parts since line entry parts = []
 
--- a returned text is read and answers its sending; datagram by datagram it is judged by whether that was sent again since and by its counter, and so it is told; and it gives the data that came back
-pub record ReturnsWell (since : List Entry) (entry : Entry) (before : Record) (parts : List Part) (bytes : List ℕ) : Type 0 where
+-- a returned text is read and answers its sending; datagram by datagram it is judged by whether that was sent again since and by its counter, and so it is reported; and it gives the data that came
+-- back
+pub record ReturnsWell (since : List HistoryEntry) (entry : HistoryEntry) (before : History) (parts : List Part) (bytes : List ℕ) : Type 0 where
   pub read : arrival_in bytes ≡ Ok (record { serial = next_serial before; parts = parts })
   pub answered :
       answered_by (since ++ entry ∷ before) (record { serial = next_serial before; parts = parts })
@@ -143,12 +144,12 @@ pub record ReturnsWell (since : List Entry) (entry : Entry) (before : Record) (p
   pub judged :
       judged_by (since ++ entry ∷ before) (record { serial = next_serial before; parts = parts })
       ≡ map (judge since) (zip (heads_of before entry) parts)
-  pub told : answer_to (since ++ entry ∷ before) (Arrives bytes) ≡ told_of (map (judge since) (zip (heads_of before entry) parts))
-  pub goods : fresh_by (since ++ entry ∷ before) (record { serial = next_serial before; parts = parts }) ≡ good_parts since (line_of before) entry parts
+  pub answer_given : answer_to (since ++ entry ∷ before) (Arrives bytes) ≡ judged_answer (map (judge since) (zip (heads_of before entry) parts))
+  pub good_answers : new_answer_by (since ++ entry ∷ before) (record { serial = next_serial before; parts = parts }) ≡ good_parts since (line_of before) entry parts
 
 -- a frame of tasks or a register write that comes back from the line, whatever its slaves made of its data and its counters and whatever was recorded since its sending, as long as that left it open
 abbrev pub ReturnedFramesAnswer : Type 0
 ReturnedFramesAnswer =
-    (since : List Entry) (entry : Entry) (before : Record) (parts : List Part) (bytes : List ℕ)
+    (since : List HistoryEntry) (entry : HistoryEntry) (before : History) (parts : List Part) (bytes : List ℕ)
     → IsReturned (next_serial before) (sent_datagrams before entry) parts bytes → CanBeCarried (next_serial before) parts
-    → All (LeavesOpen (next_serial before) (heads_of before entry)) since → ReturnsWell since entry before parts bytes
+    → All (LeavesAwaited (next_serial before) (heads_of before entry)) since → ReturnsWell since entry before parts bytes

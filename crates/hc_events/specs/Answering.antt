@@ -1,37 +1,37 @@
--- Which sending an arrival answers, and what it is for each of the sending's datagrams (this project's profile; the working counter is that of ETG.1000.4, 5.4).
+-- Which sending an arrival answers, and what it is for each of the sending's datagrams (this project's profile; the working counter of ETG.1000.4, 5.4).
 use Rattle.std.specs.Prelude.{ℕ, ◌==◌, ◌&&◌, ◌||◌, not, Bool, true, false, if◌then◌else◌, List, [], ◌∷◌, length, map, Option, Some, None, option_map, option_and_then}
 use Rattle.std.specs.Option.{option_map_or}
 use Rattle.std.specs.List.{list_any, zip}
 use Rattle.hc_frames.specs.Commands.{code_of}
 use Rattle.hc_events.specs.Arrivals.{Arrival, Part}
-use Rattle.hc_events.specs.Entries.{Entry, Record, Opened, Edited, Sent, Wrote, Came, Forgot}
+use Rattle.hc_events.specs.Entries.{HistoryEntry, History, Opened, Edited, Sent, Wrote, Came, Forgot}
 use Rattle.hc_events.specs.Points.{line_of, next_serial}
 use Rattle.hc_events.specs.Heads.{Item, Datagram, Block, Head, same_item, item_of, block_item, data_heads, write_heads}
 
 -- a sending as it is looked back upon: what it said of its datagrams, and the entries since, the newest first
 pub record Sending : Type 0 where
   pub heads : List Head
-  pub since : List Entry
+  pub since : List HistoryEntry
 
 -- the sending with these heads since which nothing was recorded
-abbrev pub just_sent : List Head → Sending
-just_sent heads = record { heads = heads; since = [] }
+abbrev pub sending_of_heads : List Head → Sending
+sending_of_heads heads = record { heads = heads; since = [] }
 
 -- the sending with one more entry since, put before the others as the newest
-abbrev pub followed_by : Entry → Sending → Sending
+abbrev pub followed_by : HistoryEntry → Sending → Sending
 followed_by entry sending = record { heads = sending.heads; since = entry ∷ sending.since }
 
 -- the sending with a serial, which is the number of sendings before it
-abbrev pub sending_of : Record → ℕ → Option Sending
+abbrev pub sending_of : History → ℕ → Option Sending
 sending_of [] serial = None
-sending_of (Opened groups ∷ past) serial = None
-sending_of (Sent frame ∷ past) serial =
-    if next_serial past == serial then Some (just_sent (data_heads (line_of past) frame))
-    else option_map (followed_by (Sent frame)) (sending_of past serial)
-sending_of (Wrote blocks ∷ past) serial =
-    if next_serial past == serial then Some (just_sent (write_heads blocks))
-    else option_map (followed_by (Wrote blocks)) (sending_of past serial)
-sending_of (entry ∷ past) serial = option_map (followed_by entry) (sending_of past serial)
+sending_of (Opened groups ∷ history) serial = None
+sending_of (Sent frame ∷ history) serial =
+    if next_serial history == serial then Some (sending_of_heads (data_heads (line_of history) frame))
+    else option_map (followed_by (Sent frame)) (sending_of history serial)
+sending_of (Wrote blocks ∷ history) serial =
+    if next_serial history == serial then Some (sending_of_heads (write_heads blocks))
+    else option_map (followed_by (Wrote blocks)) (sending_of history serial)
+sending_of (entry ∷ history) serial = option_map (followed_by entry) (sending_of history serial)
 
 -- a datagram came back with the command, the address and the length that it was sent with
 abbrev pub has_head : Head → Part → Bool
@@ -46,57 +46,57 @@ has_heads (head ∷ heads) [] = false
 has_heads (head ∷ heads) (part ∷ parts) = has_head head part && has_heads heads parts
 
 -- the arrival has the sending's serial and its list of commands, addresses and lengths
-abbrev pub fits : ℕ → List Head → Arrival → Bool
-fits serial heads arrival = (serial == arrival.serial) && has_heads heads arrival.parts
+abbrev pub fits_sending : ℕ → List Head → Arrival → Bool
+fits_sending serial heads arrival = (serial == arrival.serial) && has_heads heads arrival.parts
 
--- an accepted edit or such an arrival: no arrival behind it answers the sending
-abbrev pub ends : ℕ → List Head → Entry → Bool
+-- an accepted edit or such an arrival: no arrival after it answers the sending
+abbrev pub ends : ℕ → List Head → HistoryEntry → Bool
 ends serial heads (Edited edit) = true
-ends serial heads (Came arrival) = fits serial heads arrival
+ends serial heads (Came arrival) = fits_sending serial heads arrival
 ends serial heads entry = false
 
 -- an arrival answers a sending, which has its serial, where it fits it, and since then no edit was accepted and none that fits came
 abbrev pub is_answer : Arrival → Sending → Bool
 is_answer arrival sending =
-    fits arrival.serial sending.heads arrival && not (list_any (ends arrival.serial sending.heads) sending.since)
+    fits_sending arrival.serial sending.heads arrival && not (list_any (ends arrival.serial sending.heads) sending.since)
 
 -- `x` where it passes the test, else none
 abbrev pub only_if : {X : Type 0} → (X → Bool) → X → Option X
 only_if test x = if test x then Some x else None
 
 -- the sending that an arrival answers: the one with its serial, where the arrival is an answer to it; none otherwise
-abbrev pub answered_by : Record → Arrival → Option Sending
-answered_by past arrival = option_and_then (only_if (is_answer arrival)) (sending_of past arrival.serial)
+abbrev pub answered_by : History → Arrival → Option Sending
+answered_by history arrival = option_and_then (only_if (is_answer arrival)) (sending_of history arrival.serial)
 
 -- a sending of the same datagram or block
-abbrev pub sends : Item → Entry → Bool
+abbrev pub sends : Item → HistoryEntry → Bool
 sends item (Sent frame) = list_any (λ named. same_item item (item_of named)) frame
 sends item (Wrote blocks) = list_any (λ block. same_item item (block_item block)) blocks
 sends item entry = false
 
 -- a slave's registers were forgotten
-abbrev pub is_forgetting : Entry → Bool
+abbrev pub is_forgetting : HistoryEntry → Bool
 is_forgetting (Forgot station) = true
 is_forgetting entry = false
 
 -- those of the slave with a station address were
-abbrev pub forgets : ℕ → Entry → Bool
+abbrev pub forgets : ℕ → HistoryEntry → Bool
 forgets station (Forgot other) = station == other
 forgets station entry = false
 
 -- after some slave's registers were forgotten a register write was sent: it takes the place of every write before that
-abbrev pub starts_over : List Entry → Bool
+abbrev pub starts_over : List HistoryEntry → Bool
 starts_over [] = false
 starts_over (Wrote blocks ∷ since) = list_any is_forgetting since || starts_over since
 starts_over (entry ∷ since) = starts_over since
 
 -- a write of the register block says nothing any more: the slave was forgotten since, or the writes started over; a task's datagram has no part in either
-abbrev pub is_dropped : Item → List Entry → Bool
+abbrev pub is_dropped : Item → List HistoryEntry → Bool
 is_dropped (Datagram task d) since = false
 is_dropped (Block station number) since = list_any (forgets station) since || starts_over since
 
 -- what was sent is out of date: it was dropped or sent again since
-abbrev pub is_outdated : Item → List Entry → Bool
+abbrev pub is_outdated : Item → List HistoryEntry → Bool
 is_outdated item since = is_dropped item since || list_any (sends item) since
 
 -- what an answer is for a datagram: good by its working counter, wrong by it, or stale where the datagram or block was sent again since, or the block's write was dropped
@@ -118,7 +118,7 @@ is_stale Wrong = false
 is_stale Stale = true
 
 -- what came back of a datagram is stale where it is out of date (`is_outdated`), else good where its working counter is the expected one, else wrong
-abbrev pub verdict : List Entry → Head → Part → Verdict
+abbrev pub verdict : List HistoryEntry → Head → Part → Verdict
 verdict since head part =
     if is_outdated head.item since then Stale else (if part.counter == head.expected then Good else Wrong)
 
@@ -129,7 +129,7 @@ pub record Judged : Type 0 where
   pub verdict : Verdict
 
 -- a head and what came back of it, with the verdict that follows from the entries since the sending
-abbrev pub judge : List Entry → Head × Part → Judged
+abbrev pub judge : List HistoryEntry → Head × Part → Judged
 judge since pair = record { head = pair.0; part = pair.1; verdict = verdict since pair.0 pair.1 }
 
 -- the sending's heads in order, each with the arrival's datagram in its place and the verdict, as far as both go; whether the arrival fits isn't looked at
@@ -137,17 +137,17 @@ abbrev pub judged : Arrival → Sending → List Judged
 judged arrival sending = map (judge sending.since) (zip sending.heads arrival.parts)
 
 -- the datagrams of the sending that an arrival answers; none where it answers none
-abbrev pub judged_by : Record → Arrival → List Judged
-judged_by past arrival = option_map_or (judged arrival) (answered_by past arrival) []
+abbrev pub judged_by : History → Arrival → List Judged
+judged_by history arrival = option_map_or (judged arrival) (answered_by history arrival) []
 
 -- the judged datagram is good or wrong, not stale
-abbrev pub is_news : Judged → Bool
-is_news datagram = not (is_stale datagram.verdict)
+abbrev pub is_current : Judged → Bool
+is_current datagram = not (is_stale datagram.verdict)
 
 -- the judged datagram's verdict is `Good`
 abbrev pub has_good : Judged → Bool
 has_good datagram = is_good datagram.verdict
 
 -- an arrival is stale where it answers no sending, or each datagram is stale
-abbrev pub is_stale_to : Record → Arrival → Bool
-is_stale_to past arrival = not (list_any is_news (judged_by past arrival))
+abbrev pub is_stale_to : History → Arrival → Bool
+is_stale_to history arrival = not (list_any is_current (judged_by history arrival))

@@ -1,12 +1,12 @@
--- A frame that arrived: the fault for which it can't be read, or its serial and its datagrams.
+-- A frame that arrived: the fault why it can't be read, or its serial and its datagrams.
 use Rattle.std.specs.Prelude.{ℕ, List, Option, Some, None, Result, Ok, Err}
 use Rattle.hc_frames.specs.Arrived.{Reading, fault_in, reading_of}
-use Rattle.hc_frames.specs.FrameText.{Carried}
+use Rattle.hc_frames.specs.FrameText.{WireDatagram}
 use Rattle.hc_frames.specs.declared.reading.faults.FrameFault.{FrameFault}
 
 -- a datagram that came back: its command and address, its interrupt field, its data and its working counter
 abbrev pub Part : Type 0
-Part = Carried
+Part = WireDatagram
 
 -- the serial and the datagrams
 abbrev pub Arrival : Type 0
@@ -17,6 +17,6 @@ abbrev pub read_unless : Option FrameFault → Arrival → Result Arrival FrameF
 read_unless None arrival = Ok arrival
 read_unless (Some fault) arrival = Err fault
 
--- what bytes that arrived are read as: the first fault for which they can't be read (`fault_in`), or else their serial and datagrams
+-- what bytes that arrived are read as: the first fault why they can't be read (`fault_in`), or else their serial and datagrams
 abbrev pub arrival_in : List ℕ → Result Arrival FrameFault
 arrival_in bytes = read_unless (fault_in bytes) (reading_of bytes)

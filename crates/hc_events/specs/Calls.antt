@@ -1,41 +1,42 @@
--- What the calls of a core add to the answers: want of memory, a slice of the caller's that is too short, and what the caller keeps to.
-use Rattle.std.specs.Prelude.{◌≡◌, ℕ, ◌+◌, ◌<◌, ◌≤◌, ◌⊎◌, ◌&&◌, nat_le, nat_lt, not, Bool, true, false, if◌then◌else◌, List, [], ◌∷◌, ◌++◌, length, sum_by, Option, Some, None}
+-- What the calls of a core add to the answers: refused memory, a slice of the caller's that is too short, and what the caller keeps to.
+use Rattle.std.specs.Prelude.{◌≡◌, ℕ, ◌+◌, ◌<◌, ◌≤◌, ◌⊎◌, ◌&&◌, nat_le, nat_lt, not, Bool, true, false, if◌then◌else◌, List, [], ◌∷◌, ◌++◌, length, sum_by, Option, Some, None, drop}
+use Rattle.std.specs.List.{flat_map}
 use Rattle.hc_records.specs.declared.limits.TheConstants.{TASKS}
 use Rattle.hc_records.specs.Lists.{has_repeat}
 use Rattle.hc_records.specs.Image.{datagram_count, task_places}
 use Rattle.hc_registers.specs.Blocks.{LineBlock}
 use Rattle.hc_frames.specs.Sizes.{frame_bytes}
 use Rattle.hc_events.specs.declared.answer.Answer.{Answer}
+use Rattle.hc_events.specs.Steps.{sent_text, Step, Posts, Forgets, answer_to, entries_after, has_serials, proposal, task_faults, write_faults}
 use Rattle.hc_events.specs.declared.answer.Answer.TheVariants as answer
 use Rattle.hc_events.specs.declared.faults.CoreFault.{CoreFault}
 use Rattle.hc_events.specs.declared.faults.CoreFault.TheVariants.{Memory, Room}
-use Rattle.hc_events.specs.Entries.{Record}
+use Rattle.hc_events.specs.Entries.{History}
 use Rattle.hc_events.specs.Points.{line_of, next_serial}
-use Rattle.hc_events.specs.Sendings.{Frame, alone, length_of, size_of}
+use Rattle.hc_events.specs.Sendings.{Frame, frame_of_one, line_data_length, sent_frame_size}
 use Rattle.hc_events.specs.Owed.{owed_blocks}
 use Rattle.hc_events.specs.WriteFrames.{frame_blocks, writes_size}
-use Rattle.hc_events.specs.Steps.{Step, Posts, Forgets, answer_to, entries_after, has_serials, proposal, task_faults, write_faults}
 
--- an event takes memory for what it answers or for what is kept behind it; a post takes none, since the room for its values was taken at the opening or by an accepted edit; forgetting a slave's registers takes none
+-- an event takes memory for what it answers or for what is kept after it; a post takes none, since the room for its values was taken at the opening or by an accepted edit; forgetting a slave's registers takes none
 abbrev pub takes_memory : Step → Bool
 takes_memory (Posts task epoch bytes) = false
 takes_memory (Forgets station) = false
 takes_memory step = true
 
--- the event's answer, and the record behind it
-pub record IsAnswered (past : Record) (step : Step) (told : Answer) (next : Record) : Type 0 where
-  pub answer : told ≡ answer_to past step
-  pub entries : next ≡ entries_after past step
+-- the event's answer, and the record after it
+pub record IsAnswered (history : History) (step : Step) (answer_given : Answer) (next : History) : Type 0 where
+  pub answer : answer_given ≡ answer_to history step
+  pub entries : next ≡ entries_after history step
 
--- want of memory, and the record as it was
-pub record IsWanting (past : Record) (step : Step) (told : Answer) (next : Record) : Type 0 where
+-- `Memory`, and the history as it was
+pub record IsOutOfMemory (history : History) (step : Step) (answer_given : Answer) (next : History) : Type 0 where
   pub takes : takes_memory step ≡ true
-  pub answer : told ≡ answer.Refused Memory
-  pub entries : next ≡ past
+  pub answer : answer_given ≡ answer.Refused Memory
+  pub entries : next ≡ history
 
--- what may be answered to an event, and the record that is then left: want of memory may stand in place of any answer to an event that takes some
-abbrev pub MayAnswer : Record → Step → Answer → Record → Type 0
-MayAnswer past step told next = IsAnswered past step told next ⊎ IsWanting past step told next
+-- what may be answered to an event, and the record that is then left: `Memory` may take the place of any answer to an event that takes some
+abbrev pub MayAnswer : History → Step → Answer → History → Type 0
+MayAnswer history step answer_given next = IsAnswered history step answer_given next ⊎ IsOutOfMemory history step answer_given next
 
 -- so many bytes are needed, and the slice has fewer
 abbrev pub room_faults : ℕ → ℕ → List (Bool × CoreFault)
@@ -46,21 +47,25 @@ abbrev pub write_size : List LineBlock → ℕ
 write_size [] = 0
 write_size (block ∷ blocks) = frame_bytes (12 + length block.block.bytes)
 
--- it goes into a slice of so many bytes: refused as the event is, and behind that where the slice is too short
-abbrev pub write_into_faults : Record → ℕ → List (Bool × CoreFault)
-write_into_faults past bytes = write_faults past (owed_blocks past) ++ room_faults (write_size (owed_blocks past)) bytes
+-- it goes into a slice of so many bytes: refused as the event is, and after that where the slice is too short
+abbrev pub write_into_faults : History → ℕ → List (Bool × CoreFault)
+write_into_faults history bytes = write_faults history (owed_blocks history) ++ room_faults (write_size (owed_blocks history)) bytes
 
 -- the frame that writes the first of the owed blocks, as many as it holds, goes into a slice of so many bytes: refused in the same way
-abbrev pub write_all_into_faults : Record → ℕ → List (Bool × CoreFault)
-write_all_into_faults past bytes = write_faults past (owed_blocks past) ++ room_faults (writes_size (frame_blocks (owed_blocks past))) bytes
+abbrev pub write_all_into_faults : History → ℕ → List (Bool × CoreFault)
+write_all_into_faults history bytes = write_faults history (owed_blocks history) ++ room_faults (writes_size (frame_blocks (owed_blocks history))) bytes
 
--- the bytes of the frames in which tasks are sent
-abbrev pub frames_size : Record → List ℕ → ℕ
-frames_size past tasks = sum_by size_of (proposal past tasks)
+-- the bytes of the frames where tasks are sent
+abbrev pub frames_size : History → List ℕ → ℕ
+frames_size history tasks = sum_by sent_frame_size (proposal history tasks)
+
+-- a slice with the texts of these frames at its front, one after another, and with what it had after them
+abbrev pub arena_sent : History → List ℕ → List ℕ → List ℕ
+arena_sent history tasks arena = flat_map (sent_text history) (proposal history tasks) ++ drop (frames_size history tasks) arena
 
 -- they go into one slice of so many bytes, one after another: refused in the same way
-abbrev pub send_into_faults : Record → List ℕ → ℕ → List (Bool × CoreFault)
-send_into_faults past tasks bytes = task_faults past tasks ++ room_faults (frames_size past tasks) bytes
+abbrev pub send_into_faults : History → List ℕ → ℕ → List (Bool × CoreFault)
+send_into_faults history tasks bytes = task_faults history tasks ++ room_faults (frames_size history tasks) bytes
 
 -- what the caller keeps to who sends tasks: at least one, as many as there are tasks at most, and none twice; whether there is such a task is judged by the event
 pub record AreSentTogether (tasks : List ℕ) : Type 0 where
@@ -77,8 +82,8 @@ abbrev pub if_together : List ℕ → Option (List ℕ)
 if_together tasks = if are_together tasks then Some tasks else None
 
 -- the frame of one datagram alone as it would be sent next, whether or not blocks are owed; none where the task has no such datagram or no serial is left
-abbrev pub preview : Record → ℕ → ℕ → Option Frame
-preview past task d =
-    if nat_lt d (datagram_count (task_places task (line_of past))) && has_serials past 1
-    then Some (alone (next_serial past) (task, d) (length_of (line_of past) (task, d)))
+abbrev pub preview : History → ℕ → ℕ → Option Frame
+preview history task d =
+    if nat_lt d (datagram_count (task_places task (line_of history))) && has_serials history 1
+    then Some (frame_of_one (next_serial history) (task, d) (line_data_length (line_of history) (task, d)))
     else None

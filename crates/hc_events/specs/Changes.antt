@@ -1,4 +1,4 @@
--- What a reader of the input images is told, and what it follows from it without the record.
+-- What a reader of the input images gets, and what it follows from it without the record.
 use Rattle.std.specs.Prelude.{◌≡◌, ℕ, ◌+◌, ◌<◌, IsOk, List, [], ◌∷◌, ◌++◌, length, map, Option, None}
 use Rattle.hc_records.specs.declared.edit.Edit.{Edit}
 use Rattle.hc_records.specs.declared.records.Group.{Group}
@@ -9,30 +9,30 @@ use Rattle.hc_places.specs.Swap.{swapped}
 use Rattle.hc_places.specs.Table.{Table, table_of}
 use Rattle.hc_events.specs.declared.change.Change.{Change}
 use Rattle.hc_events.specs.declared.change.Change.TheVariants as change
-use Rattle.hc_events.specs.Entries.{Record, Opened, Edited, Came}
-use Rattle.hc_events.specs.Images.{Fresh, fresh_by, renewed}
+use Rattle.hc_events.specs.Entries.{History, Opened, Edited, Came}
+use Rattle.hc_events.specs.Images.{NewAnswer, new_answer_by, renewed}
 
 -- an accepted edit, or a good answer of a datagram
-pub data News : Type 0 where
-  Swapped : Edit → News
-  Answered : Fresh → News
+pub data Update : Type 0 where
+  Swapped : Edit → Update
+  Answered : NewAnswer → Update
 
--- the news of a record, the oldest first
-abbrev pub news_of : Record → List News
-news_of [] = []
-news_of (Opened groups ∷ past) = []
-news_of (Edited edit ∷ past) = news_of past ++ Swapped edit ∷ []
-news_of (Came arrival ∷ past) = news_of past ++ map Answered (fresh_by past arrival)
-news_of (entry ∷ past) = news_of past
+-- the updates of a record, the oldest first
+abbrev pub updates_of : History → List Update
+updates_of [] = []
+updates_of (Opened groups ∷ history) = []
+updates_of (Edited edit ∷ history) = updates_of history ++ Swapped edit ∷ []
+updates_of (Came arrival ∷ history) = updates_of history ++ map Answered (new_answer_by history arrival)
+updates_of (entry ∷ history) = updates_of history
 
--- what a change tells: a swap names its edit
-abbrev pub told_by : Change → News
-told_by (change.Swapped swap) = Swapped swap.edit
-told_by (change.Good good) = Answered good
+-- what a change gives: a swap names its edit
+abbrev pub update_in : Change → Update
+update_in (change.Swapped swap) = Swapped swap.edit
+update_in (change.Good good) = Answered good
 
 -- a datagram of the state, and data of its length
 pub record IsAnswerIn (state : State) (task d : ℕ) (bytes : List ℕ) : Type 0 where
-  pub stands : d < datagram_count (task_places task (line state))
+  pub is_placed : d < datagram_count (task_places task (line state))
   pub fits : length bytes ≡ datagram_length (task_places task (line state)) d
 
 -- an edit that the state accepts, and the table of the state that it leads to
@@ -53,23 +53,23 @@ abbrev pub AreLegal : List Group → List Change → Type 0
 AreLegal groups changes = AreLegalFrom (opened groups) changes
 
 -- what a list of changes leads to by itself, without any edit or arrival: the table, the epoch, and the datagrams' data
-abbrev pub table_behind : Table → List Change → Table
-table_behind table [] = table
-table_behind table (change.Swapped swap ∷ changes) = table_behind (swapped swap.change table) changes
-table_behind table (change.Good good ∷ changes) = table_behind table changes
+abbrev pub table_after : Table → List Change → Table
+table_after table [] = table
+table_after table (change.Swapped swap ∷ changes) = table_after (swapped swap.change table) changes
+table_after table (change.Good good ∷ changes) = table_after table changes
 
--- the epoch behind the changes: each swap is the next one
-abbrev pub epoch_behind : ℕ → List Change → ℕ
-epoch_behind epoch [] = epoch
-epoch_behind epoch (change.Swapped swap ∷ changes) = epoch_behind (epoch + 1) changes
-epoch_behind epoch (change.Good good ∷ changes) = epoch_behind epoch changes
+-- the epoch after the changes: each swap is the next one
+abbrev pub epoch_after : ℕ → List Change → ℕ
+epoch_after epoch [] = epoch
+epoch_after epoch (change.Swapped swap ∷ changes) = epoch_after (epoch + 1) changes
+epoch_after epoch (change.Good good ∷ changes) = epoch_after epoch changes
 
--- a datagram's data behind the changes: those of its last good answer behind the last swap; without either, those of before
-abbrev pub slot_behind : ℕ → ℕ → Option (List ℕ) → List Change → Option (List ℕ)
-slot_behind task d slot [] = slot
-slot_behind task d slot (change.Swapped swap ∷ changes) = slot_behind task d None changes
-slot_behind task d slot (change.Good good ∷ changes) =
-    slot_behind task d (renewed task d slot good) changes
+-- a datagram's data after the changes: those of its last good answer after the last swap; without either, those of before
+abbrev pub slot_after : ℕ → ℕ → Option (List ℕ) → List Change → Option (List ℕ)
+slot_after task d slot [] = slot
+slot_after task d slot (change.Swapped swap ∷ changes) = slot_after task d None changes
+slot_after task d slot (change.Good good ∷ changes) =
+    slot_after task d (renewed task d slot good) changes
 
 -- along the list each swap leads to the table of the next state
 abbrev pub SwapsLeadFrom : State → List Change → Type 0
@@ -79,7 +79,7 @@ SwapsLeadFrom state (change.Swapped swap ∷ changes) =
     × SwapsLeadFrom (state_after state swap.edit) changes
 SwapsLeadFrom state (change.Good good ∷ changes) = SwapsLeadFrom state changes
 
--- these are the changes that a record of a project tells
-pub record AreChangesOf (groups : List Group) (past : Record) (changes : List Change) : Type 0 where
-  pub told : map told_by changes ≡ news_of past
+-- these are the changes that a record of a project gives
+pub record AreChangesOf (groups : List Group) (history : History) (changes : List Change) : Type 0 where
+  pub answer_given : map update_in changes ≡ updates_of history
   pub lead : SwapsLeadFrom (opened groups) changes

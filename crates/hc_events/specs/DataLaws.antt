@@ -6,9 +6,9 @@ use Rattle.hc_records.specs.Line.{Member, groups_of}
 use Rattle.hc_records.specs.Image.{VariablePlace, variable_place}
 use Rattle.hc_records.specs.Project.{lowest_fault}
 use Rattle.hc_bits.specs.Bits.{bit_of}
-use Rattle.hc_events.specs.Entries.{Record}
+use Rattle.hc_events.specs.Entries.{History}
 use Rattle.hc_events.specs.Points.{line_of, state_of}
-use Rattle.hc_events.specs.Sendings.{length_of}
+use Rattle.hc_events.specs.Sendings.{line_data_length}
 use Rattle.hc_events.specs.Outputs.{sent_data, value_bit}
 
 -- a variable of the line is an output in this datagram of this task, and has this place
@@ -23,18 +23,18 @@ pub record LiesIn (place : VariablePlace) (k : ℕ) : Type 0 where
   pub from : place.bit ≤ k
   pub below : k < place.bit + place.bits
 
--- a datagram is sent with its length; at each output variable's place stand the bits of its value, and each bit that lies in no output variable's place is 0
-pub record IsSentData (past : Record) (task d : ℕ) (bytes : List ℕ) : Type 0 where
-  pub size : length bytes ≡ length_of (line_of past) (task, d)
+-- a datagram is sent with its length; at each output variable's place are the bits of its value, and each bit that lies in no output variable's place is 0
+pub record IsSentData (history : History) (task d : ℕ) (bytes : List ℕ) : Type 0 where
+  pub size : length bytes ≡ line_data_length (line_of history) (task, d)
   pub values :
-      (variable k : ℕ) (place : VariablePlace) → IsOutputOf (line_of past) task d variable place → k < place.bits
-      → bit_of bytes (place.bit + k) ≡ value_bit past variable k
+      (variable k : ℕ) (place : VariablePlace) → IsOutputOf (line_of history) task d variable place → k < place.bits
+      → bit_of bytes (place.bit + k) ≡ value_bit history variable k
   pub others :
-      (k : ℕ) → k < 8 * length bytes → ((variable : ℕ) (place : VariablePlace) → IsOutputOf (line_of past) task d variable place → ¬ (LiesIn place k))
+      (k : ℕ) → k < 8 * length bytes → ((variable : ℕ) (place : VariablePlace) → IsOutputOf (line_of history) task d variable place → ¬ (LiesIn place k))
       → bit_of bytes k ≡ 0
 
--- so it is for each task (a higher number is refused before anything is sent) where the state is one of a project: `Project::groups` tells that of the opened groups, and `Plan` of the state behind its edits
+-- so it is for each task (a higher number is refused before anything is sent) where the state is one of a project: `Project::groups` gives the opened groups', and `Plan` the state's after its edits
 abbrev pub SentDataAreValues : Type 0
 SentDataAreValues =
-    (past : Record) (task d : ℕ) → lowest_fault (groups_of (state_of past).groups) ≡ None → task < TASKS
-    → IsSentData past task d (sent_data past task d)
+    (history : History) (task d : ℕ) → lowest_fault (groups_of (state_of history).groups) ≡ None → task < TASKS
+    → IsSentData history task d (sent_data history task d)

@@ -7,15 +7,15 @@ use Rattle.hc_events.specs.Arrivals.{Arrival}
 use Rattle.hc_events.specs.Sendings.{Named}
 
 -- the project's groups; an edit; a task and the bytes that it posted; a frame by its datagrams; the register blocks that one frame writes, in order; a frame that arrived and could be read; the station address of a slave whose registers were forgotten
-pub data Entry : Type 0 where
-  Opened : List Group → Entry
-  Edited : Edit → Entry
-  Posted : ℕ → List ℕ → Entry
-  Sent : List Named → Entry
-  Wrote : List LineBlock → Entry
-  Came : Arrival → Entry
-  Forgot : ℕ → Entry
+pub data HistoryEntry : Type 0 where
+  Opened : List Group → HistoryEntry
+  Edited : Edit → HistoryEntry
+  Posted : ℕ → List ℕ → HistoryEntry
+  Sent : List Named → HistoryEntry
+  Wrote : List LineBlock → HistoryEntry
+  Came : Arrival → HistoryEntry
+  Forgot : ℕ → HistoryEntry
 
 -- a list of entries, the newest first: what the core accepted since a project was opened
-abbrev pub Record : Type 0
-Record = List Entry
+abbrev pub History : Type 0
+History = List HistoryEntry

@@ -7,7 +7,7 @@ use Rattle.hc_places.specs.Table.{table_of}
 use Rattle.hc_events.specs.declared.change.Change.{Change}
 use Rattle.hc_events.specs.declared.change.Change.TheVariants as change
 
--- along the list from a state on, each swap leads from the state's table to that of the state which its edit makes, says what differs between the two and nothing else, and has a row for each variable whose place differs
+-- along the list from a state on, each swap leads from the state's table to the table after its edit, says what differs between the two and nothing else, and has a row for each variable whose place differs
 abbrev pub SwapsAreExactFrom : State → List Change → Type 0
 SwapsAreExactFrom state [] = Unit {0}
 SwapsAreExactFrom state (change.Swapped swap ∷ changes) =

@@ -9,7 +9,7 @@ use Rattle.hc_events.specs.declared.faults.CoreFault.{CoreFault}
 use Rattle.hc_events.specs.declared.faults.CoreFault.TheVariants.{StalePost, PostLength, Unprogrammed, NothingOwed, SerialsSpent, Memory, Room}
 use Rattle.hc_events.specs.Faults.{core_fault_number, edit_refusal, frame_refusal}
 
--- 1 to 13, and 30 to 35, are the numbers that edits' faults have, 15 to 19 the core's own, 20 to 27 those of frames' faults from 1 on, 28 want of memory, 29 want of room
+-- 1 to 13, and 30 to 35, are the numbers that edits' faults have, 15 to 19 the core's own, 20 to 27 those of frames' faults from 1 on, 28 `Memory`, 29 `Room`
 pub record AreNumbered (owed needed : ℕ) : Type 0 where
   pub edits : (fault : EditFault) → fault ≢ edit.Memory → core_fault_number (edit_refusal fault) ≡ edit_fault_number fault
   pub own :

@@ -7,7 +7,7 @@ use Rattle.hc_frames.specs.declared.reading.faults.FrameFault.TheVariants as fra
 use Rattle.hc_events.specs.declared.faults.CoreFault.{CoreFault}
 use Rattle.hc_events.specs.declared.faults.CoreFault.TheVariants.{UnknownAlias, AlreadyPresent, NotPresent, Mandatory, UnknownStation, Absent, NoSuchArea, NoSuchTask, UnknownPdo, RepeatedPdo, AreaTooBig, TooManyDatagrams, EpochsSpent, StalePost, PostLength, Unprogrammed, NothingOwed, SerialsSpent, Short, NotEtherCat, BadType, BadLength, Circulating, MoreFollows, UnknownCommand, IndexMismatch, Memory, Room, BadGroup, AliasTaken, StationTaken, VariableTaken, TooManyGroups, TooManySlaves}
 
--- 14 is the number of no fault: want of memory has its own here
+-- 14 is the number of no fault: `Memory` has its own here
 abbrev pub core_fault_number : CoreFault → ℕ
 core_fault_number UnknownAlias = 1
 core_fault_number AlreadyPresent = 2

@@ -1,4 +1,4 @@
--- What holds of slaves whose registers are forgotten, and of histories in which none is and each register write has a frame of its own.
+-- What holds of slaves whose registers are forgotten, and of histories where none is and each register write has a frame of its own.
 use Rattle.std.specs.Prelude.{◌≡◌, ℕ, ◌==◌, ◌||◌, Bool, true, false, All, List, ◌∷◌, length, map, None, Some}
 use Rattle.std.specs.List.{list_all, list_any}
 use Rattle.hc_records.specs.declared.records.Group.{Group}
@@ -7,9 +7,9 @@ use Rattle.hc_events.specs.Accepted.{just_opened}
 use Rattle.hc_events.specs.Ages.{data_serial}
 use Rattle.hc_events.specs.Answering.{Judged, Sending, Stale, answered_by, followed_by, forgets, is_forgetting, judged_by}
 use Rattle.hc_events.specs.Arrivals.{Arrival}
-use Rattle.hc_events.specs.Awaited.{awaited, is_write}
-use Rattle.hc_events.specs.Changes.{news_of}
-use Rattle.hc_events.specs.Entries.{Entry, Record, Forgot, Wrote}
+use Rattle.hc_events.specs.Awaited.{awaited, is_write_sending}
+use Rattle.hc_events.specs.Changes.{updates_of}
+use Rattle.hc_events.specs.Entries.{HistoryEntry, History, Forgot, Wrote}
 use Rattle.hc_events.specs.Heads.{Block}
 use Rattle.hc_events.specs.Images.{slot_of}
 use Rattle.hc_events.specs.Outputs.{value_bit}
@@ -21,7 +21,7 @@ use Rattle.hc_events.specs.WithoutForgetting as first
 
 -- a slave was forgotten: nothing is known of its blocks, so each of them is owed; of other slaves the same is known; and nothing else changes: line, epoch, serial, images, output values, changes, and the
 -- frames of tasks that are awaited
-pub record IsForgotten (history : Record) (station : ℕ) : Type 0 where
+pub record IsForgotten (history : History) (station : ℕ) : Type 0 where
   pub own : (number : ℕ) → known_bytes (Forgot station ∷ history) station number ≡ None
   pub others : (other number : ℕ) → (other == station) ≡ false → known_bytes (Forgot station ∷ history) other number ≡ known_bytes history other number
   pub owed : (block : LineBlock) → is_owed (Forgot station ∷ history) block ≡ ((block.station == station) || is_owed history block)
@@ -31,14 +31,14 @@ pub record IsForgotten (history : Record) (station : ℕ) : Type 0 where
   pub slots : (task d : ℕ) → slot_of (Forgot station ∷ history) task d ≡ slot_of history task d
   pub dates : (task d : ℕ) → data_serial (Forgot station ∷ history) task d ≡ data_serial history task d
   pub values : (variable k : ℕ) → value_bit (Forgot station ∷ history) variable k ≡ value_bit history variable k
-  pub news : news_of (Forgot station ∷ history) ≡ news_of history
+  pub updates : updates_of (Forgot station ∷ history) ≡ updates_of history
   pub frames :
-      (serial : ℕ) (sending : Sending) → awaited history serial ≡ Some sending → is_write sending ≡ false
+      (serial : ℕ) (sending : Sending) → awaited history serial ≡ Some sending → is_write_sending sending ≡ false
       → awaited (Forgot station ∷ history) serial ≡ Some (followed_by (Forgot station) sending)
 
 -- so it is with any slave in any history
 abbrev pub ForgettingLosesRegistersAlone : Type 0
-ForgettingLosesRegistersAlone = (history : Record) (station : ℕ) → IsForgotten history station
+ForgettingLosesRegistersAlone = (history : History) (station : ℕ) → IsForgotten history station
 
 -- a datagram that came back of a block of the slave is stale
 abbrev pub IsStaleFor : ℕ → Judged → Type 0
@@ -47,28 +47,28 @@ IsStaleFor station datagram = (number : ℕ) → datagram.head.item ≡ Block st
 -- a write of a slave's block that was sent before the slave was forgotten confirms nothing: whatever comes back of it is stale
 abbrev pub ForgottenWritesAreStale : Type 0
 ForgottenWritesAreStale =
-    (history : Record) (arrival : Arrival) (sending : Sending) (station : ℕ) → answered_by history arrival ≡ Some sending
+    (history : History) (arrival : Arrival) (sending : Sending) (station : ℕ) → answered_by history arrival ≡ Some sending
     → list_any (forgets station) sending.since ≡ true → All (IsStaleFor station) (judged_by history arrival)
 
 -- what such a history says is what the words for such histories say
-pub record SaysAsAtFirst (history : Record) : Type 0 where
+pub record SaysAsAtFirst (history : History) : Type 0 where
   pub judged : (arrival : Arrival) → first.judged_by history arrival ≡ judged_by history arrival
   pub awaits : (serial : ℕ) → first.awaited history serial ≡ awaited history serial
   pub slots : (task d : ℕ) → first.slot_of history task d ≡ slot_of history task d
   pub dates : (task d : ℕ) → first.data_serial history task d ≡ data_serial history task d
-  pub news : first.news_of history ≡ news_of history
+  pub updates : first.updates_of history ≡ updates_of history
   pub known : (station number : ℕ) → first.known_bytes history station number ≡ known_bytes history station number
   pub owed : first.owed_blocks history ≡ owed_blocks history
 
 -- an entry is no frame of register writes, or one of a single block
-abbrev pub writes_one : Entry → Bool
+abbrev pub writes_one : HistoryEntry → Bool
 writes_one (Wrote blocks) = length blocks == 1
 writes_one entry = true
 
--- so it is with each such history in which every register write was sent in a frame of its own
+-- so it is with each such history where every register write was sent in a frame of its own
 abbrev pub HistoriesWithoutForgetting : Type 0
 HistoriesWithoutForgetting =
-    (history : Record) → list_any is_forgetting history ≡ false → list_all writes_one history ≡ true → SaysAsAtFirst history
+    (history : History) → list_any is_forgetting history ≡ false → list_all writes_one history ≡ true → SaysAsAtFirst history
 
 -- events other than forgetting and several writes in a frame are answered, from a project's opening on, as by these words, and leave the same history
 pub record AreAnsweredAsAtFirst (groups : List Group) (steps : List FirstStep) : Type 0 where

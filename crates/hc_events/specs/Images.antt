@@ -4,52 +4,52 @@ use Rattle.std.specs.List.{flat_map, range_with_len}
 use Rattle.hc_records.specs.declared.limits.TheConstants.{MOST_DATAGRAMS, MOST_DATAGRAM_BYTES, TASKS}
 use Rattle.hc_records.specs.Image.{datagram_count, task_places}
 use Rattle.hc_events.specs.Arrivals.{Arrival}
-use Rattle.hc_events.specs.Entries.{Record, Opened, Edited, Came}
+use Rattle.hc_events.specs.Entries.{History, Opened, Edited, Came}
 use Rattle.hc_events.specs.Points.{line_of}
 use Rattle.hc_events.specs.Heads.{Item, Datagram, Block}
 use Rattle.hc_events.specs.Answering.{Judged, has_good, judged_by}
 
 -- a good answer of a task's datagram, with its data
-pub record Fresh : Type 0 where
+pub record NewAnswer : Type 0 where
   pub task : ℕ
   pub datagram : ℕ
   pub bytes : List ℕ
 
 -- of a datagram that a task can have, with no more data than a datagram can have
-pub record FitsImage (good : Fresh) : Type 0 where
+pub record FitsImage (good : NewAnswer) : Type 0 where
   pub task : good.task < TASKS
   pub datagram : good.datagram < MOST_DATAGRAMS
   pub few : length good.bytes ≤ MOST_DATAGRAM_BYTES
 
 -- a list of one, the good answer of a task's datagram with these data; empty for a register block
-abbrev pub fresh_item : Item → List ℕ → List Fresh
-fresh_item (Datagram task d) bytes = record { task = task; datagram = d; bytes = bytes } ∷ []
-fresh_item (Block station number) bytes = []
+abbrev pub new_answer_item : Item → List ℕ → List NewAnswer
+new_answer_item (Datagram task d) bytes = record { task = task; datagram = d; bytes = bytes } ∷ []
+new_answer_item (Block station number) bytes = []
 
 -- the good answer that a judged datagram gives its task, in a list of one; empty where it isn't good or is a register block
-abbrev pub fresh : Judged → List Fresh
-fresh datagram = if has_good datagram then fresh_item datagram.head.item datagram.part.bytes else []
+abbrev pub new_answer : Judged → List NewAnswer
+new_answer datagram = if has_good datagram then new_answer_item datagram.head.item datagram.part.bytes else []
 
 -- the good answers of an arrival for tasks' datagrams, in the frame's order
-abbrev pub fresh_by : Record → Arrival → List Fresh
-fresh_by past arrival = flat_map fresh (judged_by past arrival)
+abbrev pub new_answer_by : History → Arrival → List NewAnswer
+new_answer_by history arrival = flat_map new_answer (judged_by history arrival)
 
 -- a datagram has the data of a good answer of it from then on
-abbrev pub is_for : ℕ → ℕ → Fresh → Bool
+abbrev pub is_for : ℕ → ℕ → NewAnswer → Bool
 is_for task d good = (good.task == task) && (good.datagram == d)
 
 -- the data of a datagram once a good answer came: that answer's where it is of this datagram, else those of `slot`, if any
-abbrev pub renewed : ℕ → ℕ → Option (List ℕ) → Fresh → Option (List ℕ)
+abbrev pub renewed : ℕ → ℕ → Option (List ℕ) → NewAnswer → Option (List ℕ)
 renewed task d slot good = if is_for task d good then Some good.bytes else slot
 
 -- the data of a datagram's last good answer since the last accepted edit, or none
-abbrev pub slot_of : Record → ℕ → ℕ → Option (List ℕ)
+abbrev pub slot_of : History → ℕ → ℕ → Option (List ℕ)
 slot_of [] task d = None
-slot_of (Opened groups ∷ past) task d = None
-slot_of (Edited edit ∷ past) task d = None
-slot_of (Came arrival ∷ past) task d = fold (renewed task d) (slot_of past task d) (fresh_by past arrival)
-slot_of (entry ∷ past) task d = slot_of past task d
+slot_of (Opened groups ∷ history) task d = None
+slot_of (Edited edit ∷ history) task d = None
+slot_of (Came arrival ∷ history) task d = fold (renewed task d) (slot_of history task d) (new_answer_by history arrival)
+slot_of (entry ∷ history) task d = slot_of history task d
 
 -- those of all datagrams that a task has in the present epoch
-abbrev pub slots_of : Record → ℕ → List (Option (List ℕ))
-slots_of past task = map (slot_of past task) (range_with_len 0 (datagram_count (task_places task (line_of past))))
+abbrev pub slots_of : History → ℕ → List (Option (List ℕ))
+slots_of history task = map (slot_of history task) (range_with_len 0 (datagram_count (task_places task (line_of history))))

@@ -33,7 +33,7 @@ pub mod Laws
 pub mod SendingLaws
 pub mod AnswerLaws
 pub mod DataLaws
-pub mod NewsLaws
+pub mod UpdatesLaws
 pub mod ViewLaws
 pub mod FaultLaws
 pub mod CallLaws

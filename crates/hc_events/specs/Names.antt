@@ -5,13 +5,13 @@ use Rattle.hc_records.specs.Line.{Member}
 use Rattle.hc_events.specs.declared.answer.Answer.TheVariants as answer
 use Rattle.hc_events.specs.declared.answer.Outcome.{Outcome}
 use Rattle.hc_events.specs.Arrivals.{Arrival}
-use Rattle.hc_events.specs.Entries.{Record}
+use Rattle.hc_events.specs.Entries.{History}
 use Rattle.hc_events.specs.Points.{line_of}
 use Rattle.hc_events.specs.Sendings.{Named}
 use Rattle.hc_events.specs.Heads.{data_head}
 use Rattle.hc_events.specs.Answering.{Judged, judged_by}
-use Rattle.hc_events.specs.Steps.{told_of}
-use Rattle.hc_events.specs.Accepted.{IsReachable, StandsIn}
+use Rattle.hc_events.specs.Steps.{judged_answer}
+use Rattle.hc_events.specs.Accepted.{IsReachable, IsInLine}
 
 -- the task and the number of the datagram with a logical address, which is 0x01000000 * (task + 1) + 2048 * number
 abbrev pub named_at : ℕ → Named
@@ -27,21 +27,21 @@ HasItsAddress datagram = datagram.part.address ≡ datagram.head.address
 
 -- so has each datagram that an arrival answers
 abbrev pub AddressesAreThoseSent : Type 0
-AddressesAreThoseSent = (past : Record) (arrival : Arrival) → All HasItsAddress (judged_by past arrival)
+AddressesAreThoseSent = (history : History) (arrival : Arrival) → All HasItsAddress (judged_by history arrival)
 
 -- a datagram that came back is a task's in the line, which says of it what the sending said, and its own address names it
-pub record IsNamed (line : List Member) (datagram : Judged) : Type 0 where
+pub record IsNamedByAddress (line : List Member) (datagram : Judged) : Type 0 where
   pub named : Named
-  pub stands : StandsIn line named
+  pub is_placed : IsInLine line named
   pub head : datagram.head ≡ data_head line named
   pub names : named_at datagram.part.address ≡ named
 
 -- each datagram of a task of the line has a number below 16
 abbrev pub HasFewDatagrams : List Member → Type 0
-HasFewDatagrams line = (named : Named) → StandsIn line named → named.1 < MOST_DATAGRAMS
+HasFewDatagrams line = (named : Named) → IsInLine line named → named.1 < MOST_DATAGRAMS
 
 -- where an arrival answers frames of tasks each of its datagrams names a task's datagram of the present line: the one that was sent in its place
 abbrev pub AnsweredAreNamed : Type 0
 AnsweredAreNamed =
-    (past : Record) (arrival : Arrival) (outcomes : List Outcome) → IsReachable past → HasFewDatagrams (line_of past)
-    → told_of (judged_by past arrival) ≡ answer.Answered outcomes → All (IsNamed (line_of past)) (judged_by past arrival)
+    (history : History) (arrival : Arrival) (outcomes : List Outcome) → IsReachable history → HasFewDatagrams (line_of history)
+    → judged_answer (judged_by history arrival) ≡ answer.Answered outcomes → All (IsNamedByAddress (line_of history)) (judged_by history arrival)

@@ -7,9 +7,9 @@ use Rattle.hc_events.specs.declared.answer.Arrived.TheVariants as arrived
 use Rattle.hc_events.specs.declared.answer.Outcome.{Outcome}
 
 -- the answer that the two are: the list counts where frames of tasks or of several register writes are answered
-abbrev pub told_with : Arrived → List Outcome → Answer
-told_with arrived.Answered outcomes = answer.Answered outcomes
-told_with arrived.WriteDone outcomes = answer.WriteDone
-told_with arrived.WriteMissed outcomes = answer.WriteMissed
-told_with arrived.Stale outcomes = answer.Stale
-told_with arrived.Written outcomes = answer.Written outcomes
+abbrev pub arrived_answer : Arrived → List Outcome → Answer
+arrived_answer arrived.Answered outcomes = answer.Answered outcomes
+arrived_answer arrived.WriteDone outcomes = answer.WriteDone
+arrived_answer arrived.WriteMissed outcomes = answer.WriteMissed
+arrived_answer arrived.Stale outcomes = answer.Stale
+arrived_answer arrived.Written outcomes = answer.Written outcomes

@@ -1,4 +1,4 @@
--- What the core answers to each event, and what it accepts of it. `Calls` says to which events want of memory may be answered instead.
+-- What the core answers to each event, and what it accepts of it. `Calls` says which events may be answered with `Memory` instead.
 use Rattle.std.specs.Prelude.{ℕ, ◌+◌, ◌==◌, not, nat_lt, is_none, Bool, if◌then◌else◌, List, [], ◌∷◌, length, map, Option, Some, None, option_map, Result, Ok, Err}
 use Rattle.std.specs.List.{list_any}
 use Rattle.hc_records.specs.declared.limits.TheConstants.{TASKS}
@@ -22,11 +22,11 @@ use Rattle.hc_frames.specs.declared.limits.TheConstants.{SETUP_SERIAL}
 use Rattle.hc_frames.specs.declared.reading.faults.FrameFault.{FrameFault}
 use Rattle.hc_events.specs.Faults.{edit_refusal, frame_refusal}
 use Rattle.hc_events.specs.Arrivals.{Arrival, Part, arrival_in}
-use Rattle.hc_events.specs.Entries.{Record, Edited, Posted, Sent, Wrote, Came, Forgot}
+use Rattle.hc_events.specs.Entries.{History, Edited, Posted, Sent, Wrote, Came, Forgot}
 use Rattle.hc_events.specs.Points.{epoch_of, line_of, next_serial, state_of}
 use Rattle.hc_events.specs.Sendings.{Frame, Named, sendings_of}
 use Rattle.hc_events.specs.Heads.{Head, Item, Datagram as DatagramItem, Block, is_block}
-use Rattle.hc_events.specs.Answering.{Judged, Verdict, Good, Wrong, Stale, is_news, judged_by}
+use Rattle.hc_events.specs.Answering.{Judged, Verdict, Good, Wrong, Stale, is_current, judged_by}
 use Rattle.hc_events.specs.Images.{slots_of}
 use Rattle.hc_events.specs.Outputs.{sent_data}
 use Rattle.hc_events.specs.Owed.{owed_blocks}
@@ -45,23 +45,23 @@ pub data Step : Type 0 where
 
 -- a refusal, or else this answer; the record unchanged, or else this one
 abbrev pub unless : Option CoreFault → Answer → Answer
-unless None told = told
-unless (Some fault) told = answer.Refused fault
+unless None answer_given = answer_given
+unless (Some fault) answer_given = answer.Refused fault
 
--- the record `past` where there is a fault, else `next`
-abbrev pub kept_if : Option CoreFault → Record → Record → Record
-kept_if None past next = next
-kept_if (Some fault) past next = past
+-- the record `history` where there is a fault, else `next`
+abbrev pub unless_fault : Option CoreFault → History → History → History
+unless_fault None history next = next
+unless_fault (Some fault) history next = history
 
 -- an edit
 
 -- the lowest fault of the edit in the record's state, as the core's fault; none where the state accepts it
-abbrev pub edit_refused : Record → Edit → Option CoreFault
-edit_refused past edit = option_map edit_refusal (lowest (edit_faults (state_of past) edit))
+abbrev pub edit_refused : History → Edit → Option CoreFault
+edit_refused history edit = option_map edit_refusal (lowest (edit_faults (state_of history) edit))
 
 -- the answer to an accepted edit that led from one state to another: the new epoch, how many spans are recut, and how many blocks moved
-abbrev pub told_of_edit : State → State → Answer
-told_of_edit old new = answer.Edited new.epoch (recut (line old) (line new)) (moved (line old) (line new))
+abbrev pub edit_answer : State → State → Answer
+edit_answer old new = answer.Edited new.epoch (recut (line old) (line new)) (moved (line old) (line new))
 
 -- a post
 
@@ -70,11 +70,11 @@ abbrev pub is_no_task : ℕ → Bool
 is_no_task task = not (nat_lt task TASKS)
 
 -- what refuses a post, in order: 8 no such task, 15 another epoch than the present one, 16 not the task's number of output bytes
-abbrev pub post_faults : Record → ℕ → ℕ → List ℕ → List (Bool × CoreFault)
-post_faults past task epoch bytes =
+abbrev pub post_faults : History → ℕ → ℕ → List ℕ → List (Bool × CoreFault)
+post_faults history task epoch bytes =
     (is_no_task task, NoSuchTask)
-    ∷ (not (epoch == epoch_of past), StalePost)
-    ∷ (not (length bytes == output_length (task_places task (line_of past))), PostLength)
+    ∷ (not (epoch == epoch_of history), StalePost)
+    ∷ (not (length bytes == output_length (task_places task (line_of history))), PostLength)
     ∷ []
 
 -- a sending of tasks: one frame or more, or none where the tasks have no datagram
@@ -83,119 +83,119 @@ post_faults past task epoch bytes =
 abbrev pub serials_left : ℕ → ℕ → Bool
 serials_left serial sendings = not (nat_lt SETUP_SERIAL (serial + sendings))
 
--- from the next serial on, so many are left below that of alias reads and station writes
-abbrev pub has_serials : Record → ℕ → Bool
-has_serials past sendings = serials_left (next_serial past) sendings
+-- from the next serial on, so many are left below the serial of alias reads and station writes
+abbrev pub has_serials : History → ℕ → Bool
+has_serials history sendings = serials_left (next_serial history) sendings
 
--- the frames in which the tasks would be sent next, in the given order, from the next serial on, whether or not that is refused; none where they have no datagram
-abbrev pub proposal : Record → List ℕ → List Frame
-proposal past tasks = sendings_of (line_of past) (next_serial past) tasks
+-- the frames where the tasks would be sent next, in the given order, from the next serial on, whether or not that is refused; none where they have no datagram
+abbrev pub proposal : History → List ℕ → List Frame
+proposal history tasks = sendings_of (line_of history) (next_serial history) tasks
 
 -- what refuses sending the tasks, in order: 8 one is no task, 17 blocks are owed, with their number, 19 fewer serials are left than frames
-abbrev pub task_faults : Record → List ℕ → List (Bool × CoreFault)
-task_faults past tasks =
+abbrev pub task_faults : History → List ℕ → List (Bool × CoreFault)
+task_faults history tasks =
     (list_any is_no_task tasks, NoSuchTask)
-    ∷ (nat_lt 0 (length (owed_blocks past)), Unprogrammed (length (owed_blocks past)))
-    ∷ (not (has_serials past (length (proposal past tasks))), SerialsSpent)
+    ∷ (nat_lt 0 (length (owed_blocks history)), Unprogrammed (length (owed_blocks history)))
+    ∷ (not (has_serials history (length (proposal history tasks))), SerialsSpent)
     ∷ []
 
 -- the frame of a sending, with the data that its datagrams are sent with
-abbrev pub sent_datagram : Record → Named → Datagram
-sent_datagram past named = lrw (logical_address named.0 named.1) (sent_data past named.0 named.1)
+abbrev pub sent_datagram : History → Named → Datagram
+sent_datagram history named = lrw (logical_address named.0 named.1) (sent_data history named.0 named.1)
 
--- the bytes of a frame of tasks as it is sent behind the record: with its own serial, and its datagrams as `sent_datagram` says
-abbrev pub sent_text : Record → Frame → List ℕ
-sent_text past sending = frame_text sending.serial (map (sent_datagram past) sending.datagrams)
+-- the bytes of a frame of tasks as it is sent after the record: with its own serial, and its datagrams as `sent_datagram` says
+abbrev pub sent_text : History → Frame → List ℕ
+sent_text history sending = frame_text sending.serial (map (sent_datagram history) sending.datagrams)
 
 -- with each frame an entry, the last frame newest
-abbrev pub with_sent : Record → List Frame → Record
-with_sent past [] = past
-with_sent past (sending ∷ sendings) = with_sent (Sent sending.datagrams ∷ past) sendings
+abbrev pub with_sent : History → List Frame → History
+with_sent history [] = history
+with_sent history (sending ∷ sendings) = with_sent (Sent sending.datagrams ∷ history) sendings
 
--- a register write: that of the first owed block
+-- a register write: the first owed block's
 
 -- what refuses a register write where these blocks are owed, in order: 18 there are none, 19 no serial is left
-abbrev pub write_faults : Record → List LineBlock → List (Bool × CoreFault)
-write_faults past blocks = (length blocks == 0, NothingOwed) ∷ (not (has_serials past 1), SerialsSpent) ∷ []
+abbrev pub write_faults : History → List LineBlock → List (Bool × CoreFault)
+write_faults history blocks = (length blocks == 0, NothingOwed) ∷ (not (has_serials history 1), SerialsSpent) ∷ []
 
 -- the bytes of the frame with this serial that writes the block's bytes to its register in its slave
 abbrev pub write_text : ℕ → LineBlock → List ℕ
 write_text serial block = frame_text serial (block_write block.station block.block.register block.block.bytes ∷ [])
 
 -- the answer to a register write where these blocks are owed: the frame of the first one, with this serial; refusal 18 where there are none
-abbrev pub told_of_write : ℕ → List LineBlock → Answer
-told_of_write serial [] = answer.Refused NothingOwed
-told_of_write serial (block ∷ blocks) = answer.WriteSent (write_text serial block)
+abbrev pub sent_write_answer : ℕ → List LineBlock → Answer
+sent_write_answer serial [] = answer.Refused NothingOwed
+sent_write_answer serial (block ∷ blocks) = answer.WriteSent (write_text serial block)
 
 -- the record with the write of the first of these blocks as its newest entry; as it was where there are none
-abbrev pub with_write : Record → List LineBlock → Record
-with_write past [] = past
-with_write past (block ∷ blocks) = Wrote (block ∷ []) ∷ past
+abbrev pub with_write : History → List LineBlock → History
+with_write history [] = history
+with_write history (block ∷ blocks) = Wrote (block ∷ []) ∷ history
 
 -- a frame of register writes: the first owed blocks, as many as it holds (`frame_blocks`); refused as a register write is
 
 -- the answer to the writes of these blocks in one frame with this serial: one block is answered as its write alone is; refusal 18 where there are none
-abbrev pub told_of_writes : ℕ → List LineBlock → Answer
-told_of_writes serial [] = answer.Refused NothingOwed
-told_of_writes serial (block ∷ []) = answer.WriteSent (write_text serial block)
-told_of_writes serial (block ∷ next ∷ blocks) = answer.WritesSent (writes_text serial (block ∷ next ∷ blocks))
+abbrev pub writes_answer : ℕ → List LineBlock → Answer
+writes_answer serial [] = answer.Refused NothingOwed
+writes_answer serial (block ∷ []) = answer.WriteSent (write_text serial block)
+writes_answer serial (block ∷ next ∷ blocks) = answer.WritesSent (writes_text serial (block ∷ next ∷ blocks))
 
 -- the record with the frame that writes these blocks as its newest entry; as it was where there are none
-abbrev pub with_writes : Record → List LineBlock → Record
-with_writes past [] = past
-with_writes past (block ∷ blocks) = Wrote (block ∷ blocks) ∷ past
+abbrev pub with_writes : History → List LineBlock → History
+with_writes history [] = history
+with_writes history (block ∷ blocks) = Wrote (block ∷ blocks) ∷ history
 
 -- an arrival: what it is for each datagram of the tasks, or for each register write; stale where it answers no sending or each datagram is stale
 
--- what is told of a good datagram: the inputs of a task's datagram, or that a register block's write is done
+-- what is said of a good datagram: the inputs of a task's datagram, or that a register block's write is done
 abbrev pub inputs_of : Item → Outcome
 inputs_of (DatagramItem task d) = outcome.Inputs task d
 inputs_of (Block station number) = outcome.Done
 
--- what is told of a wrong datagram: of a task's the expected counter and the one that came, of a register block that its write missed
+-- what is said of a wrong datagram: of a task's the expected counter and the one that came, of a register block that its write missed
 abbrev pub wrong_of : Item → ℕ → ℕ → Outcome
 wrong_of (DatagramItem task d) expected got = outcome.WrongCount expected got
 wrong_of (Block station number) expected got = outcome.Missed
 
--- what is told of a datagram by its verdict: `inputs_of` its item where good, `wrong_of` its item with the head's expected counter and the one that came where wrong, `Stale` where stale
+-- what is said of a datagram by its verdict: `inputs_of` its item where good, `wrong_of` its item with the head's expected counter and the one that came where wrong, `Stale` where stale
 abbrev pub outcome_of : Head → Part → Verdict → Outcome
 outcome_of head part Good = inputs_of head.item
 outcome_of head part Wrong = wrong_of head.item head.expected part.counter
 outcome_of head part Stale = outcome.Stale
 
--- what is told of a judged datagram: where it is good `Inputs` of a task's and `Done` of a register block; where it is wrong `WrongCount` with the expected counter and the one that came, or `Missed`; `Stale` where it is stale
+-- what is said of a judged datagram: where it is good `Inputs` of a task's and `Done` of a register block; where it is wrong `WrongCount` with the expected counter and the one that came, or `Missed`; `Stale` where it is stale
 abbrev pub outcome_for : Judged → Outcome
 outcome_for datagram = outcome_of datagram.head datagram.part datagram.verdict
 
 -- the answer to an arrival that answers a write of one register block: `WriteDone` where it is good, `WriteMissed` where it is wrong, `Stale` where it is stale
-abbrev pub told_of_block : Verdict → Answer
-told_of_block Good = answer.WriteDone
-told_of_block Wrong = answer.WriteMissed
-told_of_block Stale = answer.Stale
+abbrev pub write_answer : Verdict → Answer
+write_answer Good = answer.WriteDone
+write_answer Wrong = answer.WriteMissed
+write_answer Stale = answer.Stale
 
--- the answer to an arrival that answers a frame of register writes, by its judged datagrams: of one block by its verdict (`told_of_block`), of several `Written` with what each is; `Stale` where all are stale or there is none
-abbrev pub told_of_blocks : List Judged → Answer
-told_of_blocks [] = answer.Stale
-told_of_blocks (datagram ∷ []) = told_of_block datagram.verdict
-told_of_blocks (datagram ∷ next ∷ datagrams) =
-    if list_any is_news (datagram ∷ next ∷ datagrams) then answer.Written (map outcome_for (datagram ∷ next ∷ datagrams)) else answer.Stale
+-- the answer to an arrival that answers a frame of register writes, by its judged datagrams: of one block by its verdict (`write_answer`), of several `Written` with what each is; `Stale` where all are stale or there is none
+abbrev pub judged_blocks_answer : List Judged → Answer
+judged_blocks_answer [] = answer.Stale
+judged_blocks_answer (datagram ∷ []) = write_answer datagram.verdict
+judged_blocks_answer (datagram ∷ next ∷ datagrams) =
+    if list_any is_current (datagram ∷ next ∷ datagrams) then answer.Written (map outcome_for (datagram ∷ next ∷ datagrams)) else answer.Stale
 
--- the answer to an arrival by its judged datagrams: where the first one is a register block as all of them are (`told_of_blocks`), else `Answered` with what each is; `Stale` where all are stale or there is none
-abbrev pub told_of : List Judged → Answer
-told_of [] = answer.Stale
-told_of (datagram ∷ datagrams) =
-    if is_block datagram.head.item then told_of_blocks (datagram ∷ datagrams)
-    else (if list_any is_news (datagram ∷ datagrams) then answer.Answered (map outcome_for (datagram ∷ datagrams)) else answer.Stale)
+-- the answer to an arrival by its judged datagrams: where the first one is a register block as all of them are (`judged_blocks_answer`), else `Answered` with what each is; `Stale` where all are stale or there is none
+abbrev pub judged_answer : List Judged → Answer
+judged_answer [] = answer.Stale
+judged_answer (datagram ∷ datagrams) =
+    if is_block datagram.head.item then judged_blocks_answer (datagram ∷ datagrams)
+    else (if list_any is_current (datagram ∷ datagrams) then answer.Answered (map outcome_for (datagram ∷ datagrams)) else answer.Stale)
 
--- the answer to an arrival as it was read: the refusal with the fault for which it can't be read, else what is told of the datagrams that it answers (`judged_by`)
-abbrev pub told_of_arrival : Record → Result Arrival FrameFault → Answer
-told_of_arrival past (Err fault) = answer.Refused (frame_refusal fault)
-told_of_arrival past (Ok arrival) = told_of (judged_by past arrival)
+-- the answer to an arrival as it was read: the refusal with the fault for which it can't be read, else what is said of the datagrams that it answers (`judged_by`)
+abbrev pub arrival_answer : History → Result Arrival FrameFault → Answer
+arrival_answer history (Err fault) = answer.Refused (frame_refusal fault)
+arrival_answer history (Ok arrival) = judged_answer (judged_by history arrival)
 
 -- the record with the arrival as its newest entry; as it was where the arrival couldn't be read
-abbrev pub with_arrival : Record → Result Arrival FrameFault → Record
-with_arrival past (Err fault) = past
-with_arrival past (Ok arrival) = Came arrival ∷ past
+abbrev pub with_arrival : History → Result Arrival FrameFault → History
+with_arrival history (Err fault) = history
+with_arrival history (Ok arrival) = Came arrival ∷ history
 
 -- what a task reads
 
@@ -204,13 +204,13 @@ abbrev pub read_faults : ℕ → List (Bool × CoreFault)
 read_faults task = (is_no_task task, NoSuchTask) ∷ []
 
 -- what a read of a task is answered: the epoch, and the data of each of the task's datagrams
-abbrev pub image_of : Record → ℕ → Answer
-image_of past task = answer.Image (epoch_of past) (slots_of past task)
+abbrev pub image_of : History → ℕ → Answer
+image_of history task = answer.Image (epoch_of history) (slots_of history task)
 
 -- forgetting a slave's registers
 
 -- what refuses it, in order, as an edit of one of the slave's areas is refused: 5 no declared slave has the station address, 6 that slave isn't in the line
-abbrev pub forget_faults : Record → ℕ → List (Bool × CoreFault)
+abbrev pub forget_faults : History → ℕ → List (Bool × CoreFault)
 forget_faults history station =
     (not (is_declared_station (state_of history) station), UnknownStation)
     ∷ (is_none (slave_at (state_of history) station), Absent)
@@ -228,33 +228,33 @@ step_of (event.Read task) = Reads task
 step_of (event.Forget station) = Forgets station
 
 -- the answer to an event; of several refusals the first that holds
-abbrev pub answer_to : Record → Step → Answer
-answer_to past (Edits edit) = unless (edit_refused past edit) (told_of_edit (state_of past) (state_after (state_of past) edit))
-answer_to past (Posts task epoch bytes) = unless (lowest (post_faults past task epoch bytes)) answer.Posted
-answer_to past (SendsTasks tasks) = unless (lowest (task_faults past tasks)) (answer.Sent (map (sent_text past) (proposal past tasks)))
-answer_to past SendsWrite = unless (lowest (write_faults past (owed_blocks past))) (told_of_write (next_serial past) (owed_blocks past))
-answer_to past SendsWrites = unless (lowest (write_faults past (owed_blocks past))) (told_of_writes (next_serial past) (frame_blocks (owed_blocks past)))
-answer_to past (Arrives bytes) = told_of_arrival past (arrival_in bytes)
-answer_to past (Reads task) = unless (lowest (read_faults task)) (image_of past task)
-answer_to past (Forgets station) = unless (lowest (forget_faults past station)) answer.Forgotten
+abbrev pub answer_to : History → Step → Answer
+answer_to history (Edits edit) = unless (edit_refused history edit) (edit_answer (state_of history) (state_after (state_of history) edit))
+answer_to history (Posts task epoch bytes) = unless (lowest (post_faults history task epoch bytes)) answer.Posted
+answer_to history (SendsTasks tasks) = unless (lowest (task_faults history tasks)) (answer.Sent (map (sent_text history) (proposal history tasks)))
+answer_to history SendsWrite = unless (lowest (write_faults history (owed_blocks history))) (sent_write_answer (next_serial history) (owed_blocks history))
+answer_to history SendsWrites = unless (lowest (write_faults history (owed_blocks history))) (writes_answer (next_serial history) (frame_blocks (owed_blocks history)))
+answer_to history (Arrives bytes) = arrival_answer history (arrival_in bytes)
+answer_to history (Reads task) = unless (lowest (read_faults task)) (image_of history task)
+answer_to history (Forgets station) = unless (lowest (forget_faults history station)) answer.Forgotten
 
 -- the record with what was accepted; a refused event leaves it as it was, and a read too
-abbrev pub entries_after : Record → Step → Record
-entries_after past (Edits edit) = kept_if (edit_refused past edit) past (Edited edit ∷ past)
-entries_after past (Posts task epoch bytes) = kept_if (lowest (post_faults past task epoch bytes)) past (Posted task bytes ∷ past)
-entries_after past (SendsTasks tasks) = kept_if (lowest (task_faults past tasks)) past (with_sent past (proposal past tasks))
-entries_after past SendsWrite = kept_if (lowest (write_faults past (owed_blocks past))) past (with_write past (owed_blocks past))
-entries_after past SendsWrites = kept_if (lowest (write_faults past (owed_blocks past))) past (with_writes past (frame_blocks (owed_blocks past)))
-entries_after past (Arrives bytes) = with_arrival past (arrival_in bytes)
-entries_after past (Reads task) = past
-entries_after past (Forgets station) = kept_if (lowest (forget_faults past station)) past (Forgot station ∷ past)
+abbrev pub entries_after : History → Step → History
+entries_after history (Edits edit) = unless_fault (edit_refused history edit) history (Edited edit ∷ history)
+entries_after history (Posts task epoch bytes) = unless_fault (lowest (post_faults history task epoch bytes)) history (Posted task bytes ∷ history)
+entries_after history (SendsTasks tasks) = unless_fault (lowest (task_faults history tasks)) history (with_sent history (proposal history tasks))
+entries_after history SendsWrite = unless_fault (lowest (write_faults history (owed_blocks history))) history (with_write history (owed_blocks history))
+entries_after history SendsWrites = unless_fault (lowest (write_faults history (owed_blocks history))) history (with_writes history (frame_blocks (owed_blocks history)))
+entries_after history (Arrives bytes) = with_arrival history (arrival_in bytes)
+entries_after history (Reads task) = history
+entries_after history (Forgets station) = unless_fault (lowest (forget_faults history station)) history (Forgot station ∷ history)
 
--- the answers to a list of events, each behind those before it, and the record that all of them leave
-abbrev pub answers_to : Record → List Step → List Answer
-answers_to past [] = []
-answers_to past (step ∷ steps) = answer_to past step ∷ answers_to (entries_after past step) steps
+-- the answers to a list of events, each after those before it, and the record that all of them leave
+abbrev pub answers_to : History → List Step → List Answer
+answers_to history [] = []
+answers_to history (step ∷ steps) = answer_to history step ∷ answers_to (entries_after history step) steps
 
 -- the record that the events leave, one after another, from this record on
-abbrev pub entries_after_all : Record → List Step → Record
-entries_after_all past [] = past
-entries_after_all past (step ∷ steps) = entries_after_all (entries_after past step) steps
+abbrev pub entries_after_all : History → List Step → History
+entries_after_all history [] = history
+entries_after_all history (step ∷ steps) = entries_after_all (entries_after history step) steps

@@ -7,7 +7,7 @@ use Rattle.hc_events.specs.declared.answer.Answer.TheVariants as answer
 use Rattle.hc_events.specs.declared.answer.Outcome.TheVariants.{Inputs}
 use Rattle.hc_events.specs.declared.faults.CoreFault.TheVariants.{BadLength, Short}
 use Rattle.hc_events.specs.Arrivals.{Part}
-use Rattle.hc_events.specs.Entries.{Entry, Record, Sent}
+use Rattle.hc_events.specs.Entries.{HistoryEntry, History, Sent}
 use Rattle.hc_events.specs.Points.{next_serial}
 use Rattle.hc_events.specs.Steps.{SendsTasks, Arrives, Reads, answer_to, answers_to, entries_after}
 use Rattle.hc_events.specs.WorkedAxis.{back, data_back, head_of, inputs_back, posted, sent_once, written}
@@ -55,14 +55,14 @@ too_early = refl
 
 -- The index is the serial's low byte: a frame with the index of the awaited one and another serial answers nothing.
 
-abbrev task_sent : Entry
+abbrev task_sent : HistoryEntry
 task_sent = Sent ((0, 0) ∷ [])
 
 sent_entry : entries_after written (SendsTasks (0 ∷ [])) ≡ task_sent ∷ written
 unfolding bit_of number_of starts_within
 sent_entry = refl
 
-abbrev later : Record
+abbrev later : History
 later = replicate 257 task_sent ++ written
 
 last_serial : next_serial later ≡ 261

@@ -8,7 +8,7 @@ use Rattle.hc_records.specs.declared.edit.Edit.TheVariants.{Move}
 use Rattle.hc_frames.specs.declared.commands.Command.TheVariants.{Fpwr, Lrw}
 use Rattle.hc_frames.specs.FrameText.{carried_frame, station_address}
 use Rattle.hc_events.specs.Arrivals.{Part}
-use Rattle.hc_events.specs.Entries.{Record, Opened}
+use Rattle.hc_events.specs.Entries.{History, Opened}
 use Rattle.hc_events.specs.Owed.{owed_blocks}
 use Rattle.hc_events.specs.Steps.{Step, Edits, Posts, SendsTasks, SendsWrite, Arrives, entries_after_all}
 
@@ -25,11 +25,11 @@ area_of sm dir phys index variable bits = record {
 abbrev pub axis : Slave
 axis = record { station = 1001; areas = area_of 2 Out 0x1100 0x1600 1 2 ∷ area_of 3 In 0x1180 0x1a00 2 12 ∷ [] }
 
-abbrev pub opened : Record
+abbrev pub opened : History
 opened = Opened (record { alias = 0; slaves = axis ∷ [] } ∷ []) ∷ []
 
-abbrev pub owed_count : Record → ℕ
-owed_count past = length (owed_blocks past)
+abbrev pub owed_count : History → ℕ
+owed_count history = length (owed_blocks history)
 
 -- a frame of datagrams that comes back, without padding
 abbrev pub back : ℕ → List Part → Step
@@ -66,15 +66,15 @@ four_answers serial =
     ∷ SendsWrite ∷ write_back (serial + 3) 0x0610 16 1
     ∷ []
 
-abbrev pub written : Record
+abbrev pub written : History
 written = entries_after_all opened (four_answers 0)
 
 -- then its task posts, and is sent
 
-abbrev pub posted : Record
+abbrev pub posted : History
 posted = entries_after_all written (Posts 0 0 (2 ∷ []) ∷ [])
 
-abbrev pub sent_once : Record
+abbrev pub sent_once : History
 sent_once = entries_after_all posted (SendsTasks (0 ∷ []) ∷ [])
 
 abbrev pub inputs_back : List ℕ
@@ -87,7 +87,7 @@ inputs_back =
 abbrev pub to_task_1 : Step
 to_task_1 = Edits (Move 1001 0 1)
 
-abbrev pub moved : Record
+abbrev pub moved : History
 moved = entries_after_all posted (
     to_task_1
     ∷ SendsWrite ∷ write_back 4 0x0600 16 1

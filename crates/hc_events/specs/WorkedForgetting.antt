@@ -1,11 +1,11 @@
--- Worked histories in which a slave is forgotten, computed by the definitions: a wrong definition fails here.
+-- Worked histories where a slave is forgotten, computed by the definitions: a wrong definition fails here.
 use Rattle.std.specs.Prelude.{◌≡◌, ℕ, List, [], ◌∷◌, ◌++◌, map, replicate, refl, Some}
 use Rattle.hc_bits.specs.Bits.{bit_of, number_of}
 use Rattle.hc_frames.specs.Arrived.{starts_within}
 use Rattle.hc_events.specs.declared.answer.Answer.TheVariants as answer
 use Rattle.hc_events.specs.declared.answer.Outcome.TheVariants.{Inputs}
 use Rattle.hc_events.specs.declared.faults.CoreFault.TheVariants.{UnknownStation, Unprogrammed}
-use Rattle.hc_events.specs.Entries.{Record}
+use Rattle.hc_events.specs.Entries.{History}
 use Rattle.hc_events.specs.Faults.{core_fault_number}
 use Rattle.hc_events.specs.Steps.{Step, Forgets, Posts, Reads, SendsTasks, SendsWrite, answers_to, entries_after, entries_after_all, forget_faults}
 use Rattle.hc_events.specs.WorkedAxis.{back, data_back, head_of, owed_count, write_back, written}
@@ -44,9 +44,9 @@ forgotten_axis : answers_to written with_a_frame
 unfolding bit_of number_of starts_within
 forgotten_axis = refl
 
--- how many blocks are owed before it is forgotten, behind that, behind a write of the first one, and behind its answer
+-- how many blocks are owed before it is forgotten, after that, after a write of the first one, and after its answer
 
-abbrev written_anew : Record
+abbrev written_anew : History
 written_anew = entries_after_all written (Forgets 1001 ∷ SendsWrite ∷ [])
 
 owed_anew : owed_count written ∷ owed_count (entries_after written (Forgets 1001)) ∷ owed_count written_anew ∷ owed_count (entries_after written_anew (write_back 4 0x0810 8 1)) ∷ [] ≡ 0 ∷ 4 ∷ 4 ∷ 3 ∷ []
@@ -54,5 +54,5 @@ unfolding bit_of number_of starts_within
 owed_anew = refl
 
 -- the order of its refusals, by their numbers
-forget_order : (history : Record) (station : ℕ) → map (λ judged. core_fault_number judged.1) (forget_faults history station) ≡ 5 ∷ 6 ∷ []
+forget_order : (history : History) (station : ℕ) → map (λ judged. core_fault_number judged.1) (forget_faults history station) ≡ 5 ∷ 6 ∷ []
 forget_order history station = refl

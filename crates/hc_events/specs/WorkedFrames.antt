@@ -10,8 +10,8 @@ use Rattle.hc_events.specs.declared.answer.Answer.TheVariants as answer
 use Rattle.hc_events.specs.declared.answer.Outcome.TheVariants.{Inputs, WrongCount, Stale}
 use Rattle.hc_events.specs.declared.faults.CoreFault.TheVariants.{Room}
 use Rattle.hc_events.specs.Arrivals.{Part}
-use Rattle.hc_events.specs.Entries.{Record, Opened}
-use Rattle.hc_events.specs.Sendings.{size_of}
+use Rattle.hc_events.specs.Entries.{History, Opened}
+use Rattle.hc_events.specs.Sendings.{sent_frame_size}
 use Rattle.hc_events.specs.Calls.{preview, send_into_faults}
 use Rattle.hc_events.specs.Steps.{Posts, SendsTasks, SendsWrite, Reads, answers_to, entries_after_all, proposal, sent_text}
 use Rattle.hc_events.specs.WorkedAxis.{area_of, back, data_back, head_of, moved, opened, written_at}
@@ -49,7 +49,7 @@ shared_frame = refl
 
 -- a datagram that was sent again is stale in the older frame, and the other one isn't
 
-abbrev sent_again : Record
+abbrev sent_again : History
 sent_again = entries_after_all moved (
     SendsTasks (0 ∷ 1 ∷ [])
     ∷ back 6 (first_back 1 ∷ second_back 1 ∷ [])
@@ -81,7 +81,7 @@ last_one_missing : answers_to moved (SendsTasks (0 ∷ 1 ∷ []) ∷ back 6 (fir
 unfolding bit_of number_of starts_within
 last_one_missing = refl
 
--- The tasks' datagrams stand in the order in which the tasks are given, also in the answer.
+-- The tasks' datagrams are in the order in which the tasks are given, also in the answer.
 
 abbrev turned_text : List ℕ
 turned_text =
@@ -125,7 +125,7 @@ wide_slaves task (pdos ∷ more) =
     }
     ∷ wide_slaves (task + 1) more
 
-abbrev wide : List (List (ℕ × ℕ)) → Record
+abbrev wide : List (List (ℕ × ℕ)) → History
 wide areas = Opened (record { alias = 0; slaves = wide_slaves 0 areas } ∷ []) ∷ []
 
 abbrev bytes_700 : List (ℕ × ℕ)
@@ -140,14 +140,14 @@ bytes_738 = (64, 64) ∷ (45, 40) ∷ (1, 8) ∷ []
 abbrev bytes_1000 : List (ℕ × ℕ)
 bytes_1000 = (64, 64) ∷ (61, 64) ∷ []
 
-abbrev sizes : Record → List ℕ → List ℕ
-sizes past tasks = map size_of (proposal past tasks)
+abbrev sizes : History → List ℕ → List ℕ
+sizes history tasks = map sent_frame_size (proposal history tasks)
 
-wide_sizes : map (λ past. sizes past (0 ∷ 1 ∷ [])) (wide (bytes_737 ∷ bytes_737 ∷ []) ∷ wide (bytes_738 ∷ bytes_737 ∷ []) ∷ [])
+wide_sizes : map (λ history. sizes history (0 ∷ 1 ∷ [])) (wide (bytes_737 ∷ bytes_737 ∷ []) ∷ wide (bytes_738 ∷ bytes_737 ∷ []) ∷ [])
     ≡ (1514 ∷ []) ∷ (766 ∷ 765 ∷ []) ∷ []
 wide_sizes = refl
 
-abbrev full : Record
+abbrev full : History
 full = wide (bytes_737 ∷ bytes_737 ∷ [])
 
 wide_header : map (λ sending. slice_range (sent_text full sending) 11 16) (proposal full (0 ∷ 1 ∷ [])) ≡ (0x00 ∷ 0x88 ∷ 0xa4 ∷ 0xda ∷ 0x15 ∷ []) ∷ []
@@ -156,7 +156,7 @@ wide_header = refl
 
 -- A datagram joins no other frame than the one just before it, though an older one has room; so the order in which tasks are given decides.
 
-abbrev three_tasks : Record
+abbrev three_tasks : History
 three_tasks = wide (bytes_700 ∷ bytes_1000 ∷ bytes_700 ∷ [])
 
 not_the_first_that_fits : sizes three_tasks (0 ∷ 1 ∷ 2 ∷ []) ≡ 728 ∷ 1028 ∷ 728 ∷ []
@@ -165,7 +165,7 @@ not_the_first_that_fits = refl
 beside_one_another : sizes three_tasks (0 ∷ 2 ∷ 1 ∷ []) ≡ 1440 ∷ 1028 ∷ []
 beside_one_another = refl
 
--- A task of two datagrams, each of which fills a frame of its own: the frames have serials of their own, and so have the datagrams their data.
+-- A task of two datagrams; each fills a frame of its own: the frames have serials of their own, and so have the datagrams their data.
 
 abbrev long_slaves : List Slave
 long_slaves =
@@ -187,14 +187,14 @@ long_slaves =
     }
     ∷ []
 
--- 8 bytes, and 1,480 that don't fit behind them into 1,486
+-- 8 bytes, and 1,480 that don't fit after them into 1,486
 abbrev first_bytes : List ℕ
 first_bytes = 0x01 ∷ 0x02 ∷ 0x03 ∷ 0x04 ∷ 0x05 ∷ 0x06 ∷ 0x07 ∷ 0x08 ∷ []
 
 abbrev second_bytes : List ℕ
 second_bytes = 0x21 ∷ 0x22 ∷ 0x23 ∷ 0x24 ∷ 0x25 ∷ 0x26 ∷ 0x27 ∷ 0x28 ∷ []
 
-abbrev long_posted : Record
+abbrev long_posted : History
 long_posted = entries_after_all (Opened (record { alias = 0; slaves = long_slaves } ∷ []) ∷ []) (
     SendsWrite ∷ back 0 (written_at 1001 0x0810 8 1 ∷ [])
     ∷ SendsWrite ∷ back 1 (written_at 1001 0x0600 16 1 ∷ [])
@@ -219,7 +219,7 @@ two_texts : map (λ sending. take 34 (sent_text long_posted sending)) (proposal 
 unfolding bit_of number_of starts_within
 two_texts = refl
 
-abbrev long_sent : Record
+abbrev long_sent : History
 long_sent = entries_after_all long_posted (SendsTasks (0 ∷ []) ∷ [])
 
 two_answers : answers_to long_sent (

@@ -9,7 +9,7 @@ use Rattle.hc_frames.specs.Arrived.{starts_within}
 use Rattle.hc_events.specs.declared.answer.Answer.TheVariants as answer
 use Rattle.hc_events.specs.declared.answer.Outcome.TheVariants.{Inputs, WrongCount}
 use Rattle.hc_events.specs.declared.faults.CoreFault.TheVariants.{NoSuchTask, NothingOwed, StalePost, UnknownAlias, Unprogrammed}
-use Rattle.hc_events.specs.Entries.{Record, Opened}
+use Rattle.hc_events.specs.Entries.{History, Opened}
 use Rattle.hc_events.specs.Steps.{Step, Edits, Posts, SendsTasks, SendsWrite, Arrives, Reads, answer_to, answers_to, entries_after_all, proposal, sent_text}
 use Rattle.hc_events.specs.WorkedAxis.{area_of, axis, back, data_back, four_answers, head_of, inputs_back, moved, posted, sent_once, to_task_1, written, written_at}
 
@@ -38,7 +38,7 @@ answered_once : answers_to sent_once (
 unfolding bit_of number_of starts_within
 answered_once = refl
 
-abbrev answered_twice : Record
+abbrev answered_twice : History
 answered_twice = entries_after_all sent_once (back 4 (data_back 0x01000000 (0x02 ∷ 0x34 ∷ 0x0a ∷ []) 3 ∷ []) ∷ SendsTasks (0 ∷ []) ∷ [])
 
 wrong_counters : answers_to answered_twice (
@@ -79,7 +79,7 @@ three_epochs : answers_to written (same_inputs ∷ same_inputs ∷ same_inputs �
 unfolding bit_of number_of starts_within
 three_epochs = refl
 
-abbrev three_epochs_on : Record
+abbrev three_epochs_on : History
 three_epochs_on = entries_after_all written (same_inputs ∷ same_inputs ∷ same_inputs ∷ SendsTasks (0 ∷ []) ∷ [])
 
 fourth_epoch : answers_to three_epochs_on (same_inputs ∷ back 4 (data_back 0x01000000 (0x00 ∷ 0x34 ∷ 0x0a ∷ []) 3 ∷ []) ∷ Reads 0 ∷ [])
@@ -108,7 +108,7 @@ moved_is_sent = refl
 
 -- and is gone once the variable had no place in between; the blocks are then known again as they were
 
-abbrev lost_and_found : Record
+abbrev lost_and_found : History
 lost_and_found = entries_after_all moved (SendsTasks (1 ∷ []) ∷ Edits (Remap 1001 0 []) ∷ Edits (Remap 1001 0 (0x1600 ∷ [])) ∷ [])
 
 zeros_are_sent : answer_to lost_and_found (SendsTasks (1 ∷ []))
@@ -121,7 +121,7 @@ zeros_are_sent = refl
 abbrev docking : List Group
 docking = record { alias = 0; slaves = [] } ∷ record { alias = 100; slaves = axis ∷ [] } ∷ []
 
-abbrev docked : Record
+abbrev docked : History
 docked = entries_after_all (Opened docking ∷ []) (Edits (Connect 100) ∷ four_answers 0 ++ Posts 0 1 (2 ∷ []) ∷ SendsTasks (0 ∷ []) ∷ [])
 
 docked_again : answers_to docked (
@@ -151,12 +151,12 @@ zeros_again : answer_to (entries_after_all docked (Edits (Disconnect 100) ∷ Ed
 unfolding bit_of number_of starts_within
 zeros_again = refl
 
--- Two tools with a byte of outputs each: a value goes with its variable to another place, and that of a variable whose tool comes again is 0.
+-- Two tools with a byte of outputs each: a value goes with its variable to another place, and is 0 where the variable's tool comes again.
 
 abbrev byte_slave : ℕ → ℕ → Slave
 byte_slave station variable = record { station = station; areas = area_of 2 Out 0x1100 0x1600 variable 8 ∷ [] }
 
-abbrev two_tools : Record
+abbrev two_tools : History
 two_tools = entries_after_all (Opened (
     record { alias = 0; slaves = [] }
     ∷ record { alias = 10; slaves = byte_slave 1001 1 ∷ [] }
@@ -176,7 +176,7 @@ both_values : map (sent_text two_tools) (proposal two_tools (0 ∷ []))
 unfolding bit_of number_of starts_within
 both_values = refl
 
-abbrev one_tool : Record
+abbrev one_tool : History
 one_tool = entries_after_all two_tools (Edits (Disconnect 10) ∷ SendsWrite ∷ back 4 (written_at 1002 0x0600 16 1 ∷ []) ∷ [])
 
 value_moves : answer_to one_tool (SendsTasks (0 ∷ []))
@@ -184,7 +184,7 @@ value_moves : answer_to one_tool (SendsTasks (0 ∷ []))
 unfolding bit_of number_of starts_within
 value_moves = refl
 
-abbrev two_again : Record
+abbrev two_again : History
 two_again = entries_after_all one_tool (Edits (Connect 10) ∷ [])
 
 value_is_new : map (sent_text two_again) (proposal two_again (0 ∷ []))
@@ -201,7 +201,7 @@ other_posts : answers_to posted (Posts 1 0 [] ∷ SendsTasks (0 ∷ []) ∷ [])
 unfolding bit_of number_of starts_within
 other_posts = refl
 
-abbrev there_and_back : Record
+abbrev there_and_back : History
 there_and_back = entries_after_all posted (to_task_1 ∷ Posts 1 1 (1 ∷ []) ∷ Edits (Move 1001 0 0) ∷ Posts 1 2 [] ∷ [])
 
 posted_elsewhere : map (sent_text there_and_back) (proposal there_and_back (0 ∷ []))
@@ -211,10 +211,10 @@ posted_elsewhere = refl
 
 -- While a variable is in another task, a post of the task that it was in before, and comes back to, says nothing of it.
 
-abbrev two_slaves : Record
+abbrev two_slaves : History
 two_slaves = Opened (record { alias = 0; slaves = byte_slave 1001 1 ∷ byte_slave 1002 2 ∷ [] } ∷ []) ∷ []
 
-abbrev moves_and_back : List Step → Record
+abbrev moves_and_back : List Step → History
 moves_and_back meanwhile = entries_after_all two_slaves (Posts 0 0 (0x11 ∷ 0x22 ∷ []) ∷ to_task_1 ∷ meanwhile ++ Edits (Move 1001 0 0) ∷ [])
 
 abbrev data_of : ℕ → ℕ → List ℕ
@@ -225,7 +225,7 @@ accepted_meanwhile : answers_to two_slaves (Posts 0 0 (0x11 ∷ 0x22 ∷ []) ∷
 unfolding bit_of number_of starts_within
 accepted_meanwhile = refl
 
-posted_without_it : map (λ past. map (sent_text past) (proposal past (0 ∷ []))) (
+posted_without_it : map (λ history. map (sent_text history) (proposal history (0 ∷ []))) (
     moves_and_back (Posts 0 1 (0x33 ∷ []) ∷ [])
     ∷ moves_and_back (Posts 1 1 (0x44 ∷ []) ∷ Posts 0 1 (0x33 ∷ []) ∷ [])
     ∷ [])

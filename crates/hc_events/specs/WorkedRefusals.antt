@@ -7,7 +7,7 @@ use Rattle.hc_registers.specs.Blocks.{LineBlock}
 use Rattle.hc_events.specs.declared.answer.Answer.TheVariants as answer
 use Rattle.hc_events.specs.declared.faults.CoreFault.{CoreFault}
 use Rattle.hc_events.specs.declared.faults.CoreFault.TheVariants.{NoSuchTask, NothingOwed, PostLength, Room, StalePost, Unprogrammed}
-use Rattle.hc_events.specs.Entries.{Record}
+use Rattle.hc_events.specs.Entries.{History}
 use Rattle.hc_events.specs.Faults.{core_fault_number}
 use Rattle.hc_events.specs.Calls.{send_into_faults, write_into_faults}
 use Rattle.hc_events.specs.Steps.{Posts, SendsTasks, Reads, answers_to, post_faults, serials_left, task_faults, write_faults}
@@ -54,18 +54,18 @@ refused_sendings = refl
 abbrev numbers : List (Bool × CoreFault) → List ℕ
 numbers faults = map (λ judged. core_fault_number judged.1) faults
 
-post_order : (past : Record) (task epoch : ℕ) (bytes : List ℕ) → numbers (post_faults past task epoch bytes) ≡ 8 ∷ 15 ∷ 16 ∷ []
-post_order past task epoch bytes = refl
+post_order : (history : History) (task epoch : ℕ) (bytes : List ℕ) → numbers (post_faults history task epoch bytes) ≡ 8 ∷ 15 ∷ 16 ∷ []
+post_order history task epoch bytes = refl
 
-task_order : (past : Record) (tasks : List ℕ) → numbers (task_faults past tasks) ≡ 8 ∷ 17 ∷ 19 ∷ []
-task_order past tasks = refl
+task_order : (history : History) (tasks : List ℕ) → numbers (task_faults history tasks) ≡ 8 ∷ 17 ∷ 19 ∷ []
+task_order history tasks = refl
 
-slice_order : (past : Record) (tasks : List ℕ) (bytes : ℕ)
-    → (numbers (send_into_faults past tasks bytes) ∷ numbers (write_into_faults past bytes) ∷ []) ≡ (8 ∷ 17 ∷ 19 ∷ 29 ∷ []) ∷ (18 ∷ 19 ∷ 29 ∷ []) ∷ []
-slice_order past tasks bytes = refl
+slice_order : (history : History) (tasks : List ℕ) (bytes : ℕ)
+    → (numbers (send_into_faults history tasks bytes) ∷ numbers (write_into_faults history bytes) ∷ []) ≡ (8 ∷ 17 ∷ 19 ∷ 29 ∷ []) ∷ (18 ∷ 19 ∷ 29 ∷ []) ∷ []
+slice_order history tasks bytes = refl
 
-write_order : (past : Record) (blocks : List LineBlock) → numbers (write_faults past blocks) ≡ 18 ∷ 19 ∷ []
-write_order past blocks = refl
+write_order : (history : History) (blocks : List LineBlock) → numbers (write_faults history blocks) ≡ 18 ∷ 19 ∷ []
+write_order history blocks = refl
 
 -- 1,099,511,627,774 is the last serial of a sending.
 

@@ -11,15 +11,15 @@ use Rattle.hc_events.specs.declared.answer.Outcome.TheVariants.{Done, Missed, St
 use Rattle.hc_events.specs.declared.faults.CoreFault.TheVariants.{NothingOwed, Room, Unprogrammed}
 use Rattle.hc_events.specs.Arrivals.{Part}
 use Rattle.hc_events.specs.Calls.{write_all_into_faults}
-use Rattle.hc_events.specs.Entries.{Record, Opened}
+use Rattle.hc_events.specs.Entries.{History, Opened}
 use Rattle.hc_events.specs.Steps.{Step, Forgets, SendsTasks, SendsWrite, SendsWrites, answer_to, answers_to, entries_after_all}
 use Rattle.hc_events.specs.WorkedAxis.{area_of, back, head_of, opened, owed_count, write_back, written, written_at}
 use Rattle.hc_events.specs.WorkedWrites.{fmmu_write, input_fmmu, input_sync, output_fmmu, sync_write}
 use Rattle.hc_events.specs.WriteFrames.{frame_blocks}
 
--- The first of the axis' four blocks is written by itself; the frame behind that carries the three others, one datagram after another, and each but the last says that more follow.
+-- The first of the axis' four blocks is written by itself; the frame after that carries the three others, one datagram after another, and each but the last says that more follow.
 
-abbrev one_written : Record
+abbrev one_written : History
 one_written = entries_after_all opened (SendsWrite ∷ write_back 0 0x0810 8 1 ∷ [])
 
 abbrev three_writes : ℕ → List ℕ
@@ -41,7 +41,7 @@ three_parts first second third = written_at 1001 0x0600 16 first ∷ written_at 
 abbrev three_back : ℕ → ℕ → ℕ → ℕ → Step
 three_back serial first second third = back serial (three_parts first second third)
 
--- Each block is done by its own counter, and behind that nothing is owed; the frame is answered once.
+-- Each block is done by its own counter, and after that nothing is owed; the frame is answered once.
 
 all_done : answers_to one_written (SendsWrites ∷ three_back 1 1 1 1 ∷ three_back 1 1 1 1 ∷ SendsWrites ∷ SendsWrite ∷ [])
     ≡ answer.WritesSent (three_writes 1)
@@ -53,7 +53,7 @@ all_done : answers_to one_written (SendsWrites ∷ three_back 1 1 1 1 ∷ three_
 unfolding bit_of number_of starts_within
 all_done = refl
 
--- A block that came back with another counter stays owed, and so the next frame is that of one block alone, as its single write is.
+-- A block that came back with another counter stays owed, and so the next frame has one block alone, as its single write has.
 
 one_missed : answers_to one_written (SendsWrites ∷ three_back 1 1 0 1 ∷ SendsWrites ∷ write_back 2 0x0818 8 2 ∷ SendsWrites ∷ write_back 3 0x0818 8 1 ∷ SendsWrites ∷ [])
     ≡ answer.WritesSent (three_writes 1)
@@ -80,7 +80,7 @@ sent_again : answers_to one_written (SendsWrites ∷ SendsWrites ∷ three_back 
 unfolding bit_of number_of starts_within
 sent_again = refl
 
--- A single write behind the frame takes its block out of the frame, and leaves the others.
+-- A single write after the frame takes its block out of the frame, and leaves the others.
 
 one_beside : answers_to one_written (SendsWrites ∷ SendsWrite ∷ three_back 1 1 1 1 ∷ SendsTasks [] ∷ write_back 2 0x0600 16 1 ∷ SendsWrite ∷ [])
     ≡ answer.WritesSent (three_writes 1)
@@ -110,13 +110,13 @@ other_frames = refl
 abbrev byte_slave : ℕ → ℕ → Slave
 byte_slave station variable = record { station = station; areas = area_of 2 Out 0x1100 0x1600 variable 8 ∷ [] }
 
-abbrev two_slaves : Record
+abbrev two_slaves : History
 two_slaves = Opened (record { alias = 0; slaves = byte_slave 1001 1 ∷ byte_slave 1002 2 ∷ [] } ∷ []) ∷ []
 
 abbrev four_back : ℕ → Step
 four_back serial = back serial (written_at 1001 0x0810 8 1 ∷ written_at 1001 0x0600 16 1 ∷ written_at 1002 0x0810 8 1 ∷ written_at 1002 0x0600 16 1 ∷ [])
 
-abbrev all_four : Record
+abbrev all_four : History
 all_four = entries_after_all two_slaves (SendsWrites ∷ [])
 
 forgotten_in_between : answers_to all_four (Forgets 1001 ∷ four_back 0 ∷ [])
@@ -124,14 +124,14 @@ forgotten_in_between : answers_to all_four (Forgets 1001 ∷ four_back 0 ∷ [])
 unfolding bit_of number_of starts_within
 forgotten_in_between = refl
 
--- A write behind that starts over: then the frame from before says nothing of the other slave either.
+-- A write after that starts over: then the frame from before says nothing of the other slave either.
 
 started_over : answers_to (entries_after_all all_four (Forgets 1002 ∷ SendsWrite ∷ [])) (four_back 0 ∷ write_back 1 0x0810 8 1 ∷ [])
     ≡ answer.Stale ∷ answer.WriteDone ∷ []
 unfolding bit_of number_of starts_within
 started_over = refl
 
--- how many blocks are owed: at the opening, with the frame of all under way, behind its answer, and behind its answer with one slave forgotten before
+-- how many blocks are owed: at the opening, with the frame of all under way, after its answer, and after its answer with one slave forgotten before
 
 owed_counts : map owed_count (
     two_slaves

@@ -6,7 +6,7 @@ use Rattle.hc_frames.specs.declared.commands.Command.TheVariants.{Apwr, Lrw}
 use Rattle.hc_frames.specs.Arrived.{starts_within}
 use Rattle.hc_events.specs.declared.answer.Answer.TheVariants as answer
 use Rattle.hc_events.specs.declared.faults.CoreFault.TheVariants.{NothingOwed, Unprogrammed}
-use Rattle.hc_events.specs.Entries.{Record}
+use Rattle.hc_events.specs.Entries.{History}
 use Rattle.hc_events.specs.Steps.{Step, Edits, SendsTasks, SendsWrite, answers_to, entries_after, entries_after_all}
 use Rattle.hc_events.specs.WorkedAxis.{back, head_of, opened, owed_count, write_back, written, written_at}
 
@@ -34,10 +34,10 @@ output_sync = 0x00 ∷ 0x11 ∷ 0x01 ∷ 0x00 ∷ 0x64 ∷ 0x00 ∷ 0x01 ∷ 0x0
 abbrev pub input_sync : List ℕ
 input_sync = 0x80 ∷ 0x11 ∷ 0x02 ∷ 0x00 ∷ 0x20 ∷ 0x00 ∷ 0x01 ∷ 0x00 ∷ []
 
--- how many blocks are owed before each of these events, and behind the last one
-abbrev owed_along : Record → List Step → List ℕ
-owed_along past [] = owed_count past ∷ []
-owed_along past (step ∷ steps) = owed_count past ∷ owed_along (entries_after past step) steps
+-- how many blocks are owed before each of these events, and after the last one
+abbrev owed_along : History → List Step → List ℕ
+owed_along history [] = owed_count history ∷ []
+owed_along history (step ∷ steps) = owed_count history ∷ owed_along (entries_after history step) steps
 
 -- The four blocks of a slave are written, the first owed one each time, and no task is sent before the last is confirmed.
 
@@ -66,7 +66,7 @@ owed_less_and_less = refl
 
 -- The owed block is written again until an answer confirms it; an answer to an older write of it doesn't.
 
-abbrev before_the_last : Record
+abbrev before_the_last : History
 before_the_last = entries_after_all opened up_to_the_last
 
 abbrev again_and_again : List Step

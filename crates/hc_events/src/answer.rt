@@ -27,7 +27,7 @@ pub enum Outcome {
     Missed,
 }
 
-/// What an arrival is as a whole, where what it is for each datagram stands in a list beside it.
+/// What an arrival is as a whole, where what it is for each datagram is in a list beside it.
 #[derive(Clone, Copy, Debug, PartialEq, Eq)]
 pub enum Arrived {
     /// It answers frames of tasks, and the list has what it is for each datagram, in the frame's order.
@@ -36,8 +36,8 @@ pub enum Arrived {
     WriteDone,
     /// It answers a register write, with another working counter: the block stays owed.
     WriteMissed,
-    /// It answers no sending, or one of which each datagram or the register block was sent again since: nothing
-    /// changed.
+    /// It answers no sending, or each datagram or the register block of that sending was sent again since:
+    /// nothing changed.
     Stale,
     /// It answers a frame of several register writes, and the list has for each block, in the frame's order, whether its
     /// write is `Done`, `Missed` or `Stale`.
@@ -46,11 +46,11 @@ pub enum Arrived {
 
 impl Arrived {
     ghost use Rattle.std.specs.Prelude.{◌≡◌};
-    ghost use Rattle.hc_events.specs.Outcomes.{told_with};
+    ghost use Rattle.hc_events.specs.Outcomes.{arrived_answer};
 
-    /// The answer to the arrival, with the list that stood beside. It takes no memory.
+    /// The answer to the arrival, with the list that was beside. It takes no memory.
     pub fn answer(self, outcomes: Vec<Outcome>) -> Answer
-        ensures { result ≡ told_with self outcomes.items }
+        ensures { result ≡ arrived_answer self outcomes.items }
     {
         match self {
             Arrived::Answered => Answer::Answered(Items::of(outcomes)),
@@ -92,8 +92,8 @@ pub enum Answer {
     /// The arrival answers a frame of several register writes: for each block, in the frame's order, `Done`, `Missed` or
     /// `Stale`.
     Written(Items<Outcome>),
-    /// The arrival answers no sending, or one of which each datagram or the register block was sent
-    /// again since: nothing changed.
+    /// The arrival answers no sending, or each datagram or the register block of that sending was
+    /// sent again since: nothing changed.
     Stale,
     /// What a task reads.
     Image {

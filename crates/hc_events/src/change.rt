@@ -1,4 +1,4 @@
-//! What a reader of the input images has to be told, in order.
+//! What a reader of the input images gets, in order.
 ghost use Rattle.std.specs.Prelude.{◌≡◌, ◌<◌, ◌≤◌, length};
 ghost use Rattle.hc_records.specs.declared.limits.TheConstants.{MOST_DATAGRAMS, MOST_DATAGRAM_BYTES, TASKS};
 
@@ -16,9 +16,9 @@ pub struct GoodAnswer {
 }
 
 impl Model for GoodAnswer {
-    ghost use Rattle.hc_events.specs.Images.{FitsImage, Fresh};
+    ghost use Rattle.hc_events.specs.Images.{FitsImage, NewAnswer};
 
-    ghost Value = { Fresh };
+    ghost Value = { NewAnswer };
 
     ghost view = { λ good. record { task = good.task; datagram = good.datagram; bytes = good.bytes } };
 
@@ -26,7 +26,7 @@ impl Model for GoodAnswer {
 }
 
 impl GoodAnswer {
-    /// That of a task's datagram with these data. It takes no memory.
+    /// The answer of a task's datagram with these data. It takes no memory.
     pub fn of(task: u8, datagram: u8, bytes: Items<u8>) -> GoodAnswer
         requires task { task < TASKS }
         requires datagram { datagram < MOST_DATAGRAMS }
@@ -80,7 +80,7 @@ impl GoodAnswer {
 /// A change of what tasks read.
 #[derive(Debug, Drop)]
 pub enum Change {
-    /// An edit was accepted: a new epoch with its places, in which no datagram has an answer yet.
+    /// An edit was accepted: a new epoch with its places, where no datagram has an answer yet.
     Swapped(Swap),
     /// A datagram has a good answer.
     Good(GoodAnswer),

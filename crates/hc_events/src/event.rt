@@ -10,7 +10,7 @@ pub enum Event<'a> {
     Post {
         /// The task, 0 to 7; a higher one is refused.
         task: u8,
-        /// The epoch in which the task saw the places of its variables.
+        /// The epoch where the task saw the places of its variables.
         epoch: u32,
         /// The output bytes of the task's image, as many as the task has in that epoch.
         bytes: &'a [u8],

@@ -39,7 +39,7 @@ pub enum CoreFault {
     /// The area doesn't offer a PDO of the index.
     #[error("the area does not offer the PDO")]
     UnknownPdo,
-    /// An index stands twice.
+    /// An index is twice.
     #[error("a PDO is named twice")]
     RepeatedPdo,
     /// The PDOs have more bits than a datagram.
@@ -87,7 +87,7 @@ pub enum CoreFault {
     /// A datagram has a command that isn't used.
     #[error("a datagram has an unknown command")]
     UnknownCommand,
-    /// A datagram's index isn't that of the frame's serial.
+    /// A datagram's index isn't from the frame's serial.
     #[error("a datagram has the index of another serial")]
     IndexMismatch,
     /// A growth was refused.

@@ -9,14 +9,14 @@ ghost use Rattle.hc_events.specs.FaultLaws.{FaultsAreNumbered};
 ghost use Rattle.hc_events.specs.Forgetting.{EventsWithoutForgetting, ForgettingLosesRegistersAlone, ForgottenWritesAreStale, HistoriesWithoutForgetting};
 ghost use Rattle.hc_events.specs.Laws.{AnswersOnce, EditsLeaveNoSlot, EpochsAreCounted, ProposalsAreNumbered, SlotsFit, UnmovedIsOwedAsBefore};
 ghost use Rattle.hc_events.specs.Names.{AddressesAreThoseSent, AnsweredAreNamed};
-ghost use Rattle.hc_events.specs.NewsLaws.{ChangesAreLegal, ChangesTellAll, LegalChangesAgree, LegalChangesDecide, NewsAreOfTheRecord, NewsOnlyGrow, SlotsAreLastAnswers};
+ghost use Rattle.hc_events.specs.UpdatesLaws.{ChangesAreLegal, ChangesShowAll, LegalChangesAgree, LegalChangesDecide, UpdatesAreOfTheHistory, UpdatesOnlyGrow, SlotsAreLastAnswers};
 ghost use Rattle.hc_events.specs.SendingLaws.{FramesHaveTheirSizes, IndexesComeAgain, ProposalsCarryTheTasks, SendingsHaveSerials, SentFramesAreFound, SentWriteFramesAreFound, SentWritesAreFound, SerialsAscend, SerialsStayBelow};
 ghost use Rattle.hc_events.specs.ViewLaws.{ChangesLeadOn, LegalEpochsFit, LegalJoins, ViewsAreReads};
 ghost use Rattle.hc_events.specs.WriteLaws.{DoneWritesAreKnown, GoodAnswersMakeKnown};
-ghost use Rattle.hc_events.specs.Stale.{StaleArrivalsCanGo, StaleChangesNothing, StaleIsToldWithout, StaleStaysStale, StepsKeepWithout, UnreadableChangesNothing};
+ghost use Rattle.hc_events.specs.Stale.{StaleArrivalsCanGo, StaleChangesNothing, StaleIsJudgedWithout, StaleStaysStale, StepsKeepWithout, UnreadableChangesNothing};
 
 /// A record with an arrival that was stale when it came, and the same record without it, whatever was
-/// recorded since: all later events have the same answers behind both, and lead to records that say the
+/// recorded since: all later events have the same answers after both, and lead to records that say the
 /// same of the line, the epoch, the next serial, the input images, the output values and the known bytes.
 pub fn stale_changes_nothing()
     ensures { StaleChangesNothing }
@@ -27,9 +27,9 @@ pub fn stale_arrivals_can_go()
     ensures { StaleArrivalsCanGo }
 {}
 
-/// Whether an arrival is stale can be told without the arrivals that were stale before it.
-pub fn stale_is_told_without()
-    ensures { StaleIsToldWithout }
+/// Whether an arrival is stale can be reported without the arrivals that were stale before it.
+pub fn stale_is_judged_without()
+    ensures { StaleIsJudgedWithout }
 {}
 
 /// An event leads from a record and from the same record without its stale arrivals to records that are
@@ -51,9 +51,8 @@ pub fn unreadable_changes_nothing()
 
 /// Each entry of a record that events led to was accepted when it came: an edit by the state, a post by its task and
 /// its length, a frame of tasks because all its datagrams are the line's and nothing was owed, a frame of register
-/// writes as that of the first owed block, or of the first ones, as many as it holds. No more sendings were made than
-/// there are serials, and the record begins with the groups that were opened. This is what the laws of such records ask
-/// for.
+/// writes as the first owed block's, or of the first ones, as many as it holds. No more sendings were made than there
+/// are serials, and the record begins with the groups that were opened. This is what the laws of such records ask for.
 pub fn records_are_reachable()
     ensures { RecordsAreReachable }
 {}
@@ -64,7 +63,7 @@ pub fn answers_the_serial()
     ensures { AnswersTheSerial }
 {}
 
-/// A sending is answered at most once: behind an answer to it, no arrival with its serial answers anything,
+/// A sending is answered at most once: after an answer to it, no arrival with its serial answers anything,
 /// whatever events come in between.
 pub fn answers_once()
     ensures { AnswersOnce }
@@ -111,7 +110,7 @@ pub fn returned_frames_answer()
     ensures { ReturnedFramesAnswer }
 {}
 
-/// An arrival in which a block's own datagram is good makes the bytes of the block's last write known. Of every other block
+/// An arrival where a block's own datagram is good makes the bytes of the block's last write known. Of every other block
 /// the same is known as before.
 pub fn good_answers_make_known()
     ensures { GoodAnswersMakeKnown }
@@ -123,7 +122,7 @@ pub fn done_writes_are_known()
     ensures { DoneWritesAreKnown }
 {}
 
-/// Behind an accepted edit no datagram has data, of any task, touched by the edit or not.
+/// After an accepted edit no datagram has data, of any task, touched by the edit or not.
 pub fn edits_leave_no_slot()
     ensures { EditsLeaveNoSlot }
 {}
@@ -156,21 +155,21 @@ pub fn answered_are_named()
     ensures { AnsweredAreNamed }
 {}
 
-/// Accepted edits and good answers are told in the order in which they came: events add to what there is
-/// to tell, and take nothing of it away.
-pub fn news_only_grow()
-    ensures { NewsOnlyGrow }
+/// Accepted edits and good answers are reported in the order in which they came: events add to what
+/// there is to give, and take nothing of it away.
+pub fn updates_only_grow()
+    ensures { UpdatesOnlyGrow }
 {}
 
-/// What there is to tell are accepted edits and good answers alone: of datagrams of an arrival that
+/// What there is to give are accepted edits and good answers alone: of datagrams of an arrival that
 /// answered their sending, that weren't sent again since, and that had the expected working counter.
-pub fn news_are_of_the_record()
-    ensures { NewsAreOfTheRecord }
+pub fn updates_are_of_the_history()
+    ensures { UpdatesAreOfTheHistory }
 {}
 
-/// A legal list of changes decides by itself, without any event, what is read behind it: the table of
-/// the line to which its edits lead, the epoch, and for each datagram the data of its last good answer
-/// behind the last swap.
+/// A legal list of changes decides by itself, without any event, what is read after it: the table of
+/// the line that its edits lead to, the epoch, and for each datagram the data of its last good answer
+/// after the last swap.
 pub fn legal_changes_decide()
     ensures { LegalChangesDecide }
 {}
@@ -181,35 +180,35 @@ pub fn legal_changes_agree()
     ensures { LegalChangesAgree }
 {}
 
-/// A legal list of changes that tells the edits and the good answers of a project's record leads to what is
-/// read behind that record: the table of the line, the epoch, and the data of each datagram.
-pub fn changes_tell_all()
-    ensures { ChangesTellAll }
+/// A legal list of changes that gives the edits and the good answers of a project's record leads to what is
+/// read after that record: the table of the line, the epoch, and the data of each datagram.
+pub fn changes_show_all()
+    ensures { ChangesShowAll }
 {}
 
-/// Behind two lists of changes in a row is what the second leads to from where the first one leads: table,
+/// After two lists of changes in a row is what the second leads to from where the first one leads: table,
 /// epoch, data and state.
 pub fn changes_lead_on()
     ensures { ChangesLeadOn }
 {}
 
-/// Two lists of changes in a row are legal just where the first is, and the second from the state behind it.
+/// Two lists of changes in a row are legal just where the first is, and the second from the state after it.
 pub fn legal_lists_join()
     ensures { LegalJoins }
 {}
 
-/// The epoch behind a legal list of changes is at most the last one.
+/// The epoch after a legal list of changes is at most the last one.
 pub fn legal_epochs_fit()
     ensures { LegalEpochsFit }
 {}
 
-/// A legal list of changes that tells a record's edits and good answers shows of each task, 0 to 7, what a
+/// A legal list of changes that gives a record's edits and good answers shows of each task, 0 to 7, what a
 /// read of the record answers.
 pub fn views_are_reads()
     ensures { ViewsAreReads }
 {}
 
-/// The changes that a project's record tells are legal for it: along their list each swap names an edit that
+/// The changes that a project's record gives are legal for it: along their list each swap names an edit that
 /// is accepted and leads to the next state's places, and each good answer is of a datagram of the state so
 /// far and has its length.
 pub fn changes_are_legal()
@@ -232,13 +231,13 @@ pub fn serials_stay_below()
     ensures { SerialsStayBelow }
 {}
 
-/// Behind an accepted sending of tasks each frame of the answer is the sending with its own serial.
+/// After an accepted sending of tasks each frame of the answer is the sending with its own serial.
 pub fn sent_frames_are_found()
     ensures { SentFramesAreFound }
 {}
 
-/// An accepted register write is that of the first owed block, and is the sending with the serial that was
-/// the next one.
+/// An accepted register write is the first owed block's, and is the sending with the serial that was the
+/// next one.
 pub fn sent_writes_are_found()
     ensures { SentWritesAreFound }
 {}
@@ -284,20 +283,20 @@ pub fn previews_are_frames()
     ensures { PreviewsAreFrames }
 {}
 
-/// A frame's index, which stands in its byte 17, is the low byte of its serial. It comes again with the
+/// A frame's index, which is in its byte 17, is the low byte of its serial. It comes again with the
 /// 256th sending after it and with none before that, so an index names a sending only among 256.
 pub fn indexes_come_again()
     ensures { IndexesComeAgain }
 {}
 
-/// A block with the same bytes at the same register of the same slave in the old line is owed behind an edit
+/// A block with the same bytes at the same register of the same slave in the old line is owed after an edit
 /// exactly where it was owed before it.
 pub fn unmoved_is_owed_as_before()
     ensures { UnmovedIsOwedAsBefore }
 {}
 
 /// In the line of a project a datagram of a task is sent with its length. At the place of each of its output
-/// variables stand the bits of that variable's value, and every other bit is 0: gaps and inputs.
+/// variables are the bits of that variable's value, and every other bit is 0: gaps and inputs.
 pub fn sent_data_are_values()
     ensures { SentDataAreValues }
 {}
@@ -308,7 +307,7 @@ pub fn epochs_are_counted()
 {}
 
 /// The faults have the numbers 1 to 29 but 14: 1 to 13 those of edits, 15 to 19 the core's own, 20 to 27
-/// those of frames, 28 want of memory, 29 want of room.
+/// those of frames, 28 `Memory`, 29 `Room`.
 pub fn faults_are_numbered()
     ensures { FaultsAreNumbered }
 {}
@@ -325,14 +324,14 @@ pub fn forgotten_writes_are_stale()
     ensures { ForgottenWritesAreStale }
 {}
 
-/// A history in which no slave was forgotten and each register write has a frame of its own says what the words say
+/// A history where no slave was forgotten and each register write has a frame of its own says what the words say
 /// that knew nothing else.
 pub fn histories_without_forgetting()
     ensures { HistoriesWithoutForgetting }
 {}
 
-/// Events among which no slave is forgotten and no frame of several writes is sent are answered as by those words, and
-/// leave the same history.
+/// Where no slave is forgotten and no frame of several writes is sent, the definitions without these two events give each
+/// event the same answer, and the same history.
 pub fn events_without_forgetting()
     ensures { EventsWithoutForgetting }
 {}

@@ -12,7 +12,7 @@ pub const FRAME_BLOCKS: usize = 74;
 /// The number of a datagram's task and its number in that task.
 pub type Named = (u8, u8);
 
-/// A frame of one to 115 datagrams of tasks: the 1,498 bytes behind the EtherCAT header hold 115
+/// A frame of one to 115 datagrams of tasks: the 1,498 bytes after the EtherCAT header hold 115
 /// datagrams of one data byte, 13 bytes each (ETG.1000.4, 5.3 and 5.4). It owns no memory.
 #[derive(Clone, Debug, Drop)]
 pub struct Sending {
@@ -22,25 +22,25 @@ pub struct Sending {
 }
 
 impl Model for Sending {
-    ghost use Rattle.hc_events.specs.Sendings.{Frame, IsFilled};
+    ghost use Rattle.hc_events.specs.Sendings.{Frame, FrameIsFilled};
 
     ghost Value = { Frame };
 
     ghost view = { λ sending. record { serial = sending.serial; bytes = sending.bytes; datagrams = sending.datagrams.items } };
 
-    ghost invariant = { λ sending. IsFilled sending.bytes sending.datagrams.items };
+    ghost invariant = { λ sending. FrameIsFilled sending.bytes sending.datagrams.items };
 }
 
 impl Sending {
     ghost use Rattle.std.specs.Prelude.{◌≡◌, ◌≤◌, ◌+◌, IsTrue};
     ghost use Rattle.hc_frames.specs.declared.limits.TheConstants.{MAX_DATA};
-    ghost use Rattle.hc_events.specs.Sendings.{IsFilled, alone, has_room, joined, size_of};
+    ghost use Rattle.hc_events.specs.Sendings.{FrameIsFilled, frame_of_one, has_room, frame_joined, sent_frame_size};
 
     /// A frame of one datagram with so many bytes of data, 1 to 1,486.
     pub fn of(serial: u64, datagram: Named, length: u16) -> Sending
         requires some { 1 ≤ length }
         requires most { length ≤ MAX_DATA }
-        ensures { result ≡ alone serial datagram length }
+        ensures { result ≡ frame_of_one serial datagram length }
     {
         let mut datagrams = ArrayVec::new();
         datagrams.push(datagram);
@@ -60,11 +60,11 @@ impl Sending {
         2 + self.bytes + BESIDE_DATA_BYTES as u16 + length <= MAX_ETHERCAT
     }
 
-    /// A datagram with so many bytes of data, for which there is room, joins the frame behind the others.
+    /// A datagram with so many bytes of datajoins, where there is room, the frame after the others.
     pub fn join(&mut self, datagram: Named, length: u16)
         requires some { 1 ≤ length }
         requires room { IsTrue (has_room self.old.bytes length) }
-        ensures { self.new ≡ joined self.old datagram length }
+        ensures { self.new ≡ frame_joined self.old datagram length }
     {
         self.datagrams.push(datagram);
         self.bytes += BESIDE_DATA_BYTES as u16 + length;
@@ -80,7 +80,7 @@ impl Sending {
 
     /// The bytes of the whole frame, 60 to 1,514.
     pub fn size(&self) -> usize
-        ensures { result ≡ size_of self.now }
+        ensures { result ≡ sent_frame_size self.now }
     {
         let bytes = HEAD_BYTES + usize::from(self.bytes);
         bytes.max(usize::from(LEAST_FRAME))
@@ -90,7 +90,7 @@ impl Sending {
     /// frame, so they are 115 at most.
     pub fn datagrams(&self) -> &[Named]
         ensures datagrams { result.now ≡ self.now.datagrams }
-        ensures filled { IsFilled self.now.bytes self.now.datagrams }
+        ensures filled { FrameIsFilled self.now.bytes self.now.datagrams }
     {
         self.datagrams.as_slice()
     }

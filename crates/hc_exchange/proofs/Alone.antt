@@ -1,4 +1,4 @@
--- A variable stands once in a line.
+-- A variable is once in a line.
 use Rattle.std.proofs.Common.{◌≡◌, ◌∙◌, ℕ, zero, suc, ◌+◌, ◌*◌, ◌≤◌, Bool, cond, Option, Some, None, List, [], ◌∷◌, ◌++◌, refl, sym, ap, ap₂, subst, arith}
 use Rattle.std.specs.Prelude.{Contains, slice_get, ◌==◌}
 use Rattle.std.specs.Option.{option_map_or}
@@ -10,7 +10,7 @@ use Rattle.hc_records.specs.Line.{Member, State, line}
 use Rattle.hc_places.proofs.lemmas.Once.{declared-once, held, line-declared, of_areas, own, weight}
 use Rattle.hc_places.proofs.lemmas.Totals.{total}
 use Rattle.hc_exchange.specs.PairLaws.{IsConfigurable}
-use Rattle.hc_exchange.specs.Exchanged.{StandsInMemory}
+use Rattle.hc_exchange.specs.Exchanged.{VariableLiesInMemory}
 use Rattle.hc_exchange.proofs.lemmas.Variables.{Found}
 
 -- what counts once in a list has one place there
@@ -83,10 +83,10 @@ one-entry v bit (e ∷ es) a b few is is' has has' =
     one-by v e.0 bit e.1 (total (held v) es) (variables_from (bit + e.1) es) a b few is is' has has' (λ f own_is rest. held-some v (bit + e.1) es f own_is rest)
     (λ fewer rest rest'. one-entry v (bit + e.1) es a b fewer is is' rest rest')
 
--- so a variable of a line stands in one place of one slave's memory
-pub stands-once : (state : State) (variable bits bits' position position' m m' : ℕ) → IsConfigurable state → StandsInMemory (line state) variable bits position m
-    → StandsInMemory (line state) variable bits' position' m' → (position ≡ position') × (m ≡ m')
-stands-once state variable bits bits' position position' m m' can s s' =
+-- so a variable of a line is in one place of one slave's memory
+pub is_placed-once : (state : State) (variable bits bits' position position' m m' : ℕ) → IsConfigurable state → VariableLiesInMemory (line state) variable bits position m
+    → VariableLiesInMemory (line state) variable bits' position' m' → (position ≡ position') × (m ≡ m')
+is_placed-once state variable bits bits' position position' m m' can s s' =
     let members = line state in
     let count = λ (member : Member). of_areas variable member.slave in
     let few : total count members ≤ 1 = omega (arith, line-declared (of_areas variable) 1 state.groups, declared-once state.groups can.project variable) in

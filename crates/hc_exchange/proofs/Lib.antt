@@ -2,7 +2,7 @@ mod Written
 mod Collected
 mod Passing
 mod Packing
-mod Standing
+mod Placing
 mod Meaning
 mod Alone
 mod Ready

@@ -17,29 +17,29 @@ use Rattle.hc_records.proofs.lemmas.Lists.{AllPairs-map}
 use Rattle.hc_records.proofs.lemmas.VariablePlaces.{variables-lie}
 use Rattle.hc_registers.specs.Blocks.{line_blocks}
 use Rattle.hc_frames.specs.Arrived.{Reading}
-use Rattle.hc_frames.specs.FrameText.{lrw, sent}
+use Rattle.hc_frames.specs.FrameText.{lrw, sent_on_wire}
 use Rattle.hc_frames.specs.Laws.{CanBeCarried}
 use Rattle.hc_frames.specs.Returned.{FitsLine}
-use Rattle.hc_segment.specs.Line.{frames_through, machines_behind}
+use Rattle.hc_segment.specs.Line.{frames_through, machines_after_frame}
 use Rattle.hc_exchange.specs.PairLaws.{IsConfigurable}
 use Rattle.hc_exchange.specs.Writing.{AreMachinesOf}
-use Rattle.hc_exchange.specs.WritingLaws.{IsWritten, machines_written}
-use Rattle.hc_exchange.proofs.lemmas.Members.{keeps-line, one-station}
+use Rattle.hc_exchange.specs.WritingLaws.{MachineIsWritten, machines_written}
+use Rattle.hc_exchange.proofs.lemmas.Members.{stays-line, one-station}
 use Rattle.hc_exchange.proofs.lemmas.Programmed.{writing-programs}
-use Rattle.hc_exchange.specs.Carrying.{AreProgrammed, CarriesPair, logical_part, memories_behind}
+use Rattle.hc_exchange.specs.Carrying.{AreProgrammed, CarriesPair, logical_part, memories_after}
 use Rattle.hc_exchange.specs.CarryingLaws.{Meets}
-use Rattle.hc_exchange.specs.Sequences.{AreApart, HasBit, Logical, all_behind, all_through}
+use Rattle.hc_exchange.specs.Sequences.{LogicalsAreApart, HasBit, Logical, all_after_frames, all_through}
 use Rattle.hc_exchange.specs.Variables.{IsCarried}
 use Rattle.hc_exchange.proofs.lemmas.Ready.{written-programmed}
 use Rattle.hc_exchange.proofs.lemmas.Sequences.{all-inputs, all-keep, all-others, all-outputs}
 use Rattle.hc_exchange.proofs.lemmas.Slaves.{output-high}
 use Rattle.hc_exchange.proofs.lemmas.Variables.{variables-carried}
-use Rattle.hc_exchange.specs.Exchanged.{CameBack, HasInMemory, IsExchanged, IsGapBit, IsOutputBit, StandsInMemory}
-use Rattle.hc_exchange.specs.Sent.{IsSent, IsVariable, count_of}
-use Rattle.hc_exchange.proofs.Alone.{stands-once}
+use Rattle.hc_exchange.specs.Exchanged.{DatagramCameBack, HasInMemory, IsExchanged, IsGapBit, IsOutputBit, VariableLiesInMemory}
+use Rattle.hc_exchange.specs.Sent.{IsSent, IsVariable, task_datagram_count}
+use Rattle.hc_exchange.proofs.Alone.{is_placed-once}
 use Rattle.hc_exchange.proofs.Packing.{count-listed, counter-low, datagram-early, datagram-there, length-there}
 use Rattle.hc_exchange.proofs.Passing.{IsSendable, Returned, frame_with, logical_of, passed-frames, passed-machines}
-use Rattle.hc_exchange.proofs.Standing.{InDatagram, gap-free, has-pair, in-datagram, task-told}
+use Rattle.hc_exchange.proofs.Placing.{InDatagram, gap-free, has-pair, in-datagram, task-answer_given}
 
 -- an exchange, and what is known of it
 pub record Given (state : State) (task : ℕ) (image : List ℕ) (machines frames machines' : List (List ℕ)) : Type 0 where
@@ -52,23 +52,23 @@ pub record Given (state : State) (task : ℕ) (image : List ℕ) (machines frame
 -- the datagrams that are sent
 
 abbrev numbers : State → ℕ → List ℕ
-numbers state task = range_with_len 0 (count_of (line state) task)
+numbers state task = range_with_len 0 (task_datagram_count (line state) task)
 
 abbrev sent_logicals : State → ℕ → (ℕ → List ℕ) → List Logical
 sent_logicals state task bytes = map (logical_of task bytes) (numbers state task)
 
-can-carry : (serial address : ℕ) (bytes : List ℕ) → serial < 2 ^ 40 → address < 2 ^ 32 → 1 ≤ length bytes → length bytes ≤ 1486 → CanBeCarried serial (sent (lrw address bytes) ∷ [])
+can-carry : (serial address : ℕ) (bytes : List ℕ) → serial < 2 ^ 40 → address < 2 ^ 32 → 1 ≤ length bytes → length bytes ≤ 1486 → CanBeCarried serial (sent_on_wire (lrw address bytes) ∷ [])
 can-carry serial address bytes low fits some most = record {
   some = omega arith;
   low = low;
-  fits = All-cons FitsLine (sent (lrw address bytes)) [] (record { address = fits; interrupt = omega arith; counter = omega arith; filled = some; size = most }) (All-nil FitsLine);
+  fits = All-cons FitsLine (sent_on_wire (lrw address bytes)) [] (record { address = fits; interrupt = omega arith; counter = omega arith; filled = some; size = most }) (All-nil FitsLine);
   within = omega arith;
 }
 
 address-fits : (task d : ℕ) → task < 8 → d < 16 → logical_address task d < 2 ^ 32
 address-fits task d low early = omega arith
 
-sendable : (state : State) (task : ℕ) (image : List ℕ) (machines frames machines' : List (List ℕ)) → (g : Given state task image machines frames machines') → (d : ℕ) → d < count_of (line state) task
+sendable : (state : State) (task : ℕ) (image : List ℕ) (machines frames machines' : List (List ℕ)) → (g : Given state task image machines frames machines') → (d : ℕ) → d < task_datagram_count (line state) task
     → IsSendable (line state) (length (line_blocks (line state))) task g.sent.bytes d
 sendable state task image machines frames machines' g d low =
     let members = line state in
@@ -89,7 +89,7 @@ number-at n i e low = omega (arith, get_or-range_with_len 0 n i e low)
 all-sendable : (state : State) (task : ℕ) (image : List ℕ) (machines frames machines' : List (List ℕ)) → (g : Given state task image machines frames machines')
     → All (IsSendable (line state) (length (line_blocks (line state))) task g.sent.bytes) (numbers state task)
 all-sendable state task image machines frames machines' g i e within =
-    let n = count_of (line state) task in
+    let n = task_datagram_count (line state) task in
     let low : i < n = omega (arith, length-range_with_len 0 n) in
     subst (IsSendable (line state) (length (line_blocks (line state))) task g.sent.bytes) (sym (number-at n i e low)) (sendable state task image machines frames machines' g i low)
 
@@ -99,25 +99,25 @@ apart-at : (task i j k l m n : ℕ) → i < j → k < 8 * m → l < 8 * n → m 
 apart-at task i j k l m n lower low low' most most' same = omega arith
 
 all-apart : (state : State) (task : ℕ) (image : List ℕ) (machines frames machines' : List (List ℕ)) → (g : Given state task image machines frames machines')
-    → AllPairs AreApart (sent_logicals state task g.sent.bytes)
+    → AllPairs LogicalsAreApart (sent_logicals state task g.sent.bytes)
 all-apart state task image machines frames machines' g =
-    let n = count_of (line state) task in
+    let n = task_datagram_count (line state) task in
     let bytes = g.sent.bytes in
-    AllPairs-map AreApart (logical_of task bytes) (range_with_len 0 n)
+    AllPairs-map LogicalsAreApart (logical_of task bytes) (range_with_len 0 n)
     (λ i j e lower within.
     let high : j < n = omega (arith, length-range_with_len 0 n) in
     let low : i < n = omega arith in
-    subst (λ (a : ℕ). AreApart (logical_of task bytes a) (logical_of task bytes (get_or (range_with_len 0 n) j e))) (sym (number-at n i e low))
-    (subst (λ (b : ℕ). AreApart (logical_of task bytes i) (logical_of task bytes b)) (sym (number-at n j e high))
+    subst (λ (a : ℕ). LogicalsAreApart (logical_of task bytes a) (logical_of task bytes (get_or (range_with_len 0 n) j e))) (sym (number-at n i e low))
+    (subst (λ (b : ℕ). LogicalsAreApart (logical_of task bytes i) (logical_of task bytes b)) (sym (number-at n j e high))
     (λ k l below below' same. apart-at task i j k l (length (bytes i)) (length (bytes j)) lower below below' (most i low) (most j high) same)))
   where
-    most : (d : ℕ) → d < count_of (line state) task → length (g.sent.bytes d) ≤ 1486
+    most : (d : ℕ) → d < task_datagram_count (line state) task → length (g.sent.bytes d) ≤ 1486
     most d low = omega (arith, (g.sent.packed d low).size, (length-there state task d g.can (datagram-there (line state) task d low)).most)
 
 -- a bit of one of them
-has-bit : (state : State) (task d bit : ℕ) (bytes : ℕ → List ℕ) → d < count_of (line state) task → bit < 8 * length (bytes d) → HasBit (sent_logicals state task bytes) d (logical_of task bytes d) bit
+has-bit : (state : State) (task d bit : ℕ) (bytes : ℕ → List ℕ) → d < task_datagram_count (line state) task → bit < 8 * length (bytes d) → HasBit (sent_logicals state task bytes) d (logical_of task bytes d) bit
 has-bit state task d bit bytes low below =
-    let n = count_of (line state) task in
+    let n = task_datagram_count (line state) task in
     let f = logical_of task bytes in
     let count = length-map-range_with_len f 0 n in
     record {
@@ -125,13 +125,13 @@ has-bit state task d bit bytes low below =
       below = below;
     }
 
--- the machines before and behind them
+-- the machines before and after them
 
 written-are : (state : State) (task : ℕ) (image : List ℕ) (machines frames machines' : List (List ℕ)) → Given state task image machines frames machines' → AreProgrammed (line state) (machines_written (line state) machines)
 written-are state task image machines frames machines' g = written-programmed state machines g.can g.of_line g.small
 
 left-are : (state : State) (task : ℕ) (image : List ℕ) (machines frames machines' : List (List ℕ)) → (g : Given state task image machines frames machines')
-    → machines' ≡ all_behind (machines_written (line state) machines) (sent_logicals state task g.sent.bytes)
+    → machines' ≡ all_after_frames (machines_written (line state) machines) (sent_logicals state task g.sent.bytes)
 left-are state task image machines frames machines' g =
     g.sent.left
     ∙ passed-machines state (machines_written (line state) machines) (length (line_blocks (line state))) task g.sent.bytes (numbers state task) g.can (written-are state task image machines frames machines' g)
@@ -142,14 +142,14 @@ count-left state task image machines frames machines' g =
     ap length (left-are state task image machines frames machines' g)
     ∙ (all-keep state (machines_written (line state) machines) (sent_logicals state task g.sent.bytes) g.can (written-are state task image machines frames machines' g)).count
 
--- a slave of the line with its machine before the writes, behind them, and at the end
+-- a slave of the line with its machine before the writes, after them, and at the end
 record AtSlave (state : State) (machines machines' : List (List ℕ)) (position : ℕ) (member : Member) : Type 0 where
   memory : List ℕ
   memory' : List ℕ
-  own : IsWritten (line state) member memory position machines
+  own : MachineIsWritten (line state) member memory position machines
   meets : Meets state (machines_written (line state) machines) position member own.written
   before : slice_get machines position ≡ Some memory
-  behind : slice_get machines' position ≡ Some memory'
+  after_it : slice_get machines' position ≡ Some memory'
 
 at-slave : (state : State) (task : ℕ) (image : List ℕ) (machines frames machines' : List (List ℕ)) (position : ℕ) (member : Member) → Given state task image machines frames machines'
     → slice_get (line state) position ≡ Some member → AtSlave state machines machines' position member
@@ -164,9 +164,9 @@ at-slave state task image machines frames machines' position member g is =
       memory = get_or machines position [];
       memory' = get_or machines' position [];
       own = own;
-      meets = record { configurable = g.can; programmed = written-are state task image machines frames machines' g; member_is = is; memory_is = own.stands };
+      meets = record { configurable = g.can; programmed = written-are state task image machines frames machines' g; member_is = is; memory_is = own.is_placed };
       before = before;
-      behind = slice_get-get_or machines' position [] (omega arith);
+      after_it = slice_get-get_or machines' position [] (omega arith);
     }
 
 -- writes keep the bits of process memory
@@ -174,9 +174,9 @@ bit-byte : (xs ys : List ℕ) (m : ℕ) → slice_index xs (m / 8) ≡ slice_ind
 unfolding bit_of
 bit-byte xs ys m same = ap (λ (byte : ℕ). bit_at byte (m % 8)) same
 
-bit-kept : (line : List Member) (member : Member) (memory : List ℕ) (k : ℕ) (machines : List (List ℕ)) (m : ℕ) → (own : IsWritten line member memory k machines) → 32768 ≤ m
+bit-unchanged : (line : List Member) (member : Member) (memory : List ℕ) (k : ℕ) (machines : List (List ℕ)) (m : ℕ) → (own : MachineIsWritten line member memory k machines) → 32768 ≤ m
     → bit_of own.written m ≡ bit_of memory m
-bit-kept line member memory k machines m own high = bit-byte own.written memory m (own.kept (m / 8) (inr (high-byte m high)))
+bit-unchanged line member memory k machines m own high = bit-byte own.written memory m (own.unchanged (m / 8) (inr (high-byte m high)))
   where
     high-byte : (m : ℕ) → 32768 ≤ m → 4096 ≤ m / 8
     high-byte m high = omega arith
@@ -185,21 +185,21 @@ bit-kept line member memory k machines m own high = bit-byte own.written memory 
 
 length-all : (machines : List (List ℕ)) (ds : List Logical) → length (all_through machines ds) ≡ length ds
 length-all machines [] = refl
-length-all machines (d ∷ ds) = ap suc (length-all (memories_behind machines d.from d.bytes) ds)
+length-all machines (d ∷ ds) = ap suc (length-all (memories_after machines d.from d.bytes) ds)
 
 came_of : State → ℕ → (ℕ → List ℕ) → List (List ℕ) → ℕ → List ℕ
 came_of state task bytes machines d = get_or (all_through (machines_written (line state) machines) (sent_logicals state task bytes)) d []
 
-came-there : (state : State) (task : ℕ) (bytes : ℕ → List ℕ) (machines : List (List ℕ)) (d : ℕ) → d < count_of (line state) task
+came-there : (state : State) (task : ℕ) (bytes : ℕ → List ℕ) (machines : List (List ℕ)) (d : ℕ) → d < task_datagram_count (line state) task
     → slice_get (all_through (machines_written (line state) machines) (sent_logicals state task bytes)) d ≡ Some (came_of state task bytes machines d)
 unfolding came_of
 came-there state task bytes machines d low =
-    let n = count_of (line state) task in
+    let n = task_datagram_count (line state) task in
     let all = length-all (machines_written (line state) machines) (sent_logicals state task bytes) in
     slice_get-get_or (all_through (machines_written (line state) machines) (sent_logicals state task bytes)) d [] (omega (arith, all, length-map-range_with_len (logical_of task bytes) 0 n))
 
 record Carried (state : State) (task : ℕ) (dir : Dir) (bytes : ℕ → List ℕ) (place : VariablePlace) (station m k : ℕ) : Type 0 where
-  low : place.datagram < count_of (line state) task
+  low : place.datagram < task_datagram_count (line state) task
   has : HasBit (sent_logicals state task bytes) place.datagram (logical_of task bytes place.datagram) (place.bit + k)
   carries : CarriesPair (line state) dir station (8 * logical_address task place.datagram + (place.bit + k)) (m + k)
   high : 32768 ≤ m + k
@@ -214,7 +214,7 @@ carried-bit state task image machines frames machines' dir variable place k g ow
     let known : task < 8 = subst (λ (t : ℕ). t < 8) own.in_task lies.task in
     let counted : d < datagram_count (task_places task members) = subst (λ (t : ℕ). d < datagram_count (task_places t members)) own.in_task lies.datagram in
     let within : place.bit + place.bits ≤ 8 * datagram_length (task_places task members) d = subst (λ (t : ℕ). place.bit + place.bits ≤ 8 * datagram_length (task_places t members) d) own.in_task lies.within in
-    let low : d < count_of members task = omega (arith, count-listed members task known) in
+    let low : d < task_datagram_count members task = omega (arith, count-listed members task known) in
     let size = (g.sent.packed d low).size in
     let station = c.member.slave.station in
     let m = 8 * c.area.phys + c.offset in
@@ -227,7 +227,7 @@ carried-bit state task image machines frames machines' dir variable place k g ow
       low = low;
       has = has-bit state task d (place.bit + k) g.sent.bytes low (omega (arith, size, within));
       carries = carries;
-      high = output-high members station (8 * logical_address task d + (place.bit + k)) (m + k) (keeps-line state g.can) carries.areas;
+      high = output-high members station (8 * logical_address task d + (place.bit + k)) (m + k) (stays-line state g.can) carries.areas;
     }
 
 at-position : (line : List Member) (member : Member) → (has : Contains line member) → slice_get line has.0 ≡ Some member
@@ -237,21 +237,21 @@ at-position line member (k, within, is) = slice_get-get_or line k member within 
 record AtVariable (state : State) (machines machines' : List (List ℕ)) (variable : ℕ) (place : VariablePlace) (c : IsCarried (line state) variable place) : Type 0 where
   position : ℕ
   at : AtSlave state machines machines' position c.member
-  stands : StandsInMemory (line state) variable place.bits position (8 * c.area.phys + c.offset)
-  alone : (other n : ℕ) → StandsInMemory (line state) variable place.bits other n → (other ≡ position) × (n ≡ 8 * c.area.phys + c.offset)
+  is_placed : VariableLiesInMemory (line state) variable place.bits position (8 * c.area.phys + c.offset)
+  alone : (other n : ℕ) → VariableLiesInMemory (line state) variable place.bits other n → (other ≡ position) × (n ≡ 8 * c.area.phys + c.offset)
 
 at-variable : (state : State) (task : ℕ) (image : List ℕ) (machines frames machines' : List (List ℕ)) (variable : ℕ) (place : VariablePlace) → Given state task image machines frames machines'
     → (c : IsCarried (line state) variable place) → AtVariable state machines machines' variable place c
 at-variable state task image machines frames machines' variable place g c =
     let is = at-position (line state) c.member c.in_line in
     let m = 8 * c.area.phys + c.offset in
-    let stands : StandsInMemory (line state) variable place.bits c.in_line.0 m =
+    let is_placed : VariableLiesInMemory (line state) variable place.bits c.in_line.0 m =
     record { member = c.member; index = c.index; area = c.area; offset = c.offset; in_line = is; in_record = c.in_record; entry = c.entry; at = refl } in
     record {
       position = c.in_line.0;
       at = at-slave state task image machines frames machines' c.in_line.0 c.member g is;
-      stands = stands;
-      alone = λ other n elsewhere. stands-once state variable place.bits place.bits other c.in_line.0 n m g.can elsewhere stands;
+      is_placed = is_placed;
+      alone = λ other n elsewhere. is_placed-once state variable place.bits place.bits other c.in_line.0 n m g.can elsewhere is_placed;
     }
 
 input-brought : (state : State) (task : ℕ) (image : List ℕ) (machines frames machines' : List (List ℕ)) (variable : ℕ) (place : VariablePlace) → (g : Given state task image machines frames machines')
@@ -267,12 +267,12 @@ input-brought state task image machines frames machines' variable place g own =
       position = own_slave.position;
       m = m;
       memory = at.memory;
-      stands = own_slave.stands;
+      is_placed = own_slave.is_placed;
       alone = own_slave.alone;
       machine = at.before;
       same = λ k below.
           let bit = carried-bit state task image machines frames machines' In variable place k g own c below in
-          sym (bit-kept (line state) c.member at.memory own_slave.position machines (m + k) at.own bit.high)
+          sym (bit-unchanged (line state) c.member at.memory own_slave.position machines (m + k) at.own bit.high)
           ∙ sym (all-inputs state (machines_written (line state) machines) own_slave.position c.member at.own.written (sent_logicals state task bytes) place.datagram (logical_of task bytes place.datagram) (place.bit + k) (m + k)
           (came_of state task bytes machines place.datagram) at.meets bit.has bit.carries (came-there state task bytes machines place.datagram bit.low));
     }
@@ -285,14 +285,14 @@ output-arrived state task image machines frames machines' variable place g own =
     let own_slave = at-variable state task image machines frames machines' variable place g c in
     let at = own_slave.at in
     let m = 8 * c.area.phys + c.offset in
-    let left = subst (λ (ms : List (List ℕ)). slice_get ms own_slave.position ≡ Some at.memory') (left-are state task image machines frames machines' g) at.behind in
+    let left = subst (λ (ms : List (List ℕ)). slice_get ms own_slave.position ≡ Some at.memory') (left-are state task image machines frames machines' g) at.after_it in
     record {
       position = own_slave.position;
       m = m;
       memory = at.memory';
-      stands = own_slave.stands;
+      is_placed = own_slave.is_placed;
       alone = own_slave.alone;
-      machine = at.behind;
+      machine = at.after_it;
       same = λ k below.
           let bit = carried-bit state task image machines frames machines' Out variable place k g own c below in
           all-outputs state (machines_written (line state) machines) own_slave.position c.member at.own.written at.memory' (sent_logicals state task bytes) place.datagram (logical_of task bytes place.datagram) (place.bit + k)
@@ -305,23 +305,23 @@ output-arrived state task image machines frames machines' variable place g own =
 gap-cleared : (state : State) (task : ℕ) (image : List ℕ) (machines frames machines' : List (List ℕ)) (position : ℕ) (member : Member) (memory' : List ℕ) (area : Area) (m k : ℕ)
     → (g : Given state task image machines frames machines') → slice_get (line state) position ≡ Some member → slice_get machines' position ≡ Some memory' → IsOutputBit task member area m k → IsGapBit area k
     → bit_of memory' m ≡ 0
-gap-cleared state task image machines frames machines' position member memory' area m k g is behind b gap =
+gap-cleared state task image machines frames machines' position member memory' area m k g is after_it b gap =
     let members = line state in
     let bytes = g.sent.bytes in
-    let keeps = keeps-line state g.can in
+    let stays = stays-line state g.can in
     let has : Contains members member = (position, slice_get_within members position member is, get_or_from_slice_get members position member member is) in
     let at = at-slave state task image machines frames machines' position member g is in
     let pair = has-pair state task member area m k g.can has b in
     let p = pair.carries.areas in
-    let i = subst (λ (t : ℕ). InDatagram members t pair.x) pair.in_task (in-datagram members member.slave.station pair.x m keeps p) in
-    let low : i.d < count_of members task = omega (arith, i.datagram.counted, count-listed members task i.datagram.in_task) in
+    let i = subst (λ (t : ℕ). InDatagram members t pair.x) pair.in_task (in-datagram members member.slave.station pair.x m stays p) in
+    let low : i.d < task_datagram_count members task = omega (arith, i.datagram.counted, count-listed members task i.datagram.in_task) in
     let packed = g.sent.packed i.d low in
     let size = packed.size in
     let inside = i.below in
     let carries = subst (λ (x : ℕ). CarriesPair members Out member.slave.station x m) i.at pair.carries in
     all-outputs state (machines_written members machines) position member at.own.written memory' (sent_logicals state task bytes) i.d (logical_of task bytes i.d) i.bit m at.meets
     (all-apart state task image machines frames machines' g) (has-bit state task i.d i.bit bytes low (omega arith)) carries
-    (subst (λ (ms : List (List ℕ)). slice_get ms position ≡ Some memory') (left-are state task image machines frames machines' g) behind)
+    (subst (λ (ms : List (List ℕ)). slice_get ms position ≡ Some memory') (left-are state task image machines frames machines' g) after_it)
     ∙ packed.others i.bit
     (λ variable place own lies.
     let c = variables-carried state variable place g.can own.there in
@@ -332,31 +332,31 @@ gap-cleared state task image machines frames machines' position member memory' a
     let logical : 8 * logical_address place.task place.datagram + place.bit + j ≡ pair.x = omega (arith, i.at, own.in_task, lies.datagram, from) in
     let other = subst (λ (x : ℕ). CarriesPair members place.dir c.member.slave.station x (8 * c.area.phys + c.offset + j)) logical (c.pairs j below) in
     let n_is : 8 * c.area.phys + c.offset + j ≡ 8 * c.area.phys + (c.offset + j) = omega arith in
-    gap-free members task member area m k pair.x (8 * c.area.phys + c.offset + j) j variable place.bits keeps has b p gap c.member c.index c.area c.offset c.in_line c.in_record c.entry below n_is other.areas)
+    gap-free members task member area m k pair.x (8 * c.area.phys + c.offset + j) j variable place.bits stays has b p gap c.member c.index c.area c.offset c.in_line c.in_record c.entry below n_is other.areas)
 
-rest-kept : (state : State) (task : ℕ) (image : List ℕ) (machines frames machines' : List (List ℕ)) (position : ℕ) (member : Member) (memory memory' : List ℕ) (m : ℕ)
+rest-unchanged : (state : State) (task : ℕ) (image : List ℕ) (machines frames machines' : List (List ℕ)) (position : ℕ) (member : Member) (memory memory' : List ℕ) (m : ℕ)
     → (g : Given state task image machines frames machines') → slice_get (line state) position ≡ Some member → slice_get machines position ≡ Some memory → slice_get machines' position ≡ Some memory'
     → 32768 ≤ m → m < 98304 → ((area : Area) (k : ℕ) → ¬ (IsOutputBit task member area m k)) → bit_of memory' m ≡ bit_of memory m
-rest-kept state task image machines frames machines' position member memory memory' m g is before behind high low none =
+rest-unchanged state task image machines frames machines' position member memory memory' m g is before after_it high low none =
     let members = line state in
     let bytes = g.sent.bytes in
-    let keeps = keeps-line state g.can in
+    let stays = stays-line state g.can in
     let has : Contains members member = (position, slice_get_within members position member is, get_or_from_slice_get members position member member is) in
     let at = at-slave state task image machines frames machines' position member g is in
     let same : Some at.memory ≡ Some memory = sym at.before ∙ before in
     let one : at.memory ≡ memory = cc in
     all-others state (machines_written members machines) position member at.own.written memory' (sent_logicals state task bytes) m at.meets low
     (λ n dg bit there output.
-    let counted : n < count_of members task = omega (arith, slice_get_within (sent_logicals state task bytes) n dg there.is, length-map-range_with_len (logical_of task bytes) 0 (count_of members task)) in
+    let counted : n < task_datagram_count members task = omega (arith, slice_get_within (sent_logicals state task bytes) n dg there.is, length-map-range_with_len (logical_of task bytes) 0 (task_datagram_count members task)) in
     let size = (g.sent.packed n counted).size in
     let sent_at = slice_get-get_or (sent_logicals state task bytes) n dg (slice_get_within (sent_logicals state task bytes) n dg there.is) in
     let equal : dg ≡ logical_of task bytes n =
-    sym (get_or_from_slice_get (sent_logicals state task bytes) n dg dg there.is) ∙ get_or-map-range_with_len (logical_of task bytes) 0 (count_of members task) n n dg counted (omega arith) in
+    sym (get_or_from_slice_get (sent_logicals state task bytes) n dg dg there.is) ∙ get_or-map-range_with_len (logical_of task bytes) 0 (task_datagram_count members task) n n dg counted (omega arith) in
     let below : bit < 8 * length (bytes n) = subst (λ (x : Logical). bit < 8 * length x.bytes) equal there.below in
     let carries = subst (λ (x : Logical). CarriesPair members Out member.slave.station (x.from + bit) m) equal output in
     let p = carries.areas in
-    let in_task = task-told state task n bit member.slave.station m g.can (datagram-there members task n counted) (omega arith) p in
-    let own = one-station members p.member member keeps p.is_mapped.in_line has p.station_is in
+    let in_task = task-answer_given state task n bit member.slave.station m g.can (datagram-there members task n counted) (omega arith) p in
+    let own = one-station members p.member member stays p.is_mapped.in_line has p.station_is in
     none p.area p.pair.k
     (record {
       index = p.index;
@@ -366,30 +366,30 @@ rest-kept state task image machines frames machines' position member memory memo
       below = p.pair.below;
       at = p.pair.memory;
     }))
-    (subst (λ (ms : List (List ℕ)). slice_get ms position ≡ Some memory') (left-are state task image machines frames machines' g) behind)
-    ∙ bit-kept members member at.memory position machines m at.own high ∙ ap (λ (xs : List ℕ). bit_of xs m) one
+    (subst (λ (ms : List (List ℕ)). slice_get ms position ≡ Some memory') (left-are state task image machines frames machines' g) after_it)
+    ∙ bit-unchanged members member at.memory position machines m at.own high ∙ ap (λ (xs : List ℕ). bit_of xs m) one
 
 -- the frames
 
 length-frames : (machines fs : List (List ℕ)) → length (frames_through machines fs) ≡ length fs
 length-frames machines [] = refl
-length-frames machines (f ∷ fs) = ap suc (length-frames (machines_behind machines f) fs)
+length-frames machines (f ∷ fs) = ap suc (length-frames (machines_after_frame machines f) fs)
 
-count-frames : (state : State) (task : ℕ) (image : List ℕ) (machines frames machines' : List (List ℕ)) → (g : Given state task image machines frames machines') → length frames ≡ count_of (line state) task
+count-frames : (state : State) (task : ℕ) (image : List ℕ) (machines frames machines' : List (List ℕ)) → (g : Given state task image machines frames machines') → length frames ≡ task_datagram_count (line state) task
 count-frames state task image machines frames machines' g =
-    let n = count_of (line state) task in
-    let sent = map (frame_with (length (line_blocks (line state))) task g.sent.bytes) (range_with_len 0 n) in
-    ap length g.sent.returned ∙ length-frames (machines_written (line state) machines) sent ∙ length-map-range_with_len (frame_with (length (line_blocks (line state))) task g.sent.bytes) 0 n
+    let n = task_datagram_count (line state) task in
+    let sent_on_wire = map (frame_with (length (line_blocks (line state))) task g.sent.bytes) (range_with_len 0 n) in
+    ap length g.sent.returned ∙ length-frames (machines_written (line state) machines) sent_on_wire ∙ length-map-range_with_len (frame_with (length (line_blocks (line state))) task g.sent.bytes) 0 n
 
 small-rest : (n : ℕ) → n < 65536 → n % 65536 ≡ n
 small-rest n low = omega arith
 
 came-back : (state : State) (task : ℕ) (image : List ℕ) (machines frames machines' : List (List ℕ)) (d : ℕ) (frame : List ℕ) → (g : Given state task image machines frames machines')
-    → slice_get frames d ≡ Some frame → CameBack (line state) task d frame (came_of state task g.sent.bytes machines d)
+    → slice_get frames d ≡ Some frame → DatagramCameBack (line state) task d frame (came_of state task g.sent.bytes machines d)
 unfolding came_of
 came-back state task image machines frames machines' d frame g is =
     let members = line state in
-    let n = count_of members task in
+    let n = task_datagram_count members task in
     let bytes = g.sent.bytes in
     let serial = length (line_blocks members) in
     let low : d < n = omega (arith, slice_get_within frames d frame is, count-frames state task image machines frames machines' g) in
@@ -400,10 +400,10 @@ came-back state task image machines frames machines' d frame g is =
     let came = get_or (all_through (machines_written members machines) (sent_logicals state task bytes)) d [] in
     let same : r.came ≡ came = sym (get_or_from_slice_get (all_through (machines_written members machines) (sent_logicals state task bytes)) d r.came [] r.came_is) in
     let back = subst (λ (c : List ℕ). Returned members serial task d frame c) same (subst (λ (i : ℕ). Returned members serial task i frame r.came) number r.returned) in
-    record { readable = back.readable; told = back.told ∙ ap (λ (c : ℕ). told-with came c) (small-rest (expected_counter task d members) (counter-low state task d g.can)); size = back.size }
+    record { readable = back.readable; answer_given = back.answer_given ∙ ap (λ (c : ℕ). answer_given-with came c) (small-rest (expected_counter task d members) (counter-low state task d g.can)); size = back.size }
   where
-    told-with : List ℕ → ℕ → Reading
-    told-with bytes counter = record { serial = length (line_blocks (line state)) + d; parts = logical_part (logical_address task d) bytes counter ∷ [] }
+    answer_given-with : List ℕ → ℕ → Reading
+    answer_given-with bytes counter = record { serial = length (line_blocks (line state)) + d; parts = logical_part (logical_address task d) bytes counter ∷ [] }
 
 pub exchanged : (state : State) (task : ℕ) (image : List ℕ) (machines frames machines' : List (List ℕ)) → Given state task image machines frames machines' → IsExchanged (line state) task image machines frames machines'
 exchanged state task image machines frames machines' g = record {
@@ -413,8 +413,8 @@ exchanged state task image machines frames machines' g = record {
   inputs = λ variable place own. input-brought state task image machines frames machines' variable place g own;
   outputs = λ variable place own. output-arrived state task image machines frames machines' variable place g own;
   many = count-left state task image machines frames machines' g ∙ sym g.of_line.count;
-  rest = λ position member memory memory' is before behind. record {
-    gaps = λ area m k b gap. gap-cleared state task image machines frames machines' position member memory' area m k g is behind b gap;
-    rest = λ m high low none. rest-kept state task image machines frames machines' position member memory memory' m g is before behind high low none;
+  rest = λ position member memory memory' is before after_it. record {
+    gaps = λ area m k b gap. gap-cleared state task image machines frames machines' position member memory' area m k g is after_it b gap;
+    rest = λ m high low none. rest-unchanged state task image machines frames machines' position member memory memory' m g is before after_it high low none;
   };
 }

@@ -8,17 +8,17 @@ use Rattle.hc_frames.specs.declared.building.Room.{Room}
 use Rattle.hc_frames.specs.Builds.{Builds}
 use Rattle.hc_frames.specs.FrameText.{block_write, frame_text}
 use Rattle.hc_registers.specs.Blocks.{LineBlock, RegisterBlock, line_blocks, mapping_of}
-use Rattle.hc_segment.specs.Line.{machines_after, machines_behind}
+use Rattle.hc_segment.specs.Line.{machines_after, machines_after_frame}
 use Rattle.hc_plan.specs.Configuration.{at_station}
-use Rattle.hc_exchange.specs.Pairs.{key_of}
+use Rattle.hc_exchange.specs.Pairs.{member_area_key}
 use Rattle.hc_exchange.specs.Writing.{block_datagram, write_frames}
 use Rattle.hc_exchange.proofs.lemmas.Shared.{length-fmmu}
 use Rattle.hc_exchange.proofs.lemmas.Sources.{IsOfLine, Source, line-sources}
 
 -- one more frame
-after-one : (machines : List (List ℕ)) (fs : List (List ℕ)) (f : List ℕ) → machines_after machines (fs ++ f ∷ []) ≡ machines_behind (machines_after machines fs) f
+after-one : (machines : List (List ℕ)) (fs : List (List ℕ)) (f : List ℕ) → machines_after machines (fs ++ f ∷ []) ≡ machines_after_frame (machines_after machines fs) f
 after-one machines [] f = refl
-after-one machines (g ∷ fs) f = after-one (machines_behind machines g) fs f
+after-one machines (g ∷ fs) f = after-one (machines_after_frame machines g) fs f
 
 frames-one : (serial : ℕ) (blocks : List LineBlock) (block : LineBlock) → write_frames serial (blocks ++ block ∷ []) ≡ write_frames serial blocks ++ frame_text (serial + length blocks) (block_datagram block ∷ []) ∷ []
 frames-one serial [] block = let none : serial ≡ serial + 0 = omega arith in ap (λ (n : ℕ). frame_text n (block_datagram block ∷ []) ∷ []) none
@@ -35,28 +35,28 @@ take-next (z ∷ xs) (suc n) x is =
     ap (λ (k : ℕ). take k (z ∷ xs)) next ∙ ap (λ rest. z ∷ rest) (take-next xs n x is)
 
 -- the block that a plan has at a number
-told-by : (o : Option LineBlock) (station : ℕ) (block : RegisterBlock) → option_map (λ found. at_station found.station found.block) o ≡ Some (station, block)
+answer_given-by : (o : Option LineBlock) (station : ℕ) (block : RegisterBlock) → option_map (λ found. at_station found.station found.block) o ≡ Some (station, block)
     → (own : LineBlock) × (o ≡ Some own) × (own.station ≡ station) × (own.block ≡ block)
-told-by None station block is = cc
-told-by (Some own) station block is =
+answer_given-by None station block is = cc
+answer_given-by (Some own) station block is =
     let same : at_station own.station own.block ≡ (station, block) = cc in
     (own, refl, ap (λ (p : ℕ × RegisterBlock). p.0) same, ap (λ (p : ℕ × RegisterBlock). p.1) same)
 
--- the machines behind one more write
+-- the machines after one more write
 pub written-next : (blocks : List LineBlock) (n station : ℕ) (block : RegisterBlock) (machines now new : List (List ℕ)) → option_map (λ found. at_station found.station found.block) (slice_get blocks n) ≡ Some (station, block)
-    → now ≡ machines_after machines (write_frames 0 (take n blocks)) → new ≡ machines_behind now (frame_text n (block_write station block.register block.bytes ∷ []))
+    → now ≡ machines_after machines (write_frames 0 (take n blocks)) → new ≡ machines_after_frame now (frame_text n (block_write station block.register block.bytes ∷ []))
     → new ≡ machines_after machines (write_frames 0 (take (n + 1) blocks))
 written-next blocks n station block machines now new at is_now is_new =
-    let told = told-by (slice_get blocks n) station block at in
-    let own = told.0 in
-    let within = slice_get_within blocks n own told.1 in
+    let answer_given = answer_given-by (slice_get blocks n) station block at in
+    let own = answer_given.0 in
+    let within = slice_get_within blocks n own answer_given.1 in
     let long : length (take n blocks) ≡ n = omega (arith, length-take n blocks) in
     let number : 0 + length (take n blocks) ≡ n = omega arith in
     let same : frame_text n (block_write station block.register block.bytes ∷ []) ≡ frame_text (0 + length (take n blocks)) (block_datagram own ∷ []) =
-    ap₂ (λ (s : ℕ) (b : RegisterBlock). frame_text n (block_write s b.register b.bytes ∷ [])) (sym told.2) (sym told.3) ∙ ap (λ (k : ℕ). frame_text k (block_datagram own ∷ [])) (sym number) in
-    is_new ∙ ap₂ (λ (ms : List (List ℕ)) (f : List ℕ). machines_behind ms f) is_now same
+    ap₂ (λ (s : ℕ) (b : RegisterBlock). frame_text n (block_write s b.register b.bytes ∷ [])) (sym answer_given.2) (sym answer_given.3) ∙ ap (λ (k : ℕ). frame_text k (block_datagram own ∷ [])) (sym number) in
+    is_new ∙ ap₂ (λ (ms : List (List ℕ)) (f : List ℕ). machines_after_frame ms f) is_now same
     ∙ sym (after-one machines (write_frames 0 (take n blocks)) (frame_text (0 + length (take n blocks)) (block_datagram own ∷ [])))
-    ∙ ap (machines_after machines) (sym (ap (write_frames 0) (take-next blocks n own told.1) ∙ frames-one 0 (take n blocks) own))
+    ∙ ap (machines_after machines) (sym (ap (write_frames 0) (take-next blocks n own answer_given.1) ∙ frames-one 0 (take n blocks) own))
 
 pub none-at : (blocks : List LineBlock) (n : ℕ) → option_map (λ found. at_station found.station found.block) (slice_get blocks n) ≡ None → n < length blocks → ⊥
 none-at [] n none low = omega arith
@@ -71,16 +71,16 @@ source-long line member block (inl manager) =
     (omega arith, omega arith)
 source-long line member block (inr source) =
     let long : length block.bytes ≡ 16 =
-    ap (λ (b : RegisterBlock). length b.bytes) source.is ∙ length-fmmu source.area (mapping_of line source.area.task (key_of member source.index source.area)) in
+    ap (λ (b : RegisterBlock). length b.bytes) source.is ∙ length-fmmu source.area (mapping_of line source.area.task (member_area_key member source.index source.area)) in
     (omega arith, omega arith)
 
 pub block-long : (line : List Member) (n station : ℕ) (block : RegisterBlock) → option_map (λ found. at_station found.station found.block) (slice_get (line_blocks line) n) ≡ Some (station, block)
     → (1 ≤ length block.bytes) × (length block.bytes ≤ 16)
 block-long line n station block at =
-    let told = told-by (slice_get (line_blocks line) n) station block at in
-    let within = slice_get_within (line_blocks line) n told.0 told.1 in
-    let own : IsOfLine line told.0 = subst (IsOfLine line) (get_or_from_slice_get (line_blocks line) n told.0 told.0 told.1) (line-sources line n told.0 within) in
-    subst (λ (b : RegisterBlock). (1 ≤ length b.bytes) × (length b.bytes ≤ 16)) told.3 (source-long line own.member told.0.block own.of_member.source)
+    let answer_given = answer_given-by (slice_get (line_blocks line) n) station block at in
+    let within = slice_get_within (line_blocks line) n answer_given.0 answer_given.1 in
+    let own : IsOfLine line answer_given.0 = subst (IsOfLine line) (get_or_from_slice_get (line_blocks line) n answer_given.0 answer_given.0 answer_given.1) (line-sources line n answer_given.0 within) in
+    subst (λ (b : RegisterBlock). (1 ≤ length b.bytes) × (length b.bytes ≤ 16)) answer_given.3 (source-long line own.member answer_given.0.block own.of_member.source)
 
 -- the frame in a slice of its size
 frame-alone : (old new text : List ℕ) → length old ≡ 60 → new ≡ text ++ drop 60 old → new ≡ text

@@ -7,7 +7,7 @@ use Rattle.std.proofs.lemmas.List.{get_or_append_left, get_or-append_right, get_
 use Rattle.hc_frames.specs.Arrived.{word_at}
 use Rattle.hc_frames.specs.FrameText.{station_address}
 use Rattle.hc_frames.specs.declared.commands.Command.TheVariants.{Fpwr}
-use Rattle.hc_machine.specs.Commands.{is_at_station, lies_in_memory, memory_behind_command, register_of, written}
+use Rattle.hc_machine.specs.Commands.{is_at_station, lies_in_memory, memory_after_command, register_of, register_written}
 use Rattle.hc_machine.specs.Memory.{with_alias_of, with_part}
 use Rattle.hc_registers.specs.Blocks.{LineBlock}
 
@@ -34,10 +34,10 @@ part-inside at part bytes r within low high =
 part-above : (at : ℕ) (part bytes : List ℕ) (r : ℕ) → at ≤ length bytes → at + length part ≤ r → get_or (with_part at part bytes) r 0 ≡ get_or bytes r 0
 part-above at part bytes r within high =
     let long : length (take at bytes) ≡ at = omega (arith, length-take at bytes) in
-    let behind : at + length part + (r - at - length part) ≡ r = omega arith in
+    let after_it : at + length part + (r - at - length part) ≡ r = omega arith in
     get_or-append_right (take at bytes) (part ++ drop (at + length part) bytes) at r 0 long (omega arith)
     ∙ get_or-append_right part (drop (at + length part) bytes) (length part) (r - at) 0 refl (omega arith)
-    ∙ get_or-drop (at + length part) bytes (r - at - length part) 0 ∙ ap (λ (n : ℕ). get_or bytes n 0) behind
+    ∙ get_or-drop (at + length part) bytes (r - at - length part) 0 ∙ ap (λ (n : ℕ). get_or bytes n 0) after_it
 
 part-outside : (at : ℕ) (part bytes : List ℕ) (r : ℕ) → at ≤ length bytes → Misses at (length part) r → get_or (with_part at part bytes) r 0 ≡ get_or bytes r 0
 part-outside at part bytes r within (inl low) = part-below at part bytes r within low
@@ -62,7 +62,7 @@ alias-same old new r long same = elim (cases_eq r 19) [
   ]
 ]
 
--- a block that can be written: a station address of 16 bits, in registers behind those of the addresses and before process memory
+-- a block that can be written: a station address of 16 bits, in registers after those of the addresses and before process memory
 pub record IsPlain (block : LineBlock) : Type 0 where
   pub station : block.station < 65536
   pub from : 1536 ≤ block.block.register
@@ -70,44 +70,44 @@ pub record IsPlain (block : LineBlock) : Type 0 where
   pub some : 1 ≤ length block.block.bytes
   pub few : length block.block.bytes ≤ 16
 
-pub written-length : (memory bytes : List ℕ) (register : ℕ) → register + length bytes ≤ length memory → length (written memory register bytes) ≡ length memory
-unfolding written with_alias_of
+pub written-length : (memory bytes : List ℕ) (register : ℕ) → register + length bytes ≤ length memory → length (register_written memory register bytes) ≡ length memory
+unfolding register_written with_alias_of
 written-length memory bytes register within =
     length-set (set (with_part register bytes memory) 18 (get_or memory 18 0)) 19 (get_or memory 19 0) ∙ length-set (with_part register bytes memory) 18 (get_or memory 18 0)
     ∙ part-length register bytes memory within
 
 pub written-inside : (memory bytes : List ℕ) (register r : ℕ) → register ≤ length memory → 20 ≤ register → register ≤ r → r < register + length bytes
-    → get_or (written memory register bytes) r 0 ≡ get_or bytes (r - register) 0
-unfolding written
+    → get_or (register_written memory register bytes) r 0 ≡ get_or bytes (r - register) 0
+unfolding register_written
 written-inside memory bytes register r within high low below =
     alias-other memory (with_part register bytes memory) r (omega arith) ∙ part-inside register bytes memory r within low below
 
 pub written-outside : (memory bytes : List ℕ) (register r : ℕ) → register + length bytes ≤ length memory → 20 ≤ length memory → Misses register (length bytes) r
-    → get_or (written memory register bytes) r 0 ≡ get_or memory r 0
-unfolding written
+    → get_or (register_written memory register bytes) r 0 ≡ get_or memory r 0
+unfolding register_written
 written-outside memory bytes register r within long misses =
     alias-same memory (with_part register bytes memory) r (omega (arith, part-length register bytes memory within)) (part-outside register bytes memory r (omega arith) misses)
 
--- the memory behind a write of a block
-abbrev pub block_behind : List ℕ → LineBlock → List ℕ
-block_behind memory block = memory_behind_command Fpwr memory (station_address block.station block.block.register) block.block.bytes
+-- the memory after a write of a block
+abbrev pub block_after : List ℕ → LineBlock → List ℕ
+block_after memory block = memory_after_command Fpwr memory (station_address block.station block.block.register) block.block.bytes
 
 address-parts : (station register : ℕ) → station < 65536 → ((station + 65536 * register) % 65536 ≡ station) × ((station + 65536 * register) / 65536 ≡ register)
 address-parts station register low = (omega arith, omega arith)
 
 -- a slave with the station address has the block written, and another one passes it on
 
-pub own-behind : (memory : List ℕ) (block : LineBlock) → length memory ≡ 12288 → IsPlain block → word_at memory 16 ≡ block.station
-    → block_behind memory block ≡ written memory block.block.register block.block.bytes
-own-behind memory block long plain own =
+pub own-after_it : (memory : List ℕ) (block : LineBlock) → length memory ≡ 12288 → IsPlain block → word_at memory 16 ≡ block.station
+    → block_after memory block ≡ register_written memory block.block.register block.block.bytes
+own-after_it memory block long plain own =
     let parts = address-parts block.station block.block.register plain.station in
     let address = station_address block.station block.block.register in
     let to = plain.to in
     let named : (word_at memory 16 == address % 65536) ≡ true = same-test (word_at memory 16) (address % 65536) (own ∙ sym parts.0) in
     let inside : lies_in_memory address (length block.block.bytes) ≡ true = below-test (register_of address + length block.block.bytes) 12288 (omega (arith, parts.1)) in
     let test : is_at_station memory address (length block.block.bytes) ≡ true = and_from (word_at memory 16 == address % 65536) (lies_in_memory address (length block.block.bytes)) named inside in
-    ap (λ (b : Bool). if b then written memory (register_of address) block.block.bytes else memory) test
-    ∙ ap (λ (n : ℕ). written memory n block.block.bytes) parts.1
+    ap (λ (b : Bool). if b then register_written memory (register_of address) block.block.bytes else memory) test
+    ∙ ap (λ (n : ℕ). register_written memory n block.block.bytes) parts.1
   where
     same-test : (a b : ℕ) → a ≡ b → (a == b) ≡ true
     same-test a b e = grind (arith, nat_tests)
@@ -115,12 +115,12 @@ own-behind memory block long plain own =
     below-test : (a b : ℕ) → a ≤ b → nat_le a b ≡ true
     below-test a b e = grind (arith, nat_tests)
 
-pub other-behind : (memory : List ℕ) (block : LineBlock) → IsPlain block → word_at memory 16 ≢ block.station → block_behind memory block ≡ memory
-other-behind memory block plain other =
+pub other-after_it : (memory : List ℕ) (block : LineBlock) → IsPlain block → word_at memory 16 ≢ block.station → block_after memory block ≡ memory
+other-after_it memory block plain other =
     let parts = address-parts block.station block.block.register plain.station in
     let address = station_address block.station block.block.register in
     let named : (word_at memory 16 == address % 65536) ≡ false = other-test (word_at memory 16) (address % 65536) (λ same. other (same ∙ parts.0)) in
-    ap (λ (b : Bool). if b then written memory (register_of address) block.block.bytes else memory)
+    ap (λ (b : Bool). if b then register_written memory (register_of address) block.block.bytes else memory)
     (and_left (word_at memory 16 == address % 65536) (lies_in_memory address (length block.block.bytes)) named)
   where
     other-test : (a b : ℕ) → a ≢ b → (a == b) ≡ false

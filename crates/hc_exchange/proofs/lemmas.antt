@@ -1,6 +1,6 @@
 -- What the crates above cite, a file a subject.
 pub mod Decoded
-pub mod Kept
+pub mod Unchanged
 pub mod Listed
 pub mod Members
 pub mod Places

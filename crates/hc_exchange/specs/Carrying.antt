@@ -4,20 +4,20 @@ use Rattle.hc_bits.specs.Bits.{AreBytes}
 use Rattle.hc_records.specs.declared.records.Dir.{Dir}
 use Rattle.hc_records.specs.Line.{Member}
 use Rattle.hc_frames.specs.declared.commands.Command.TheVariants.{Lrw}
-use Rattle.hc_frames.specs.FrameText.{Carried}
+use Rattle.hc_frames.specs.FrameText.{WireDatagram}
 use Rattle.hc_machine.specs.Logical.{logical_count, logical_data, logical_memory}
 use Rattle.hc_exchange.specs.Pairs.{AreasPair}
 use Rattle.hc_exchange.specs.Writing.{IsProgrammed}
 
--- the data of a datagram from a logical bit on, behind machines: each passes on what it makes of them
+-- the data of a datagram from a logical bit on, after machines: each passes on what it makes of them
 abbrev pub data_through : List (List ℕ) → ℕ → List ℕ → List ℕ
 data_through [] from bytes = bytes
 data_through (memory ∷ machines) from bytes = data_through machines from (logical_data memory from bytes)
 
--- the machines behind it
-abbrev pub memories_behind : List (List ℕ) → ℕ → List ℕ → List (List ℕ)
-memories_behind [] from bytes = []
-memories_behind (memory ∷ machines) from bytes = logical_memory memory from bytes ∷ memories_behind machines from (logical_data memory from bytes)
+-- the machines after it
+abbrev pub memories_after : List (List ℕ) → ℕ → List ℕ → List (List ℕ)
+memories_after [] from bytes = []
+memories_after (memory ∷ machines) from bytes = logical_memory memory from bytes ∷ memories_after machines from (logical_data memory from bytes)
 
 -- what they add to its working counter
 abbrev pub count_through : List (List ℕ) → ℕ → ℕ → ℕ
@@ -25,7 +25,7 @@ count_through [] from n = 0
 count_through (memory ∷ machines) from n = logical_count memory from n + count_through machines from n
 
 -- an LRW datagram on the line
-abbrev pub logical_part : ℕ → List ℕ → ℕ → Carried
+abbrev pub logical_part : ℕ → List ℕ → ℕ → WireDatagram
 logical_part address bytes counter = record { command = Lrw; address = address; interrupt = 0; bytes = bytes; counter = counter }
 
 -- the slave with a station address is to carry logical bit x in its memory bit m, in an area of this direction
@@ -33,12 +33,12 @@ pub record CarriesPair (line : List Member) (dir : Dir) (station x m : ℕ) : Ty
   pub areas : AreasPair line station x m
   pub direction : areas.area.dir ≡ dir
 
--- a machine of the line that is programmed, of which each number is a byte
-pub record IsReady (line : List Member) (member : Member) (memory : List ℕ) : Type 0 where
+-- a machine of the line that is programmed, and each of its numbers is a byte
+pub record IsReadyMachine (line : List Member) (member : Member) (memory : List ℕ) : Type 0 where
   pub programmed : IsProgrammed line member memory
   pub all_bytes : AreBytes memory
 
--- the machines are those of the line, in its order, and each is programmed
+-- the machines are the line's, in its order, and each is programmed
 pub record AreProgrammed (line : List Member) (machines : List (List ℕ)) : Type 0 where
   pub count : length machines ≡ length line
-  pub each : (k : ℕ) (member : Member) (memory : List ℕ) → slice_get line k ≡ Some member → slice_get machines k ≡ Some memory → IsReady line member memory
+  pub each : (k : ℕ) (member : Member) (memory : List ℕ) → slice_get line k ≡ Some member → slice_get machines k ≡ Some memory → IsReadyMachine line member memory

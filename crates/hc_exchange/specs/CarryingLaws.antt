@@ -7,9 +7,9 @@ use Rattle.hc_machine.specs.declared.limits.TheConstants.{MEMORY_BITS}
 use Rattle.hc_exchange.specs.PairLaws.{IsConfigurable}
 use Rattle.hc_exchange.specs.Writing.{AreMachinesOf}
 use Rattle.hc_exchange.specs.WritingLaws.{machines_written}
-use Rattle.hc_exchange.specs.Carrying.{AreProgrammed, CarriesPair, data_through, memories_behind}
+use Rattle.hc_exchange.specs.Carrying.{AreProgrammed, CarriesPair, data_through, memories_after}
 
--- a datagram from a logical bit on with these data meets the machines of a line; the k-th of them is that of a slave
+-- a datagram from a logical bit on with these data meets the machines of a line; the k-th of them is a slave's
 pub record Meets (state : State) (machines : List (List ℕ)) (k : ℕ) (member : Member) (memory : List ℕ) : Type 0 where
   pub configurable : IsConfigurable state
   pub programmed : AreProgrammed (line state) machines
@@ -28,31 +28,31 @@ OtherBitsComeBack =
     (state : State) (machines : List (List ℕ)) (bytes : List ℕ) (from bit : ℕ) → IsConfigurable state → AreProgrammed (line state) machines
     → bit < 8 * length bytes → ((station m : ℕ) → ¬ CarriesPair (line state) In station (from + bit) m) → bit_of (data_through machines from bytes) bit ≡ bit_of bytes bit
 
--- the machine of a slave behind the datagram has the sent bit wherever a bit of the data is an output's
+-- the machine of a slave after the datagram has the sent bit wherever a bit of the data is an output's
 abbrev pub OutputsArrive : Type 0
 OutputsArrive =
     (state : State) (machines : List (List ℕ)) (k : ℕ) (member : Member) (memory memory' bytes : List ℕ) (from bit m : ℕ) → Meets state machines k member memory
-    → slice_get (memories_behind machines from bytes) k ≡ Some memory' → bit < 8 * length bytes → CarriesPair (line state) Out member.slave.station (from + bit) m
+    → slice_get (memories_after machines from bytes) k ≡ Some memory' → bit < 8 * length bytes → CarriesPair (line state) Out member.slave.station (from + bit) m
     → bit_of memory' m ≡ bit_of bytes bit
 
 -- and every other bit as it was
 abbrev pub OtherMemoryStays : Type 0
 OtherMemoryStays =
     (state : State) (machines : List (List ℕ)) (k : ℕ) (member : Member) (memory memory' bytes : List ℕ) (from m : ℕ) → Meets state machines k member memory
-    → slice_get (memories_behind machines from bytes) k ≡ Some memory' → m < MEMORY_BITS
+    → slice_get (memories_after machines from bytes) k ≡ Some memory' → m < MEMORY_BITS
     → ((bit : ℕ) → bit < 8 * length bytes → ¬ CarriesPair (line state) Out member.slave.station (from + bit) m) → bit_of memory' m ≡ bit_of memory m
 
 -- as many bytes of data come back, and the machines are programmed as before
 pub record StaysProgrammed (line : List Member) (machines : List (List ℕ)) (from : ℕ) (bytes : List ℕ) : Type 0 where
   pub size : length (data_through machines from bytes) ≡ length bytes
-  pub programmed : AreProgrammed line (memories_behind machines from bytes)
+  pub programmed : AreProgrammed line (memories_after machines from bytes)
 
--- behind any datagram
+-- after any datagram
 abbrev pub LinesStayProgrammed : Type 0
 LinesStayProgrammed =
     (state : State) (machines : List (List ℕ)) (bytes : List ℕ) (from : ℕ) → IsConfigurable state → AreProgrammed (line state) machines → StaysProgrammed (line state) machines from bytes
 
--- the machines of a line behind the frames that write all its blocks are programmed, where each number of their memories was a byte
+-- the machines of a line after the frames that write all its blocks are programmed, where each number of their memories was a byte
 abbrev pub WrittenLinesAreProgrammed : Type 0
 WrittenLinesAreProgrammed =
     (state : State) (machines : List (List ℕ)) → IsConfigurable state → AreMachinesOf (line state) machines → All AreBytes machines

@@ -12,17 +12,18 @@ use Rattle.hc_registers.specs.Blocks.{line_blocks}
 use Rattle.hc_frames.specs.Arrived.{fault_in, reading_of}
 use Rattle.hc_machine.specs.declared.limits.TheConstants.{MEMORY_BITS}
 use Rattle.hc_exchange.specs.Carrying.{logical_part}
-use Rattle.hc_exchange.specs.Sent.{IsVariable, count_of}
+use Rattle.hc_exchange.specs.Sent.{IsVariable, task_datagram_count}
+use Rattle.hc_exchange.specs.Writing.{AreReadyFor}
 
--- the frame of a datagram of a task came back: it is read, with its serial behind those of the writes, at its logical address, with these data, and with the expected counter
-pub record CameBack (line : List Member) (task d : ℕ) (frame bytes : List ℕ) : Type 0 where
+-- the frame of a datagram of a task came back: it is read, with its serial after those of the writes, at its logical address, with these data, and with the expected counter
+pub record DatagramCameBack (line : List Member) (task d : ℕ) (frame bytes : List ℕ) : Type 0 where
   pub readable : fault_in frame ≡ None
-  pub told : reading_of frame
+  pub answer_given : reading_of frame
       ≡ record { serial = length (line_blocks line) + d; parts = logical_part (logical_address task d) bytes (expected_counter task d line) ∷ [] }
   pub size : length bytes ≡ datagram_length (task_places task line) d
 
--- a variable of so many bits stands in the memory of the slave at a position of the line: in an area of its record, from this bit of memory on
-pub record StandsInMemory (line : List Member) (variable bits position m : ℕ) : Type 0 where
+-- a variable of so many bits is in the memory of the slave at a position of the line: in an area of its record, from this bit of memory on
+pub record VariableLiesInMemory (line : List Member) (variable bits position m : ℕ) : Type 0 where
   pub member : Member
   pub index : ℕ
   pub area : Area
@@ -32,13 +33,13 @@ pub record StandsInMemory (line : List Member) (variable bits position m : ℕ) 
   pub entry : Contains (variables_from 0 (assigned_entries area)) (variable, (offset, bits))
   pub at : m ≡ 8 * area.phys + offset
 
--- a variable stands in one place of one slave's memory, and its bits there are these
+-- a variable is in one place of one slave's memory, and its bits there are these
 pub record HasInMemory (line : List Member) (machines : List (List ℕ)) (variable bits : ℕ) (bit : ℕ → ℕ) : Type 0 where
   pub position : ℕ
   pub m : ℕ
   pub memory : List ℕ
-  pub stands : StandsInMemory line variable bits position m
-  pub alone : (other n : ℕ) → StandsInMemory line variable bits other n → (other ≡ position) × (n ≡ m)
+  pub is_placed : VariableLiesInMemory line variable bits position m
+  pub alone : (other n : ℕ) → VariableLiesInMemory line variable bits other n → (other ≡ position) × (n ≡ m)
   pub machine : slice_get machines position ≡ Some memory
   pub same : (k : ℕ) → k < bits → bit_of memory (m + k) ≡ bit k
 
@@ -55,7 +56,7 @@ pub record IsOutputBit (task : ℕ) (member : Member) (area : Area) (m k : ℕ) 
 abbrev pub IsGapBit : Area → ℕ → Type 0
 IsGapBit area k = (variable offset bits : ℕ) → Contains (variables_from 0 (assigned_entries area)) (variable, (offset, bits)) → offset ≤ k → ¬ (k < offset + bits)
 
--- a slave's memory behind an exchange: the gaps of its output areas in the task are 0, and no other bit of process memory outside these areas is changed
+-- a slave's memory after an exchange: the gaps of its output areas in the task are 0, and no other bit of process memory outside these areas is changed
 pub record KeepsTheRest (task : ℕ) (member : Member) (memory memory' : List ℕ) : Type 0 where
   pub gaps : (area : Area) (m k : ℕ) → IsOutputBit task member area m k → IsGapBit area k → bit_of memory' m ≡ 0
   pub rest : (m : ℕ) → 8 * MEMORY_START ≤ m → m < MEMORY_BITS → ((area : Area) (k : ℕ) → ¬ IsOutputBit task member area m k) → bit_of memory' m ≡ bit_of memory m
@@ -63,8 +64,8 @@ pub record KeepsTheRest (task : ℕ) (member : Member) (memory memory' : List �
 -- an exchange of a task over the machines of a line, with the bytes of the task's output image
 pub record IsExchanged (line : List Member) (task : ℕ) (image : List ℕ) (machines frames machines' : List (List ℕ)) : Type 0 where
   pub came : ℕ → List ℕ
-  pub count : length frames ≡ count_of line task
-  pub back : (d : ℕ) (frame : List ℕ) → slice_get frames d ≡ Some frame → CameBack line task d frame (came d)
+  pub count : length frames ≡ task_datagram_count line task
+  pub back : (d : ℕ) (frame : List ℕ) → slice_get frames d ≡ Some frame → DatagramCameBack line task d frame (came d)
   pub inputs : (variable : ℕ) (place : VariablePlace) → IsVariable line task In variable place
       → HasInMemory line machines variable place.bits (λ k. bit_of (came place.datagram) (place.bit + k))
   pub outputs : (variable : ℕ) (place : VariablePlace) → IsVariable line task Out variable place
@@ -72,3 +73,7 @@ pub record IsExchanged (line : List Member) (task : ℕ) (image : List ℕ) (mac
   pub many : length machines' ≡ length machines
   pub rest : (position : ℕ) (member : Member) (memory memory' : List ℕ) → slice_get line position ≡ Some member
       → slice_get machines position ≡ Some memory → slice_get machines' position ≡ Some memory' → KeepsTheRest task member memory memory'
+
+-- the machines exchange the values where they are ready for the line
+abbrev pub IsExchangedIfReady : List Member → ℕ → List ℕ → List (List ℕ) → List (List ℕ) → List (List ℕ) → Type 0
+IsExchangedIfReady line task image machines frames machines' = AreReadyFor line machines → IsExchanged line task image machines frames machines'

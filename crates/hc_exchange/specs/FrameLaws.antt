@@ -1,34 +1,34 @@
 -- Frames of logical datagrams through the machines of a line, and their working counters. Each law is the contract of a function of `laws`.
 use Rattle.std.specs.Prelude.{◌≡◌, All, None, ℕ, ◌*◌, ◌%◌, List, [], ◌∷◌, length, map}
-use Rattle.hc_records.specs.AddressLaws.{IsDatagram}
+use Rattle.hc_records.specs.AddressLaws.{LineHasDatagram}
 use Rattle.hc_records.specs.Image.{datagram_length, expected_counter, logical_address, task_places}
 use Rattle.hc_records.specs.Line.{State, line}
 use Rattle.hc_frames.specs.Arrived.{fault_in, reading_of}
-use Rattle.hc_frames.specs.FrameText.{Carried, frame_text, lrw, sent}
+use Rattle.hc_frames.specs.FrameText.{WireDatagram, frame_text, lrw, sent_on_wire}
 use Rattle.hc_frames.specs.Laws.{CanBeCarried}
 use Rattle.hc_machine.specs.declared.limits.TheConstants.{MEMORY_BYTES}
-use Rattle.hc_segment.specs.Line.{frame_through, machines_behind}
+use Rattle.hc_segment.specs.Line.{frame_through, machines_after_frame}
 use Rattle.hc_exchange.specs.PairLaws.{IsConfigurable}
-use Rattle.hc_exchange.specs.Carrying.{AreProgrammed, count_through, data_through, logical_part, memories_behind}
-use Rattle.hc_exchange.specs.Sequences.{Logical, all_behind}
+use Rattle.hc_exchange.specs.Carrying.{AreProgrammed, count_through, data_through, logical_part, memories_after}
+use Rattle.hc_exchange.specs.Sequences.{Logical, all_after_frames}
 
--- the frame of a logical datagram behind machines: it is read, with the data and the counter that they make, and the machines are as the datagram leaves them
+-- the frame of a logical datagram after machines: it is read, with the data and the counter that they make, and the machines are as the datagram leaves them
 pub record PassesLogical (machines : List (List ℕ)) (serial address : ℕ) (bytes frame : List ℕ) : Type 0 where
   pub readable : fault_in (frame_through machines frame) ≡ None
-  pub told : reading_of (frame_through machines frame)
+  pub answer_given : reading_of (frame_through machines frame)
       ≡ record { serial = serial; parts = logical_part address (data_through machines (8 * address) bytes) (count_through machines (8 * address) (length bytes) % 65536) ∷ [] }
-  pub memories : machines_behind machines frame ≡ memories_behind machines (8 * address) bytes
+  pub memories : machines_after_frame machines frame ≡ memories_after machines (8 * address) bytes
 
 -- so is each such frame as it is sent
 abbrev pub LogicalFramesPass : Type 0
 LogicalFramesPass =
-    (machines : List (List ℕ)) (serial address : ℕ) (bytes : List ℕ) → All (λ m. length m ≡ MEMORY_BYTES) machines → CanBeCarried serial (sent (lrw address bytes) ∷ [])
+    (machines : List (List ℕ)) (serial address : ℕ) (bytes : List ℕ) → All (λ m. length m ≡ MEMORY_BYTES) machines → CanBeCarried serial (sent_on_wire (lrw address bytes) ∷ [])
     → PassesLogical machines serial address bytes (frame_text serial (lrw address bytes ∷ []))
 
 -- what the machines of a programmed line add to the working counter of a datagram of a task is the expected counter
 abbrev pub CountersAreExpected : Type 0
 CountersAreExpected =
-    (state : State) (machines : List (List ℕ)) (task datagram : ℕ) → IsConfigurable state → AreProgrammed (line state) machines → IsDatagram (line state) task datagram
+    (state : State) (machines : List (List ℕ)) (task datagram : ℕ) → IsConfigurable state → AreProgrammed (line state) machines → LineHasDatagram (line state) task datagram
     → count_through machines (8 * logical_address task datagram) (datagram_length (task_places task (line state)) datagram) ≡ expected_counter task datagram (line state)
 
 -- a logical datagram to be sent: its logical address and its data
@@ -41,21 +41,21 @@ abbrev pub logical_of : Addressed → Logical
 logical_of d = record { from = 8 * d.address; bytes = d.bytes }
 
 -- the datagrams as they come back where each goes through machines in a frame of its own, one after another
-abbrev pub parts_after : List (List ℕ) → List Addressed → List Carried
-parts_after machines [] = []
-parts_after machines (d ∷ ds) =
+abbrev pub datagrams_after_machines : List (List ℕ) → List Addressed → List WireDatagram
+datagrams_after_machines machines [] = []
+datagrams_after_machines machines (d ∷ ds) =
     logical_part d.address (data_through machines (8 * d.address) d.bytes) (count_through machines (8 * d.address) (length d.bytes) % 65536)
-    ∷ parts_after (memories_behind machines (8 * d.address) d.bytes) ds
+    ∷ datagrams_after_machines (memories_after machines (8 * d.address) d.bytes) ds
 
--- the frame that datagrams share is read behind machines with the parts of one after another, and the machines are those behind them so
+-- the frame that datagrams share is read after machines with the parts of one after another, and the machines are those after them so
 pub record PassesAll (machines : List (List ℕ)) (serial : ℕ) (ds : List Addressed) (frame : List ℕ) : Type 0 where
   pub readable : fault_in (frame_through machines frame) ≡ None
-  pub told : reading_of (frame_through machines frame) ≡ record { serial = serial; parts = parts_after machines ds }
-  pub memories : machines_behind machines frame ≡ all_behind machines (map logical_of ds)
+  pub answer_given : reading_of (frame_through machines frame) ≡ record { serial = serial; parts = datagrams_after_machines machines ds }
+  pub memories : machines_after_frame machines frame ≡ all_after_frames machines (map logical_of ds)
 
 -- so is each frame of logical datagrams as it is sent: they do in one frame what they do in frames of their own
 abbrev pub SharedFramesPass : Type 0
 SharedFramesPass =
     (machines : List (List ℕ)) (serial : ℕ) (ds : List Addressed) → All (λ m. length m ≡ MEMORY_BYTES) machines
-    → CanBeCarried serial (map (λ d. sent (lrw d.address d.bytes)) ds)
+    → CanBeCarried serial (map (λ d. sent_on_wire (lrw d.address d.bytes)) ds)
     → PassesAll machines serial ds (frame_text serial (map (λ d. lrw d.address d.bytes) ds))

@@ -22,14 +22,14 @@ abbrev pub LiesInMemory : Area → Type 0
 LiesInMemory area = 8 * area.phys + width area ≤ MEMORY_BITS
 
 -- the key of the area at an index of a slave's record
-abbrev pub key_of : Member → ℕ → Area → Key
-key_of member index area = record { dir = area.dir; rank = member.rank; area = index }
+abbrev pub member_area_key : Member → ℕ → Area → Key
+member_area_key member index area = record { dir = area.dir; rank = member.rank; area = index }
 
 -- the area at an index of the record of a slave of the line is mapped, there
 pub record IsMapped (line : List Member) (member : Member) (index : ℕ) (area : Area) (mapping : Mapping) : Type 0 where
   pub in_line : Contains line member
   pub in_record : slice_get member.slave.areas index ≡ Some area
-  pub mapped : mapping_of line area.task (key_of member index area) ≡ Some mapping
+  pub mapped : mapping_of line area.task (member_area_key member index area) ≡ Some mapping
 
 -- the slave with a station address is to carry logical bit x in its memory bit m: they are a pair of one of its areas, where it is mapped
 pub record AreasPair (line : List Member) (station x m : ℕ) : Type 0 where

@@ -11,12 +11,12 @@ use Rattle.hc_registers.specs.Blocks.{line_blocks}
 use Rattle.hc_frames.specs.FrameText.{frame_text, lrw}
 use Rattle.hc_segment.specs.Line.{frames_through, machines_after}
 use Rattle.hc_places.specs.Table.{datagrams_in, table_of}
-use Rattle.hc_images.specs.Packed.{LiesIn}
+use Rattle.hc_images.specs.Packed.{LiesInTaskPlace}
 use Rattle.hc_exchange.specs.WritingLaws.{machines_written}
 
 -- how many datagrams a task of the line has; none where the line has no such task
-abbrev pub count_of : List Member → ℕ → ℕ
-count_of line task = length (datagrams_in (table_of line) task)
+abbrev pub task_datagram_count : List Member → ℕ → ℕ
+task_datagram_count line task = length (datagrams_in (table_of line) task)
 
 -- a variable of the line has this place, in the task and in this direction
 pub record IsVariable (line : List Member) (task : ℕ) (dir : Dir) (variable : ℕ) (place : VariablePlace) : Type 0 where
@@ -24,21 +24,21 @@ pub record IsVariable (line : List Member) (task : ℕ) (dir : Dir) (variable : 
   pub in_task : place.task ≡ task
   pub direction : place.dir ≡ dir
 
--- the data with which a datagram of a task is sent: each of its output variables has the bits of the task's image at its place, and every other bit is 0
+-- the data that a datagram of a task is sent with: each of its output variables has the bits of the task's image at its place, and every other bit is 0
 pub record IsPacked (line : List Member) (task : ℕ) (image : List ℕ) (d : ℕ) (bytes : List ℕ) : Type 0 where
   pub size : length bytes ≡ datagram_length (task_places task line) d
   pub all_bytes : AreBytes bytes
   pub values : (variable k : ℕ) (place : VariablePlace) → IsVariable line task Out variable place → place.datagram ≡ d → k < place.bits
       → bit_of bytes (place.bit + k) ≡ bit_of image (place_bit line place + k)
-  pub others : (k : ℕ) → ((variable : ℕ) (place : VariablePlace) → IsVariable line task Out variable place → ¬ LiesIn place task d k) → bit_of bytes k ≡ 0
+  pub others : (k : ℕ) → ((variable : ℕ) (place : VariablePlace) → IsVariable line task Out variable place → ¬ LiesInTaskPlace place task d k) → bit_of bytes k ≡ 0
 
 -- so many datagrams of a task with these data, in their order: an LRW each (ETG.1000.4, 5.4), in a frame of its own, with serials from this one on
 abbrev pub task_frames : ℕ → ℕ → ℕ → (ℕ → List ℕ) → List (List ℕ)
 task_frames serial task count bytes = map (λ d. frame_text (serial + d) (lrw (logical_address task d) (bytes d) ∷ [])) (range_with_len 0 count)
 
--- behind the writes of all blocks of the line these frames go through its machines: what comes back, and what the machines then are
+-- after the writes of all blocks of the line these frames go through its machines: what comes back, and what the machines then are
 pub record IsSent (line : List Member) (task : ℕ) (image : List ℕ) (machines frames machines' : List (List ℕ)) : Type 0 where
   pub bytes : ℕ → List ℕ
-  pub packed : (d : ℕ) → d < count_of line task → IsPacked line task image d (bytes d)
-  pub returned : frames ≡ frames_through (machines_written line machines) (task_frames (length (line_blocks line)) task (count_of line task) bytes)
-  pub left : machines' ≡ machines_after (machines_written line machines) (task_frames (length (line_blocks line)) task (count_of line task) bytes)
+  pub packed : (d : ℕ) → d < task_datagram_count line task → IsPacked line task image d (bytes d)
+  pub returned : frames ≡ frames_through (machines_written line machines) (task_frames (length (line_blocks line)) task (task_datagram_count line task) bytes)
+  pub left : machines' ≡ machines_after (machines_written line machines) (task_frames (length (line_blocks line)) task (task_datagram_count line task) bytes)

@@ -5,7 +5,7 @@ use Rattle.hc_records.specs.declared.records.Dir.TheVariants.{Out, In}
 use Rattle.hc_records.specs.Line.{Member, State, line}
 use Rattle.hc_machine.specs.declared.limits.TheConstants.{MEMORY_BITS}
 use Rattle.hc_exchange.specs.PairLaws.{IsConfigurable}
-use Rattle.hc_exchange.specs.Carrying.{AreProgrammed, CarriesPair, data_through, memories_behind}
+use Rattle.hc_exchange.specs.Carrying.{AreProgrammed, CarriesPair, data_through, memories_after}
 use Rattle.hc_exchange.specs.CarryingLaws.{Meets}
 
 -- a logical datagram: its first logical bit and its data
@@ -16,12 +16,12 @@ pub record Logical : Type 0 where
 -- the data of datagrams as they come back: each meets the machines as those before it left them
 abbrev pub all_through : List (List ℕ) → List Logical → List (List ℕ)
 all_through machines [] = []
-all_through machines (d ∷ ds) = data_through machines d.from d.bytes ∷ all_through (memories_behind machines d.from d.bytes) ds
+all_through machines (d ∷ ds) = data_through machines d.from d.bytes ∷ all_through (memories_after machines d.from d.bytes) ds
 
--- the machines behind all of them
-abbrev pub all_behind : List (List ℕ) → List Logical → List (List ℕ)
-all_behind machines [] = machines
-all_behind machines (d ∷ ds) = all_behind (memories_behind machines d.from d.bytes) ds
+-- the machines after all of them
+abbrev pub all_after_frames : List (List ℕ) → List Logical → List (List ℕ)
+all_after_frames machines [] = machines
+all_after_frames machines (d ∷ ds) = all_after_frames (memories_after machines d.from d.bytes) ds
 
 -- a bit of one of the datagrams
 pub record HasBit (ds : List Logical) (n : ℕ) (d : Logical) (bit : ℕ) : Type 0 where
@@ -29,8 +29,8 @@ pub record HasBit (ds : List Logical) (n : ℕ) (d : Logical) (bit : ℕ) : Type
   pub below : bit < 8 * length d.bytes
 
 -- two datagrams have no logical bit in common
-abbrev pub AreApart : Logical → Logical → Type 0
-AreApart a b = (k l : ℕ) → k < 8 * length a.bytes → l < 8 * length b.bytes → a.from + k ≢ b.from + l
+abbrev pub LogicalsAreApart : Logical → Logical → Type 0
+LogicalsAreApart a b = (k l : ℕ) → k < 8 * length a.bytes → l < 8 * length b.bytes → a.from + k ≢ b.from + l
 
 -- each input's bit of each datagram's data comes back as it was in its slave's memory before the first datagram
 abbrev pub AllInputsAreBroughtBack : Type 0
@@ -39,12 +39,12 @@ AllInputsAreBroughtBack =
     → Meets state machines k member memory → HasBit ds n d bit → CarriesPair (line state) In member.slave.station (d.from + bit) m → slice_get (all_through machines ds) n ≡ Some came
     → bit_of came bit ≡ bit_of memory m
 
--- where the datagrams are apart, each output's bit of each of them is the bit of its slave's memory behind the last
+-- where the datagrams are apart, each output's bit of each of them is the bit of its slave's memory after the last
 abbrev pub AllOutputsArrive : Type 0
 AllOutputsArrive =
     (state : State) (machines : List (List ℕ)) (k : ℕ) (member : Member) (memory memory' : List ℕ) (ds : List Logical) (n : ℕ) (d : Logical) (bit m : ℕ)
-    → Meets state machines k member memory → AllPairs AreApart ds → HasBit ds n d bit → CarriesPair (line state) Out member.slave.station (d.from + bit) m
-    → slice_get (all_behind machines ds) k ≡ Some memory' → bit_of memory' m ≡ bit_of d.bytes bit
+    → Meets state machines k member memory → AllPairs LogicalsAreApart ds → HasBit ds n d bit → CarriesPair (line state) Out member.slave.station (d.from + bit) m
+    → slice_get (all_after_frames machines ds) k ≡ Some memory' → bit_of memory' m ≡ bit_of d.bytes bit
 
 -- and every other bit of its memory is as it was
 abbrev pub AllOtherMemoryStays : Type 0
@@ -52,9 +52,9 @@ AllOtherMemoryStays =
     (state : State) (machines : List (List ℕ)) (k : ℕ) (member : Member) (memory memory' : List ℕ) (ds : List Logical) (m : ℕ)
     → Meets state machines k member memory → m < MEMORY_BITS
     → ((n : ℕ) (d : Logical) (bit : ℕ) → HasBit ds n d bit → ¬ CarriesPair (line state) Out member.slave.station (d.from + bit) m)
-    → slice_get (all_behind machines ds) k ≡ Some memory' → bit_of memory' m ≡ bit_of memory m
+    → slice_get (all_after_frames machines ds) k ≡ Some memory' → bit_of memory' m ≡ bit_of memory m
 
--- the line is programmed behind them
+-- the line is programmed after them
 abbrev pub SequencesKeepTheLine : Type 0
 SequencesKeepTheLine =
-    (state : State) (machines : List (List ℕ)) (ds : List Logical) → IsConfigurable state → AreProgrammed (line state) machines → AreProgrammed (line state) (all_behind machines ds)
+    (state : State) (machines : List (List ℕ)) (ds : List Logical) → IsConfigurable state → AreProgrammed (line state) machines → AreProgrammed (line state) (all_after_frames machines ds)

@@ -1,4 +1,4 @@
--- Where the variables of a line stand in its slaves' memory.
+-- Where the variables of a line are in its slaves' memory.
 use Rattle.std.specs.Prelude.{◌≡◌, ℕ, ◌+◌, ◌*◌, ◌<◌, Contains, List, Some, slice_get}
 use Rattle.hc_records.specs.declared.records.Area.{Area}
 use Rattle.hc_records.specs.Area.{assigned_entries}
@@ -7,7 +7,7 @@ use Rattle.hc_records.specs.Line.{Member, State, line}
 use Rattle.hc_exchange.specs.PairLaws.{IsConfigurable}
 use Rattle.hc_exchange.specs.Carrying.{CarriesPair}
 
--- a variable with a place stands in an area of a slave of the line: so many bits behind the first of the area's memory, by the widths of the entries before it; each of its bits at the place is a pair of the area with the same bit there
+-- a variable with a place is in an area of a slave of the line: so many bits after the first of the area's memory, by the widths of the entries before it; each of its bits at the place is a pair of the area with the same bit there
 pub record IsCarried (line : List Member) (variable : ℕ) (place : VariablePlace) : Type 0 where
   pub member : Member
   pub index : ℕ

@@ -9,7 +9,7 @@ use Rattle.hc_frames.specs.declared.limits.TheConstants.{STATION_REGISTER}
 use Rattle.hc_frames.specs.Arrived.{word_at}
 use Rattle.hc_frames.specs.FrameText.{Datagram, block_write, frame_text}
 use Rattle.hc_machine.specs.declared.limits.TheConstants.{FMMUS, MEMORY_BYTES}
-use Rattle.hc_machine.specs.Fmmus.{block_at}
+use Rattle.hc_machine.specs.Fmmus.{fmmu_block_at}
 use Rattle.hc_machine.specs.Laws.{IsPair}
 
 -- the datagram that writes a block to its slave
@@ -23,7 +23,7 @@ write_frames serial blocks = map (λ e. frame_text e.0 (block_datagram e.1 ∷ [
 -- a machine is ready for a slave: the slave's station address is in its register, and zeros are in the FMMU blocks past the slave's areas
 pub record IsReadyFor (member : Member) (memory : List ℕ) : Type 0 where
   pub station : word_at memory STATION_REGISTER ≡ member.slave.station
-  pub unused : (i : ℕ) → length member.slave.areas ≤ i → i < FMMUS → block_at memory i ≡ replicate FMMU_BLOCK_BYTES 0
+  pub unused : (i : ℕ) → length member.slave.areas ≤ i → i < FMMUS → fmmu_block_at memory i ≡ replicate FMMU_BLOCK_BYTES 0
 
 -- so are machines for the slaves of the line, in its order
 pub record AreReadyFor (line : List Member) (machines : List (List ℕ)) : Type 0 where
@@ -36,7 +36,7 @@ pub record IsMachineOf (member : Member) (memory : List ℕ) : Type 0 where
   pub address : member.slave.station < 2 ^ 16
   pub ready : IsReadyFor member memory
 
--- machines are those of the line, in its order
+-- machines are the line's, in its order
 pub record AreMachinesOf (line : List Member) (machines : List (List ℕ)) : Type 0 where
   pub count : length machines ≡ length line
   pub each : (k : ℕ) (member : Member) (memory : List ℕ) → slice_get line k ≡ Some member → slice_get machines k ≡ Some memory → IsMachineOf member memory
@@ -47,7 +47,7 @@ pub record IsProgrammed (line : List Member) (member : Member) (memory : List �
   pub blocks : (block : RegisterBlock) → Contains (slave_blocks line member) block
       → slice_range memory block.register (block.register + length block.bytes) ≡ block.bytes
 
--- no byte differs below the FMMU blocks, where station address and alias stand, and none of process memory
+-- no byte differs below the FMMU blocks, where station address and alias are, and none of process memory
 abbrev pub ChangesBlocksAlone : List ℕ → List ℕ → Type 0
 ChangesBlocksAlone memory memory' = (byte : ℕ) → (byte < FMMU_BLOCKS) ⊎ (MEMORY_START ≤ byte) → slice_index memory' byte ≡ slice_index memory byte
 
@@ -55,4 +55,4 @@ ChangesBlocksAlone memory memory' = (byte : ℕ) → (byte < FMMU_BLOCKS) ⊎ (M
 pub record SlavePairs (memory : List ℕ) (x m : ℕ) : Type 0 where
   pub fmmu : ℕ
   pub below : fmmu < FMMUS
-  pub pair : IsPair (block_at memory fmmu) x m
+  pub pair : IsPair (fmmu_block_at memory fmmu) x m

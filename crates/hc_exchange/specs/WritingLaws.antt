@@ -8,22 +8,22 @@ use Rattle.hc_exchange.specs.PairLaws.{IsConfigurable}
 use Rattle.hc_exchange.specs.Pairs.{AreasPair}
 use Rattle.hc_exchange.specs.Writing.{AreMachinesOf, ChangesBlocksAlone, IsProgrammed, SlavePairs, write_frames}
 
--- the machines of a line behind the frames that write all its blocks
+-- the machines of a line after the frames that write all its blocks
 abbrev pub machines_written : List Member → List (List ℕ) → List (List ℕ)
 machines_written line machines = machines_after machines (write_frames 0 (line_blocks line))
 
--- a machine behind these frames has its slave's blocks, and nothing else of it is changed
-pub record IsWritten (line : List Member) (member : Member) (memory : List ℕ) (k : ℕ) (machines : List (List ℕ)) : Type 0 where
+-- a machine after these frames has its slave's blocks, and nothing else of it is changed
+pub record MachineIsWritten (line : List Member) (member : Member) (memory : List ℕ) (k : ℕ) (machines : List (List ℕ)) : Type 0 where
   pub written : List ℕ
-  pub stands : slice_get (machines_written line machines) k ≡ Some written
+  pub is_placed : slice_get (machines_written line machines) k ≡ Some written
   pub programmed : IsProgrammed line member written
-  pub kept : ChangesBlocksAlone memory written
+  pub unchanged : ChangesBlocksAlone memory written
 
 -- so is each machine of the line
 abbrev pub WritingProgramsTheLine : Type 0
 WritingProgramsTheLine =
     (state : State) (machines : List (List ℕ)) (k : ℕ) (member : Member) (memory : List ℕ) → IsConfigurable state → AreMachinesOf (line state) machines
-    → slice_get (line state) k ≡ Some member → slice_get machines k ≡ Some memory → IsWritten (line state) member memory k machines
+    → slice_get (line state) k ≡ Some member → slice_get machines k ≡ Some memory → MachineIsWritten (line state) member memory k machines
 
 -- there are as many of them
 abbrev pub WritingKeepsTheCount : Type 0
@@ -37,7 +37,7 @@ ProgrammedSlavesPairTheirAreas =
     (state : State) (member : Member) (memory : List ℕ) (x m : ℕ) → IsConfigurable state → Contains (line state) member → IsProgrammed (line state) member memory
     → SlavePairs memory x m ↔ AreasPair (line state) member.slave.station x m
 
--- and where each number of the machines' memories is a byte, so is it behind the writes
+-- and where each number of the machines' memories is a byte, so is it after the writes
 abbrev pub WritingKeepsBytes : Type 0
 WritingKeepsBytes =
     (state : State) (machines : List (List ℕ)) → IsConfigurable state → AreMachinesOf (line state) machines → All AreBytes machines

@@ -4,7 +4,7 @@ ghost use Rattle.hc_exchange.specs.FrameLaws.{CountersAreExpected, LogicalFrames
 ghost use Rattle.hc_exchange.specs.Sequences.{AllInputsAreBroughtBack, AllOtherMemoryStays, AllOutputsArrive, SequencesKeepTheLine};
 ghost use Rattle.hc_exchange.specs.Variables.{VariablesAreCarried};
 
-/// Behind the machines of a programmed line, each bit of a logical datagram that is an input's is the bit of its slave's memory
+/// After the machines of a programmed line, each bit of a logical datagram that is an input's is the bit of its slave's memory
 /// as it was before the datagram.
 pub fn inputs_are_brought_back()
     ensures { InputsAreBroughtBack }
@@ -15,7 +15,7 @@ pub fn other_bits_come_back()
     ensures { OtherBitsComeBack }
 {}
 
-/// In a slave's memory behind the datagram, each bit that is paired with one of the data by an output area is the bit that was
+/// In a slave's memory after the datagram, each bit that is paired with one of the data by an output area is the bit that was
 /// sent.
 pub fn outputs_arrive()
     ensures { OutputsArrive }
@@ -32,13 +32,13 @@ pub fn lines_stay_programmed()
     ensures { LinesStayProgrammed }
 {}
 
-/// The frame of one logical datagram behind machines is read: with its serial and its address, with the data that the machines
+/// The frame of one logical datagram after machines is read: with its serial and its address, with the data that the machines
 /// make of it one after another, and with the sum of what they add to its working counter, modulo 65,536.
 pub fn logical_frames_pass()
     ensures { LogicalFramesPass }
 {}
 
-/// Logical datagrams that share a frame come back behind machines as they do each in a frame of its own, one after another, and
+/// Logical datagrams that share a frame come back after machines as they do each in a frame of its own, one after another, and
 /// leave the machines as they then do.
 pub fn shared_frames_pass()
     ensures { SharedFramesPass }
@@ -49,13 +49,13 @@ pub fn counters_are_expected()
     ensures { CountersAreExpected }
 {}
 
-/// Each variable with a place stands in an area of a slave: its bits at the place are paired with as many bits of the slave's
-/// memory, which begin behind the first bit of the area's by the widths of the entries before it.
+/// Each variable with a place is in an area of a slave: its bits at the place are paired with as many bits of the slave's
+/// memory, which begin after the first bit of the area's by the widths of the entries before it.
 pub fn variables_are_carried()
     ensures { VariablesAreCarried }
 {}
 
-/// The machines of a line behind an FPWR of each of its blocks are programmed.
+/// The machines of a line after an FPWR of each of its blocks are programmed.
 pub fn written_lines_are_programmed()
     ensures { WrittenLinesAreProgrammed }
 {}
@@ -66,8 +66,8 @@ pub fn all_inputs_are_brought_back()
     ensures { AllInputsAreBroughtBack }
 {}
 
-/// Where no two of the datagrams have a logical bit in common, each output's bit of each of them stands in its slave's memory
-/// behind the last.
+/// Where no two of the datagrams have a logical bit in common, each output's bit of each of them is in its slave's memory
+/// after the last.
 pub fn all_outputs_arrive()
     ensures { AllOutputsArrive }
 {}
@@ -77,7 +77,7 @@ pub fn all_other_memory_stays()
     ensures { AllOtherMemoryStays }
 {}
 
-/// The line is programmed behind them.
+/// The line is programmed after them.
 pub fn sequences_keep_the_line()
     ensures { SequencesKeepTheLine }
 {}

@@ -2,10 +2,9 @@
 ghost use Rattle.std.specs.Prelude.{◌≡◌, All, IfOk, OnErr, length, map};
 ghost use Rattle.hc_bits.specs.Bits.{AreBytes};
 ghost use Rattle.hc_records.specs.Line.{line};
-ghost use Rattle.hc_segment.specs.Line.{frame_through, frames_through, machines_after, machines_behind};
+ghost use Rattle.hc_segment.specs.Line.{frame_through, frames_through, machines_after, machines_after_frame};
 ghost use Rattle.hc_machine.specs.declared.limits.TheConstants.{MEMORY_BYTES};
-ghost use Rattle.hc_exchange.specs.Writing.{AreReadyFor};
-ghost use Rattle.hc_exchange.specs.Exchanged.{IsExchanged};
+ghost use Rattle.hc_exchange.specs.Exchanged.{IsExchangedIfReady};
 ghost use Rattle.hc_exchange.specs.Sent.{IsSent};
 
 use crate::programming::program;
@@ -14,7 +13,7 @@ use hc_plan::plan::Plan;
 use hc_segment::Segment;
 use std::alloc::{AllocError, Global};
 
-/// Each number of a byte slice is a byte. The call does nothing: its contract tells so.
+/// Each number of a byte slice is a byte. The call does nothing: its contract says so.
 fn are_bytes(bytes: &[u8])
     ensures { AreBytes bytes.now }
 {
@@ -35,7 +34,7 @@ fn hold_bytes(segment: &Segment)
 /// Passes a frame through the machines, in its place.
 fn pass(segment: &mut Segment, frame: &mut Vec<u8>)
     ensures frame { frame.new.items ≡ frame_through segment.old frame.old.items }
-    ensures machines { segment.new ≡ machines_behind segment.old frame.old.items }
+    ensures machines { segment.new ≡ machines_after_frame segment.old frame.old.items }
 {
     segment.process(frame.as_mut_slice());
 }
@@ -59,16 +58,16 @@ fn send_all(segment: &mut Segment, frames: &mut Vec<Vec<u8>>)
 }
 
 /// Writes every block of the plan's line through the segment as [`program`](crate::program) does, then sends a task's
-/// datagrams through it, each an LRW (ETG.1000.4, 5.4) in a frame of its own, with the serials behind those of the writes.
-/// `outputs` is the task's image of output bytes: each output variable is sent as it stands there, bits behind its end being
+/// datagrams through it, each an LRW (ETG.1000.4, 5.4) in a frame of its own, with the serials after those of the writes.
+/// `outputs` is the task's image of output bytes: each output variable is sent as it is there, bits after its end being
 /// 0, and its other bits are ignored. It answers the frames as they come back, in their order; none for a task that has no
 /// datagrams, and for any task but 0 to 7. `AllocError` where a growth was refused: nothing was written then, and the
 /// machines are as they were.
 ///
-/// Where the machines are those of the line, in its order, with their station addresses and zeros in the FMMU blocks past
-/// their slaves' areas, each frame is read, with the expected counter; each input variable comes back as it stood in its
-/// slave's memory, each output variable stands in its slave's memory as in `outputs`, and of the rest of process memory
-/// nothing is changed but the gaps of the task's output areas, which are 0.
+/// Where the machines are the line's, in its order, with their station addresses and zeros in the FMMU blocks past their
+/// slaves' areas, each frame is read, with the expected counter; each input variable comes back as it was in its slave's
+/// memory, each output variable is in its slave's memory as in `outputs`, and of the rest of process memory nothing is
+/// changed but the gaps of the task's output areas, which are 0.
 pub fn exchange(
     alloc: Global,
     plan: &Plan,
@@ -77,7 +76,7 @@ pub fn exchange(
     outputs: &[u8],
 ) -> Result<Vec<Vec<u8>>, AllocError>
     ensures sent { IfOk result (λ frames. IsSent (line plan.now) task outputs.now segment.old (map (λ frame. frame.items) frames.items) segment.new) }
-    ensures meant { IfOk result (λ frames. AreReadyFor (line plan.now) segment.old → IsExchanged (line plan.now) task outputs.now segment.old (map (λ frame. frame.items) frames.items) segment.new) }
+    ensures meant { IfOk result (λ frames. IsExchangedIfReady (line plan.now) task outputs.now segment.old (map (λ frame. frame.items) frames.items) segment.new) }
     ensures unchanged { OnErr result (segment.new ≡ segment.old) }
 {
     let places = plan.places();

@@ -15,7 +15,7 @@ pub fn unmapped_areas_pair_nothing()
     ensures { UnmappedAreasPairNothing }
 {}
 
-/// The FMMU block of an input area is read through and never written through, that of an output area the other way round.
+/// The FMMU block of an input area is read through and never written through, an output area's the other way round.
 pub fn blocks_go_one_way()
     ensures { BlocksGoOneWay }
 {}
@@ -35,17 +35,17 @@ pub fn lines_pair_their_areas()
     ensures { LinesPairTheirAreas }
 {}
 
-/// No logical bit stands in the pairs of two blocks of a line.
+/// No logical bit is in the pairs of two blocks of a line.
 pub fn no_logical_bit_twice()
     ensures { NoLogicalBitTwice }
 {}
 
-/// No memory bit of a slave stands in the pairs of two of its blocks.
+/// No memory bit of a slave is in the pairs of two of its blocks.
 pub fn no_memory_bit_twice()
     ensures { NoMemoryBitTwice }
 {}
 
-/// The machines of a line, behind an FPWR of each of its blocks in line and block order: each has its slave's blocks at their
+/// The machines of a line, after an FPWR of each of its blocks in line and block order: each has its slave's blocks at their
 /// registers and zeros in the FMMU blocks past them, and no byte below the FMMU blocks (the station address and the alias are
 /// there) and none of process memory is changed.
 pub fn writing_programs_the_line()
@@ -62,7 +62,7 @@ pub fn programmed_slaves_pair_their_areas()
     ensures { ProgrammedSlavesPairTheirAreas }
 {}
 
-/// Where each number of the machines' memories is a byte, so is it behind the writes.
+/// Where each number of the machines' memories is a byte, so is it after the writes.
 pub fn writing_keeps_bytes()
     ensures { WritingKeepsBytes }
 {}

@@ -3,7 +3,7 @@ ghost use Rattle.std.specs.Prelude.{◌≡◌, ◌^◌, ◌<◌, ◌≤◌, [], 
 ghost use Rattle.hc_frames.specs.FrameText.{block_write, frame_text};
 ghost use Rattle.hc_exchange.specs.WritingLaws.{machines_written};
 ghost use Rattle.hc_records.specs.Line.{line};
-ghost use Rattle.hc_segment.specs.Line.{machines_behind};
+ghost use Rattle.hc_segment.specs.Line.{machines_after_frame};
 
 use hc_frames::building::build_write;
 use hc_frames::limits::LEAST_FRAME;
@@ -17,7 +17,7 @@ fn write_block(segment: &mut Segment, serial: u64, station: u16, block: &Block)
     requires serial { serial < 2 ^ 40 }
     requires some { 1 ≤ length block.now.bytes }
     requires few { length block.now.bytes ≤ 16 }
-    ensures { segment.new ≡ machines_behind segment.old (frame_text serial (block_write station block.now.register block.now.bytes ∷ [])) }
+    ensures { segment.new ≡ machines_after_frame segment.old (frame_text serial (block_write station block.now.register block.now.bytes ∷ [])) }
 {
     let mut frame = [0; LEAST_FRAME as usize];
     let _ = build_write(&mut frame, serial, station, block.register(), block.bytes());
@@ -27,9 +27,9 @@ fn write_block(segment: &mut Segment, serial: u64, station: u16, block: &Block)
 /// Writes every block of the plan's line through the segment, in line and block order: each an FPWR (ETG.1000.4, 5.4) in a
 /// frame of its own, with serials from 0 on. It takes no memory.
 ///
-/// Where the machines are those of the line, in its order, with their station addresses and zeros in the FMMU blocks past
-/// their slaves' areas, each has its slave's blocks then, pairs the bits of its areas and no others, and is otherwise as
-/// before: the laws of `programmed_laws`.
+/// Where the machines are the line's, in its order, with their station addresses and zeros in the FMMU blocks past their
+/// slaves' areas, each has its slave's blocks then, pairs the bits of its areas and no others, and is otherwise as before:
+/// the laws of `programmed_laws`.
 pub fn program(plan: &Plan, segment: &mut Segment)
     ensures { segment.new ≡ machines_written (line plan.now) segment.old }
 {

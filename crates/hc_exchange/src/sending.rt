@@ -5,8 +5,8 @@ ghost use Rattle.hc_records.specs.Laws.{IsDatagramLength};
 ghost use Rattle.hc_frames.specs.declared.limits.TheConstants.{MAX_DATA};
 ghost use Rattle.hc_frames.specs.FrameText.{frame_text, lrw};
 ghost use Rattle.hc_frames.specs.Sizes.{frame_size};
-ghost use Rattle.hc_images.specs.Packed.{Holds, IsLaidOut, sent_bytes};
-ghost use Rattle.hc_images.specs.Values.{posted};
+ghost use Rattle.hc_images.specs.Packed.{HoldsOutputValues, IsLaidOut, sent_bytes};
+ghost use Rattle.hc_images.specs.Values.{posted_values};
 ghost use Rattle.hc_exchange.specs.Sent.{task_frames};
 
 use hc_frames::building::{build_datagram_of, build_head, frame_size};
@@ -26,7 +26,7 @@ pub(crate) fn packed(
     image: &[u8],
 ) -> Result<Outputs, AllocError>
     requires { IsLaidOut places.now }
-    ensures { IfOk result (λ packed. task < TASKS → Holds places.now (posted places.now task image.now (λ variable k. 0)) packed) }
+    ensures { IfOk result (λ packed. task < TASKS → HoldsOutputValues places.now (posted_values places.now task image.now (λ variable k. 0)) packed) }
 {
     let mut packed = Outputs::new(alloc, places)?;
     if task < TASKS {

@@ -7,8 +7,8 @@ use Rattle.hc_frames.specs.declared.limits.TheConstants.{LEAST_READ, MAX_DATAGRA
 use Rattle.hc_frames.specs.declared.reading.datagrams.Survey.{Survey}
 use Rattle.hc_frames.specs.declared.reading.faults.FrameFault.{FrameFault}
 use Rattle.hc_frames.specs.declared.reading.faults.FrameFault.TheVariants.{Short, NotEtherCat, BadType, BadLength, Circulating, MoreFollows, UnknownCommand, IndexMismatch}
-use Rattle.hc_frames.specs.Arrived.{circulates, datagram_bytes, datagrams_in, fault_in, fill_region, has_other_index, has_bad_length, has_bad_type, has_unknown_command, is_circulating, is_not_ethercat, is_short, is_unknown, is_whole, mismatches, more_at_end, more_between, promises_more, region, serial_in}
-use Rattle.hc_frames.specs.Regions.{StandsBehind, fault_of}
+use Rattle.hc_frames.specs.Arrived.{circulates, datagram_bytes, datagram_tails, fault_in, fill_region, has_other_index, has_bad_length, has_bad_type, has_unknown_command, is_circulating, is_not_ethercat, is_short, is_unknown, is_whole, mismatches, more_at_end, more_between, promises_more, region, serial_in}
+use Rattle.hc_frames.specs.Regions.{ComesAfter, fault_of}
 use Rattle.hc_frames.proofs.Surveys.{Found}
 
 -- the first of eight conditions
@@ -30,33 +30,33 @@ found_fault e f g h seen e' f' g' h' =
     ∙ ap (λ (x : Bool). table false false false false seen.circulates seen.more seen.unknown x) (sym h')
 
 -- where the datagrams don't fill their bytes
-pub unfilled : (bytes left : List ℕ) → StandsBehind bytes left → fill_region (datagrams_in left) ≡ false → fault_in bytes ≡ Some BadLength
+pub unfilled : (bytes left : List ℕ) → ComesAfter bytes left → fill_region (datagram_tails left) ≡ false → fault_in bytes ≡ Some BadLength
 unfilled bytes left there bad =
-    let wrong : fill_region (datagrams_in (region bytes)) ≡ false = ap (λ (r : List ℕ). fill_region (datagrams_in r)) (sym there.found_there) ∙ bad in
+    let wrong : fill_region (datagram_tails (region bytes)) ≡ false = ap (λ (r : List ℕ). fill_region (datagram_tails r)) (sym there.found_there) ∙ bad in
     let long : has_bad_length bytes ≡ true =
-    ap (λ (b : Bool). b || (nat_lt (length bytes) (16 + datagram_bytes bytes) || not (fill_region (datagrams_in (region bytes))))) (le-ltb MAX_DATAGRAMS (datagram_bytes bytes) there.within)
-    ∙ ap (λ (b : Bool). b || not (fill_region (datagrams_in (region bytes)))) (le-ltb (length bytes) (16 + datagram_bytes bytes) there.there)
+    ap (λ (b : Bool). b || (nat_lt (length bytes) (16 + datagram_bytes bytes) || not (fill_region (datagram_tails (region bytes))))) (le-ltb MAX_DATAGRAMS (datagram_bytes bytes) there.within)
+    ∙ ap (λ (b : Bool). b || not (fill_region (datagram_tails (region bytes)))) (le-ltb (length bytes) (16 + datagram_bytes bytes) there.there)
     ∙ ap not wrong in
     fourth (is_short bytes) (is_not_ethercat bytes) (has_bad_type bytes) (has_bad_length bytes) (is_circulating bytes) (promises_more bytes) (has_unknown_command bytes) (mismatches bytes)
     (le-ltb (length bytes) LEAST_READ there.long) there.ethercat there.type long
 
 -- where they do, the fault is the one that the pass over them finds
-pub filled : (bytes left : List ℕ) (seen : Survey) → StandsBehind bytes left → Found (serial_in bytes % 256) (datagrams_in left) seen → 0 < length (datagrams_in left) → fault_in bytes ≡ fault_of seen
+pub filled : (bytes left : List ℕ) (seen : Survey) → ComesAfter bytes left → Found (serial_in bytes % 256) (datagram_tails left) seen → 0 < length (datagram_tails left) → fault_in bytes ≡ fault_of seen
 filled bytes left seen there found some =
-    let same : datagrams_in left ≡ datagrams_in (region bytes) = ap datagrams_in there.found_there in
-    let full : fill_region (datagrams_in left) ≡ true =
-    ap (λ (b : Bool). b && (list_all is_whole (datagrams_in left) && more_between (datagrams_in left))) (lt-ltb 0 (length (datagrams_in left)) some)
-    ∙ ap (λ (b : Bool). b && more_between (datagrams_in left)) found.whole ∙ found.between in
-    let good : fill_region (datagrams_in (region bytes)) ≡ true = sym (ap fill_region same) ∙ full in
+    let same : datagram_tails left ≡ datagram_tails (region bytes) = ap datagram_tails there.found_there in
+    let full : fill_region (datagram_tails left) ≡ true =
+    ap (λ (b : Bool). b && (list_all is_whole (datagram_tails left) && more_between (datagram_tails left))) (lt-ltb 0 (length (datagram_tails left)) some)
+    ∙ ap (λ (b : Bool). b && more_between (datagram_tails left)) found.whole ∙ found.between in
+    let good : fill_region (datagram_tails (region bytes)) ≡ true = sym (ap fill_region same) ∙ full in
     let long : has_bad_length bytes ≡ false =
-    ap (λ (b : Bool). b || (nat_lt (length bytes) (16 + datagram_bytes bytes) || not (fill_region (datagrams_in (region bytes))))) (le-ltb MAX_DATAGRAMS (datagram_bytes bytes) there.within)
-    ∙ ap (λ (b : Bool). b || not (fill_region (datagrams_in (region bytes)))) (le-ltb (length bytes) (16 + datagram_bytes bytes) there.there)
+    ap (λ (b : Bool). b || (nat_lt (length bytes) (16 + datagram_bytes bytes) || not (fill_region (datagram_tails (region bytes))))) (le-ltb MAX_DATAGRAMS (datagram_bytes bytes) there.within)
+    ∙ ap (λ (b : Bool). b || not (fill_region (datagram_tails (region bytes)))) (le-ltb (length bytes) (16 + datagram_bytes bytes) there.there)
     ∙ ap not good in
     others (is_short bytes) (is_not_ethercat bytes) (has_bad_type bytes) (has_bad_length bytes) (is_circulating bytes) (promises_more bytes) (has_unknown_command bytes) (mismatches bytes)
     (le-ltb (length bytes) LEAST_READ there.long) there.ethercat there.type long
     ∙ found_fault (is_circulating bytes) (promises_more bytes) (has_unknown_command bytes) (mismatches bytes) seen
-    (found.circulates ∙ ap (λ (r : List ℕ). list_any circulates (datagrams_in r)) there.found_there) (found.more some ∙ ap (λ (r : List ℕ). more_at_end (datagrams_in r)) there.found_there)
-    (found.unknown ∙ ap (λ (r : List ℕ). list_any is_unknown (datagrams_in r)) there.found_there) (found.mismatch ∙ ap (λ (r : List ℕ). list_any (has_other_index (serial_in bytes % 256)) (datagrams_in r)) there.found_there)
+    (found.circulates ∙ ap (λ (r : List ℕ). list_any circulates (datagram_tails r)) there.found_there) (found.more some ∙ ap (λ (r : List ℕ). more_at_end (datagram_tails r)) there.found_there)
+    (found.unknown ∙ ap (λ (r : List ℕ). list_any is_unknown (datagram_tails r)) there.found_there) (found.mismatch ∙ ap (λ (r : List ℕ). list_any (has_other_index (serial_in bytes % 256)) (datagram_tails r)) there.found_there)
 
 -- where none of the eight conditions holds
 pub no_fault : (bytes : List ℕ) → is_short bytes ≡ false → is_not_ethercat bytes ≡ false → has_bad_type bytes ≡ false → has_bad_length bytes ≡ false

@@ -39,7 +39,7 @@ module _ {M : Type 1} {𝓤 : Ura M} (𝓛 : Logic 𝓤) (ℓ : Lifetime) (κ : 
     abbrev Others : SProp 𝓤
     Others = sep 𝓤 (sem 𝓛 (cells (mem R) front b o)) (sem 𝓛 (cells (mem R) back b (at p (mem R).size (length mid))))
 
-    -- the part is put back between what stands before it and after it
+    -- the part is put back between what is before it and after it
     put_back : (ws : List R.Denot) → ent 𝓤 (sep 𝓤 (sem 𝓛 ((Arr (mem R) (length mid)).own_at ws b p)) Others) (sem 𝓛 ((Arr (mem R) (length xs)).own_at (F ws) b o))
     put_back ws = qed 𝓛 (‵ ((Arr (mem R) (length mid)).own_at ws b p) ∷ ‵ (cells (mem R) front b o) ∷ ‵ (cells (mem R) back b (at p (mem R).size (length mid))) ∷ []) ∵
         fsplit ! $ feq_l ! (λ e.
@@ -73,7 +73,7 @@ module _ {M : Type 1} {𝓤 : Ura M} (𝓛 : Logic 𝓤) (R : RattleType) (F : L
   open 𝓛 use {A}
 
   pub both_through : ent 𝓤 (sep 𝓤 (sem 𝓛 (follows_both (Array R 0) (Array R 0) (Array R 0) γ γ₁ γ₂ ◌++◌)) (sem 𝓛 (follows (Array R 0) (Array R 0) γ₁ δ F)))
-      (sem 𝓛 (follows_both (Array R 0) (Array R 0) (Array R 0) γ δ γ₂ (λ bytes behind. F bytes ++ behind)))
+      (sem 𝓛 (follows_both (Array R 0) (Array R 0) (Array R 0) γ δ γ₂ (λ bytes after_it. F bytes ++ after_it)))
   unfolding both_by
   both_through =
       qed 𝓛 (‵ (follows_both (Array R 0) (Array R 0) (Array R 0) γ γ₁ γ₂ ◌++◌) ∷ ‵ (follows (Array R 0) (Array R 0) γ₁ δ F) ∷ []) ∵

@@ -6,19 +6,19 @@ use Rattle.std.proofs.lemmas.Bool.{and_parts, not-false, not-true}
 use Rattle.std.proofs.lemmas.Option.{same_Some}
 use Rattle.hc_records.proofs.lemmas.Choices.{by_bool}
 use Rattle.hc_frames.specs.declared.reading.datagrams.Survey.{Survey}
-use Rattle.hc_frames.specs.Arrived.{circulates, data_size, datagrams_in, fill_region, has_other_index, is_unknown, is_whole, more_at_end, more_between, says_more}
+use Rattle.hc_frames.specs.Arrived.{circulates, data_size, datagram_tails, fill_region, has_other_index, is_unknown, is_whole, more_at_end, more_between, says_more}
 use Rattle.hc_frames.specs.Survey.{noted, nothing_seen, surveyed}
 use Rattle.hc_frames.proofs.lemmas.Datagrams.{datagrams-some}
 
 -- one step of the pass
 pub survey_goes : (index : ℕ) (seen : Survey) (bytes : List ℕ) → 0 < length bytes → seen.more ≡ true → is_whole bytes ≡ true
-    → surveyed index seen (datagrams_in bytes) ≡ surveyed index (noted index seen bytes) (datagrams_in (drop (12 + data_size bytes) bytes))
+    → surveyed index seen (datagram_tails bytes) ≡ surveyed index (noted index seen bytes) (datagram_tails (drop (12 + data_size bytes) bytes))
 survey_goes index seen bytes some more whole = ap (surveyed index seen) (datagrams-some bytes some) ∙ rw (more, whole) refl
 
-pub survey_unpromised : (index : ℕ) (seen : Survey) (bytes : List ℕ) → 0 < length bytes → seen.more ≡ false → surveyed index seen (datagrams_in bytes) ≡ None
+pub survey_unpromised : (index : ℕ) (seen : Survey) (bytes : List ℕ) → 0 < length bytes → seen.more ≡ false → surveyed index seen (datagram_tails bytes) ≡ None
 survey_unpromised index seen bytes some more = ap (surveyed index seen) (datagrams-some bytes some) ∙ rw more refl
 
-pub survey_unwhole : (index : ℕ) (seen : Survey) (bytes : List ℕ) → 0 < length bytes → seen.more ≡ true → is_whole bytes ≡ false → surveyed index seen (datagrams_in bytes) ≡ None
+pub survey_unwhole : (index : ℕ) (seen : Survey) (bytes : List ℕ) → 0 < length bytes → seen.more ≡ true → is_whole bytes ≡ false → surveyed index seen (datagram_tails bytes) ≡ None
 survey_unwhole index seen bytes some more whole = ap (surveyed index seen) (datagrams-some bytes some) ∙ rw (more, whole) refl
 
 -- each is promised by the one before it, the first one by the flag

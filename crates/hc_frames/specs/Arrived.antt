@@ -7,7 +7,7 @@ use Rattle.hc_frames.specs.declared.limits.TheConstants.{LEAST_READ, MAX_DATA, M
 use Rattle.hc_frames.specs.declared.reading.faults.FrameFault.{FrameFault}
 use Rattle.hc_frames.specs.declared.reading.faults.FrameFault.TheVariants.{Short, NotEtherCat, BadType, BadLength, Circulating, MoreFollows, UnknownCommand, IndexMismatch}
 use Rattle.hc_frames.specs.Commands.{command_of}
-use Rattle.hc_frames.specs.FrameText.{Carried}
+use Rattle.hc_frames.specs.FrameText.{WireDatagram}
 
 -- ---- numbers in bytes
 
@@ -21,7 +21,7 @@ long_at bytes at = word_at bytes at + 65536 * word_at bytes (at + 2)
 
 -- ---- fields of the frame
 
--- the forty bits behind the source's first byte, high byte first
+-- the forty bits after the source's first byte, high byte first
 abbrev pub serial_in : List ℕ → ℕ
 serial_in bytes =
     slice_index bytes 11 + 256 * (slice_index bytes 10 + 256 * (slice_index bytes 9 + 256 * (slice_index bytes 8 + 256 * slice_index bytes 7)))
@@ -34,7 +34,7 @@ datagram_bytes bytes = word_at bytes 14 % 2048
 abbrev pub region : List ℕ → List ℕ
 region bytes = take (datagram_bytes bytes) (drop 16 bytes)
 
--- ---- fields of a datagram, which stands at the front of these bytes
+-- ---- fields of a datagram, which is at the front of these bytes
 
 -- bits 0 to 10 of the length field: the number of data bytes
 abbrev pub data_size : List ℕ → ℕ
@@ -62,8 +62,8 @@ abbrev pub has_other_index : ℕ → List ℕ → Bool
 has_other_index index bytes = not (slice_index bytes 1 == index)
 
 -- what the datagram carries (its command is looked at where it is known alone)
-abbrev pub carried : List ℕ → Carried
-carried bytes = record {
+abbrev pub datagram_carried : List ℕ → WireDatagram
+datagram_carried bytes = record {
   command = unwrap_or (command_of (slice_index bytes 0)) Lrw;
   address = long_at bytes 2;
   interrupt = word_at bytes 8;
@@ -80,8 +80,8 @@ starts_within (suc n) [] = []
 starts_within (suc n) (b ∷ bytes) = (b ∷ bytes) ∷ starts_within n (drop (12 + data_size (b ∷ bytes)) (b ∷ bytes))
 
 -- datagrams in a row, each as all bytes from its first one to the end: the first at the front, each next one 12 bytes and the data bytes further, as long as bytes are left
-abbrev pub datagrams_in : List ℕ → List (List ℕ)
-datagrams_in bytes = starts_within (length bytes) bytes
+abbrev pub datagram_tails : List ℕ → List (List ℕ)
+datagram_tails bytes = starts_within (length bytes) bytes
 
 -- each but the last says that more follow
 abbrev pub more_between : List (List ℕ) → Bool
@@ -113,26 +113,26 @@ is_not_ethercat bytes = not ((slice_index bytes 12 == 0x88) && (slice_index byte
 abbrev pub has_bad_type : List ℕ → Bool
 has_bad_type bytes = not (word_at bytes 14 / 2048 == 2)
 
--- the header's length is over 1,498, or more than the bytes behind the header, or the datagrams don't fill it
+-- the header's length is over 1,498, or more than the bytes after the header, or the datagrams don't fill it
 abbrev pub has_bad_length : List ℕ → Bool
 has_bad_length bytes =
-    nat_lt MAX_DATAGRAMS (datagram_bytes bytes) || (nat_lt (length bytes) (16 + datagram_bytes bytes) || not (fill_region (datagrams_in (region bytes))))
+    nat_lt MAX_DATAGRAMS (datagram_bytes bytes) || (nat_lt (length bytes) (16 + datagram_bytes bytes) || not (fill_region (datagram_tails (region bytes))))
 
 -- one of the datagrams has the circulating bit
 abbrev pub is_circulating : List ℕ → Bool
-is_circulating bytes = list_any circulates (datagrams_in (region bytes))
+is_circulating bytes = list_any circulates (datagram_tails (region bytes))
 
 -- the last datagram says that more follow
 abbrev pub promises_more : List ℕ → Bool
-promises_more bytes = more_at_end (datagrams_in (region bytes))
+promises_more bytes = more_at_end (datagram_tails (region bytes))
 
 -- one of the datagrams has a command that isn't known here
 abbrev pub has_unknown_command : List ℕ → Bool
-has_unknown_command bytes = list_any is_unknown (datagrams_in (region bytes))
+has_unknown_command bytes = list_any is_unknown (datagram_tails (region bytes))
 
 -- the index of a datagram isn't the serial modulo 256
 abbrev pub mismatches : List ℕ → Bool
-mismatches bytes = list_any (has_other_index (serial_in bytes % 256)) (datagrams_in (region bytes))
+mismatches bytes = list_any (has_other_index (serial_in bytes % 256)) (datagram_tails (region bytes))
 
 -- the first condition that holds
 abbrev pub fault_in : List ℕ → Option FrameFault
@@ -147,28 +147,32 @@ fault_in bytes =
     else (if mismatches bytes then Some IndexMismatch
     else None)))))))
 
--- ---- what a readable frame tells
+-- ---- what a readable frame gives
 
--- what a readable frame tells: its serial and its datagrams in order
+-- what a readable frame gives: its serial and its datagrams in order
 pub record Reading : Type 0 where
   pub serial : ℕ
-  pub parts : List Carried
+  pub parts : List WireDatagram
 
--- what bytes tell when they are read as a frame
+-- what bytes say when they are read as a frame
 abbrev pub reading_of : List ℕ → Reading
-reading_of bytes = record { serial = serial_in bytes; parts = map carried (datagrams_in (region bytes)) }
+reading_of bytes = record { serial = serial_in bytes; parts = map datagram_carried (datagram_tails (region bytes)) }
 
 -- a datagram of a frame with the place of its first byte in the frame
-pub record Placed : Type 0 where
+pub record ArrivedDatagram : Type 0 where
   pub start : ℕ
-  pub carried : Carried
+  pub carried : WireDatagram
 
--- datagrams one after another, the first of which begins at this byte
-abbrev pub placed_from : ℕ → List Carried → List Placed
+-- datagrams one after another, from this byte on
+abbrev pub placed_from : ℕ → List WireDatagram → List ArrivedDatagram
 placed_from start [] = []
 placed_from start (d ∷ ds) = record { start = start; carried = d } ∷ placed_from (start + (12 + length d.bytes)) ds
 
--- the fault, or what the frame tells
+-- the datagrams of these bytes, each with the place where it begins; the first begins at this one
+abbrev pub datagrams_placed : ℕ → List ℕ → List ArrivedDatagram
+datagrams_placed start bytes = placed_from start (map datagram_carried (datagram_tails bytes))
+
+-- the fault, or what the frame gives
 abbrev pub Answers : List ℕ → Result Reading FrameFault → Type 0
 Answers bytes (Ok reading) = (fault_in bytes ≡ None) × (reading ≡ reading_of bytes)
 Answers bytes (Err fault) = fault_in bytes ≡ Some fault

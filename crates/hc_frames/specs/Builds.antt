@@ -2,7 +2,7 @@
 use Rattle.std.specs.Prelude.{ℕ, ◌≡◌, ◌<◌, ◌↔◌, List, ◌++◌, length, drop, Result, IsErr, OnOk, OnErr, IfOk, IfErr}
 use Rattle.hc_frames.specs.declared.building.Room.{Room}
 
--- refused exactly where the slice is shorter than the frame, which is then told, and the slice is as it was; else the frame's size is told, and the frame stands in front of what the slice had behind it
+-- refused exactly where the slice is shorter than the frame, which is then reported, and the slice is as it was; else the frame's size is reported, and the frame is before what the slice had after it
 pub record Builds (old new : List ℕ) (result : Result ℕ Room) (text : List ℕ) (size : ℕ) : Type 0 where
   pub short : IsErr result ↔ (length old < size)
   pub needed : IfErr result (λ room. room.0 ≡ size)

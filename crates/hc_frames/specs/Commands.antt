@@ -3,7 +3,7 @@ use Rattle.std.specs.Prelude.{ℕ, ◌==◌, Option, Some, None, if◌then◌els
 use Rattle.hc_frames.specs.declared.commands.Command.{Command}
 use Rattle.hc_frames.specs.declared.commands.Command.TheVariants.{Aprd, Apwr, Fpwr, Lrw}
 
--- the number that stands in a datagram's first byte
+-- the number that is in a datagram's first byte
 abbrev pub code_of : Command → ℕ
 code_of Aprd = 1
 code_of Apwr = 2

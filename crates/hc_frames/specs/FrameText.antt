@@ -1,5 +1,5 @@
 -- How a frame is spelled on the line (ETG.1000.4, frame, EtherCAT header and datagram structure).
--- The EtherType and the serial stand high byte first, all other numbers low byte first.
+-- The EtherType and the serial are high byte first, all other numbers low byte first.
 use Rattle.std.specs.Prelude.{ℕ, ◌+◌, ◌-◌, ◌*◌, ◌%◌, Bool, true, false, List, [], ◌∷◌, ◌++◌, length, map, replicate, if◌then◌else◌}
 use Rattle.std.specs.Int.{w16, w32, to_le_bytes, bytes_high_first}
 use Rattle.hc_frames.specs.declared.commands.Command.{Command}
@@ -8,7 +8,7 @@ use Rattle.hc_frames.specs.declared.limits.TheConstants.{ALIAS_REGISTER, LEAST_F
 use Rattle.hc_frames.specs.Commands.{code_of}
 
 -- a datagram on the line: the address is the logical one of LRW, else the position or station in its low word and the register in its high word
-pub record Carried : Type 0 where
+pub record WireDatagram : Type 0 where
   pub command : Command
   pub address : ℕ
   pub interrupt : ℕ
@@ -25,17 +25,17 @@ carried_head index command address size more interrupt =
     code_of command ∷ index ∷ to_le_bytes w32 address ++ to_le_bytes w16 (length_field size more) ++ to_le_bytes w16 interrupt
 
 -- a datagram: the ten bytes, the data, the working counter; its index is the frame's serial modulo 256
-abbrev pub carried_text : ℕ → Bool → Carried → List ℕ
+abbrev pub carried_text : ℕ → Bool → WireDatagram → List ℕ
 carried_text serial more d = carried_head (serial % 256) d.command d.address (length d.bytes) more d.interrupt ++ d.bytes ++ to_le_bytes w16 d.counter
 
 -- datagrams one after another: more follow each but the last
-abbrev pub carried_texts : ℕ → List Carried → List ℕ
+abbrev pub carried_texts : ℕ → List WireDatagram → List ℕ
 carried_texts serial [] = []
 carried_texts serial (d ∷ []) = carried_text serial false d
 carried_texts serial (d ∷ e ∷ ds) = carried_text serial true d ++ carried_texts serial (e ∷ ds)
 
--- whether a datagram that stands in front of these is followed by more
-abbrev pub has_more : List Carried → Bool
+-- whether a datagram that is before these is followed by more
+abbrev pub has_more : List WireDatagram → Bool
 has_more [] = false
 has_more (d ∷ ds) = true
 
@@ -43,10 +43,10 @@ has_more (d ∷ ds) = true
 abbrev pub head_to : List ℕ → ℕ → ℕ → ℕ → List ℕ
 head_to destination first serial size = destination ++ first ∷ bytes_high_first 5 serial ++ 0x88 ∷ 0xa4 ∷ to_le_bytes w16 (size + 4096)
 
--- a frame on the line, with what stands behind its datagrams
-abbrev pub carried_frame : List ℕ → ℕ → ℕ → List Carried → List ℕ → List ℕ
-carried_frame destination first serial ds behind =
-    let text = carried_texts serial ds in head_to destination first serial (length text) ++ text ++ behind
+-- a frame on the line, with what is after its datagrams
+abbrev pub carried_frame : List ℕ → ℕ → ℕ → List WireDatagram → List ℕ → List ℕ
+carried_frame destination first serial ds after_it =
+    let text = carried_texts serial ds in head_to destination first serial (length text) ++ text ++ after_it
 
 -- a datagram to be sent
 pub record Datagram : Type 0 where
@@ -55,20 +55,20 @@ pub record Datagram : Type 0 where
   pub bytes : List ℕ
 
 -- as sent, its interrupt field and its working counter are 0
-abbrev pub sent : Datagram → Carried
-sent d = record { command = d.command; address = d.address; interrupt = 0; bytes = d.bytes; counter = 0 }
+abbrev pub sent_on_wire : Datagram → WireDatagram
+sent_on_wire d = record { command = d.command; address = d.address; interrupt = 0; bytes = d.bytes; counter = 0 }
 
 -- the ten bytes before a datagram's data as it is sent, with the interrupt field 0
 abbrev pub datagram_head : ℕ → Command → ℕ → ℕ → Bool → List ℕ
 datagram_head index command address size more = carried_head index command address size more 0
 
 -- a datagram as it is sent in the frame with a serial, where more follow it or none
-abbrev pub datagram_text : ℕ → Bool → Datagram → List ℕ
-datagram_text serial more d = carried_text serial more (sent d)
+abbrev pub sent_datagram_text : ℕ → Bool → Datagram → List ℕ
+sent_datagram_text serial more d = carried_text serial more (sent_on_wire d)
 
 -- the datagrams of the frame with a serial as they are sent, one after another
-abbrev pub datagrams_text : ℕ → List Datagram → List ℕ
-datagrams_text serial ds = carried_texts serial (map sent ds)
+abbrev pub sent_datagrams_text : ℕ → List Datagram → List ℕ
+sent_datagrams_text serial ds = carried_texts serial (map sent_on_wire ds)
 
 -- the head of a frame as sent: broadcast, from the source address 02 and the serial
 abbrev pub frame_head : ℕ → ℕ → List ℕ
@@ -80,7 +80,7 @@ padding size = replicate (LEAST_FRAME - (16 + size)) 0
 
 -- a whole frame as sent, without its check sequence
 abbrev pub frame_text : ℕ → List Datagram → List ℕ
-frame_text serial ds = carried_frame (replicate 6 255) 2 serial (map sent ds) (padding (length (datagrams_text serial ds)))
+frame_text serial ds = carried_frame (replicate 6 255) 2 serial (map sent_on_wire ds) (padding (length (sent_datagrams_text serial ds)))
 
 -- process data at a logical address
 abbrev pub lrw : ℕ → List ℕ → Datagram

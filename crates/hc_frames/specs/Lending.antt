@@ -2,21 +2,21 @@
 use Rattle.std.specs.Prelude.{ℕ, Bool, List, [], ◌∷◌, ◌++◌, drop, Result}
 use Rattle.std.specs.Borrow.{Lends, LendsIfOk, MutBor, Fml, Array, u8}
 use Rattle.hc_frames.specs.declared.building.Room.{Room}
-use Rattle.hc_frames.specs.FrameText.{datagram_text, frame_text, lrw}
+use Rattle.hc_frames.specs.FrameText.{sent_datagram_text, frame_text, lrw}
 use Rattle.hc_frames.specs.Sizes.{frame_size}
 
 -- the datagram with the data that were left in the part
 abbrev pub LendsData : MutBor (List ℕ) → ℕ → ℕ → Bool → MutBor (List ℕ) → Fml
-LendsData out serial address more part = Lends (Array u8 0) (Array u8 0) out part (λ bytes. datagram_text serial more (lrw address bytes))
+LendsData out serial address more part = Lends (Array u8 0) (Array u8 0) out part (λ bytes. sent_datagram_text serial more (lrw address bytes))
 
--- the frame with the data that were left in the part, and behind it what stood there
+-- the frame with the data that were left in the part, and after it what was there
 abbrev pub with_frame : List ℕ → ℕ → ℕ → ℕ → List ℕ → List ℕ
 with_frame out serial address size bytes = frame_text serial (lrw address bytes ∷ []) ++ drop (frame_size size) out
 
--- once the loan of the data part is over, the slice has the frame with the data that were left in the part, and behind it what stood there (`with_frame`)
+-- once the loan of the data part is over, the slice has the frame with the data that were left in the part, and after it what was there (`with_frame`)
 abbrev pub LendsFrameData : MutBor (List ℕ) → ℕ → ℕ → ℕ → MutBor (List ℕ) → Fml
 LendsFrameData out serial address size part = Lends (Array u8 0) (Array u8 0) out part (with_frame out.now serial address size)
 
--- the same where there was room, and else what stood there
+-- the same where there was room, and else what was there
 abbrev pub LendsFrameIfOk : MutBor (List ℕ) → ℕ → ℕ → ℕ → Result (MutBor (List ℕ)) Room → Fml
 LendsFrameIfOk out serial address size part = LendsIfOk (Array u8 0) (Array u8 0) out part (with_frame out.now serial address size) out.now

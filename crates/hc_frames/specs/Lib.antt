@@ -8,7 +8,7 @@ pub mod Laws
 pub mod Lending
 pub mod Handing
 pub mod Opened
-pub mod Standing
+pub mod OpenDatagrams
 pub mod Regions
 pub mod Returned
 pub mod Survey

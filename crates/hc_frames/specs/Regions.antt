@@ -7,7 +7,7 @@ use Rattle.hc_frames.specs.declared.reading.faults.FrameFault.TheVariants.{Circu
 use Rattle.hc_frames.specs.Arrived.{datagram_bytes, has_bad_type, is_not_ethercat, region}
 
 -- the bytes of the datagrams, where no condition holds that shows before they are looked at
-pub record StandsBehind (bytes found : List ℕ) : Type 0 where
+pub record ComesAfter (bytes found : List ℕ) : Type 0 where
   pub found_there : found ≡ region bytes
   pub long : LEAST_READ ≤ length bytes
   pub ethercat : is_not_ethercat bytes ≡ false

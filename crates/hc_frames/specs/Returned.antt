@@ -3,7 +3,7 @@ use Rattle.std.specs.Prelude.{◌≡◌, ℕ, ◌/◌, ◌^◌, ◌<◌, ◌≤�
 use Rattle.hc_frames.specs.declared.commands.Command.{Command}
 use Rattle.hc_frames.specs.declared.commands.Command.TheVariants.{Aprd, Apwr, Fpwr, Lrw}
 use Rattle.hc_frames.specs.declared.limits.TheConstants.{MAX_DATA}
-use Rattle.hc_frames.specs.FrameText.{Carried, Datagram, carried_frame}
+use Rattle.hc_frames.specs.FrameText.{WireDatagram, Datagram, carried_frame}
 
 -- the address of a command after the line: a position is counted up by the slaves
 abbrev pub KeepsAddress : Command → ℕ → ℕ → Type 0
@@ -13,25 +13,25 @@ KeepsAddress Fpwr old new = new ≡ old
 KeepsAddress Lrw old new = new ≡ old
 
 -- a datagram as it comes back
-pub record ComesBack (d : Datagram) (part : Carried) : Type 0 where
+pub record ComesBack (d : Datagram) (part : WireDatagram) : Type 0 where
   pub command : part.command ≡ d.command
   pub address : KeepsAddress d.command d.address part.address
   pub size : length part.bytes ≡ length d.bytes
 
 -- the same, one by one
-abbrev pub AllComeBack : List Datagram → List Carried → Type 0
+abbrev pub AllComeBack : List Datagram → List WireDatagram → Type 0
 AllComeBack [] [] = Unit {0}
 AllComeBack [] (part ∷ parts) = ⊥
 AllComeBack (d ∷ ds) [] = ⊥
 AllComeBack (d ∷ ds) (part ∷ parts) = ComesBack d part × AllComeBack ds parts
 
 -- a returned text of a sending: its datagrams came back as these parts, and any bytes or none follow them
-pub record IsReturned (serial : ℕ) (ds : List Datagram) (parts : List Carried) (bytes : List ℕ) : Type 0 where
+pub record IsReturned (serial : ℕ) (ds : List Datagram) (parts : List WireDatagram) (bytes : List ℕ) : Type 0 where
   pub back : AllComeBack ds parts
-  pub text : (behind : List ℕ) × (bytes ≡ carried_frame (replicate 6 255) 2 serial parts behind)
+  pub text : (after_it : List ℕ) × (bytes ≡ carried_frame (replicate 6 255) 2 serial parts after_it)
 
 -- a datagram whose fields fit their places, and which has data
-pub record FitsLine (part : Carried) : Type 0 where
+pub record FitsLine (part : WireDatagram) : Type 0 where
   pub address : part.address < 2 ^ 32
   pub interrupt : part.interrupt < 2 ^ 16
   pub counter : part.counter < 2 ^ 16

@@ -1,7 +1,7 @@
 -- How many bytes a frame has.
 use Rattle.std.specs.Prelude.{ℕ, ◌+◌, ◌<◌, ◌≤◌, max, List, length, All, sum_by}
 use Rattle.hc_frames.specs.declared.limits.TheConstants.{LEAST_FRAME, MAX_ETHERCAT}
-use Rattle.hc_frames.specs.FrameText.{Carried}
+use Rattle.hc_frames.specs.FrameText.{WireDatagram}
 
 -- all bytes of a frame with this many bytes of datagrams
 abbrev pub frame_bytes : ℕ → ℕ
@@ -22,5 +22,5 @@ pub record ShareFrame (ds : List (ℕ × ℕ)) : Type 0 where
   pub within : 2 + datagrams_size ds ≤ MAX_ETHERCAT
 
 -- the bytes of datagrams on the line
-abbrev pub text_size : List Carried → ℕ
+abbrev pub text_size : List WireDatagram → ℕ
 text_size ds = sum_by (λ d. 12 + length d.bytes) ds

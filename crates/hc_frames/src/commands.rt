@@ -16,7 +16,7 @@ pub enum Command {
 }
 
 impl Command {
-    /// The number that stands in a datagram's first byte.
+    /// The number that is in a datagram's first byte.
     pub fn code(self) -> u8
         ensures { result ≡ code_of self }
     {

@@ -4,7 +4,7 @@ ghost use Rattle.hc_frames.specs.Filled.{FilledFrame};
 ghost use Rattle.hc_frames.specs.Laws.{BlankDatagramsAreFilled, BlankFramesAreFilled, BuiltFramesAreRead, CarriedFramesAreRead, FramesHaveOneReading, FramesHaveTheirSize, PartsAreReplaced, ReadableFramesAreCarried, ReturnedFramesAreRead, SentFramesAreReturned, TextsAreJoined};
 
 /// When all loans of an opened frame are over, the slice holds the frame of its datagrams with the data that were left
-/// in their parts, and behind it what stood there.
+/// in their parts, and after it what was there.
 pub fn opened_frames_are_filled()
     ensures { FilledFrame }
 {}
@@ -14,14 +14,14 @@ pub fn blank_datagrams_are_filled()
     ensures { BlankDatagramsAreFilled }
 {}
 
-/// A frame with a datagram of zeros, with other data in their place, is the frame with these data. They stand 26 bytes
-/// and the datagrams before it behind the frame's first byte.
+/// A frame with a datagram of zeros, with other data in their place, is the frame with these data. They are 26 bytes
+/// and the datagrams before it after the frame's first byte.
 pub fn blank_frames_are_filled()
     ensures { BlankFramesAreFilled }
 {}
 
 /// The datagrams of two lists in a row are spelled as those of the first, each followed by more, then those of the
-/// second, of which there is at least one.
+/// second, at least one.
 pub fn texts_are_joined()
     ensures { TextsAreJoined }
 {}
@@ -31,13 +31,13 @@ pub fn frames_have_their_size()
     ensures { FramesHaveTheirSize }
 {}
 
-/// A frame is read as it was spelled: to any destination, from any first source byte, with anything or nothing behind its
+/// A frame is read as it was spelled: to any destination, from any first source byte, with anything or nothing after its
 /// datagrams.
 pub fn carried_frames_are_read()
     ensures { CarriedFramesAreRead }
 {}
 
-/// A returned text of a sending that a frame can carry is readable and tells the sending's serial, commands and numbers of
+/// A returned text of a sending that a frame can carry is readable and gives the sending's serial, commands and numbers of
 /// data bytes, with the data and the working counters that it carries; and the sending's addresses where none is a
 /// position's. Its interrupt fields and working counters are numbers of 16 bits; all else follows from the sending.
 pub fn returned_frames_are_read()
@@ -59,7 +59,7 @@ pub fn frames_have_one_reading()
     ensures { FramesHaveOneReading }
 {}
 
-/// A readable frame is spelled by what it tells, with the destination, the first source byte and the bytes behind its
+/// A readable frame is spelled by what it gives, with the destination, the first source byte and the bytes after its
 /// datagrams that it has; so it can be spelled anew with other fields, and is then read as these.
 pub fn readable_frames_are_carried()
     ensures { ReadableFramesAreCarried }

@@ -1,6 +1,6 @@
-//! EtherCAT frames as byte texts (ETG.1000.4, frame, header and datagram structure): the builders write exactly the
-//! text that `specs/FrameText` spells, and the reader tells of every byte list what `specs/Arrived` says of it. The core
-//! and the segment call this crate; it takes no memory.
+//! EtherCAT frames as byte texts (ETG.1000.4, frame, header and datagram structure): the builders write exactly the text
+//! that `specs/FrameText` spells, and the reader says of every byte list what `specs/Arrived` says of it. The core and
+//! the segment call this crate; it takes no memory.
 #![tactic(auto)]
 
 pub mod building;

@@ -16,7 +16,7 @@ use Rattle.hc_records.proofs.lemmas.Limits.{project-inside}
 use Rattle.hc_records.proofs.lemmas.Lists.{AllPairs-unmap, AllPairs-weaker}
 use Rattle.hc_groups.specs.declared.aliases.Alias.{Alias}
 use Rattle.hc_groups.specs.Index.{Index, IsIndexOfDeclared, alias_of, aliases}
-use Rattle.hc_groups.proofs.IndexFound.{differs, differs-behind, position-at, position-none}
+use Rattle.hc_groups.proofs.IndexFound.{differs, differs-after_it, position-at, position-none}
 
 abbrev has_alias : ℕ → Declared → Bool
 has_alias alias declared = declared.group.alias == alias
@@ -42,7 +42,7 @@ others groups index alias is none k d within =
 pub alone : (groups : List Declared) (alias : ℕ) → lowest_fault (groups_of groups) ≡ None → AllPairs (λ a b. has_alias alias b ≡ true → has_alias alias a ≡ false) groups
 alone groups alias none =
     AllPairs-weaker (λ (a b : Declared). a.group.alias ≢ b.group.alias) (λ a b. has_alias alias b ≡ true → has_alias alias a ≡ false)
-    (λ a b other is. differs-behind a.group.alias b.group.alias alias other is) groups
+    (λ a b other is. differs-after_it a.group.alias b.group.alias alias other is) groups
     (AllPairs-unmap (λ (a b : Group). a.alias ≢ b.alias) (λ (d : Declared). d.group) groups (project-inside (groups_of groups) none).aliases)
 
 numbered : (groups : List Declared) (alias group : ℕ) (d : Declared) → lowest_fault (groups_of groups) ≡ None → Contains (aliases groups) (record { alias = alias; group = group })
@@ -70,11 +70,11 @@ group-is groups index alias (Some group) is at =
     sym (declared-at groups alias group is.project
     (Contains-permutation index.aliases (aliases groups) (record { alias = alias; group = group }) (IsPermutation-sym (aliases groups) index.aliases is.aliases) at))
 
--- an alias is put behind those that are lower
+-- an alias is put after those that are lower
 
 pub alias-inserted : (old : List Alias) (at : ℕ) (alias : Alias) → IsNonDecreasingBy (λ own. own.alias) old → at ≤ length old
     → IsPartitionPoint (λ own. nat_lt own.alias alias.alias ≡ true) (λ own. nat_lt own.alias alias.alias ≡ false) old at → IsNonDecreasingBy (λ own. own.alias) (insert old at alias)
 alias-inserted old at alias order inside parted =
     IsNonDecreasingBy-insert (λ (own : Alias). own.alias) old at alias order inside
     (λ k d low. let less = ltb-true (get_or old k d).alias alias.alias (parted.0 k d (omega arith) low) in omega (arith, less))
-    (λ k d behind within. ltb-false (get_or old k d).alias alias.alias (parted.1 k d behind within))
+    (λ k d after_it within. ltb-false (get_or old k d).alias alias.alias (parted.1 k d after_it within))

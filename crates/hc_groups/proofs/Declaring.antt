@@ -24,7 +24,7 @@ addresses_from rank groups = map address_of (line_from rank (all_present groups)
 abbrev pub own_addresses : ℕ → List Slave → List Address
 own_addresses rank slaves = map address_of (members_from rank slaves)
 
--- those of a group, then those of the groups behind it
+-- those of a group, then those of the groups after it
 pub addresses-group : (rank : ℕ) (declared : Declared) (groups : List Declared)
     → addresses_from rank (declared ∷ groups) ≡ own_addresses rank declared.group.slaves ++ addresses_from (rank + length declared.group.slaves) groups
 addresses-group rank declared groups = search (rules, map-append)
@@ -45,19 +45,19 @@ among-from rank (declared ∷ groups) =
     let slaves = declared.group.slaves in
     let next = rank + length slaves in
     let here = own_addresses rank slaves in
-    let behind = addresses_from next groups in
+    let after_it = addresses_from next groups in
     subst (λ (all : List Address). All (λ member. Contains all (address_of member)) (line_from rank (declared ∷ groups))) (sym (addresses-group rank declared groups))
-    (All-append (λ (member : Member). Contains (here ++ behind) (address_of member)) (members_from rank (present_slaves declared)) (line_from next groups)
-    (present-among declared.present rank slaves (here ++ behind)
-    (All-weaker (λ (member : Member). Contains here (address_of member)) (λ member. Contains (here ++ behind) (address_of member))
-    (λ member own. Contains-append_left here behind (address_of member) own) (members_from rank slaves) (own-among rank slaves)))
-    (All-weaker (λ (member : Member). Contains behind (address_of member)) (λ member. Contains (here ++ behind) (address_of member))
-    (λ member own. Contains-append_right here behind (address_of member) own) (line_from next groups) (among-from next groups)))
+    (All-append (λ (member : Member). Contains (here ++ after_it) (address_of member)) (members_from rank (present_slaves declared)) (line_from next groups)
+    (present-among declared.present rank slaves (here ++ after_it)
+    (All-weaker (λ (member : Member). Contains here (address_of member)) (λ member. Contains (here ++ after_it) (address_of member))
+    (λ member own. Contains-append_left here after_it (address_of member) own) (members_from rank slaves) (own-among rank slaves)))
+    (All-weaker (λ (member : Member). Contains after_it (address_of member)) (λ member. Contains (here ++ after_it) (address_of member))
+    (λ member own. Contains-append_right here after_it (address_of member) own) (line_from next groups) (among-from next groups)))
 
 pub line-among : (groups : List Declared) → All (λ member. Contains (addresses groups) (address_of member)) (line_from 1 groups)
 line-among groups = among-from 1 groups
 
--- each station address stands once among them, and each rank
+-- each station address is once among them, and each rank
 
 same-slaves : (groups : List Declared) → declared_slaves (all_present groups) ≡ declared_slaves groups
 same-slaves [] = refl
@@ -78,7 +78,7 @@ addresses-some groups =
     All-map (λ (a : Address). 1 ≤ a.rank) address_of line
     (All-weaker (RankWithin 1 (1 + length (declared_slaves (all_present groups)))) (λ member. 1 ≤ member.rank) (λ member within. within.0) line (line-within 1 (all_present groups)))
 
--- a station address that is declared stands among them
+-- a station address that is declared is among them
 
 own-any : (station rank : ℕ) (slaves : List Slave) → list_any (λ (address : Address). address.station == station) (own_addresses rank slaves) ≡ has_station station slaves
 own-any station rank [] = refl

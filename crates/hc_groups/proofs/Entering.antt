@@ -1,9 +1,9 @@
--- A group that is declared behind others, absent, and what an index has of it.
-use Rattle.std.proofs.Common.{◌≡◌, ℕ, ◌+◌, ◌-◌, ◌<◌, ◌≤◌, List, [], ◌∷◌, ◌++◌, length, get_or, refl, sym, ap, subst, ◌∙◌, append_assoc, arith}
+-- A group that is declared after others, absent, and what an index has of it.
+use Rattle.std.proofs.Common.{◌≡◌, ℕ, ◌+◌, ◌-◌, ◌<◌, ◌≤◌, List, [], ◌∷◌, ◌++◌, length, get_or, take, refl, sym, ap, subst, ◌∙◌, append_assoc, arith}
 use Rattle.std.specs.Prelude.{All, map, replicate, slice_index, sum_by}
 use Rattle.std.specs.List.{enumerate_from}
 use Rattle.std.specs.List.Sorted.{IsPermutation}
-use Rattle.std.proofs.lemmas.List.{append-nil, length-map, map-append, take_all}
+use Rattle.std.proofs.lemmas.List.{append-nil, length-append, length-map, length-replicate, map-append, take-append-le, take_all}
 use Rattle.std.proofs.lemmas.List.Elements.{All-cons, All-head, All-nil}
 use Rattle.std.proofs.lemmas.List.Sorted.{IsPermutation-append, IsPermutation-cons, IsPermutation-to_front, IsPermutation-trans, length_permutation}
 use Rattle.std.proofs.lemmas.List.Sums.{sum_by-append, sum_by-cons}
@@ -11,7 +11,7 @@ use Rattle.hc_records.specs.declared.records.Declared.{Declared}
 use Rattle.hc_records.specs.declared.records.Group.{Group}
 use Rattle.hc_records.specs.declared.records.Slave.{Slave}
 use Rattle.hc_records.specs.Edits.{absent}
-use Rattle.hc_records.specs.Line.{groups_of}
+use Rattle.hc_records.specs.Line.{groups_of, present_slaves}
 use Rattle.hc_records.specs.Project.{slave_names}
 use Rattle.hc_records.proofs.lemmas.Limits.{project-inside}
 use Rattle.hc_records.proofs.lemmas.Lists.{All-append_right}
@@ -19,12 +19,13 @@ use Rattle.hc_records.proofs.lemmas.Slaves.{project-counted}
 use Rattle.hc_records.proofs.lemmas.Walks.{length-line}
 use Rattle.hc_groups.specs.declared.addresses.Address.{Address}
 use Rattle.hc_groups.specs.declared.aliases.Alias.{Alias}
-use Rattle.hc_groups.specs.Index.{AreRanks, Index, IsIndexOf, addresses, alias_of, aliases, block_sum, block_sums, declared_count, own_sum, owners_from, present_count, sums_from, variables}
-use Rattle.hc_groups.specs.Room.{CanAdmit, CanEnter, IndexRoom}
+use Rattle.hc_groups.specs.Index.{AreRanks, BeginsWithLine, Index, IsIndexOf, addresses, alias_of, aliases, block_sum, block_sums, declared_count, line_stations, own_sum, owners_from, present_count, stations, sums_from, variables}
+use Rattle.hc_groups.specs.Room.{IndexCanAdmit, CanEnter, IndexRoom}
 use Rattle.hc_groups.proofs.Aliased.{aliases-length}
 use Rattle.hc_groups.proofs.Declaring.{addresses-group, addresses_from, own_addresses}
 use Rattle.hc_groups.proofs.Names.{variables-append, variables-group}
 use Rattle.hc_groups.proofs.Owned.{owners-length}
+use Rattle.hc_groups.proofs.LineLists.{stations-few}
 use Rattle.hc_groups.proofs.Lines.{line-length}
 use Rattle.hc_groups.proofs.Owners.{few-declared, few-present}
 use Rattle.hc_groups.proofs.Summed.{front-at, sums-length}
@@ -92,6 +93,7 @@ pub record Fits (index : Index) (group : Group) (room : IndexRoom) : Type 0 wher
   pub aliases : length index.aliases + 1 ≤ room.aliases
   pub variables : length index.variables + length room.names ≤ room.variables
   pub owners : length index.owners + length group.slaves ≤ room.owners
+  pub line : length index.line + length group.slaves ≤ room.line
   pub fronts : length index.fronts + 1 ≤ room.fronts
   pub ranks : length index.ranks + 1 ≤ room.ranks
   pub slaves : length index.slaves + 1 ≤ room.slaves
@@ -102,6 +104,7 @@ pub record HasLengths (groups : List Declared) (index : Index) : Type 0 where
   pub aliases : length index.aliases ≡ length groups
   pub variables : length index.variables ≡ length (variables groups)
   pub owners : length index.owners ≡ sum_by declared_count groups
+  pub line : length index.line ≡ sum_by declared_count groups
   pub fronts : length index.fronts ≡ length groups
   pub ranks : length index.ranks ≡ length groups + 1
   pub slaves : length index.slaves ≡ length groups + 1
@@ -114,13 +117,14 @@ lengths groups index is =
       aliases = length_permutation (aliases groups) index.aliases declared.aliases ∙ aliases-length groups;
       variables = length_permutation (variables groups) index.variables declared.variables;
       owners = ap length declared.owners ∙ owners-length 0 groups;
+      line = is.line.long;
       fronts = ap length declared.fronts ∙ length-map groups block_sums;
       ranks = ap length declared.ranks ∙ sums-length declared_count 0 groups;
       slaves = ap length is.slaves ∙ sums-length present_count 0 groups;
       blocks = ap length is.blocks ∙ sums-length own_sum 0 groups;
     }
 
-pub fits : (index : Index) (group : Group) (room : IndexRoom) → CanAdmit index group room → Fits index group room
+pub fits : (index : Index) (group : Group) (room : IndexRoom) → IndexCanAdmit index group room → Fits index group room
 fits index group room can =
     let long = lengths can.groups index can.is in
     let is = can.fits in
@@ -128,13 +132,14 @@ fits index group room can =
       aliases = omega (arith, is.aliases, long.aliases);
       variables = omega (arith, is.variables, long.variables);
       owners = omega (arith, is.owners, long.owners);
+      line = omega (arith, is.line, long.line);
       fronts = omega (arith, is.fronts, long.fronts);
       ranks = omega (arith, is.ranks, long.ranks);
       slaves = omega (arith, is.slaves, long.slaves);
       blocks = omega (arith, is.blocks, long.blocks);
     }
 
-pub enters : (index : Index) (group : Group) (room : IndexRoom) → CanAdmit index group room → Enters index group
+pub enters : (index : Index) (group : Group) (room : IndexRoom) → IndexCanAdmit index group room → Enters index group
 enters index group room can = can-enter index group (record { groups = can.groups; is = can.is; project = can.project })
 
 -- a rank is 1 or more
@@ -206,18 +211,44 @@ sums-joined count sums new xs x own is added same =
     ∙ ap (λ (s : List ℕ). s ++ (0 + sum_by count xs + count x) ∷ []) is
     ∙ sym (sums-more count 0 xs x)
 
+-- no slave comes into the line
+absent-stations : (groups : List Declared) (group : Group) → line_stations (groups ++ absent group ∷ []) ≡ line_stations groups
+absent-stations [] group = refl
+absent-stations (first ∷ groups) group = ap (λ (rest : List ℕ). stations (present_slaves first) ++ rest) (absent-stations groups group)
+
+line-more : (groups : List Declared) (group : Group) (old new : List ℕ) → BeginsWithLine groups old → new ≡ old ++ replicate (length group.slaves) 0 → BeginsWithLine (groups ++ absent group ∷ []) new
+line-more groups group old new is added =
+    let more = replicate (length group.slaves) 0 in
+    let same = absent-stations groups group in
+    let few = stations-few groups in
+    let long = is.long in
+    let both = length-append old more in
+    let none : ℕ = 0 in
+    let count = length-replicate (length group.slaves) none in
+    let sum = declared-sum groups group in
+    record {
+      long = ap length added ∙ omega (arith, both, count, long, sum);
+      front =
+          ap (λ (line : List ℕ). take (length line) new) same
+          ∙ ap (take (length (line_stations groups))) added
+          ∙ take-append-le (length (line_stations groups)) old more (omega (arith, few, long))
+          ∙ is.front
+          ∙ sym same;
+    }
+
 -- what an index has taken of a group
 pub record HasTaken (old new : Index) (group : Group) (room : IndexRoom) : Type 0 where
   pub aliases : IsPermutation (record { alias = group.alias; group = length old.fronts } ∷ old.aliases) new.aliases
   pub stations : (others : List Address) → AreRanks others old.stations → AreRanks (others ++ room.addresses) new.stations
   pub variables : IsPermutation (old.variables ++ room.names) new.variables
   pub owners : new.owners ≡ old.owners ++ replicate (length group.slaves) (length old.fronts)
+  pub line : new.line ≡ old.line ++ replicate (length group.slaves) 0
   pub fronts : new.fronts ≡ old.fronts ++ room.sums ∷ []
   pub ranks : new.ranks ≡ old.ranks ++ (slice_index old.ranks (length old.ranks - 1) + length group.slaves) ∷ []
   pub slaves : new.slaves ≡ old.slaves ++ (slice_index old.slaves (length old.slaves - 1) + 0) ∷ []
   pub blocks : new.blocks ≡ old.blocks ++ (slice_index old.blocks (length old.blocks - 1) + 0) ∷ []
 
-pub taken : (old new : Index) (group : Group) (room : IndexRoom) (can : CanAdmit old group room) → HasTaken old new group room → IsIndexOf (can.groups ++ absent group ∷ []) new
+pub taken : (old new : Index) (group : Group) (room : IndexRoom) (can : IndexCanAdmit old group room) → HasTaken old new group room → IsIndexOf (can.groups ++ absent group ∷ []) new
 taken old new group room can has =
     let groups = can.groups in
     let is = can.is in
@@ -228,7 +259,7 @@ taken old new group room can has =
     let names = slave_names group.slaves in
     let count = length group.slaves in
     let number : length old.fronts ≡ length groups = ap length d.fronts ∙ length-map groups block_sums in
-    let behind : room.addresses ≡ own_addresses (1 + sum_by declared_count groups) group.slaves = roomy.addresses ∙ ap (λ (r : ℕ). own_addresses r group.slaves) (omega arith) in
+    let after_it : room.addresses ≡ own_addresses (1 + sum_by declared_count groups) group.slaves = roomy.addresses ∙ ap (λ (r : ℕ). own_addresses r group.slaves) (omega arith) in
     let offered : variables (groups ++ one ∷ []) ≡ variables groups ++ names =
     variables-append groups (one ∷ []) ∙ ap (λ (l : List ℕ). variables groups ++ l) (variables-group one [] ∙ append-nil names) in
     record {
@@ -240,7 +271,7 @@ taken old new group room can has =
             (IsPermutation-trans (alias ∷ aliases groups) (alias ∷ old.aliases) new.aliases (IsPermutation-cons alias (aliases groups) old.aliases d.aliases)
             (subst (λ (n : ℕ). let own : Alias = record { alias = group.alias; group = n } in IsPermutation (own ∷ old.aliases) new.aliases) number has.aliases)));
         stations =
-            subst (λ (l : List Address). AreRanks l new.stations) (ap (λ (l : List Address). addresses groups ++ l) behind ∙ sym (addresses-more 1 groups one))
+            subst (λ (l : List Address). AreRanks l new.stations) (ap (λ (l : List Address). addresses groups ++ l) after_it ∙ sym (addresses-more 1 groups one))
             (has.stations (addresses groups) d.stations);
         variables =
             subst (λ (l : List ℕ). IsPermutation l new.variables) (sym offered)
@@ -260,4 +291,5 @@ taken old new group room can has =
       };
       slaves = sums-joined present_count old.slaves new.slaves groups one 0 is.slaves has.slaves refl;
       blocks = sums-joined own_sum old.blocks new.blocks groups one 0 is.blocks has.blocks refl;
+      line = line-more groups group old.line new.line is.line has.line;
     }

@@ -1,4 +1,4 @@
--- The first element of a list at which a test passes, and a change of it alone.
+-- The first element of a list where a test passes, and a change of it alone.
 use Rattle.std.proofs.Common.{◌≡◌, ◌≢◌, ℕ, zero, suc, ◌+◌, Bool, true, false, cond, List, [], ◌∷◌, Option, Some, None, refl, sym, ap, ◌∙◌, arith, if◌then◌else◌, rules}
 use Rattle.std.specs.Prelude.{All, AllPairs, ◌==◌, ◌||◌, map, position, slice_get}
 use Rattle.std.specs.List.{list_any, position_from}
@@ -86,7 +86,7 @@ none-changed key number change [] others = refl
 none-changed key number change (x ∷ xs) others =
     search (rules, unchanged-here, All-head, All-tail, none-changed key number change xs (All-tail (λ x. (key x == number) ≡ false) x xs others))
 
--- where it is that of one element alone
+-- where one element alone has it
 pub once-changed : {X : Type 0} (key : X → ℕ) (number i : ℕ) (change : X → X) (xs : List X) → AllPairs (λ a b. key a ≢ key b) xs → IsFirstAt (λ x. key x == number) i xs →
     map (changed_by key number change) xs ≡ changed_at i change xs
 once-changed key number i change [] once first = absurd first

@@ -16,7 +16,7 @@ use Rattle.hc_records.specs.Edits.{area_at, is_too_big}
 use Rattle.hc_records.specs.Area.{has_unknown}
 use Rattle.hc_records.specs.Project.{area_outside, has_unknown_pdo, is_outside, is_wide, pdo_outside, reach}
 use Rattle.hc_records.proofs.lemmas.Projects.{none-holds}
-use Rattle.hc_groups.specs.Edits.{own_fault, state_of}
+use Rattle.hc_groups.specs.Edits.{own_fault, groups_state}
 use Rattle.hc_groups.proofs.Repeats.{no-longer}
 
 -- an area with PDOs assigned, and one in a task
@@ -78,7 +78,7 @@ pdos-harmless area pdos is = record {
 -- the area that an edit without a fault judges
 pub record IsJudged (groups : List Declared) (station index : ℕ) (change : Area → Area) : Type 0 where
   pub area : Area
-  pub found : area_at (state_of groups) station index ≡ Some area
+  pub found : area_at (groups_state groups) station index ≡ Some area
   pub harmless : IsHarmless change area
 
 abbrev remap_faults : Bool → Bool → Option Area → List ℕ → List (Bool × EditFault)
@@ -91,7 +91,7 @@ remap_faults unknown absent found pdos =
     ∷ (option_map_or (is_too_big pdos) found false, AreaTooBig)
     ∷ []
 
-judged-remap : (found : Option Area) (unknown absent : Bool) (groups : List Declared) (station index : ℕ) (pdos : List ℕ) → area_at (state_of groups) station index ≡ found →
+judged-remap : (found : Option Area) (unknown absent : Bool) (groups : List Declared) (station index : ℕ) (pdos : List ℕ) → area_at (groups_state groups) station index ≡ found →
     lowest (remap_faults unknown absent found pdos) ≡ None → IsJudged groups station index (with_pdos pdos)
 judged-remap found unknown absent groups station index pdos is none = search (rules, none-holds, pdos-harmless)
 

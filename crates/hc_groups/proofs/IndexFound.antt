@@ -14,8 +14,8 @@ use Rattle.std.proofs.lemmas.Option.{get_or_from_slice_get, slice_get-get_or, sl
 pub differs : (a query : ℕ) → a ≢ query → (a == query) ≡ false
 differs a query other = grind (arith, nat_tests)
 
-pub differs-behind : (a b query : ℕ) → a ≢ b → (b == query) ≡ true → (a == query) ≡ false
-differs-behind a b query other is = grind (arith, nat_tests)
+pub differs-after_it : (a b query : ℕ) → a ≢ b → (b == query) ≡ true → (a == query) ≡ false
+differs-after_it a b query other is = grind (arith, nat_tests)
 
 module _ {X : Type 0} (p : X → Bool) where
   -- the one that passes, where no earlier one does if a later one does
@@ -37,17 +37,17 @@ module _ {X : Type 0} (p : X → Bool) where
   position-none [] none = refl
   position-none (x ∷ xs) none = search (rules, none-passes, le-ltb)
 
--- a place at which there is nothing is past the end
+-- a place where there is nothing is past the end
 
-past-by : {X : Type 0} (xs : List X) (place : ℕ) (d : X) (inside : Bool) → nat_lt place (length xs) ≡ inside → slice_get xs place ≡ None → length xs ≤ place
-past-by xs place d true is none = let some = slice_get-get_or xs place d (ltb-true place (length xs) is) in cc
-past-by xs place d false is none = ltb-false place (length xs) is
+history-by : {X : Type 0} (xs : List X) (place : ℕ) (d : X) (inside : Bool) → nat_lt place (length xs) ≡ inside → slice_get xs place ≡ None → length xs ≤ place
+history-by xs place d true is none = let some = slice_get-get_or xs place d (ltb-true place (length xs) is) in cc
+history-by xs place d false is none = ltb-false place (length xs) is
 
-pub past-end : {X : Type 0} (xs : List X) (place : ℕ) → slice_get xs place ≡ None → length xs ≤ place
-past-end [] place none = omega arith
-past-end (x ∷ xs) place none = past-by (x ∷ xs) place x (nat_lt place (length (x ∷ xs))) refl none
+pub history-end : {X : Type 0} (xs : List X) (place : ℕ) → slice_get xs place ≡ None → length xs ≤ place
+history-end [] place none = omega arith
+history-end (x ∷ xs) place none = history-by (x ∷ xs) place x (nat_lt place (length (x ∷ xs))) refl none
 
--- elements in the order of a number, of which those in front of a place have a lower one than a query
+-- elements in the order of a number; those before a place have a lower number than a query
 module _ {X : Type 0} (number : X → ℕ) (query : ℕ) (xs : List X) (place : ℕ)
     (parts : IsPartitionPoint (λ x. nat_lt (number x) query ≡ true) (λ x. nat_lt (number x) query ≡ false) xs place) (rises : IsNonDecreasingBy number xs) where
   in-front : (k : ℕ) (d : X) → k < place → number (get_or xs k d) ≢ query
@@ -55,12 +55,12 @@ module _ {X : Type 0} (number : X → ℕ) (query : ℕ) (xs : List X) (place : 
 
   -- none has the query's where the list ends there
 
-  behind : (x : X) → slice_get xs place ≡ Some x → number x ≢ query → (k : ℕ) (d : X) → place ≤ k → k < length xs → number (get_or xs k d) ≢ query
-  behind x at other k d low within same = search (rules, get_or_from_slice_get, ltb-false, slice_get_within)
+  after_it : (x : X) → slice_get xs place ≡ Some x → number x ≢ query → (k : ℕ) (d : X) → place ≤ k → k < length xs → number (get_or xs k d) ≢ query
+  after_it x at other k d low within same = search (rules, get_or_from_slice_get, ltb-false, slice_get_within)
 
   by-place : (x : X) → slice_get xs place ≡ Some x → number x ≢ query → (k : ℕ) (d : X) (front : Bool) → nat_lt k place ≡ front → k < length xs → number (get_or xs k d) ≢ query
   by-place x at other k d true is within = in-front k d (ltb-true k place is)
-  by-place x at other k d false is within = behind x at other k d (ltb-false k place is) within
+  by-place x at other k d false is within = after_it x at other k d (ltb-false k place is) within
 
   -- or the one there has another
   pub none-else : (x : X) → slice_get xs place ≡ Some x → number x ≢ query → All (λ x. number x ≢ query) xs
@@ -76,9 +76,9 @@ apart number xs i j a b distinct low within first second same =
     distinct i j a low within
     (ap number first ∙ same ∙ sym (ap number (get_or_default xs j a b within ∙ second)))
 
-one-by : {X : Type 0} (number : X → ℕ) (xs : List X) (i j : ℕ) (a b : X) (before behind : Bool) → nat_lt i j ≡ before → nat_lt j i ≡ behind → AllPairs (λ x y. number x ≢ number y) xs
+one-by : {X : Type 0} (number : X → ℕ) (xs : List X) (i j : ℕ) (a b : X) (before after_it : Bool) → nat_lt i j ≡ before → nat_lt j i ≡ after_it → AllPairs (λ x y. number x ≢ number y) xs
     → i < length xs → j < length xs → get_or xs i a ≡ a → get_or xs j b ≡ b → number a ≡ number b → a ≡ b
-one-by number xs i j a b true behind is other distinct within inside first second same = absurd (apart number xs i j a b distinct (ltb-true i j is) inside first second same)
+one-by number xs i j a b true after_it is other distinct within inside first second same = absurd (apart number xs i j a b distinct (ltb-true i j is) inside first second same)
 one-by number xs i j a b false true is other distinct within inside first second same = absurd (apart number xs j i b a distinct (ltb-true j i other) within second first (sym same))
 one-by number xs i j a b false false is other distinct within inside first second same = search (rules, ltb-false, same-place)
 

@@ -6,7 +6,7 @@ use Rattle.std.proofs.lemmas.Bool.{eq-eqb, eqb-true}
 use Rattle.std.proofs.lemmas.List.{take_all}
 use Rattle.std.proofs.lemmas.List.Elements.{All-weaker}
 use Rattle.std.proofs.lemmas.List.Sums.{sum_by_more_le}
-use Rattle.std.proofs.lemmas.Option.{get_or_from_slice_get, slice_get-map, slice_get_past, slice_get_within}
+use Rattle.std.proofs.lemmas.Option.{get_or_from_slice_get, slice_get-map, slice_get_within}
 use Rattle.hc_records.specs.declared.limits.TheConstants.{MOST_AREAS}
 use Rattle.hc_records.specs.declared.records.Declared.{Declared}
 use Rattle.hc_records.specs.declared.records.Slave.{Slave}
@@ -18,13 +18,13 @@ use Rattle.hc_records.proofs.lemmas.Lists.{AllPairs-weaker}
 use Rattle.hc_records.proofs.lemmas.Slaves.{line-inside, line-stations, project-counted}
 use Rattle.hc_records.proofs.lemmas.Walks.{length-line}
 use Rattle.hc_groups.specs.declared.addresses.Address.{Address}
-use Rattle.hc_groups.specs.Index.{AreSums, Index, IsDeclaredAt, IsIndexOf, IsMember, address_of, addresses, block_sum, blocks_of, declared_count, own_blocks, own_sum, owned_by, present_count, rank_in, slave_in, IsSpot, block_sums}
+use Rattle.hc_groups.specs.Index.{AreRisingSums, Index, IsDeclaredAt, IsIndexOf, IsMember, address_of, addresses, block_sum, slave_block_count, declared_count, own_blocks, own_sum, owned_by, present_count, rank_in, slave_in, IsSumPlace, block_sums}
 use Rattle.hc_groups.proofs.Declaring.{addresses-distinct, addresses-ranked, addresses-some, any-station, line-among}
-use Rattle.hc_groups.proofs.IndexFound.{differs, differs-behind, any-none, any-some, find-none, find-position, only-one, position-at, position-none}
+use Rattle.hc_groups.proofs.IndexFound.{differs, differs-after_it, any-none, any-some, find-none, find-position, only-one, position-at, position-none}
 use Rattle.hc_groups.proofs.Lines.{line-absent, line-at, line-front, line-length, line-ranks}
 use Rattle.hc_groups.proofs.Owned.{owned, owners-length}
-use Rattle.hc_groups.proofs.Owners.{line-sum, owned-at, owned-past}
-use Rattle.hc_groups.proofs.Summed.{FallsIn, all-get, are-sums, falls-behind, falls-in, front-at, some-at}
+use Rattle.hc_groups.proofs.Owners.{line-sum, owned-at, owned-history}
+use Rattle.hc_groups.proofs.Summed.{FallsIn, all-get, are-sums, falls-after_it, falls-in, front-at, some-at}
 
 all-contained : {X : Type 0} (P : X → Type 0) (xs : List X) (x : X) → All P xs → Contains xs x → P x
 all-contained P xs x all at = subst P at.2 (all at.0 x at.1)
@@ -39,7 +39,7 @@ line-low groups none = search (rules, length-line, project-counted)
 -- the slave with a station address
 
 alone : (groups : List Declared) (station : ℕ) → lowest_fault (groups_of groups) ≡ None → AllPairs (λ a b. is_at station b ≡ true → is_at station a ≡ false) (line_from 1 groups)
-alone groups station none = search (rules, AllPairs-weaker, differs-behind, line-stations)
+alone groups station none = search (rules, AllPairs-weaker, differs-after_it, line-stations)
 
 pub ranked-apart : (groups : List Declared) → AllPairs (λ a b. a.rank ≢ b.rank) (addresses groups)
 ranked-apart groups = search (rules, AllPairs-weaker, addresses-ranked)
@@ -69,14 +69,14 @@ member-in groups group place rank slave is found = search rules
 pub no-member : {M : Type 0} (o : Option M) (member : M) → o ≡ None → o ≡ Some member → ⊥
 no-member o member none some = let bad : None ≡ Some member = sym none ∙ some in cc
 
--- it stands at a position, and is found at its place
-pub record StandsAt (groups : List Declared) (group place : ℕ) : Type 0 where
+-- it is at a position, and is found at its place
+pub record IsPlacedAt (groups : List Declared) (group place : ℕ) : Type 0 where
   pub slave : Slave
   pub found : slave_in groups group place ≡ Some slave
   pub at : slice_get (line_from 1 groups) (sum_by present_count (take group groups) + place) ≡ Some (record { rank = rank_in groups group place; slave = slave })
 
-pub stands-at : (groups : List Declared) (group place : ℕ) (declared : Declared) → slice_get groups group ≡ Some declared → declared.present ≡ true → place < length declared.group.slaves → StandsAt groups group place
-stands-at groups group place declared here present inside =
+pub is_placed-at : (groups : List Declared) (group place : ℕ) (declared : Declared) → slice_get groups group ≡ Some declared → declared.present ≡ true → place < length declared.group.slaves → IsPlacedAt groups group place
+is_placed-at groups group place declared here present inside =
     let own = some-at declared.group.slaves place inside in
     record {
       slave = own.0;
@@ -84,20 +84,17 @@ stands-at groups group place declared here present inside =
       at = search (rules, line-at, present-own);
     }
 
-pub falls-at : (groups : List Declared) (position group place : ℕ) → FallsIn present_count groups position group place → StandsAt groups group place
-falls-at groups position group place falls = search (rules, is-present, falls, stands-at, present-own)
-
 pub position-found : (groups : List Declared) (index : Index) (station rank group place : ℕ) → IsIndexOf groups index → Contains (addresses groups) (record { station = station; rank = rank })
     → IsMember groups rank group place → position (is_at station) (line_from 1 groups) ≡ Some (sum_by present_count (take group groups) + place)
 position-found groups index station rank group place is declared member =
     let line = line_from 1 groups in
-    let stands = stands-at groups group place member.declared member.at member.present member.inside in
-    let of : Member = record { rank = rank_in groups group place; slave = stands.slave } in
-    let own = all-get (λ (m : Member). Contains (addresses groups) (address_of m)) line (sum_by present_count (take group groups) + place) of (line-among groups) stands.at in
+    let is_placed = is_placed-at groups group place member.declared member.at member.present member.inside in
+    let of : Member = record { rank = rank_in groups group place; slave = is_placed.slave } in
+    let own = all-get (λ (m : Member). Contains (addresses groups) (address_of m)) line (sum_by present_count (take group groups) + place) of (line-among groups) is_placed.at in
     let same = only-one (λ (a : Address). a.rank) (addresses groups) (address_of of) (record { station = station; rank = rank }) (ranked-apart groups) own
     declared (sym member.ranked) in
-    let here : stands.slave.station ≡ station = ap (λ (a : Address). a.station) same in
-    position-at (is_at station) line (sum_by present_count (take group groups) + place) of (alone groups station is.declared.project) stands.at (eq-eqb stands.slave.station station here)
+    let here : is_placed.slave.station ≡ station = ap (λ (a : Address). a.station) same in
+    position-at (is_at station) line (sum_by present_count (take group groups) + place) of (alone groups station is.declared.project) is_placed.at (eq-eqb is_placed.slave.station station here)
 
 by-test : (rank : ℕ) (m : Member) (all : List Address) (station : ℕ) (here : Bool) → (m.slave.station == station) ≡ here → AllPairs (λ a b. a.station ≢ b.station) all
     → Contains all (address_of m) → Contains all (record { station = station; rank = rank }) → m.rank ≢ rank → (m.slave.station == station) ≡ false
@@ -138,74 +135,74 @@ declared-is groups index station (Some rank) is at =
 
 -- the slave that has a block
 pub record OwnerOf (groups : List Declared) (n group place number : ℕ) : Type 0 where
-  pub stands : StandsAt groups group place
+  pub is_placed : IsPlacedAt groups group place
   pub low : place < 65535
   pub few : number < 256
-  pub owned : owned_by (line_from 1 groups) n ≡ Some (record { rank = rank_in groups group place; slave = stands.slave }, number)
+  pub owned : owned_by (line_from 1 groups) n ≡ Some (record { rank = rank_in groups group place; slave = is_placed.slave }, number)
 
 own-present : (present : Bool) (slaves : List Slave) (offset : ℕ) → offset < block_sum (if present then slaves else []) → present ≡ true
 own-present present slaves offset low = search rules
 
 pub owner : (groups : List Declared) (n group offset place number : ℕ) → lowest_fault (groups_of groups) ≡ None → (falls : FallsIn own_sum groups n group offset)
-    → FallsIn blocks_of falls.x.group.slaves offset place number → OwnerOf groups n group place number
+    → FallsIn slave_block_count falls.x.group.slaves offset place number → OwnerOf groups n group place number
 owner groups n group offset place number none falls own =
     let line = line_from 1 groups in
     let present = own-present falls.x.present falls.x.group.slaves offset falls.low in
     let slaves = present-own falls.x.present falls.x.group.slaves present in
     let inside = slice_get_within falls.x.group.slaves place own.x own.at in
-    let stands = stands-at groups group place falls.x falls.at present inside in
+    let is_placed = is_placed-at groups group place falls.x falls.at present inside in
     let position = sum_by present_count (take group groups) + place in
-    let of : Member = record { rank = rank_in groups group place; slave = stands.slave } in
-    let same : own.x ≡ stands.slave = let also = stands.found in cc in
-    let count = ap blocks_of same in
+    let of : Member = record { rank = rank_in groups group place; slave = is_placed.slave } in
+    let same : own.x ≡ is_placed.slave = let also = is_placed.found in cc in
+    let count = ap slave_block_count same in
     let low : number < own_blocks of = let few = own.low in omega (arith, few, count) in
     let front = line-front 1 groups group place falls.x falls.at (subst (λ (s : List Slave). place < length s) (sym slaves) inside) in
     let before = ap (λ (s : List Slave). block_sum (take place s)) slaves in
-    let whole : sum_by own_blocks (take position line) + number ≡ n = let sum = falls.sum in let behind = own.sum in omega (arith, front, before, sum, behind) in
-    let most = all-get (λ (m : Member). length m.slave.areas ≤ MOST_AREAS) line position of (λ k d within. (line-inside groups none k d within).few) stands.at in
-    let short = slice_get_within line position of stands.at in
+    let whole : sum_by own_blocks (take position line) + number ≡ n = let sum = falls.sum in let after_it = own.sum in omega (arith, front, before, sum, after_it) in
+    let most = all-get (λ (m : Member). length m.slave.areas ≤ MOST_AREAS) line position of (λ k d within. (line-inside groups none k d within).few) is_placed.at in
+    let short = slice_get_within line position of is_placed.at in
     let long = line-low groups none in
-    record { stands = stands; low = omega (arith, short, long); few = omega (arith, low, most); owned = ap (owned_by line) (sym whole) ∙ owned-at line position of number stands.at low }
+    record { is_placed = is_placed; low = omega (arith, short, long); few = omega (arith, low, most); owned = ap (owned_by line) (sym whole) ∙ owned-at line position of number is_placed.at low }
 
 module _ (groups : List Declared) (index : Index) (is : IsIndexOf groups index) where
-  pub blocks-sums : AreSums index.blocks
+  pub blocks-sums : AreRisingSums index.blocks
   blocks-sums = are-sums own_sum index.blocks groups is.blocks
 
-  -- no slave has a block that is behind all
-  pub blocks-behind : (n : ℕ) → All (λ sum. sum ≤ n) index.blocks → owned_by (line_from 1 groups) n ≡ None
-  blocks-behind n all = search (rules, line-sum, falls-behind, owned-past)
+  -- no slave has a block that is after all
+  pub blocks-after_it : (n : ℕ) → All (λ sum. sum ≤ n) index.blocks → owned_by (line_from 1 groups) n ≡ None
+  blocks-after_it n all = search (rules, line-sum, falls-after_it, owned-history)
 
   -- the group whose block it is, and that group's own sums
 
-  falls : (n group offset : ℕ) → IsSpot index.blocks n group offset → FallsIn own_sum groups n group offset
-  falls n group offset spot = falls-in own_sum index.blocks groups n group offset is.blocks spot
+  falls : (n group offset : ℕ) → IsSumPlace index.blocks n group offset → FallsIn own_sum groups n group offset
+  falls n group offset sum_place = falls-in own_sum index.blocks groups n group offset is.blocks sum_place
 
   own-front : (group : ℕ) (declared : Declared) → slice_get groups group ≡ Some declared → slice_get index.fronts group ≡ Some (block_sums declared)
   own-front group declared here =
       ap (λ (fronts : List (List ℕ)). slice_get fronts group) is.declared.fronts ∙ slice_get-map block_sums groups group ∙ ap (option_map block_sums) here
 
-  pub has-front : (n group offset : ℕ) → IsSpot index.blocks n group offset → slice_get index.fronts group ≢ None
-  has-front n group offset spot none = let own = own-front group (falls n group offset spot).x (falls n group offset spot).at in cc
+  pub has-front : (n group offset : ℕ) → IsSumPlace index.blocks n group offset → slice_get index.fronts group ≢ None
+  has-front n group offset sum_place none = let own = own-front group (falls n group offset sum_place).x (falls n group offset sum_place).at in cc
 
-  front-is : (n group offset : ℕ) (own : List ℕ) → (spot : IsSpot index.blocks n group offset) → slice_get index.fronts group ≡ Some own → own ≡ block_sums (falls n group offset spot).x
-  front-is n group offset own spot at = let front = own-front group (falls n group offset spot).x (falls n group offset spot).at in cc
+  front-is : (n group offset : ℕ) (own : List ℕ) → (sum_place : IsSumPlace index.blocks n group offset) → slice_get index.fronts group ≡ Some own → own ≡ block_sums (falls n group offset sum_place).x
+  front-is n group offset own sum_place at = let front = own-front group (falls n group offset sum_place).x (falls n group offset sum_place).at in cc
 
-  pub front-sums : (n group offset : ℕ) (own : List ℕ) → IsSpot index.blocks n group offset → slice_get index.fronts group ≡ Some own → AreSums own
-  front-sums n group offset own spot at = are-sums blocks_of own (falls n group offset spot).x.group.slaves (front-is n group offset own spot at)
+  pub front-sums : (n group offset : ℕ) (own : List ℕ) → IsSumPlace index.blocks n group offset → slice_get index.fronts group ≡ Some own → AreRisingSums own
+  front-sums n group offset own sum_place at = are-sums slave_block_count own (falls n group offset sum_place).x.group.slaves (front-is n group offset own sum_place at)
 
-  pub front-reaches : (n group offset : ℕ) (own : List ℕ) → IsSpot index.blocks n group offset → slice_get index.fronts group ≡ Some own → ¬ (All (λ sum. sum ≤ offset) own)
-  front-reaches n group offset own spot at all =
-      let here = falls n group offset spot in
-      let past = falls-behind blocks_of own here.x.group.slaves offset (front-is n group offset own spot at) all in
+  pub front-reaches : (n group offset : ℕ) (own : List ℕ) → IsSumPlace index.blocks n group offset → slice_get index.fronts group ≡ Some own → ¬ (All (λ sum. sum ≤ offset) own)
+  front-reaches n group offset own sum_place at all =
+      let here = falls n group offset sum_place in
+      let history = falls-after_it slave_block_count own here.x.group.slaves offset (front-is n group offset own sum_place at) all in
       let most = ap block_sum (present-own here.x.present here.x.group.slaves (own-present here.x.present here.x.group.slaves offset here.low)) in
-      omega (arith, past, most)
+      omega (arith, history, most)
 
-  pub owner-of : (n group offset place number : ℕ) (own : List ℕ) → IsSpot index.blocks n group offset → slice_get index.fronts group ≡ Some own → IsSpot own offset place number
+  pub owner-of : (n group offset place number : ℕ) (own : List ℕ) → IsSumPlace index.blocks n group offset → slice_get index.fronts group ≡ Some own → IsSumPlace own offset place number
       → OwnerOf groups n group place number
-  owner-of n group offset place number own spot at mine =
-      let here = falls n group offset spot in
+  owner-of n group offset place number own sum_place at mine =
+      let here = falls n group offset sum_place in
       owner groups n group offset place number is.declared.project here
-      (falls-in blocks_of own here.x.group.slaves offset place number (front-is n group offset own spot at) mine)
+      (falls-in slave_block_count own here.x.group.slaves offset place number (front-is n group offset own sum_place at) mine)
 
 -- the rank of a declared slave, by the index
 pub record Ranked (groups : List Declared) (index : Index) (group place : ℕ) : Type 0 where
@@ -223,7 +220,7 @@ ranked groups index group place declared is at low =
     let same = ap declared_count (get_or_from_slice_get groups group declared declared at) in
     record { inside = front.0; rank = front.1; low = let sum = front.1 in omega (arith, counted, own, same, low, sum) }
 
--- and that of a group's first slave
+-- and of a group's first slave
 pub first-ranked : (groups : List Declared) (index : Index) (group : ℕ) → IsIndexOf groups index → group < length groups → Ranked groups index group 0
 first-ranked groups index group is inside =
     let here = some-at groups group inside in
@@ -248,7 +245,7 @@ blocks-total groups index is =
 
 -- where a rank or a position falls
 
--- the group of the slave with a rank, and how far behind its first slave it is
+-- the group of the slave with a rank, and how far after its first slave it is
 pub record Owner (groups : List Declared) (index : Index) (rank group : ℕ) : Type 0 where
   pub declared : Declared
   pub at : slice_get groups group ≡ Some declared
@@ -272,17 +269,17 @@ at-absent groups rank group place it absent =
     subst (λ (r : ℕ). All (λ member. member.rank ≢ r) (line_from 1 groups)) (sym it.ranked) (line-absent 1 groups group place it.declared it.at absent it.inside)
 
 -- no slave has a rank past the last
-pub none-past : (groups : List Declared) (rank : ℕ) → sum_by declared_count groups < rank → All (λ member. member.rank ≢ rank) (line_from 1 groups)
-none-past groups rank past =
-    All-weaker (λ (member : Member). member.rank < 1 + sum_by declared_count groups) (λ member. member.rank ≢ rank) (λ member below same. omega (arith, past, below, same)) (line_from 1 groups) (line-ranks 1 groups)
+pub none-history : (groups : List Declared) (rank : ℕ) → sum_by declared_count groups < rank → All (λ member. member.rank ≢ rank) (line_from 1 groups)
+none-history groups rank history =
+    All-weaker (λ (member : Member). member.rank < 1 + sum_by declared_count groups) (λ member. member.rank ≢ rank) (λ member below same. omega (arith, history, below, same)) (line_from 1 groups) (line-ranks 1 groups)
 
 module _ (groups : List Declared) (index : Index) (is : IsIndexOf groups index) where
-  pub slaves-sums : AreSums index.slaves
+  pub slaves-sums : AreRisingSums index.slaves
   slaves-sums = are-sums present_count index.slaves groups is.slaves
 
   -- a rank past the last
-  pub rank-past : (rank : ℕ) → 1 ≤ rank → length index.owners ≤ rank - 1 → sum_by declared_count groups < rank
-  rank-past rank some past = let long = ap length is.declared.owners ∙ owners-length 0 groups in omega (arith, long, past, some)
+  pub rank-history : (rank : ℕ) → 1 ≤ rank → length index.owners ≤ rank - 1 → sum_by declared_count groups < rank
+  rank-history rank some history = let long = ap length is.declared.owners ∙ owners-length 0 groups in omega (arith, long, history, some)
 
   falls-owned : (n group : ℕ) → slice_get index.owners n ≡ Some group → (offset : ℕ) × FallsIn declared_count groups n group offset
   falls-owned n group at =
@@ -313,17 +310,7 @@ module _ (groups : List Declared) (index : Index) (is : IsIndexOf groups index) 
   pub rank-at : (rank group : ℕ) → Owner groups index rank group → IsDeclaredAt groups rank group (rank - 1 - get_or index.ranks group 0)
   rank-at rank group owner = record { declared = owner.declared; at = owner.at; inside = owner.low; ranked = owner.ranked }
 
-  pub nth-found : (position group place : ℕ) → IsSpot index.slaves position group place
-      → option_map {U = Member} (λ slave. record { rank = rank_in groups group place; slave = slave }) (slave_in groups group place) ≡ slice_get (line_from 1 groups) position
-  nth-found position group place spot =
-      let falls = falls-in present_count index.slaves groups position group place is.slaves spot in
-      let stands = falls-at groups position group place falls in
-      member-in groups group place (rank_in groups group place) stands.slave refl stands.found ∙ sym stands.at ∙ ap (slice_get (line_from 1 groups)) (sym falls.sum)
-
-  pub nth-past : (position : ℕ) → All (λ sum. sum ≤ position) index.slaves → slice_get (line_from 1 groups) position ≡ None
-  nth-past position all = search (rules, falls-behind, line-length, slice_get_past)
-
--- the slave of the line with a rank stands at this position
+-- the slave of the line with a rank is at this position
 pub record Fronts (groups : List Declared) (index : Index) (group place : ℕ) : Type 0 where
   pub inside : group < length index.slaves
   pub sum : get_or index.slaves group 0 ≡ sum_by present_count (take group groups)
@@ -331,11 +318,11 @@ pub record Fronts (groups : List Declared) (index : Index) (group place : ℕ) :
 
 pub fronts : (groups : List Declared) (index : Index) (rank group place : ℕ) → IsIndexOf groups index → IsMember groups rank group place → Fronts groups index group place
 fronts groups index rank group place is member =
-    let stands = stands-at groups group place member.declared member.at member.present member.inside in
+    let is_placed = is_placed-at groups group place member.declared member.at member.present member.inside in
     let within = slice_get_within groups group member.declared member.at in
     let front = front-at present_count index.slaves groups group is.slaves (omega (arith, within)) in
     let sum = front.1 in
-    let short = slice_get_within (line_from 1 groups) (sum_by present_count (take group groups) + place) (record { rank = rank_in groups group place; slave = stands.slave }) stands.at in
+    let short = slice_get_within (line_from 1 groups) (sum_by present_count (take group groups) + place) (record { rank = rank_in groups group place; slave = is_placed.slave }) is_placed.at in
     let few = line-low groups is.declared.project in
     record { inside = front.0; sum = sum; low = omega (arith, sum, short, few) }
 
@@ -344,9 +331,9 @@ pub member-found : (groups : List Declared) (index : Index) (station rank group 
     → IsMember groups rank group place
     → option_map {U = Member} (λ slave. record { rank = rank_in groups group place; slave = slave }) (slave_in groups group place) ≡ find (is_at station) (line_from 1 groups)
 member-found groups index station rank group place is declared member =
-    let stands = stands-at groups group place member.declared member.at member.present member.inside in
-    member-in groups group place (rank_in groups group place) stands.slave refl stands.found
-    ∙ sym stands.at
+    let is_placed = is_placed-at groups group place member.declared member.at member.present member.inside in
+    member-in groups group place (rank_in groups group place) is_placed.slave refl is_placed.found
+    ∙ sym is_placed.at
     ∙ sym (find-position (is_at station) (line_from 1 groups) (sum_by present_count (take group groups) + place) (position-found groups index station rank group place is declared member))
 
 -- so is a slave by its rank
@@ -360,11 +347,11 @@ pub ranked-found : (groups : List Declared) (rank group place : ℕ) → IsMembe
     → option_map {U = Member} (λ slave. record { rank = rank_in groups group place; slave = slave }) (slave_in groups group place) ≡ find (λ member. member.rank == rank) (line_from 1 groups)
 ranked-found groups rank group place member =
     let line = line_from 1 groups in
-    let stands = stands-at groups group place member.declared member.at member.present member.inside in
-    let of : Member = record { rank = rank_in groups group place; slave = stands.slave } in
+    let is_placed = is_placed-at groups group place member.declared member.at member.present member.inside in
+    let of : Member = record { rank = rank_in groups group place; slave = is_placed.slave } in
     let position = sum_by present_count (take group groups) + place in
-    let at = position-at (λ (m : Member). m.rank == rank) line position of (alone-ranked groups rank) stands.at (eq-eqb of.rank rank (sym member.ranked)) in
-    member-in groups group place (rank_in groups group place) stands.slave refl stands.found ∙ sym stands.at ∙ sym (find-position (λ (m : Member). m.rank == rank) line position at)
+    let at = position-at (λ (m : Member). m.rank == rank) line position of (alone-ranked groups rank) is_placed.at (eq-eqb of.rank rank (sym member.ranked)) in
+    member-in groups group place (rank_in groups group place) is_placed.slave refl is_placed.found ∙ sym is_placed.at ∙ sym (find-position (λ (m : Member). m.rank == rank) line position at)
 
 pub ranked-none : (groups : List Declared) (rank : ℕ) → All (λ member. member.rank ≢ rank) (line_from 1 groups) → find (λ (member : Member). member.rank == rank) (line_from 1 groups) ≡ None
 ranked-none groups rank none =

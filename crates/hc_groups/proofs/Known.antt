@@ -8,7 +8,7 @@ use Rattle.hc_records.specs.declared.records.Declared.{Declared}
 use Rattle.hc_records.specs.Line.{has_address}
 use Rattle.hc_groups.specs.declared.changes.AreasChange.{AreasChange}
 use Rattle.hc_groups.specs.declared.changes.SlavePlace.{SlavePlace}
-use Rattle.hc_groups.specs.Changes.{areas_change, areas_changed, has_alias, has_slave, place_in, presence_change, slave_place, slaves_at}
+use Rattle.hc_groups.specs.Changes.{areas_change, areas_changed, has_alias, has_slave, station_place, presence_change, slave_place, slaves_at}
 use Rattle.hc_groups.proofs.Found.{first-at, some-found, there}
 
 mapped-none : {X Y : Type 0} (f : X → Y) (found : Option X) → option_map f found ≡ None → found ≡ None
@@ -18,7 +18,7 @@ pub known-group : (groups : List Declared) (alias : ℕ) (present : Bool) → li
 known-group groups alias present some none = search (rules, some-found, mapped-none)
 
 known-by : (found : Option ℕ) (groups : List Declared) (station : ℕ) → list_any (has_slave station) groups ≡ true → position (has_slave station) groups ≡ found →
-    option_and_then (place_in groups station) found ≢ None
+    option_and_then (station_place groups station) found ≢ None
 known-by None groups station some at none = some-found (has_slave station) groups some at
 known-by (Some group) groups station some at none =
     let it = there (λ d. d ≡ d) (has_slave station) group groups (λ i d within. refl) (first-at (has_slave station) group groups at) in

@@ -1,7 +1,7 @@
 pub mod Changed
 pub mod Found
 pub mod Harmless
-pub mod Kept
+pub mod Unchanged
 pub mod Known
 pub mod Repeats
 pub mod Same
@@ -26,3 +26,4 @@ pub mod Summed
 pub mod Presences
 pub mod SlavePlaces
 pub mod Turned
+pub mod LineLists

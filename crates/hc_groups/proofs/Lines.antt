@@ -40,7 +40,7 @@ line-at rank (first ∷ groups) (suc group) place declared slave here at =
     let ranks = sum_by-cons declared_count first (take group groups) in
     search (rules, get-back, line-at next groups group place declared slave here at)
 
--- the blocks in front of it
+-- the blocks before it
 
 front-sum : (rank : ℕ) (slaves : List Slave) (place : ℕ) → sum_by own_blocks (take place (members_from rank slaves)) ≡ block_sum (take place slaves)
 front-sum rank slaves zero = refl
@@ -57,10 +57,10 @@ line-front rank (first ∷ groups) (suc group) place declared here inside =
     let long = length-members_from rank (present_slaves first) in
     let count = sum_by-cons present_count first (take group groups) in
     let front = sum_by-cons own_sum first (take group groups) in
-    let behind = sum_by present_count (take group groups) + place in
+    let after_it = sum_by present_count (take group groups) + place in
     let rest = line-front next groups group place declared here inside in
-    let whole : sum_by present_count (first ∷ take group groups) + place ≡ length members + behind = omega (arith, long, count) in
-    let sum = sum_by-append own_blocks members (take behind (line_from next groups)) in
+    let whole : sum_by present_count (first ∷ take group groups) + place ≡ length members + after_it = omega (arith, long, count) in
+    let sum = sum_by-append own_blocks members (take after_it (line_from next groups)) in
     let own = members-sum rank (present_slaves first) in
     search (rules, take-append-add)
 

@@ -33,12 +33,12 @@ by-place xs i j d false is pairs low within =
 non-decreasing : (xs : List ℕ) → Rises xs → IsNonDecreasing xs
 non-decreasing xs pairs i j d low within = by-place xs i j d (nat_lt i j) refl pairs low within
 
--- what is behind a number that is no greater than any of them
+-- what is after a number that is no greater than any of them
 
 below-through : (x v : ℕ) (ys : List ℕ) → x ≤ v → All (λ y. v ≤ y) ys → All (λ y. x ≤ y) ys
 below-through x v ys low all = All-weaker (λ y. v ≤ y) (λ y. x ≤ y) (λ y above. omega (arith, low, above)) ys all
 
--- what is done so far: the numbers of both lists behind the places that are left are in order, and no lower than those in front of them
+-- what is done so far: the numbers of both lists after the places that are left are in order, and no lower than those before them
 pub record Merged (front back low high done : List ℕ) : Type 0 where
   pub same : IsPermutation (back ++ high) done
   pub order : Rises done
@@ -46,15 +46,15 @@ pub record Merged (front back low high done : List ℕ) : Type 0 where
   pub second : AreBelow low done
 
 merged-below : (xs run done : List ℕ) (v : ℕ) → All (λ x. x ≤ v) xs → All (λ r. v ≤ r) run → AreBelow xs done → AreBelow xs (v ∷ (run ++ done))
-merged-below [] run done v low high behind = All-nil (λ (x : ℕ). All (λ y. x ≤ y) (v ∷ (run ++ done)))
-merged-below (x ∷ xs) run done v low high behind =
+merged-below [] run done v low high after_it = All-nil (λ (x : ℕ). All (λ y. x ≤ y) (v ∷ (run ++ done)))
+merged-below (x ∷ xs) run done v low high after_it =
     let here = All-head (λ (n : ℕ). n ≤ v) x xs low in
     All-cons (λ (n : ℕ). All (λ y. n ≤ y) (v ∷ (run ++ done))) x xs
     (All-cons (λ (y : ℕ). x ≤ y) v (run ++ done) here
-    (All-append (λ (y : ℕ). x ≤ y) run done (below-through x v run here high) (All-head (λ (n : ℕ). All (λ y. n ≤ y) done) x xs behind)))
-    (merged-below xs run done v (All-tail (λ (n : ℕ). n ≤ v) x xs low) high (All-tail (λ (n : ℕ). All (λ y. n ≤ y) done) x xs behind))
+    (All-append (λ (y : ℕ). x ≤ y) run done (below-through x v run here high) (All-head (λ (n : ℕ). All (λ y. n ≤ y) done) x xs after_it)))
+    (merged-below xs run done v (All-tail (λ (n : ℕ). n ≤ v) x xs low) high (All-tail (λ (n : ℕ). All (λ y. n ≤ y) done) x xs after_it))
 
--- one number more, in front of those that are no lower
+-- one number more, before those that are no lower
 merged-step : (front run back low high done : List ℕ) (v : ℕ) → Rises (front ++ run) → Rises (low ++ v ∷ []) → All (λ x. x ≤ v) front → All (λ r. v ≤ r) run
     → Merged (front ++ run) back (low ++ v ∷ []) high done → Merged front (run ++ back) low (v ∷ high) (v ∷ (run ++ done))
 merged-step front run back low high done v old own lower higher merged =
@@ -146,14 +146,14 @@ along front back low high done fronts backs lows highs all a b c d e merged =
 -- a number is put below those of the others that are no lower
 pub merged-more : (old names all new : List ℕ) (left more at v : ℕ) → Rises old → Rises names → MergedFrom old names all left (more + 1) → v ≡ get_or names more v → at ≤ left → Parts (take left all) v at
     → length new ≡ length all → take at new ≡ take at all → drop (at + more) new ≡ v ∷ (slice_range all at left ++ drop (left + more + 1) all) → MergedFrom old names new at more
-merged-more old names all new left more at v rising own before is low parts size front behind =
+merged-more old names all new left more at v rising own before is low parts size front after_it =
     let inside = before.inside in
     let some = before.some in
     let whole = before.size in
     let run = slice_range old at left in
     let done = drop (left + (more + 1)) all in
     let same : slice_range all at left ≡ run = piece all at left low ∙ ap (drop at) before.front ∙ sym (piece old at left low) in
-    let kept : take at all ≡ take at old = sym (take-take at left all low) ∙ ap (take at) before.front ∙ take-take at left old low in
+    let unchanged : take at all ≡ take at old = sym (take-take at left all low) ∙ ap (take at) before.front ∙ take-take at left old low in
     let cut = taken old at left low in
     let last : take (more + 1) names ≡ take more names ++ v ∷ [] = take_more names more v (omega arith) ∙ ap (λ (n : ℕ). take more names ++ n ∷ []) (sym is) in
     let next : drop more names ≡ v ∷ drop (more + 1) names = drop_more names more v (omega arith) ∙ ap (λ (n : ℕ). n ∷ drop (more + 1) names) (sym is) in
@@ -162,16 +162,16 @@ merged-more old names all new left more at v rising own before is low parts size
     let step = merged-step (take at old) run (drop left old) (take more names) (drop (more + 1) names) done v
     (subst Rises cut (AllPairs-append_left (λ (a b : ℕ). a ≤ b) (take left old) (drop left old) (subst Rises (sym (take-append-drop left old)) rising)))
     (subst Rises last (AllPairs-append_left (λ (a b : ℕ). a ≤ b) (take (more + 1) names) (drop (more + 1) names) (subst Rises (sym (take-append-drop (more + 1) names)) own)))
-    (subst (All (λ (x : ℕ). x ≤ v)) (take-take at left all low ∙ kept) parts.lower)
+    (subst (All (λ (x : ℕ). x ≤ v)) (take-take at left all low ∙ unchanged) parts.lower)
     (subst (All (λ (x : ℕ). v ≤ x)) (sym (piece all at left low) ∙ same) parts.higher)
     joined in
     let shifted : drop (at + more) new ≡ v ∷ (run ++ done) =
-    behind ∙ ap (λ (l : List ℕ). v ∷ (l ++ drop (left + more + 1) all)) same ∙ ap (λ (n : ℕ). v ∷ (run ++ drop n all)) (omega arith) in
+    after_it ∙ ap (λ (l : List ℕ). v ∷ (l ++ drop (left + more + 1) all)) same ∙ ap (λ (n : ℕ). v ∷ (run ++ drop n all)) (omega arith) in
     record {
       inside = omega (arith, inside, low);
       some = omega (arith, some);
       size = size ∙ whole;
-      front = front ∙ kept;
+      front = front ∙ unchanged;
       merged =
           along (take at old) (run ++ drop left old) (take more names) (v ∷ drop (more + 1) names) (v ∷ (run ++ done)) (take at old) (drop at old) (take more names) (drop more names) (drop (at + more) new)
           refl (sym (drop_split old at left low)) refl (sym next) (sym shifted) step;
@@ -202,7 +202,7 @@ merged-end old names all left rising before =
       subst IsNonDecreasing whole (merged-rises (take left old) (drop left old) names (drop (left + 0) all) (subst Rises (sym parts) rising) before.merged),
     )
 
--- the numbers between two places are shifted up, and one is written in front of them
+-- the numbers between two places are shifted up, and one is written before them
 
 copied-parts : (all copied : List ℕ) (at left more : ℕ) → at ≤ left → left + more + 1 ≤ length all → copied ≡ paste all (at + more + 1) (drop at all) (left - at)
     → (length copied ≡ length all) × (take (at + more) copied ≡ take (at + more) all) × (drop (at + more + 1) copied ≡ slice_range all at left ++ drop (left + more + 1) all)
@@ -211,7 +211,7 @@ copied-parts all copied at left more low inside is = grind (arith, common_steps)
 pub record PutBelow (all new : List ℕ) (at left more v : ℕ) : Type 0 where
   pub size : length new ≡ length all
   pub front : take at new ≡ take at all
-  pub behind : drop (at + more) new ≡ v ∷ (slice_range all at left ++ drop (left + more + 1) all)
+  pub after_it : drop (at + more) new ≡ v ∷ (slice_range all at left ++ drop (left + more + 1) all)
 
 pub put-below : (all copied : List ℕ) (at left more v : ℕ) → at ≤ left → left + more + 1 ≤ length all → copied ≡ paste all (at + more + 1) (drop at all) (left - at)
     → PutBelow all (set copied (at + more) v) at left more v
@@ -225,5 +225,5 @@ put-below all copied at left more v low inside is =
           ∙ sym (take-take at (at + more) copied (omega arith))
           ∙ ap (take at) parts.1
           ∙ take-take at (at + more) all (omega arith);
-      behind = drop-set copied (at + more) v (omega (arith, size, low, inside)) ∙ ap (λ (l : List ℕ). v ∷ l) parts.2;
+      after_it = drop-set copied (at + more) v (omega (arith, size, low, inside)) ∙ ap (λ (l : List ℕ). v ∷ l) parts.2;
     }

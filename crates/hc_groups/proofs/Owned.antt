@@ -10,7 +10,7 @@ use Rattle.hc_records.proofs.lemmas.Lists.{get-back, get-front}
 use Rattle.hc_groups.specs.Index.{declared_count, owners_from}
 use Rattle.hc_groups.proofs.Summed.{FallsIn}
 
--- a declared slave and its group, of which the first has a number
+-- a declared slave and its group, from a number on
 pub record IsOwned (first : ℕ) (groups : List Declared) (n group : ℕ) : Type 0 where
   pub index : ℕ
   pub number : group ≡ first + index
@@ -31,25 +31,25 @@ front first declared groups n group low at =
     let is = numbers first declared.group.slaves n group here in
     record { index = 0; number = omega (arith, is); offset = n; falls = record { x = declared; at = refl; sum = omega arith; low = low } }
 
-behind : (first : ℕ) (declared : Declared) (groups : List Declared) (n group : ℕ) → declared_count declared ≤ n → IsOwned (first + 1) groups (n - declared_count declared) group
+after_it : (first : ℕ) (declared : Declared) (groups : List Declared) (n group : ℕ) → declared_count declared ≤ n → IsOwned (first + 1) groups (n - declared_count declared) group
     → IsOwned first (declared ∷ groups) n group
-behind first declared groups n group past own =
+after_it first declared groups n group history own =
     let falls = own.falls in
     let sum = sum_by-cons declared_count declared (take own.index groups) in
     let before = falls.sum in
     let is = own.number in
-    record { index = suc own.index; number = omega (arith, is); offset = own.offset; falls = record { x = falls.x; at = falls.at; sum = omega (arith, sum, before, past); low = falls.low } }
+    record { index = suc own.index; number = omega (arith, is); offset = own.offset; falls = record { x = falls.x; at = falls.at; sum = omega (arith, sum, before, history); low = falls.low } }
 
 by-front : (first : ℕ) (declared : Declared) (groups : List Declared) (n group : ℕ) → ((m : ℕ) → slice_get (owners_from (first + 1) groups) m ≡ Some group → IsOwned (first + 1) groups m group)
     → (inside : Bool) → nat_lt n (declared_count declared) ≡ inside → slice_get (owners_from first (declared ∷ groups)) n ≡ Some group → IsOwned first (declared ∷ groups) n group
 by-front first declared groups n group rest true is at = front first declared groups n group (ltb-true n (declared_count declared) is) at
 by-front first declared groups n group rest false is at =
-    let past = ltb-false n (declared_count declared) is in
+    let history = ltb-false n (declared_count declared) is in
     let own = map (λ (slave : Slave). first) declared.group.slaves in
     let long = length-map declared.group.slaves (λ (slave : Slave). first) in
-    behind first declared groups n group past
+    after_it first declared groups n group history
     (rest (n - declared_count declared)
-    (ap (slice_get (owners_from (first + 1) groups)) (omega (arith, long)) ∙ sym (get-back own (owners_from (first + 1) groups) n (omega (arith, long, past))) ∙ at))
+    (ap (slice_get (owners_from (first + 1) groups)) (omega (arith, long)) ∙ sym (get-back own (owners_from (first + 1) groups) n (omega (arith, long, history))) ∙ at))
 
 pub owned : (first : ℕ) (groups : List Declared) (n group : ℕ) → slice_get (owners_from first groups) n ≡ Some group → IsOwned first groups n group
 owned first [] n group at = cc

@@ -11,7 +11,7 @@ use Rattle.hc_records.specs.Project.{lowest_fault}
 use Rattle.hc_records.proofs.lemmas.Limits.{project-inside}
 use Rattle.hc_records.proofs.lemmas.Lines.{each-group}
 use Rattle.hc_records.proofs.lemmas.Slaves.{IsSlaveInside, project-counted}
-use Rattle.hc_groups.specs.Index.{block_sum, blocks_of, declared_count, own_blocks, own_sum, owned_by}
+use Rattle.hc_groups.specs.Index.{block_sum, slave_block_count, declared_count, own_blocks, own_sum, owned_by}
 
 pub owned-at : (members : List Member) (position : ℕ) (member : Member) (number : ℕ) → slice_get members position ≡ Some member → number < own_blocks member
     → owned_by members (sum_by own_blocks (take position members) + number) ≡ Some (member, number)
@@ -19,14 +19,14 @@ owned-at [] position member number at low = cc
 owned-at (first ∷ members) zero member number at low = search rules
 owned-at (first ∷ members) (suc position) member number at low =
     let sum = sum_by-cons own_blocks first (take position members) in
-    let past = le-ltb (sum_by own_blocks (take (suc position) (first ∷ members)) + number) (own_blocks first) (omega (arith, sum)) in
-    rw past (ap (owned_by members) (omega (arith, sum)) ∙ owned-at members position member number at low)
+    let history = le-ltb (sum_by own_blocks (take (suc position) (first ∷ members)) + number) (own_blocks first) (omega (arith, sum)) in
+    rw history (ap (owned_by members) (omega (arith, sum)) ∙ owned-at members position member number at low)
 
-pub owned-past : (members : List Member) (n : ℕ) → sum_by own_blocks members ≤ n → owned_by members n ≡ None
-owned-past [] n past = refl
-owned-past (member ∷ members) n past =
+pub owned-history : (members : List Member) (n : ℕ) → sum_by own_blocks members ≤ n → owned_by members n ≡ None
+owned-history [] n history = refl
+owned-history (member ∷ members) n history =
     let sum = sum_by-cons own_blocks member members in
-    search (rules, sum_by-cons, le-ltb, owned-past members (n - own_blocks member) (omega (arith, sum, past)))
+    search (rules, sum_by-cons, le-ltb, owned-history members (n - own_blocks member) (omega (arith, sum, history)))
 
 -- the blocks of the line
 
@@ -47,7 +47,7 @@ few-blocks [] inside = omega arith
 few-blocks (slave ∷ slaves) inside =
     let here = (All-head IsSlaveInside slave slaves inside).few in
     let rest = few-blocks slaves (All-tail IsSlaveInside slave slaves inside) in
-    let sum = sum_by-cons blocks_of slave slaves in
+    let sum = sum_by-cons slave_block_count slave slaves in
     omega (arith, here, rest, sum)
 
 few-own : (present : Bool) (slaves : List Slave) → All IsSlaveInside slaves → block_sum (if present then slaves else []) ≤ 16 * length slaves

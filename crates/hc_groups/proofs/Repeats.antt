@@ -1,4 +1,4 @@
--- A list without repeats, each member of which is a key of some items, is no longer than those are.
+-- A list without repeats whose members are all keys of some items is no longer than those are.
 use Rattle.std.proofs.Common.{◌≡◌, ◌≢◌, ℕ, suc, ◌<◌, ◌≤◌, Bool, true, false, not, cond, List, [], ◌∷◌, length, refl, ap, arith, rules}
 use Rattle.std.specs.Prelude.{◌==◌, ◌||◌, filter}
 use Rattle.std.specs.List.{list_any}
@@ -18,16 +18,16 @@ is_foreign key items number = not (list_any (has_key key number) items)
 abbrev without : {X : Type 0} → (X → ℕ) → ℕ → List X → List X
 without key number items = filter (λ item. not (has_key key number item)) items
 
-left-most : {X : Type 0} (same : Bool) (item : X) (kept rest : List X) → length kept ≤ length rest → length (cond (not same) (item ∷ kept) kept) ≤ suc (length rest)
-left-most same item kept rest most = search rules
+left-most : {X : Type 0} (same : Bool) (item : X) (unchanged rest : List X) → length unchanged ≤ length rest → length (cond (not same) (item ∷ unchanged) unchanged) ≤ suc (length rest)
+left-most same item unchanged rest most = search rules
 
 without-most : {X : Type 0} (key : X → ℕ) (number : ℕ) (items : List X) → length (without key number items) ≤ length items
 without-most key number [] = omega arith
 without-most key number (item ∷ items) = left-most (has_key key number item) item (without key number items) items (without-most key number items)
 
-left-fewer : {X : Type 0} (same : Bool) (item : X) (kept rest : List X) → length kept ≤ length rest → (same ≡ false → length kept < length rest) →
-    length (cond (not same) (item ∷ kept) kept) < suc (length rest)
-left-fewer same item kept rest most fewer = search rules
+left-fewer : {X : Type 0} (same : Bool) (item : X) (unchanged rest : List X) → length unchanged ≤ length rest → (same ≡ false → length unchanged < length rest) →
+    length (cond (not same) (item ∷ unchanged) unchanged) < suc (length rest)
+left-fewer same item unchanged rest most fewer = search rules
 
 -- where an item has the key, they are fewer
 without-fewer : {X : Type 0} (key : X → ℕ) (number : ℕ) (items : List X) → list_any (has_key key number) items ≡ true → length (without key number items) < length items
@@ -36,16 +36,16 @@ without-fewer key number (item ∷ items) some =
     left-fewer (has_key key number item) item (without key number items) items (without-most key number items)
     (λ other. without-fewer key number items (member-by (has_key key number item) (list_any (has_key key number) items) some other))
 
-kept-any : {X : Type 0} (same : Bool) (test : X → Bool) (item : X) (kept rest : List X) → (same ≡ true → test item ≡ false) → list_any test kept ≡ list_any test rest →
-    list_any test (cond (not same) (item ∷ kept) kept) ≡ (test item || list_any test rest)
-kept-any true test item kept rest miss same = rw (miss refl) same
-kept-any false test item kept rest miss same = ap (λ (b : Bool). test item || b) same
+unchanged-any : {X : Type 0} (same : Bool) (test : X → Bool) (item : X) (unchanged rest : List X) → (same ≡ true → test item ≡ false) → list_any test unchanged ≡ list_any test rest →
+    list_any test (cond (not same) (item ∷ unchanged) unchanged) ≡ (test item || list_any test rest)
+unchanged-any true test item unchanged rest miss same = rw (miss refl) same
+unchanged-any false test item unchanged rest miss same = ap (λ (b : Bool). test item || b) same
 
 -- another key is still there
 without-other : {X : Type 0} (key : X → ℕ) (number other : ℕ) (items : List X) → other ≢ number →
     list_any (has_key key other) (without key number items) ≡ list_any (has_key key other) items
 without-other key number other [] apart = refl
-without-other key number other (item ∷ items) apart = search (rules, kept-any, ne_eqb, eqb-true, without-other key number other items apart)
+without-other key number other (item ∷ items) apart = search (rules, unchanged-any, ne_eqb, eqb-true, without-other key number other items apart)
 
 -- so what is left has the keys of numbers that don't repeat it
 none-foreign : {X : Type 0} (key : X → ℕ) (number : ℕ) (numbers : List ℕ) (items : List X) → list_any (λ y. y == number) numbers ≡ false →

@@ -11,7 +11,7 @@ use Rattle.std.proofs.lemmas.List.Folds.{list_any_at, list_any_none}
 use Rattle.std.proofs.lemmas.List.Sorted.{searched}
 use Rattle.hc_groups.proofs.IndexFound.{differs}
 
--- it lies at a place, or else those in front of a place are lower and the others higher
+-- it lies at a place, or else those before a place are lower and the others higher
 abbrev Lies : List ℕ → ℕ → Result ℕ ℕ → Type 0
 Lies xs x found =
     MatchResult found (λ i. (i < length xs) × (get_or xs i 0 ≡ x))

@@ -1,4 +1,4 @@
--- An element of a list written where it stands.
+-- An element of a list written where it is.
 use Rattle.std.proofs.Common.{◌≡◌, ℕ, zero, suc, ◌<◌, ◌≤◌, List, [], ◌∷◌, length, refl, ap, ◌∙◌, arith}
 use Rattle.std.specs.Prelude.{slice_index_or, slice_set}
 use Rattle.hc_records.specs.Lists.{changed_at}

@@ -15,7 +15,7 @@ use Rattle.hc_records.proofs.lemmas.Limits.{project-inside}
 use Rattle.hc_records.proofs.lemmas.Lines.{declared_slaves}
 use Rattle.hc_records.proofs.lemmas.Lists.{All-append_left, All-append_right, All-from_none, AllPairs-append_left, AllPairs-append_right, AllPairs-between, AllPairs-head, AllPairs-tail}
 use Rattle.hc_groups.specs.declared.addresses.Address.{Address}
-use Rattle.hc_groups.specs.Changes.{has_slave, place_at, place_in, slave_place, slaves_at}
+use Rattle.hc_groups.specs.Changes.{has_slave, place_at, station_place, slave_place, slaves_at}
 use Rattle.hc_groups.specs.Index.{Index, IsDeclaredAt, IsIndexOf, address_of, addresses, all_present, declared_count, present_count}
 use Rattle.hc_groups.proofs.Found.{IsFirstAt, position-first}
 use Rattle.hc_groups.proofs.IndexFound.{any-none, any-some, contains-map, differs, only-one, position-none}
@@ -65,11 +65,11 @@ first-group station zero place declared slave (first ∷ groups) apart here at i
     has-one station place slave first.group.slaves (ap (λ (d : Declared). slice_get d.group.slaves place) same ∙ at) is
 first-group station (suc group) place declared slave (first ∷ groups) apart here at is =
     let slaves = first.group.slaves in
-    let behind = declared_slaves groups in (
+    let after_it = declared_slaves groups in (
       any-none (has_address station) slaves
-          (All-weaker (λ a. All (AreApart a) behind) (λ a. has_address station a ≡ false)
-          (λ a others. not-same station slave a is (among (AreApart a) groups group place declared slave others here at)) slaves (AllPairs-between AreApart slaves behind apart)),
-      first-group station group place declared slave groups (AllPairs-append_right AreApart slaves behind apart) here at is,
+          (All-weaker (λ a. All (AreApart a) after_it) (λ a. has_address station a ≡ false)
+          (λ a others. not-same station slave a is (among (AreApart a) groups group place declared slave others here at)) slaves (AllPairs-between AreApart slaves after_it apart)),
+      first-group station group place declared slave groups (AllPairs-append_right AreApart slaves after_it apart) here at is,
     )
 
 own-apart : (groups : List Declared) (group : ℕ) (declared : Declared) → AllPairs AreApart (declared_slaves groups) → slice_get groups group ≡ Some declared → AllPairs AreApart declared.group.slaves
@@ -118,20 +118,20 @@ place-found groups station rank group place project named it =
     let here = position-first (has_slave station) group groups (first-group station group place it.declared own.0 groups apart it.at own.1 is) in
     let at = ap (position (has_address station)) slaves
     ∙ position-first (has_address station) place it.declared.group.slaves (first-slave station place own.0 it.declared.group.slaves (own-apart groups group it.declared apart it.at) own.1 is) in
-    sym (ap (option_and_then (place_in groups station)) here ∙ ap (option_map (place_at groups group)) at ∙ ap (λ (r : ℕ). Some (record { group = group; slave = place; rank = r })) (sym it.ranked))
+    sym (ap (option_and_then (station_place groups station)) here ∙ ap (option_map (place_at groups group)) at ∙ ap (λ (r : ℕ). Some (record { group = group; slave = place; rank = r })) (sym it.ranked))
 
 -- none is where no slave has the station address
 pub place-none : (groups : List Declared) (index : Index) (station : ℕ) → IsIndexOf groups index → All (λ address. address.station ≢ station) (addresses groups) → None ≡ slave_place groups station
 place-none groups index station is none =
     let unknown = declared-is groups index station None is none in
-    sym (ap (option_and_then (place_in groups station)) (position-none (has_slave station) groups (All-from_none (has_slave station) groups (sym unknown))))
+    sym (ap (option_and_then (station_place groups station)) (position-none (has_slave station) groups (All-from_none (has_slave station) groups (sym unknown))))
 
 -- and its rank is one of those that there are
 pub rank-within : (groups : List Declared) (station rank : ℕ) → Contains (addresses groups) (record { station = station; rank = rank }) → sum_by declared_count groups < rank → ⊥
-rank-within groups station rank named past =
+rank-within groups station rank named history =
     let all = all_present groups in
     let line = line_from 1 all in
     let below = All-map (λ (a : Address). a.rank < 1 + sum_by declared_count all) address_of line (line-ranks 1 all) in
     let low = subst (λ (a : Address). a.rank < 1 + sum_by declared_count all) named.2 (below named.0 (record { station = station; rank = rank }) named.1) in
     let count = same-count groups in
-    omega (arith, low, count, past)
+    omega (arith, low, count, history)

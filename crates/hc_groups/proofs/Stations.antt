@@ -12,7 +12,7 @@ use Rattle.hc_records.specs.Line.{Member, is_at, line_from}
 use Rattle.hc_records.specs.Edits.{area_at}
 use Rattle.hc_records.proofs.lemmas.Lists.{All-from_none, All-unmap}
 use Rattle.hc_records.proofs.lemmas.Lines.{declared_slaves, each-group, line-slaves}
-use Rattle.hc_groups.specs.Edits.{state_of}
+use Rattle.hc_groups.specs.Edits.{groups_state}
 
 -- a slave is the only one of a list with its station address
 abbrev IsOnly : List Slave → Slave → Type 0
@@ -55,7 +55,7 @@ member-has None groups station index area all is has = cc
 member-has (Some found) groups station index area all is has = search (rules, only-has, found-in)
 
 pub all-have : (groups : List Declared) (station index : ℕ) (area : Area) → has_repeat (map (λ slave. slave.station) (declared_slaves groups)) ≡ false →
-    area_at (state_of groups) station index ≡ Some area → All (HasArea station index area) (declared_slaves groups)
+    area_at (groups_state groups) station index ≡ Some area → All (HasArea station index area) (declared_slaves groups)
 all-have groups station index area once at =
     let slaves = declared_slaves groups in
     member-has (find (is_at station) (line_from 1 groups)) groups station index area

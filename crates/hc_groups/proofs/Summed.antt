@@ -6,9 +6,9 @@ use Rattle.std.proofs.lemmas.List.{drop_all, drop_more, get_or-map, length-map, 
 use Rattle.std.proofs.lemmas.List.Elements.{All-nil, All-cons, All-weaker}
 use Rattle.std.proofs.lemmas.List.Sums.{sum_by-cons, sum_by_more}
 use Rattle.std.proofs.lemmas.Option.{get_or_from_slice_get, slice_get-get_or, slice_get_within}
-use Rattle.hc_groups.specs.Index.{AreSums, IsSpot, sums_from}
+use Rattle.hc_groups.specs.Index.{AreRisingSums, IsSumPlace, sums_from}
 
--- an element of which all have something has it
+-- where all elements have something, each one has it
 pub all-get : {X : Type 0} (P : X → Type 0) (xs : List X) (i : ℕ) (x : X) → All P xs → slice_get xs i ≡ Some x → P x
 all-get P xs i x all at = subst P (get_or_from_slice_get xs i x x at) (all i x (slice_get_within xs i x at))
 
@@ -17,7 +17,7 @@ pub some-at : {X : Type 0} (xs : List X) (i : ℕ) → i < length xs → (x : X)
 some-at [] i inside = absurd (omega arith)
 some-at (x ∷ xs) i inside = (get_or (x ∷ xs) i x, slice_get-get_or (x ∷ xs) i x inside)
 
--- the element that a number falls in, and how far behind its front
+-- the element that a number falls in, and how far after its front
 pub record FallsIn {X : Type 0} (count : X → ℕ) (xs : List X) (n index offset : ℕ) : Type 0 where
   pub x : X
   pub at : slice_get xs index ≡ Some x
@@ -62,56 +62,56 @@ module _ {X : Type 0} (count : X → ℕ) where
       let at = get_or_from_slice_get sums index (0 + sum_by count (take index xs)) 0 (ap (λ (s : List ℕ). slice_get s index) is ∙ sums-at 0 xs index low) in
       (omega (arith, long, low), omega (arith, at))
 
-  -- sums in which a number is sought
-  pub are-sums : (sums : List ℕ) (xs : List X) → sums ≡ sums_from count 0 xs → AreSums sums
-  are-sums sums xs is = subst AreSums (sym is) (record { first = sums-first 0 xs; rising = sums-rise 0 xs })
+  -- sums where a number is sought
+  pub are-sums : (sums : List ℕ) (xs : List X) → sums ≡ sums_from count 0 xs → AreRisingSums sums
+  are-sums sums xs is = subst AreRisingSums (sym is) (record { first = sums-first 0 xs; rising = sums-rise 0 xs })
 
-  pub falls-in : (sums : List ℕ) (xs : List X) (n index offset : ℕ) → sums ≡ sums_from count 0 xs → IsSpot sums n index offset → FallsIn count xs n index offset
-  falls-in sums xs n index offset is spot =
+  pub falls-in : (sums : List ℕ) (xs : List X) (n index offset : ℕ) → sums ≡ sums_from count 0 xs → IsSumPlace sums n index offset → FallsIn count xs n index offset
+  falls-in sums xs n index offset is sum_place =
       let long = ap length is ∙ sums-length 0 xs in
-      let inside = slice_get_within sums (index + 1) spot.next spot.behind in
+      let inside = slice_get_within sums (index + 1) sum_place.next sum_place.after_it in
       let low : index < length xs = omega (arith, long, inside) in
       let here = some-at xs index low in
       let first = ap (λ (s : List ℕ). slice_get s index) is ∙ sums-at 0 xs index (omega (arith, low)) in
       let second = ap (λ (s : List ℕ). slice_get s (index + 1)) is ∙ sums-at 0 xs (index + 1) (omega (arith, low)) in
-      let front : spot.front ≡ 0 + sum_by count (take index xs) = let at = spot.at in cc in
-      let next : spot.next ≡ 0 + sum_by count (take (index + 1) xs) = let at = spot.behind in cc in
+      let front : sum_place.front ≡ 0 + sum_by count (take index xs) = let at = sum_place.at in cc in
+      let next : sum_place.next ≡ 0 + sum_by count (take (index + 1) xs) = let at = sum_place.after_it in cc in
       let more = sum_by_more count xs index here.0 low in
       let own = ap count (get_or_from_slice_get xs index here.0 here.0 here.1) in
-      let sum = spot.sum in
+      let sum = sum_place.sum in
       record { x = here.0; at = here.1; sum = omega (arith, front, sum); low = omega (arith, own, more, front, next, sum) }
 
-  -- or it is behind all
-  pub falls-behind : (sums : List ℕ) (xs : List X) (n : ℕ) → sums ≡ sums_from count 0 xs → All (λ sum. sum ≤ n) sums → sum_by count xs ≤ n
-  falls-behind sums xs n is all =
+  -- or it is after all
+  pub falls-after_it : (sums : List ℕ) (xs : List X) (n : ℕ) → sums ≡ sums_from count 0 xs → All (λ sum. sum ≤ n) sums → sum_by count xs ≤ n
+  falls-after_it sums xs n is all =
       let most = all-get (λ (sum : ℕ). sum ≤ n) sums (length xs) (0 + sum_by count xs) all (ap (λ (s : List ℕ). slice_get s (length xs)) is ∙ sums-last 0 xs) in
       omega (arith, most)
 
   pub left-step : (xs : List X) (i : ℕ) (x : X) → i < length xs → x ≡ get_or xs i x → sum_by count (drop i xs) ≡ count x + sum_by count (drop (i + 1) xs)
   left-step xs i x inside is = search (rules, drop_more, sum_by-cons)
 
-  -- sums that are added one by one: that in front of an element and those behind it, and the last one
+  -- sums that are added one by one: that before an element and those after it, and the last one
   pub sums-on : (xs : List X) (i front next : ℕ) (x : X) (done new all : List ℕ) → i < length xs → x ≡ get_or xs i x → new ≡ done ++ front ∷ [] → next ≡ front + count x
       → done ++ sums_from count front (drop i xs) ≡ all → new ++ sums_from count next (drop (i + 1) xs) ≡ all
-  sums-on xs i front next x done new all inside is added further told =
+  sums-on xs i front next x done new all inside is added further answer_given =
       let rest = drop (i + 1) xs in
       let cut : drop i xs ≡ x ∷ rest = drop_more xs i x inside ∙ ap (λ (y : X). y ∷ rest) (sym is) in
       ap (λ (sums : List ℕ). sums ++ sums_from count next rest) added
       ∙ append_assoc done (front ∷ []) (sums_from count next rest)
       ∙ ap (λ (n : ℕ). done ++ front ∷ sums_from count n rest) further
       ∙ ap (λ (left : List X). done ++ sums_from count front left) (sym cut)
-      ∙ told
+      ∙ answer_given
 
   pub sums-over : (xs : List X) (i front : ℕ) (done new all : List ℕ) → length xs ≤ i → new ≡ done ++ front ∷ [] → done ++ sums_from count front (drop i xs) ≡ all → new ≡ all
-  sums-over xs i front done new all over added told =
-      added ∙ ap (λ (left : List X). done ++ sums_from count front left) (sym (drop_all i xs over)) ∙ told
+  sums-over xs i front done new all over added answer_given =
+      added ∙ ap (λ (left : List X). done ++ sums_from count front left) (sym (drop_all i xs over)) ∙ answer_given
 
   -- elements that are changed and count for as many have the same sums
-  pub sums-kept : (change : X → X) → ((x : X) → count (change x) ≡ count x) → (front : ℕ) (xs : List X) → sums_from count front (map change xs) ≡ sums_from count front xs
-  sums-kept change keeps front [] = refl
-  sums-kept change keeps front (x ∷ xs) = search (rules, sums-kept change keeps (front + count x) xs)
+  pub sums-unchanged : (change : X → X) → ((x : X) → count (change x) ≡ count x) → (front : ℕ) (xs : List X) → sums_from count front (map change xs) ≡ sums_from count front xs
+  sums-unchanged change stays front [] = refl
+  sums-unchanged change stays front (x ∷ xs) = search (rules, sums-unchanged change stays (front + count x) xs)
 
--- elements at one place of lists of which something is the same
+-- elements at one place of lists that have something in common
 pub mapped-at : {X Y Z : Type 0} (f : X → Z) (g : Y → Z) (xs : List X) (ys : List Y) (i : ℕ) (x : X) (y : Y) → map f xs ≡ map g ys → i < length ys → x ≡ get_or xs i x → y ≡ get_or ys i y → f x ≡ g y
 mapped-at {Z} f g xs ys i x y same inside first second =
     let long = length-map xs f in

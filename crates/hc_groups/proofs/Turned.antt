@@ -1,4 +1,4 @@
--- The index of groups of which one comes or goes.
+-- The index of groups where one comes or goes.
 use Rattle.std.proofs.Common.{◌≡◌, ℕ, zero, suc, ◌+◌, ◌-◌, ◌<◌, ◌≤◌, Bool, true, false, List, [], ◌∷◌, ◌++◌, length, length-drop, get_or, take, drop, Option, Some, None, refl, sym, ap, subst, ◌∙◌, arith, if◌then◌else◌, rules}
 use Rattle.std.specs.Prelude.{All, map, option_map, position, slice_get, sum_by}
 use Rattle.std.specs.Option.{option_map_or}
@@ -22,7 +22,7 @@ use Rattle.hc_groups.specs.declared.changes.PresenceChange.{PresenceChange}
 use Rattle.hc_groups.specs.declared.prepared.Prepared.{Prepared}
 use Rattle.hc_groups.specs.declared.prepared.Prepared.TheVariants.{Areas, Presence}
 use Rattle.hc_groups.specs.Changes.{IsMade, areas_change, change_by, changed_groups, has_alias, presence_change, presence_at, slaves_at, with_present}
-use Rattle.hc_groups.specs.Index.{Index, IsIndexOf, IsIndexOfDeclared, block_sum, declared_count, own_sum, present_count, sums_from}
+use Rattle.hc_groups.specs.Index.{BeginsWithLine, Index, IsIndexOf, IsIndexOfDeclared, block_sum, declared_count, own_sum, present_count, sums_from}
 use Rattle.hc_groups.specs.inner.Turned.{recounted, turned_index}
 use Rattle.hc_groups.proofs.Indexes.{line-low}
 use Rattle.hc_groups.proofs.Lines.{line-length}
@@ -30,9 +30,9 @@ use Rattle.hc_groups.proofs.Owners.{all-inside, few-blocks, few-groups}
 use Rattle.hc_groups.proofs.Presences.{alias-inside}
 use Rattle.hc_groups.proofs.Summed.{sums-first}
 use Rattle.hc_groups.proofs.lemmas.CarriedOut.{carried-after}
-use Rattle.hc_groups.proofs.lemmas.Edited.{kept-declared, move-keeps, remap-keeps}
+use Rattle.hc_groups.proofs.lemmas.Edited.{unchanged-declared, move-stays, remap-stays}
 
--- the sums behind an element, shifted
+-- the sums after an element, shifted
 pub recounted-slice : (index after count own : ℕ) (sums : List ℕ) → after ≡ suc index → own ≡ get_or sums after 0 - get_or sums index 0
     → take after sums ++ map (λ sum. sum + count - own) (drop after sums) ≡ recounted index count sums
 recounted-slice index after count own [] next is = rw next refl
@@ -42,9 +42,9 @@ recounted-slice zero after count own (sum ∷ sums) next is =
 recounted-slice (suc index) after count own (sum ∷ sums) next is =
     rw next (ap (λ (rest : List ℕ). sum ∷ rest) (recounted-slice index (suc index) count own sums refl (is ∙ ap (λ (n : ℕ). get_or (sum ∷ sums) n 0 - get_or sums index 0) next)))
 
-pub recounted-behind : (index count own : ℕ) (sums shifted : List ℕ) → index + 1 < length sums → own ≡ get_or sums (index + 1) 0 - get_or sums index 0
+pub recounted-after_it : (index count own : ℕ) (sums shifted : List ℕ) → index + 1 < length sums → own ≡ get_or sums (index + 1) 0 - get_or sums index 0
     → shifted ≡ map (λ sum. sum + count - own) (take (length sums - (index + 1)) (drop (index + 1) sums)) → put_mid (index + 1) (length sums - (index + 1)) sums shifted ≡ recounted index count sums
-recounted-behind index count own sums shifted inside is same =
+recounted-after_it index count own sums shifted inside is same =
     let after = index + 1 in
     let long = length-drop after sums in
     ap (λ (rest : List ℕ). take after sums ++ (shifted ++ rest)) (drop_all (length sums - after) (drop after sums) (omega (arith, long)))
@@ -86,8 +86,8 @@ module _ {X : Type 0} (count : X → ℕ) where
 
 -- how much the sums may grow
 
-few-kept : (present : Bool) (slaves : List Slave) → length (if present then slaves else []) ≤ length slaves
-few-kept present slaves = search rules
+few-unchanged : (present : Bool) (slaves : List Slave) → length (if present then slaves else []) ≤ length slaves
+few-unchanged present slaves = search rules
 
 few-own : (present : Bool) (slaves : List Slave) → block_sum (if present then slaves else []) ≤ block_sum slaves
 few-own present slaves = search rules
@@ -100,7 +100,7 @@ slaves-low groups group declared present sums none at is =
     let counted = project-counted groups none in
     let own = sum_by_more_le declared_count groups group declared (slice_get_within groups group declared at) in
     let same = ap declared_count (get_or_from_slice_get groups group declared declared at) in
-    let few = few-kept present declared.group.slaves in
+    let few = few-unchanged present declared.group.slaves in
     subst (All (λ sum. sum + length (if present then declared.group.slaves else []) < 4294967296)) (sym is)
     (All-weaker (λ sum. sum ≤ 0 + sum_by present_count groups) (λ sum. sum + length (if present then declared.group.slaves else []) < 4294967296)
     (λ sum below. omega (arith, below, total, low, counted, own, same, few)) (sums_from present_count 0 groups) (sums-below present_count 0 groups))
@@ -134,14 +134,14 @@ pub counted-at : (present : Bool) (groups : List Declared) (group : ℕ) (declar
 counted-at present groups group declared at =
     ap (λ (slaves : List Slave). if present then slaves else []) (sym (ap (λ (o : Option Declared). option_map_or (λ (d : Declared). d.group.slaves) o []) at))
 
-pub turned-kept : (groups : List Declared) (change : PresenceChange) (index : Index) (declared : Declared) → IsIndexOf groups index → IsMade groups (Presence change)
-    → lowest_fault (groups_of (changed_groups (Presence change) groups)) ≡ None → slice_get groups change.group ≡ Some declared
-    → IsIndexOf (changed_groups (Presence change) groups) (turned_index groups change index)
-turned-kept groups change index declared is made none at =
+pub turned-unchanged : (groups : List Declared) (change : PresenceChange) (index : Index) (declared : Declared) (line : List ℕ) → IsIndexOf groups index → IsMade groups (Presence change)
+    → lowest_fault (groups_of (changed_groups (Presence change) groups)) ≡ None → slice_get groups change.group ≡ Some declared → BeginsWithLine (changed_groups (Presence change) groups) line
+    → IsIndexOf (changed_groups (Presence change) groups) (record (turned_index groups change index) { line = line })
+turned-unchanged groups change index declared line is made none at begins =
     let after = carried-after groups made.0 (Presence change) is.declared.project made.1 in
     let counted = counted-at change.present groups change.group declared at in
-    let kept = kept-declared groups index made.0 (made-line groups made.0 (Presence change) made.1) is.declared (subst (λ (g : List Declared). lowest_fault (groups_of g) ≡ None) after none) in
-    let own = subst (λ (g : List Declared). IsIndexOfDeclared g index) (sym after) kept in
+    let unchanged = unchanged-declared groups index made.0 (made-line groups made.0 (Presence change) made.1) is.declared (subst (λ (g : List Declared). lowest_fault (groups_of g) ≡ None) after none) in
+    let own = subst (λ (g : List Declared). IsIndexOfDeclared g index) (sym after) unchanged in
     record {
       declared = record { project = own.project; aliases = own.aliases; stations = own.stations; variables = own.variables; owners = own.owners; fronts = own.fronts; ranks = own.ranks };
       slaves =
@@ -152,6 +152,7 @@ turned-kept groups change index declared is made none at =
           ap (λ (s : List Slave). recounted change.group (block_sum s) index.blocks) (sym counted)
           ∙ ap (recounted change.group (block_sum (if change.present then declared.group.slaves else []))) is.blocks
           ∙ sym (sums-changed own_sum 0 change.group (with_present change.present) declared groups at);
+      line = begins;
     }
 
 -- the group is one of them
@@ -185,13 +186,13 @@ by-edit : (groups : List Declared) (change : AreasChange) (edit : Edit) (index :
     → IsIndexOf (groups_after groups edit) index
 by-edit groups change (Connect alias) index is made none = absurd (no-presence (presence_change groups alias true) change made)
 by-edit groups change (Disconnect alias) index is made none = absurd (no-presence (presence_change groups alias false) change made)
-by-edit groups change (Remap station area pdos) index is made none = remap-keeps groups index station area pdos is none
-by-edit groups change (Move station area task) index is made none = move-keeps groups index station area task is none
+by-edit groups change (Remap station area pdos) index is made none = remap-stays groups index station area pdos is none
+by-edit groups change (Move station area task) index is made none = move-stays groups index station area task is none
 by-edit groups change (Declare group) index is made none = cc
 
-pub areas-kept : (groups : List Declared) (change : AreasChange) (index : Index) → IsIndexOf groups index → IsMade groups (Areas change) → lowest_fault (groups_of (changed_groups (Areas change) groups)) ≡ None
+pub areas-unchanged : (groups : List Declared) (change : AreasChange) (index : Index) → IsIndexOf groups index → IsMade groups (Areas change) → lowest_fault (groups_of (changed_groups (Areas change) groups)) ≡ None
     → IsIndexOf (changed_groups (Areas change) groups) index
-areas-kept groups change index is made none =
+areas-unchanged groups change index is made none =
     let after = carried-after groups made.0 (Areas change) is.declared.project made.1 in
     subst (λ (g : List Declared). IsIndexOf g index) (sym after)
     (by-edit groups change made.0 index is made.1 (subst (λ (g : List Declared). lowest_fault (groups_of g) ≡ None) after none))

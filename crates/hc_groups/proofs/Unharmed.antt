@@ -38,8 +38,8 @@ none-changed test (suc index) change (first ∷ xs) x none at spares =
     or_from (test first) (list_any test (changed_at index change xs)) parts.0 (none-changed test index change xs x parts.1 at spares)
 
 with-after : (here : Bool) (test : Slave → Bool) (slave after : Slave) → (here ≡ true → test after ≡ false) → test slave ≡ false → test (if here then after else slave) ≡ false
-with-after true test slave after changed kept = changed refl
-with-after false test slave after changed kept = kept
+with-after true test slave after changed unchanged = changed refl
+with-after false test slave after changed unchanged = unchanged
 
 -- a slave whose areas meet no test
 pub areas-spared : (test : Area → Bool) (station index : ℕ) (change : Area → Area) (area : Area) (slave : Slave) → Spares test change area → HasArea station index area slave →

@@ -44,17 +44,17 @@ presence_change groups alias present = option_map (presence_at groups present) (
 abbrev pub has_slave : ℕ → Declared → Bool
 has_slave station declared = has_station station declared.group.slaves
 
--- where a slave of a group, both by their numbers, stands among the declared ones
+-- where a slave of a group, both by their numbers, is among the declared ones
 abbrev pub place_at : List Declared → ℕ → ℕ → SlavePlace
 place_at groups group slave = record { group = group; slave = slave; rank = first_rank groups group + slave }
 
--- where the slave with a station address stands, looked for in one group, and then in all of them
-abbrev pub place_in : List Declared → ℕ → ℕ → Option SlavePlace
-place_in groups station group = option_map (place_at groups group) (position (has_address station) (slaves_at groups group))
+-- where the slave with a station address is, looked for in one group, and then in all of them
+abbrev pub station_place : List Declared → ℕ → ℕ → Option SlavePlace
+station_place groups station group = option_map (place_at groups group) (position (has_address station) (slaves_at groups group))
 
--- where the slave with a station address stands among the declared groups; none where no group declares it
+-- where the slave with a station address is among the declared groups; none where no group declares it
 abbrev pub slave_place : List Declared → ℕ → Option SlavePlace
-slave_place groups station = option_and_then (place_in groups station) (position (has_slave station) groups)
+slave_place groups station = option_and_then (station_place groups station) (position (has_slave station) groups)
 
 -- the areas of the slave at a place
 abbrev pub areas_at : List Declared → SlavePlace → List Area
@@ -88,7 +88,7 @@ with_present present declared = record declared { present = present }
 abbrev pub with_areas : List Area → Slave → Slave
 with_areas areas slave = record slave { areas = areas }
 
--- the declared group, in which the slave at a place, from 0, has these areas in place of its own; as it was where it has no such slave
+-- the declared group, where the slave at a place, from 0, has these areas in place of its own; as it was where it has no such slave
 abbrev pub with_slave : ℕ → List Area → Declared → Declared
 with_slave slave areas declared =
     record declared { group = record declared.group { slaves = changed_at slave (with_areas areas) declared.group.slaves } }

@@ -13,12 +13,12 @@ use Rattle.hc_groups.specs.declared.areas.AreaChange.{AreaChange}
 use Rattle.hc_groups.specs.declared.areas.AreaChange.TheVariants.{Pdos, Task}
 
 -- a state of declared groups; an edit's own faults are the same in every epoch
-abbrev pub state_of : List Declared → State
-state_of groups = record { groups = groups; epoch = 0 }
+abbrev pub groups_state : List Declared → State
+groups_state groups = record { groups = groups; epoch = 0 }
 
 -- the lowest fault that an edit has by itself
 abbrev pub own_fault : List Declared → Edit → Option EditFault
-own_fault groups edit = lowest (own_faults (state_of groups) edit)
+own_fault groups edit = lowest (own_faults (groups_state groups) edit)
 
 -- the faults of assigning PDOs to an area, the lowest first
 abbrev pub assigning_faults : Area → List ℕ → List (Bool × EditFault)
@@ -26,6 +26,6 @@ assigning_faults area pdos =
     (has_unknown pdos area, UnknownPdo) ∷ (has_repeat pdos, RepeatedPdo) ∷ (is_too_big pdos area, AreaTooBig) ∷ []
 
 -- what a change makes of an area
-abbrev pub changed : AreaChange → Area → Area
-changed (Pdos pdos) area = record area { assigned = pdos.now }
-changed (Task task) area = record area { task = task }
+abbrev pub changed_area : AreaChange → Area → Area
+changed_area (Pdos pdos) area = record area { assigned = pdos.now }
+changed_area (Task task) area = record area { task = task }

@@ -1,5 +1,5 @@
 -- What an index of a project's declared groups keeps, so that a group, a slave or a block of the line is found without a walk.
-use Rattle.std.specs.Prelude.{◌≡◌, ◌≢◌, ℕ, zero, suc, ◌+◌, ◌-◌, ◌*◌, ◌<◌, nat_lt, true, if◌then◌else◌, All, Contains, List, [], ◌∷◌, ◌++◌, get_or, length, map, slice_get, sum_by, take, Option, Some, None, option_and_then}
+use Rattle.std.specs.Prelude.{◌≡◌, ◌≢◌, ℕ, zero, suc, ◌+◌, ◌-◌, ◌*◌, ◌<◌, nat_lt, true, if◌then◌else◌, All, Contains, List, [], ◌∷◌, ◌++◌, get_or, length, map, slice_get, sum_by, take, Option, Some, None, option_and_then, MatchOption}
 use Rattle.std.specs.List.{enumerate_from}
 use Rattle.std.specs.List.Sorted.{IsNonDecreasing, IsPermutation}
 use Rattle.hc_records.specs.declared.records.Declared.{Declared}
@@ -40,6 +40,11 @@ IsRankOf all station (suc rank) = Contains all (record { station = station; rank
 abbrev pub AreRanks : List Address → List ℕ → Type 0
 AreRanks all ranks = (station : ℕ) → IsRankOf all station (get_or ranks station 0)
 
+-- the rank of the slave with a station address, among these; none where no slave has it
+abbrev pub FindsRank : List Address → ℕ → Option ℕ → Type 0
+FindsRank all station found =
+    MatchOption found (All (λ address. address.station ≢ station) all) (λ rank. Contains all (record { station = station; rank = rank }))
+
 -- of each declared slave, in declared order, the number of its group, where the first group has this number
 abbrev pub owners_from : ℕ → List Declared → List ℕ
 owners_from group [] = []
@@ -52,40 +57,40 @@ variables groups = slave_names (slaves_of (groups_of groups))
 -- how many register blocks slaves have: two for each area
 
 -- the blocks of one slave
-abbrev pub blocks_of : Slave → ℕ
-blocks_of slave = 2 * length slave.areas
+abbrev pub slave_block_count : Slave → ℕ
+slave_block_count slave = 2 * length slave.areas
 
 -- those of slaves, all together
 abbrev pub block_sum : List Slave → ℕ
-block_sum slaves = sum_by blocks_of slaves
+block_sum slaves = sum_by slave_block_count slaves
 
 -- those of a slave of the line
 abbrev pub own_blocks : Member → ℕ
-own_blocks member = blocks_of member.slave
+own_blocks member = slave_block_count member.slave
 
 -- the slave at a place in the group with a number
 abbrev pub slave_in : List Declared → ℕ → ℕ → Option Slave
 slave_in groups group place = option_and_then (λ (declared : Declared). slice_get declared.group.slaves place) (slice_get groups group)
 
--- sums along a list: how many are in front of each element, of which each counts for so many, and at the end how many there are in all
+-- sums along a list: how many are before each element, where each counts for so many, and at the end how many there are in all
 
--- the sums, where so many are in front of the first element
+-- the sums, where so many are before the first element
 abbrev pub sums_from : {X : Type 0} → (X → ℕ) → ℕ → List X → List ℕ
 sums_from count front [] = front ∷ []
 sums_from count front (x ∷ xs) = front ∷ sums_from count (front + count x) xs
 
 -- numbers among which one is sought: they begin with 0 and don't fall
-pub record AreSums (sums : List ℕ) : Type 0 where
+pub record AreRisingSums (sums : List ℕ) : Type 0 where
   pub first : slice_get sums 0 ≡ Some 0
   pub rising : IsNonDecreasing sums
 
--- a number falls behind the sum at an index, so far behind it, and is below the next one
-pub record IsSpot (sums : List ℕ) (n index offset : ℕ) : Type 0 where
+-- a number falls after the sum at an index, so far after it, and is below the next one
+pub record IsSumPlace (sums : List ℕ) (n index offset : ℕ) : Type 0 where
   pub front : ℕ
   pub at : slice_get sums index ≡ Some front
   pub sum : front + offset ≡ n
   pub next : ℕ
-  pub behind : slice_get sums (index + 1) ≡ Some next
+  pub after_it : slice_get sums (index + 1) ≡ Some next
   pub below : n < next
 
 -- how many slaves a group declares
@@ -100,17 +105,32 @@ present_count declared = length (present_slaves declared)
 abbrev pub own_sum : Declared → ℕ
 own_sum declared = block_sum (present_slaves declared)
 
+-- the station addresses of slaves
+abbrev pub stations : List Slave → List ℕ
+stations slaves = map (λ (slave : Slave). slave.station) slaves
+
+-- those of the slaves of the line, in line order
+abbrev pub line_stations : List Declared → List ℕ
+line_stations [] = []
+line_stations (declared ∷ groups) = stations (present_slaves declared) ++ line_stations groups
+
+-- a list begins with them, and has as many places as slaves are declared
+pub record BeginsWithLine (groups : List Declared) (list : List ℕ) : Type 0 where
+  pub long : length list ≡ sum_by declared_count groups
+  pub front : take (length (line_stations groups)) list ≡ line_stations groups
+
 -- the rank of the slave at a place in the group with a number
 abbrev pub rank_in : List Declared → ℕ → ℕ → ℕ
 rank_in groups group place = 1 + sum_by declared_count (take group groups) + place
 
 -- the sums of the blocks of a declared group's slaves
 abbrev pub block_sums : Declared → List ℕ
-block_sums declared = sums_from blocks_of 0 declared.group.slaves
+block_sums declared = sums_from slave_block_count 0 declared.group.slaves
 
 -- the aliases with the numbers of their groups, in the order of the aliases; at each station address the rank of the declared
 -- slave that has it; the variables that declared slaves offer, in the order of their numbers; of each declared slave its group; for each declared group
--- the sums of its slaves' blocks; and the sums of the groups' declared slaves, of their slaves of the line, and of the blocks of those
+-- the sums of its slaves' blocks; the sums of the groups' declared slaves, of their slaves of the line, and of the blocks of those; and the station
+-- addresses of the slaves of the line by their positions, with as many places as slaves are declared
 pub record Index : Type 0 where
   pub aliases : List Alias
   pub stations : List ℕ
@@ -120,6 +140,7 @@ pub record Index : Type 0 where
   pub ranks : List ℕ
   pub slaves : List ℕ
   pub blocks : List ℕ
+  pub line : List ℕ
 
 -- the index has what never changes of a project's groups: their aliases, and of the slaves that they declare the addresses, the
 -- offered variables, the ranks and the blocks
@@ -132,11 +153,12 @@ pub record IsIndexOfDeclared (groups : List Declared) (index : Index) : Type 0 w
   pub fronts : index.fronts ≡ map block_sums groups
   pub ranks : index.ranks ≡ sums_from declared_count 0 groups
 
--- the index is that of a project's groups
+-- it is the index of a project's groups
 pub record IsIndexOf (groups : List Declared) (index : Index) : Type 0 where
   pub declared : IsIndexOfDeclared groups index
   pub slaves : index.slaves ≡ sums_from present_count 0 groups
   pub blocks : index.blocks ≡ sums_from own_sum 0 groups
+  pub line : BeginsWithLine groups index.line
 
 -- the slave of a line that has the block with a number, from 0, with the block's number in the slave's own order
 abbrev pub owned_by : List Member → ℕ → Option (Member × ℕ)
@@ -151,7 +173,7 @@ pub record IsDeclaredAt (groups : List Declared) (rank group place : ℕ) : Type
   pub inside : place < length declared.group.slaves
   pub ranked : rank ≡ rank_in groups group place
 
--- the slave with a rank stands in the line: its group, with this number, is present, and it has this place in it
+-- the slave with a rank is in the line: its group, with this number, is present, and it has this place in it
 pub record IsMember (groups : List Declared) (rank group place : ℕ) : Type 0 where
   pub declared : Declared
   pub at : slice_get groups group ≡ Some declared

@@ -7,9 +7,12 @@ use Rattle.hc_records.specs.Edits.{absent}
 use Rattle.hc_records.specs.Line.{groups_of, members_from}
 use Rattle.hc_records.specs.Project.{lowest_fault, slave_names}
 use Rattle.hc_groups.specs.declared.addresses.Address.{Address}
-use Rattle.hc_groups.specs.Index.{Index, IsIndexOf, address_of, blocks_of, declared_count, sums_from, variables}
+use Rattle.hc_groups.specs.Index.{Index, IsIndexOf, address_of, slave_block_count, declared_count, sums_from, variables}
+use Rattle.hc_groups.specs.declared.room.GroupRoom.{GroupRoom}
+use Rattle.hc_groups.specs.declared.room.SlaveRoom.{SlaveRoom}
+use Rattle.hc_groups.specs.declared.room.Entry.{Entry}
 
--- the index is that of a project's groups, which are a project's again with the group behind them, absent
+-- the index of a project's groups; with the group after them, absent, they are a project's again
 pub record CanEnter (index : Index) (group : Group) : Type 0 where
   pub groups : List Declared
   pub is : IsIndexOf groups index
@@ -22,6 +25,7 @@ pub record IndexRoom : Type 0 where
   pub stations : ℕ
   pub variables : ℕ
   pub owners : ℕ
+  pub line : ℕ
   pub fronts : ℕ
   pub ranks : ℕ
   pub slaves : ℕ
@@ -31,13 +35,30 @@ pub record IndexRoom : Type 0 where
   pub names : List ℕ
   pub sums : List ℕ
 
--- there is room for what a group brings behind these groups: one element in each list that has one for each group, one for each of its slaves and of its
+-- there is room for one element more in each list that has one for each group
+pub record IsGroupRoom (index : Index) (room : GroupRoom) : Type 0 where
+  pub aliases : length index.aliases + 1 ≤ room.aliases
+  pub fronts : length index.fronts + 1 ≤ room.fronts
+  pub ranks : length index.ranks + 1 ≤ room.ranks
+  pub slaves : length index.slaves + 1 ≤ room.slaves
+  pub blocks : length index.blocks + 1 ≤ room.blocks
+
+-- there is room for so many slaves with what an index takes of them: the ranks up to their highest station address, their variables, their groups' numbers, and a
+-- position of the line for each
+pub record IsSlaveRoom (index : Index) (entry : Entry) (count : ℕ) (room : SlaveRoom) : Type 0 where
+  pub stations : entry.reach ≤ room.stations
+  pub variables : length index.variables + length entry.names.items ≤ room.variables
+  pub owners : length index.owners + count ≤ room.owners
+  pub line : length index.line + count ≤ room.line
+
+-- there is room for what a group brings after these groups: one element in each list that has one for each group, one for each of its slaves and of its
 -- variables, and the ranks up to its highest station address; and that is what an index takes of it
-pub record IsRoomFor (groups : List Declared) (group : Group) (room : IndexRoom) : Type 0 where
+pub record IsIndexRoomFor (groups : List Declared) (group : Group) (room : IndexRoom) : Type 0 where
   pub aliases : length groups + 1 ≤ room.aliases
   pub stations : room.reach ≤ room.stations
   pub variables : length (variables groups) + length room.names ≤ room.variables
   pub owners : sum_by declared_count groups + length group.slaves ≤ room.owners
+  pub line : sum_by declared_count groups + length group.slaves ≤ room.line
   pub fronts : length groups + 1 ≤ room.fronts
   pub ranks : length groups + 2 ≤ room.ranks
   pub slaves : length groups + 2 ≤ room.slaves
@@ -46,11 +67,11 @@ pub record IsRoomFor (groups : List Declared) (group : Group) (room : IndexRoom)
   pub reach : All (λ address. address.station < room.reach) room.addresses
   pub names : IsPermutation (slave_names group.slaves) room.names
   pub order : IsNonDecreasing room.names
-  pub sums : room.sums ≡ sums_from blocks_of 0 group.slaves
+  pub sums : room.sums ≡ sums_from slave_block_count 0 group.slaves
 
--- the group enters behind the groups of the index, in this memory
-pub record CanAdmit (index : Index) (group : Group) (room : IndexRoom) : Type 0 where
+-- the group enters after the groups of the index, in this memory
+pub record IndexCanAdmit (index : Index) (group : Group) (room : IndexRoom) : Type 0 where
   pub groups : List Declared
   pub is : IsIndexOf groups index
   pub project : lowest_fault (groups_of (groups ++ absent group ∷ [])) ≡ None
-  pub fits : IsRoomFor groups group room
+  pub fits : IsIndexRoomFor groups group room

@@ -16,12 +16,12 @@ pub record Ranked : Type 0 where
   pub slave : Slave
 
 -- the slaves of a group, each with whether the group is present
-abbrev pub ranked : Bool → List Slave → List Ranked
-ranked present slaves = map (λ slave. record { present = present; slave = slave }) slaves
+abbrev pub present_ranked : Bool → List Slave → List Ranked
+present_ranked present slaves = map (λ slave. record { present = present; slave = slave }) slaves
 
 -- the declared slaves by rank: the first one has rank 1
 abbrev pub by_rank : List Declared → List Ranked
-by_rank groups = flat_map (λ declared. ranked declared.present declared.group.slaves) groups
+by_rank groups = flat_map (λ declared. present_ranked declared.present declared.group.slaves) groups
 
 -- the areas that such a slave has in the line: none where its group isn't present
 abbrev pub areas_in_line : Ranked → List Area
@@ -30,14 +30,14 @@ areas_in_line slave = if slave.present then slave.slave.areas else []
 -- The slaves that a change concerns: those of the group that comes or goes, or the one that gets other areas.
 
 -- the rank of the first
-abbrev pub first_of : Prepared → ℕ
-first_of (Presence change) = change.first
-first_of (Areas change) = change.place.rank
+abbrev pub first_rank_of : Prepared → ℕ
+first_rank_of (Presence change) = change.first
+first_rank_of (Areas change) = change.place.rank
 
 -- how many they are
-abbrev pub count_of : Prepared → ℕ
-count_of (Presence change) = change.slaves
-count_of (Areas change) = 1
+abbrev pub prepared_count : Prepared → ℕ
+prepared_count (Presence change) = change.slaves
+prepared_count (Areas change) = 1
 
 -- the place of their group
 abbrev pub group_of : Prepared → ℕ
@@ -51,19 +51,19 @@ named_by (Areas change) slaves = option_to_list (slice_get slaves change.place.s
 
 -- they themselves; none where the groups have no such place
 abbrev pub row : Prepared → List Declared → List Ranked
-row change groups = option_map_or (λ declared. ranked declared.present (named_by change declared.group.slaves)) (slice_get groups (group_of change)) []
+row change groups = option_map_or (λ declared. present_ranked declared.present (named_by change declared.group.slaves)) (slice_get groups (group_of change)) []
 
 -- the slave of a group that gets other areas, with these
 abbrev pub given_row : AreasChange → Declared → List Ranked
 given_row change declared =
-    ranked declared.present (option_to_list (option_map (with_areas change.areas) (slice_get declared.group.slaves change.place.slave)))
+    present_ranked declared.present (option_to_list (option_map (with_areas change.areas) (slice_get declared.group.slaves change.place.slave)))
 
 -- their ranks follow one another, and each other slave is the same, and as present, before the change and after it
 pub record ChangesRow (change : Prepared) (groups : List Declared) : Type 0 where
   pub front : List Ranked
-  pub behind : List Ranked
-  pub first : first_of change ≡ length front + 1
-  pub many_before : length (row change groups) ≡ count_of change
-  pub many_after : length (row change (changed_groups change groups)) ≡ count_of change
-  pub before : by_rank groups ≡ front ++ (row change groups ++ behind)
-  pub after : by_rank (changed_groups change groups) ≡ front ++ (row change (changed_groups change groups) ++ behind)
+  pub after_it : List Ranked
+  pub first : first_rank_of change ≡ length front + 1
+  pub many_before : length (row change groups) ≡ prepared_count change
+  pub many_after : length (row change (changed_groups change groups)) ≡ prepared_count change
+  pub before : by_rank groups ≡ front ++ (row change groups ++ after_it)
+  pub after : by_rank (changed_groups change groups) ≡ front ++ (row change (changed_groups change groups) ++ after_it)

@@ -1,8 +1,8 @@
 //! The ranks of all declared slaves, present or not, by their station addresses.
-ghost use Rattle.std.specs.Prelude.{◌≡◌, ◌≢◌, ◌+◌, ◌<◌, ◌≤◌, ◌++◌, All, Contains, IfOk, List, MatchOption, OnOk, length, map, replicate};
+ghost use Rattle.std.specs.Prelude.{◌≡◌, ◌+◌, ◌<◌, ◌≤◌, ◌++◌, All, IfOk, List, OnOk, length, map, replicate};
 ghost use Rattle.hc_records.specs.Line.{IsCounted, members_from};
 ghost use Rattle.hc_groups.specs.declared.addresses.Address.{Address};
-ghost use Rattle.hc_groups.specs.Index.{AreRanks, address_of, addresses};
+ghost use Rattle.hc_groups.specs.Index.{AreRanks, address_of, addresses, FindsRank};
 
 use crate::lists::fill;
 use hc_records::records::{Declared, Slave};
@@ -18,7 +18,7 @@ pub struct Address {
     pub rank: u16,
 }
 
-/// Adds the addresses of slaves of which the first has this rank.
+/// Adds the addresses of slaves from this rank on.
 pub(crate) fn add_addresses(
     all: &mut Vec<Address>,
     rank: u16,
@@ -109,7 +109,7 @@ fn lengthen(ranks: &mut Vec<u16>, room: Room<u16>, reach: usize)
     fill(ranks, room, reach - count, 0);
 }
 
-/// Adds the ranks of slaves at their station addresses, all of which are below a number, with the help of memory
+/// Adds the ranks of slaves at their station addresses, which are all below a number, with the help of memory
 /// that was taken before.
 pub(crate) fn add_ranks(ranks: &mut Vec<u16>, room: Room<u16>, addresses: &[Address], reach: usize)
     requires room { reach ≤ room }
@@ -123,7 +123,7 @@ pub(crate) fn add_ranks(ranks: &mut Vec<u16>, room: Room<u16>, addresses: &[Addr
 
 /// The rank of the declared slave with a station address; none where there is none.
 pub(crate) fn find_rank(ranks: &[u16], station: u16) -> Option<u16>
-    ensures { (all : List Address) → AreRanks all ranks.now → MatchOption result (All (λ address. address.station ≢ station) all) (λ rank. Contains all (record { station = station; rank = rank })) }
+    ensures { (all : List Address) → AreRanks all ranks.now → FindsRank all station result }
 {
     let rank = *ranks.get(usize::from(station))?;
     if rank == 0 { None } else { Some(rank) }

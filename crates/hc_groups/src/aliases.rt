@@ -66,7 +66,7 @@ pub(crate) fn find_group(aliases: &[Alias], alias: u16) -> Option<u16>
     }
 }
 
-/// Adds an alias to others, with the help of memory that was taken before: those behind it are shifted once.
+/// Adds an alias to others, with the help of memory that was taken before: those after it are shifted once.
 pub(crate) fn add_alias(aliases: &mut Vec<Alias>, room: Room<Alias>, alias: Alias)
     requires order { IsNonDecreasingBy (λ own. own.alias) aliases.old.items }
     requires room { length aliases.old.items + 1 ≤ room }

@@ -1,7 +1,7 @@
 //! Slaves with one area changed.
 ghost use Rattle.std.specs.Prelude.{◌≡◌, IfOk, if◌then◌else◌};
 ghost use Rattle.hc_records.specs.Lists.{changed_at};
-ghost use Rattle.hc_groups.specs.Edits.{changed};
+ghost use Rattle.hc_groups.specs.Edits.{changed_area};
 
 use hc_records::items::{Copied, Items};
 use hc_records::records::Area;
@@ -12,7 +12,7 @@ use std::alloc::{AllocError, Global};
 pub enum AreaChange<'a> {
     /// These PDOs are assigned, in this order.
     Pdos(&'a Items<u16>),
-    /// It stands in this task.
+    /// It is in this task.
     Task(u8),
 }
 
@@ -52,7 +52,7 @@ fn moved(alloc: Global, area: &Area, task: u8) -> Result<Area, AllocError>
 
 /// A copy of an area with a change.
 fn changed(alloc: Global, area: &Area, change: &AreaChange) -> Result<Area, AllocError>
-    ensures { IfOk result (λ after. after ≡ changed change.now area.now) }
+    ensures { IfOk result (λ after. after ≡ changed_area change.now area.now) }
 {
     match change {
         AreaChange::Pdos(pdos) => reassigned(alloc, area, pdos),
@@ -67,7 +67,7 @@ fn area_after(
     is_changed: bool,
     change: &AreaChange,
 ) -> Result<Area, AllocError>
-    ensures { IfOk result (λ after. after ≡ (if is_changed then changed change.now area.now else area.now)) }
+    ensures { IfOk result (λ after. after ≡ (if is_changed then changed_area change.now area.now else area.now)) }
 {
     if is_changed {
         changed(alloc, area, change)
@@ -83,7 +83,7 @@ pub fn areas_after(
     areas: &[Area],
     edit: &AreaEdit,
 ) -> Result<Items<Area>, AllocError>
-    ensures { IfOk result (λ after. after ≡ changed_at edit.now.area (changed edit.now.change) areas.now) }
+    ensures { IfOk result (λ after. after ≡ changed_at edit.now.area (changed_area edit.now.change) areas.now) }
 {
     let mut after = Items::new(alloc);
     for i in 0..areas.len() {

@@ -1,4 +1,4 @@
-//! A change carried out in the declared groups, where they stand. Nothing here takes memory.
+//! A change carried out in the declared groups, where they are. Nothing here takes memory.
 ghost use Rattle.std.specs.Prelude.{◌≡◌};
 ghost use Rattle.hc_records.specs.Lists.{changed_at};
 ghost use Rattle.hc_groups.specs.Changes.{changed_groups, with_areas, with_slave};

@@ -3,7 +3,7 @@
 ghost use Rattle.std.specs.Prelude.{◌≡◌, true, IfOk, Some};
 ghost use Rattle.std.specs.List.{list_any};
 ghost use Rattle.hc_records.specs.Line.{IsCounted};
-ghost use Rattle.hc_groups.specs.Edits.{changed};
+ghost use Rattle.hc_groups.specs.Edits.{changed_area};
 ghost use Rattle.hc_groups.specs.Changes.{areas_at, areas_change, areas_changed, has_slave, presence_change};
 
 use crate::areas::{AreaEdit, areas_after};
@@ -25,7 +25,7 @@ pub struct PresenceChange {
     pub slaves: u16,
 }
 
-/// Where a declared slave stands.
+/// Where a declared slave is.
 #[derive(Clone, Copy, Debug)]
 pub struct SlavePlace {
     /// The place of its group among the declared ones, from 0.
@@ -39,7 +39,7 @@ pub struct SlavePlace {
 /// A declared slave whose areas change.
 #[derive(Debug, Drop)]
 pub struct AreasChange {
-    /// Where the slave stands.
+    /// Where the slave is.
     pub place: SlavePlace,
     /// All the areas that it gets, in record order.
     pub areas: Items<Area>,
@@ -81,7 +81,7 @@ fn areas_changed(
     place: SlavePlace,
     edit: &AreaEdit,
 ) -> Result<AreasChange, AllocError>
-    ensures { IfOk result (λ found. found ≡ areas_changed groups.now edit.now.area (changed edit.now.change) place) }
+    ensures { IfOk result (λ found. found ≡ areas_changed groups.now edit.now.area (changed_area edit.now.change) place) }
 {
     let areas = areas_after(alloc, areas_at(groups, &place), edit)?;
     Ok(AreasChange { place, areas })
@@ -95,7 +95,7 @@ pub(crate) fn areas_change(
     edit: &AreaEdit,
 ) -> Result<AreasChange, AllocError>
     requires known { list_any (has_slave edit.now.station) groups.now ≡ true }
-    ensures { IfOk result (λ found. areas_change groups.now edit.now.station edit.now.area (changed edit.now.change) ≡ Some found) }
+    ensures { IfOk result (λ found. areas_change groups.now edit.now.station edit.now.area (changed_area edit.now.change) ≡ Some found) }
 {
     let Some(place) = groups.slave_place(edit.station) else {
         unreachable!()

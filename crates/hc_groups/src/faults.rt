@@ -3,7 +3,7 @@ ghost use Rattle.std.specs.Prelude.{◌≡◌, None, Some, IfErr, IfOk};
 ghost use Rattle.hc_records.specs.Edits.{area_at, area_faults};
 ghost use Rattle.hc_records.specs.Lists.{lowest};
 ghost use Rattle.hc_records.specs.declared.edit.Edit.TheVariants.{Connect, Disconnect, Remap, Move};
-ghost use Rattle.hc_groups.specs.Edits.{assigning_faults, own_fault, state_of};
+ghost use Rattle.hc_groups.specs.Edits.{assigning_faults, own_fault, groups_state};
 
 use crate::index::Indexed;
 use hc_records::assignment::repeats;
@@ -12,6 +12,7 @@ use hc_records::faults::EditFault;
 use hc_records::limits::{MOST_AREA_BITS, TASKS};
 use hc_records::records::Area;
 
+/// Why a group can't be connected: `AlreadyPresent` if it is present, `UnknownAlias` if no declared group has the alias.
 fn connect_fault(groups: &Indexed, alias: u16) -> Option<EditFault>
     ensures { result ≡ own_fault groups.now (Connect alias) }
 {
@@ -22,6 +23,8 @@ fn connect_fault(groups: &Indexed, alias: u16) -> Option<EditFault>
     }
 }
 
+/// Why a group can't be disconnected: `Mandatory` for the present group with alias 0, `NotPresent` if it is absent,
+/// `UnknownAlias` if no declared group has the alias.
 fn disconnect_fault(groups: &Indexed, alias: u16) -> Option<EditFault>
     ensures { result ≡ own_fault groups.now (Disconnect alias) }
 {
@@ -35,9 +38,9 @@ fn disconnect_fault(groups: &Indexed, alias: u16) -> Option<EditFault>
 
 /// An area of the present slave with a station address, or why there is none.
 fn area_of<'a>(groups: &Indexed<'a>, station: u16, area: u8) -> Result<&'a Area, EditFault>
-    ensures found { IfOk result (λ found. area_at (state_of groups.now) station area ≡ Some found.now) }
-    ensures free { IfOk result (λ found. lowest (area_faults (state_of groups.now) station area) ≡ None) }
-    ensures refused { IfErr result (λ fault. lowest (area_faults (state_of groups.now) station area) ≡ Some fault) }
+    ensures found { IfOk result (λ found. area_at (groups_state groups.now) station area ≡ Some found.now) }
+    ensures free { IfOk result (λ found. lowest (area_faults (groups_state groups.now) station area) ≡ None) }
+    ensures refused { IfErr result (λ fault. lowest (area_faults (groups_state groups.now) station area) ≡ Some fault) }
 {
     if !groups.is_declared_station(station) {
         return Err(EditFault::UnknownStation);
@@ -78,6 +81,8 @@ pub fn remap_fault(groups: &Indexed, station: u16, area: u8, pdos: &[u16]) -> Op
     }
 }
 
+/// Why an area can't move to a task: `UnknownStation`, `Absent` or `NoSuchArea` if there is no such area, otherwise
+/// `NoSuchTask` for a task over 7.
 fn move_fault(groups: &Indexed, station: u16, area: u8, task: u8) -> Option<EditFault>
     ensures { result ≡ own_fault groups.now (Move station area task) }
 {

@@ -3,16 +3,20 @@ ghost use Rattle.std.specs.Prelude.{◌≡◌, ◌<◌, None, IfOk, length};
 ghost use Rattle.hc_records.specs.Line.{groups_of};
 ghost use Rattle.hc_records.specs.Project.{lowest_fault};
 ghost use Rattle.hc_groups.specs.Changes.{IsMade, changed_groups};
-ghost use Rattle.hc_groups.specs.Index.{IsIndexOf};
+ghost use Rattle.hc_groups.specs.declared.prepared.Prepared.TheVariants.{Presence};
+ghost use Rattle.hc_groups.specs.Index.{BeginsWithLine, IsIndexOf};
+ghost use Rattle.hc_groups.specs.inner.Line.{IsStretchOf};
 ghost use Rattle.hc_groups.specs.inner.Turned.{turned_index};
 
 use crate::addresses::{find_rank, ranks_by_station};
 use crate::aliases::{Alias, find_group, sorted_aliases};
 use crate::changes::{PresenceChange, SlavePlace};
+use crate::line::{Stretch, line_list, replace, slaves_if};
 use crate::owning::owners;
 use crate::prepared::Prepared;
 use crate::sums::{
-    Spot, declared_sums, find_spot, group_fronts, line_counts, number_at, recount, sum_line,
+    SumPlace, declared_sums, find_near_share, find_sum_place, group_fronts, line_counts, number_at,
+    recount, sum_line,
 };
 use crate::variables::{is_one_of, sorted_variables};
 use hc_records::records::{Declared, Slave, VarId};
@@ -63,14 +67,16 @@ pub struct Index {
     pub(crate) variables: Vec<u32>,
     // of each declared slave the number of its group
     pub(crate) owners: Vec<u16>,
-    // of each declared group, how many blocks are in front of each of its slaves in the group, and how many it has
+    // of each declared group, how many blocks are before each of its slaves in the group, and how many it has
     pub(crate) fronts: Vec<Vec<u32>>,
-    // how many slaves are declared in front of each group, and how many there are
+    // how many slaves are declared before each group, and how many there are
     pub(crate) ranks: Vec<u32>,
-    // how many slaves of the line are in front of each group, and how many it has
+    // how many slaves of the line are before each group, and how many it has
     pub(crate) slaves: Vec<u32>,
     // and how many blocks of the line
     pub(crate) blocks: Vec<u32>,
+    // the station addresses of the slaves of the line by their positions, and after them places for those of the others
+    pub(crate) line: Vec<u16>,
 }
 
 impl Drop for Index {
@@ -84,6 +90,7 @@ impl Drop for Index {
             ranks: _,
             slaves: _,
             blocks: _,
+            line: _,
         } = self;
     }
 }
@@ -95,7 +102,7 @@ impl Model for Index {
 
     ghost Value = { Index };
 
-    ghost view = { λ index. record { aliases = index.aliases.items; stations = index.stations.items; variables = index.variables.items; owners = index.owners.items; fronts = map (λ sums. sums.items) index.fronts.items; ranks = index.ranks.items; slaves = index.slaves.items; blocks = index.blocks.items } };
+    ghost view = { λ index. record { aliases = index.aliases.items; stations = index.stations.items; variables = index.variables.items; owners = index.owners.items; fronts = map (λ sums. sums.items) index.fronts.items; ranks = index.ranks.items; slaves = index.slaves.items; blocks = index.blocks.items; line = index.line.items } };
 
     ghost invariant = { λ index. IsNonDecreasingBy (λ alias. alias.alias) index.aliases.items × IsNonDecreasing index.variables.items × (length index.fronts.items < vec_capacity index.slaves) × (length index.fronts.items < vec_capacity index.blocks) };
 }
@@ -115,6 +122,7 @@ impl Index {
         let mut slaves = Vec::with_capacity(alloc, groups.len() + 1)?;
         let mut blocks = Vec::with_capacity(alloc, groups.len() + 1)?;
         sum_line(&mut slaves, &mut blocks, fronts.as_slice(), groups);
+        let line = line_list(alloc, groups, owners.len())?;
         Ok(Index {
             aliases,
             stations,
@@ -124,6 +132,7 @@ impl Index {
             ranks,
             slaves,
             blocks,
+            line,
         })
     }
 
@@ -139,9 +148,35 @@ impl Index {
         recount(self.blocks.as_mut_slice(), change.group, blocks);
     }
 
+    /// Where the slaves of a group are in the line.
+    fn stretch(&self, groups: &[Declared], group: usize) -> Stretch
+        requires index { IsIndexOf groups.now self.now }
+        requires inside { group < length groups.now }
+        ensures { IsStretchOf groups.now group result }
+    {
+        let position = self.slaves[group] as usize;
+        Stretch {
+            position,
+            own: self.slaves[group + 1] as usize - position,
+            line: self.slaves[groups.len()] as usize,
+        }
+    }
+
+    /// A group comes or goes whose slaves are there in the line: so do their station addresses.
+    fn restation(&mut self, groups: &[Declared], change: &PresenceChange, stretch: Stretch)
+        requires line { BeginsWithLine groups.now self.old.line }
+        requires stretch { IsStretchOf groups.now change.now.group stretch }
+        requires inside { change.now.group < length groups.now }
+        ensures rest { self.new ≡ record self.old { line = self.new.line } }
+        ensures line { BeginsWithLine (changed_groups (Presence change.now) groups.now) self.new.line }
+    {
+        let slaves = slaves_if(&groups[change.group], change.present);
+        replace(self.line.as_mut_slice(), stretch, slaves);
+    }
+
     /// A change that an edit makes of the groups that it is the index of: it becomes the index of the groups that the
-    /// change leaves. Where a group comes or goes, the sums of the groups after it change; where a slave gets other
-    /// areas they stay, since it gets as many. It takes no memory.
+    /// change leaves. Where a group comes or goes, the sums of the groups after it change, and the station addresses
+    /// after its own move up or down; where a slave gets other areas they stay, since it gets as many. It takes no memory.
     pub fn follow(&mut self, groups: &[Declared], change: &Prepared)
         requires index { IsIndexOf groups.now self.old }
         requires made { IsMade groups.now change.now }
@@ -149,7 +184,11 @@ impl Index {
         ensures { IsIndexOf (changed_groups change.now groups.now) self.new }
     {
         match change {
-            Prepared::Presence(change) => self.turn(groups, change),
+            Prepared::Presence(change) => {
+                let stretch = self.stretch(groups, change.group);
+                self.turn(groups, change);
+                self.restation(groups, change, stretch);
+            }
             Prepared::Areas(_) => {}
         }
     }
@@ -169,6 +208,7 @@ impl Index {
             ranks: self.ranks.as_slice(),
             slaves: self.slaves.as_slice(),
             blocks: self.blocks.as_slice(),
+            line: self.line.as_slice(),
         }
     }
 }
@@ -185,6 +225,7 @@ pub struct Indexed<'a> {
     ranks: &'a [u32],
     slaves: &'a [u32],
     blocks: &'a [u32],
+    line: &'a [u16],
 }
 
 impl<'a> Model for Indexed<'a> {
@@ -197,7 +238,7 @@ impl<'a> Model for Indexed<'a> {
 
     ghost view = { λ indexed. indexed.groups.now };
 
-    ghost invariant = { λ indexed. IsIndexOf indexed.groups.now (record { aliases = indexed.aliases.now; stations = indexed.stations.now; variables = indexed.variables.now; owners = indexed.owners.now; fronts = map (λ sums. sums.items) indexed.fronts.now; ranks = indexed.ranks.now; slaves = indexed.slaves.now; blocks = indexed.blocks.now }) × IsNonDecreasingBy (λ alias. alias.alias) indexed.aliases.now × IsNonDecreasing indexed.variables.now };
+    ghost invariant = { λ indexed. IsIndexOf indexed.groups.now (record { aliases = indexed.aliases.now; stations = indexed.stations.now; variables = indexed.variables.now; owners = indexed.owners.now; fronts = map (λ sums. sums.items) indexed.fronts.now; ranks = indexed.ranks.now; slaves = indexed.slaves.now; blocks = indexed.blocks.now; line = indexed.line.now }) × IsNonDecreasingBy (λ alias. alias.alias) indexed.aliases.now × IsNonDecreasing indexed.variables.now };
 }
 
 impl<'a> Indexed<'a> {
@@ -291,24 +332,24 @@ impl<'a> Indexed<'a> {
 
     /// The number of the group, from 0, of the declared slave with a rank, present or not, and the slave's place in it;
     /// none where fewer slaves are declared.
-    fn find_declared(&self, rank: u16) -> Option<Spot>
+    fn find_declared(&self, rank: u16) -> Option<SumPlace>
         requires { 1 ≤ rank }
-        ensures spot { MatchOption result (sum_by declared_count self.now < rank) (λ spot. IsDeclaredAt self.now rank spot.index spot.offset) }
-        ensures low { IfSome result (λ spot. spot.index < 65536) }
+        ensures sum_place { MatchOption result (sum_by declared_count self.now < rank) (λ sum_place. IsDeclaredAt self.now rank sum_place.index sum_place.offset) }
+        ensures low { IfSome result (λ sum_place. sum_place.index < 65536) }
     {
         let index = usize::from(*self.owners.get(usize::from(rank) - 1)?);
         let offset = u32::from(rank) - 1 - self.ranks[index];
-        Some(Spot { index, offset })
+        Some(SumPlace { index, offset })
     }
 
     /// The same of a slave of the line.
-    fn find_present(&self, rank: u16) -> Option<Spot>
+    fn find_present(&self, rank: u16) -> Option<SumPlace>
         requires { 1 ≤ rank }
-        ensures { MatchOption result (All (λ member. member.rank ≢ rank) (line_from 1 self.now)) (λ spot. IsMember self.now rank spot.index spot.offset) }
+        ensures { MatchOption result (All (λ member. member.rank ≢ rank) (line_from 1 self.now)) (λ sum_place. IsMember self.now rank sum_place.index sum_place.offset) }
     {
-        let spot = self.find_declared(rank)?;
-        if self.groups[spot.index].present {
-            Some(spot)
+        let sum_place = self.find_declared(rank)?;
+        if self.groups[sum_place.index].present {
+            Some(sum_place)
         } else {
             None
         }
@@ -319,10 +360,10 @@ impl<'a> Indexed<'a> {
         ensures { result ≡ slave_place self.now station }
     {
         let rank = find_rank(self.stations, station)?;
-        let spot = self.find_declared(rank)?;
+        let sum_place = self.find_declared(rank)?;
         Some(SlavePlace {
-            group: spot.index,
-            slave: spot.offset as usize,
+            group: sum_place.index,
+            slave: sum_place.offset as usize,
             rank,
         })
     }
@@ -338,7 +379,7 @@ impl<'a> Indexed<'a> {
             return (0, 1);
         }
         match self.find_declared(rank) {
-            Some(spot) => (spot.index, self.first_rank(spot.index)),
+            Some(sum_place) => (sum_place.index, self.first_rank(sum_place.index)),
             None => (self.groups.len(), self.first_rank_after()),
         }
     }
@@ -357,8 +398,8 @@ impl<'a> Indexed<'a> {
         ensures low { IfSome result (λ index. index < 65535) }
     {
         let rank = find_rank(self.stations, station)?;
-        let spot = self.find_present(rank)?;
-        let position = number_at(self.slaves, spot.index, spot.offset);
+        let sum_place = self.find_present(rank)?;
+        let position = number_at(self.slaves, sum_place.index, sum_place.offset);
         Some(usize::from(position))
     }
 
@@ -375,15 +416,14 @@ impl<'a> Indexed<'a> {
         })
     }
 
-    /// The slave at a position of the line, from 0; none where the line is shorter.
-    pub fn nth(&self, position: usize) -> Option<LineSlave<'a>>
-        ensures { result ≡ slice_get (line_from 1 self.now) position }
+    /// The station address of the slave at a position of the line, from 0; none where the line is shorter.
+    pub fn station(&self, position: usize) -> Option<u16>
+        ensures { result ≡ option_map (λ member. member.slave.station) (slice_get (line_from 1 self.now) position) }
     {
         if position >= self.slaves() {
             return None;
         }
-        let spot = find_spot(self.slaves, position as u32)?;
-        self.slave_in(spot.index, spot.offset)
+        Some(self.line[position])
     }
 
     /// The slave of the line with a station address; none where it isn't present.
@@ -391,8 +431,8 @@ impl<'a> Indexed<'a> {
         ensures { result ≡ find (is_at station) (line_from 1 self.now) }
     {
         let rank = find_rank(self.stations, station)?;
-        let spot = self.find_present(rank)?;
-        self.slave_in(spot.index, spot.offset)
+        let sum_place = self.find_present(rank)?;
+        self.slave_in(sum_place.index, sum_place.offset)
     }
 
     /// The slave of the line with a rank, counted from 1 over all declared slaves; none where it isn't present.
@@ -402,8 +442,8 @@ impl<'a> Indexed<'a> {
         if rank == 0 {
             return None;
         }
-        let spot = self.find_present(rank)?;
-        self.slave_in(spot.index, spot.offset)
+        let sum_place = self.find_present(rank)?;
+        self.slave_in(sum_place.index, sum_place.offset)
     }
 
     /// The slave that has the register block with a number, from 0, in line and block order, with the
@@ -411,9 +451,9 @@ impl<'a> Indexed<'a> {
     pub fn block_owner(&self, n: u32) -> Option<(LineSlave<'a>, u8)>
         ensures { result ≡ owned_by (line_from 1 self.now) n }
     {
-        let group = find_spot(self.blocks, n)?;
+        let group = find_sum_place(self.blocks, n)?;
         let own = self.fronts.get(group.index)?;
-        let place = find_spot(own.as_slice(), group.offset)?;
+        let place = find_near_share(own.as_slice(), group.offset)?;
         let slave = self.slave_in(group.index, place.index as u32)?;
         Some((slave, place.offset as u8))
     }

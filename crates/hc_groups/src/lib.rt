@@ -11,6 +11,7 @@ pub mod changes;
 pub mod faults;
 pub mod index;
 pub mod laws;
+mod line;
 mod lists;
 mod owning;
 pub mod prepared;

@@ -1,4 +1,4 @@
-//! An edit as it is known before anything changes, and its carrying out where the groups stand.
+//! An edit as it is known before anything changes, and its carrying out where the groups are.
 ghost use Rattle.std.specs.Prelude.{◌≡◌, false, true, IfOk, None, Some, option_map};
 ghost use Rattle.std.specs.List.{list_any};
 ghost use Rattle.hc_records.specs.Edits.{declares};
@@ -98,7 +98,7 @@ impl Prepared {
         requires changes { declares edit.now ≡ false }
         ensures change { IfOk result (λ change. change_by groups.now edit.now ≡ Some change) }
         ensures groups { IfOk result (λ change. changed_groups change groups.now ≡ groups_after groups.now edit.now) }
-        ensures kept { IfOk result (λ change. lowest_fault (groups_of (changed_groups change groups.now)) ≡ None) }
+        ensures unchanged { IfOk result (λ change. lowest_fault (groups_of (changed_groups change groups.now)) ≡ None) }
         ensures row { IfOk result (λ change. ChangesRow change groups.now) }
         ensures accepted { OnOk result (own_fault groups.now edit.now ≡ None) }
         ensures own { IfSome (own_fault groups.now edit.now) (λ fault. result ≡ Err fault) }
@@ -111,7 +111,7 @@ impl Prepared {
         Ok(change)
     }
 
-    /// Carries the change out in the groups that it was made of, where they stand. It takes no memory, and nothing can
+    /// Carries the change out in the groups that it was made of, where they are. It takes no memory, and nothing can
     /// refuse it. In other groups it changes the one at its place, if there is one.
     pub fn carry_out(self, groups: &mut Items<Declared>)
         ensures { groups.new ≡ changed_groups self groups.old }

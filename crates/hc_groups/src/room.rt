@@ -3,7 +3,7 @@ ghost use Rattle.std.specs.Prelude.{◌≡◌, ◌+◌, ◌<◌, All, IfOk, leng
 ghost use Rattle.std.specs.List.Sorted.{IsNonDecreasing, IsPermutation};
 ghost use Rattle.hc_records.specs.Line.{members_from};
 ghost use Rattle.hc_records.specs.Project.{slave_names};
-ghost use Rattle.hc_groups.specs.Index.{address_of, block_sum, blocks_of, sums_from};
+ghost use Rattle.hc_groups.specs.Index.{address_of, block_sum, slave_block_count, sums_from};
 
 use crate::addresses::{Address, add_addresses, add_ranks, highest_station};
 use crate::aliases::{Alias, add_alias};
@@ -32,6 +32,7 @@ struct SlaveRoom {
     stations: Room<u16>,
     variables: Room<u32>,
     owners: Room<u16>,
+    line: Room<u16>,
 }
 
 /// What an index takes of a group.
@@ -43,7 +44,7 @@ struct Entry {
     reach: usize,
     // the variables that they offer, the lowest first
     names: Vec<u32>,
-    // how many blocks are in front of each of them in the group, and how many it has
+    // how many blocks are before each of them in the group, and how many it has
     sums: Vec<u32>,
 }
 
@@ -60,10 +61,10 @@ impl Model for IndexRoom {
 
     ghost Value = { IndexRoom };
 
-    ghost view = { λ room. record { aliases = room.by_group.aliases; stations = room.by_slave.stations; variables = room.by_slave.variables; owners = room.by_slave.owners; fronts = room.by_group.fronts; ranks = room.by_group.ranks; slaves = room.by_group.slaves; blocks = room.by_group.blocks; addresses = room.entry.addresses.items; reach = room.entry.reach; names = room.entry.names.items; sums = room.entry.sums.items } };
+    ghost view = { λ room. record { aliases = room.by_group.aliases; stations = room.by_slave.stations; variables = room.by_slave.variables; owners = room.by_slave.owners; line = room.by_slave.line; fronts = room.by_group.fronts; ranks = room.by_group.ranks; slaves = room.by_group.slaves; blocks = room.by_group.blocks; addresses = room.entry.addresses.items; reach = room.entry.reach; names = room.entry.names.items; sums = room.entry.sums.items } };
 }
 
-/// The station addresses of slaves of which the first has this rank.
+/// The station addresses of slaves from this rank on.
 fn own_addresses(alloc: Global, rank: u16, slaves: &[Slave]) -> Result<Vec<Address>, AllocError>
     requires { rank + length slaves.now < 65536 }
     ensures { IfOk result (λ all. all.items ≡ map address_of (members_from rank slaves.now)) }
@@ -73,7 +74,7 @@ fn own_addresses(alloc: Global, rank: u16, slaves: &[Slave]) -> Result<Vec<Addre
     Ok(all)
 }
 
-/// What an index takes of a group of which the first slave has this rank. `AllocError` where a growth was refused.
+/// What an index takes of a group whose first slave has this rank. `AllocError` where a growth was refused.
 fn entry_of(alloc: Global, rank: u16, slaves: &[Slave]) -> Result<Entry, AllocError>
     requires counted { rank + length slaves.now < 65536 }
     requires few { block_sum slaves.now < 4294967296 }
@@ -81,7 +82,7 @@ fn entry_of(alloc: Global, rank: u16, slaves: &[Slave]) -> Result<Entry, AllocEr
     ensures reach { IfOk result (λ entry. All (λ address. address.station < entry.reach) entry.addresses.items) }
     ensures names { IfOk result (λ entry. IsPermutation (slave_names slaves.now) entry.names.items) }
     ensures order { IfOk result (λ entry. IsNonDecreasing entry.names.items) }
-    ensures sums { IfOk result (λ entry. entry.sums.items ≡ sums_from blocks_of 0 slaves.now) }
+    ensures sums { IfOk result (λ entry. entry.sums.items ≡ sums_from slave_block_count 0 slaves.now) }
 {
     let addresses = own_addresses(alloc, rank, slaves)?;
     let reach = usize::from(highest_station(&addresses)) + 1;
@@ -96,15 +97,15 @@ fn entry_of(alloc: Global, rank: u16, slaves: &[Slave]) -> Result<Entry, AllocEr
 }
 
 impl Index {
-    ghost use Rattle.std.specs.Prelude.{◌+◌, ◌≤◌, ◌++◌, ◌∷◌, [], IfOk, List, length};
+    ghost use Rattle.std.specs.Prelude.{◌+◌, ◌++◌, ◌∷◌, [], IfOk, List, length};
     ghost use Rattle.hc_records.specs.declared.records.Declared.{Declared};
     ghost use Rattle.hc_records.specs.Edits.{absent};
     ghost use Rattle.hc_groups.specs.Index.{IsIndexOf};
-    ghost use Rattle.hc_groups.specs.Room.{CanAdmit, CanEnter, IsRoomFor};
+    ghost use Rattle.hc_groups.specs.Room.{IndexCanAdmit, CanEnter, IsIndexRoomFor, IsGroupRoom, IsSlaveRoom};
 
     /// Memory for one element more in each list that grows by one with each group.
     fn group_room(&self, alloc: Global) -> Result<GroupRoom, AllocError>
-        ensures { IfOk result (λ room. (length self.now.aliases + 1 ≤ room.aliases) × (length self.now.fronts + 1 ≤ room.fronts) × (length self.now.ranks + 1 ≤ room.ranks) × (length self.now.slaves + 1 ≤ room.slaves) × (length self.now.blocks + 1 ≤ room.blocks)) }
+        ensures { IfOk result (IsGroupRoom self.now) }
     {
         Ok(GroupRoom {
             aliases: Room::for_more(alloc, &self.aliases, 1)?,
@@ -122,21 +123,22 @@ impl Index {
         count: usize,
         entry: &Entry,
     ) -> Result<SlaveRoom, AllocError>
-        ensures { IfOk result (λ room. (entry.now.reach ≤ room.stations) × (length self.now.variables + length entry.now.names.items ≤ room.variables) × (length self.now.owners + count ≤ room.owners)) }
+        ensures { IfOk result (IsSlaveRoom self.now entry.now count) }
     {
         let longer = entry.reach.saturating_sub(self.stations.len());
         Ok(SlaveRoom {
             stations: Room::for_more(alloc, &self.stations, longer)?,
             variables: Room::for_more(alloc, &self.variables, entry.names.len())?,
             owners: Room::for_more(alloc, &self.owners, count)?,
+            line: Room::for_more(alloc, &self.line, count)?,
         })
     }
 
-    /// The memory that it needs to take in a group that is declared behind the others. `AllocError` where a growth
+    /// The memory that it needs to take in a group that is declared after the others. `AllocError` where a growth
     /// was refused. It looks at the group alone.
     pub fn room_for(&self, alloc: Global, group: &Group) -> Result<IndexRoom, AllocError>
         requires { CanEnter self.now group.now }
-        ensures { IfOk result (λ room. (groups : List Declared) → IsIndexOf groups self.now → IsRoomFor groups group.now room) }
+        ensures { IfOk result (λ room. (groups : List Declared) → IsIndexOf groups self.now → IsIndexRoomFor groups group.now room) }
     {
         let slaves = group.slaves.as_slice();
         let entry = entry_of(alloc, self.owners.len() as u16 + 1, slaves)?;
@@ -149,12 +151,12 @@ impl Index {
         })
     }
 
-    /// A group is declared behind the others, absent: it becomes the index of the groups with this one, in memory
+    /// A group is declared after the others, absent: it becomes the index of the groups with this one, in memory
     /// that was taken before, and nothing can be refused. It looks at what the group brings; of the others, the
     /// aliases and the variables that are higher than its own are shifted once.
     pub fn admit(&mut self, group: &Group, room: IndexRoom)
-        requires { CanAdmit self.old group.now room }
-        ensures { (can : CanAdmit self.old group.now room) → IsIndexOf (can.groups ++ absent group.now ∷ []) self.new }
+        requires { IndexCanAdmit self.old group.now room }
+        ensures { (can : IndexCanAdmit self.old group.now room) → IsIndexOf (can.groups ++ absent group.now ∷ []) self.new }
     {
         let IndexRoom {
             by_group,
@@ -176,6 +178,7 @@ impl Index {
         );
         add_variables(&mut self.variables, by_slave.variables, &entry.names);
         fill(&mut self.owners, by_slave.owners, count, number);
+        fill(&mut self.line, by_slave.line, count, 0);
         add_list(&mut self.fronts, by_group.fronts, entry.sums);
         add_sum(&mut self.ranks, by_group.ranks, count as u32);
         add_sum(&mut self.slaves, by_group.slaves, 0);

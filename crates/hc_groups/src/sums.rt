@@ -1,8 +1,8 @@
-//! Sums along lists, in which the element that a number falls in is found by halves.
-ghost use Rattle.std.specs.Prelude.{◌≡◌, ◌+◌, ◌-◌, ◌<◌, ◌≤◌, if◌then◌else◌, All, IfOk, [], MatchOption, length, map, slice_index, sum_by, vec_capacity, vec_len};
+//! Sums along lists, where the element that a number falls in is found by halves.
+ghost use Rattle.std.specs.Prelude.{◌≡◌, ◌+◌, ◌-◌, ◌<◌, ◌≤◌, if◌then◌else◌, All, IfOk, IfSome, [], MatchOption, length, map, slice_index, sum_by, vec_capacity, vec_len};
 ghost use Rattle.std.specs.List.Sorted.{IsNonDecreasing, IsPartitionPoint};
 ghost use Rattle.hc_records.specs.Line.{IsCounted};
-ghost use Rattle.hc_groups.specs.Index.{AreSums, IsSpot, block_sum, block_sums, blocks_of, declared_count, own_sum, present_count, sums_from};
+ghost use Rattle.hc_groups.specs.Index.{AreRisingSums, IsSumPlace, block_sum, block_sums, slave_block_count, declared_count, own_sum, present_count, sums_from};
 ghost use Rattle.hc_groups.specs.inner.Turned.{recounted};
 
 use hc_records::records::{Declared, Slave};
@@ -10,10 +10,10 @@ use std::alloc::{AllocError, Global};
 
 /// Where a number falls among sums.
 #[derive(Drop)]
-pub(crate) struct Spot {
+pub(crate) struct SumPlace {
     /// The number of the element that it falls in, from 0.
     pub index: usize,
-    /// How far behind the element's front it is.
+    /// How far after the element's front it is.
     pub offset: u32,
 }
 
@@ -41,9 +41,9 @@ fn count_begun(sums: &[u32], n: u32) -> usize
 }
 
 /// Where a number falls among sums; none where it is no lower than the last.
-pub(crate) fn find_spot(sums: &[u32], n: u32) -> Option<Spot>
-    requires { AreSums sums.now }
-    ensures { MatchOption result (All (λ sum. sum ≤ n) sums.now) (λ spot. IsSpot sums.now n spot.index spot.offset) }
+pub(crate) fn find_sum_place(sums: &[u32], n: u32) -> Option<SumPlace>
+    requires { AreRisingSums sums.now }
+    ensures { MatchOption result (All (λ sum. sum ≤ n) sums.now) (λ sum_place. IsSumPlace sums.now n sum_place.index sum_place.offset) }
 {
     let begun = count_begun(sums, n);
     if begun == sums.len() {
@@ -51,10 +51,41 @@ pub(crate) fn find_spot(sums: &[u32], n: u32) -> Option<Spot>
     }
     let index = begun - 1;
     let offset = n - sums[index];
-    Some(Spot { index, offset })
+    Some(SumPlace { index, offset })
 }
 
-/// The number that is so far behind the front of the element with an index, by sums.
+/// Where a number falls among sums, if it falls where it would if all elements counted for as many; else none. Most slaves of a
+/// line have as many blocks as the others, so most numbers of blocks do.
+fn find_by_share(sums: &[u32], n: u32) -> Option<SumPlace>
+    ensures { IfSome result (λ sum_place. IsSumPlace sums.now n sum_place.index sum_place.offset) }
+{
+    let total = *sums.last()?;
+    if total <= n {
+        return None;
+    }
+    let last = sums.len().saturating_sub(1);
+    let index = (u64::from(n).wrapping_mul(last as u64) / u64::from(total)) as usize;
+    if index >= last || n < sums[index] || sums[index + 1] <= n {
+        return None;
+    }
+    Some(SumPlace {
+        index,
+        offset: n - sums[index],
+    })
+}
+
+/// Where a number falls among sums of elements that mostly count for as many; none where it is no lower than the last.
+pub(crate) fn find_near_share(sums: &[u32], n: u32) -> Option<SumPlace>
+    requires { AreRisingSums sums.now }
+    ensures { MatchOption result (All (λ sum. sum ≤ n) sums.now) (λ sum_place. IsSumPlace sums.now n sum_place.index sum_place.offset) }
+{
+    match find_by_share(sums, n) {
+        Some(sum_place) => Some(sum_place),
+        None => find_sum_place(sums, n),
+    }
+}
+
+/// The number that is so far after the front of the element with an index, by sums.
 pub(crate) fn number_at(sums: &[u32], index: usize, offset: u32) -> u16
     requires inside { index < length sums.now }
     requires low { slice_index sums.now index + offset < 65535 }
@@ -67,7 +98,7 @@ pub(crate) fn number_at(sums: &[u32], index: usize, offset: u32) -> u16
 /// The sums of the blocks of slaves.
 pub(crate) fn slave_sums(alloc: Global, slaves: &[Slave]) -> Result<Vec<u32>, AllocError>
     requires { block_sum slaves.now < 4294967296 }
-    ensures { IfOk result (λ sums. sums.items ≡ sums_from blocks_of 0 slaves.now) }
+    ensures { IfOk result (λ sums. sums.items ≡ sums_from slave_block_count 0 slaves.now) }
 {
     let mut sums = Vec::with_capacity(alloc, slaves.len() + 1)?;
     let mut blocks = 0;

@@ -60,13 +60,13 @@ fn count_lower(variables: &[u32], variable: u32) -> usize
     variables.partition_point(|other| *other < variable)
 }
 
-/// Shifts the variables from a place to another up by so many, and puts a variable in front of them.
+/// Shifts the variables from a place to another up by so many, and puts a variable before them.
 fn put_below(all: &mut Vec<u32>, at: usize, left: usize, more: usize, variable: u32)
     requires order { at ≤ left }
     requires bound { left + more + 1 ≤ length all.old.items }
     ensures size { length all.new.items ≡ length all.old.items }
     ensures front { take at all.new.items ≡ take at all.old.items }
-    ensures behind { drop (at + more) all.new.items ≡ variable ∷ (slice_range all.old.items at left ++ drop (left + more + 1) all.old.items) }
+    ensures after_it { drop (at + more) all.new.items ≡ variable ∷ (slice_range all.old.items at left ++ drop (left + more + 1) all.old.items) }
 {
     all.copy_within(at..left, at + more + 1);
     all[at + more] = variable;

@@ -11,13 +11,13 @@ use Rattle.hc_records.specs.declared.limits.TheConstants.{MOST_DATAGRAMS, TASKS}
 use Rattle.hc_records.specs.Image.{VariablePlace}
 use Rattle.hc_places.specs.Swap.{Change, ChangedRow, ChangesAscend, swapped}
 use Rattle.hc_places.specs.Table.{IsTable, RowsAscend, Table, place_in}
-use Rattle.hc_images.specs.Packed.{Bytes, Carries, HasSizes, IsLaidOut, IsOutput, LiesIn, length_in, slot_bytes}
-use Rattle.hc_images.specs.Pieces.{AreBlank, ReadsEach, ResizesEach, Stand, WritesEach, carried_bit, of_changed, of_list, of_rows, output_of, word_of}
+use Rattle.hc_images.specs.Packed.{Bytes, Carries, HasSizes, IsLaidOut, IsOutput, LiesInTaskPlace, length_in, slot_bytes}
+use Rattle.hc_images.specs.Pieces.{AreBlank, ReadsEach, ResizesEach, ArePlaced, WritesEach, carried_bit, of_changed, of_list, of_rows, output_of, word_of}
 use Rattle.hc_images.specs.Values.{KeepEntries}
 use Rattle.hc_images.proofs.Numbered.{HasNone, by-number}
 use Rattle.hc_images.proofs.Outcomes.{blank-bit, blank-carries, blank-sizes}
-use Rattle.hc_images.proofs.Resizing.{lengths-changed, resized-bit, resized-bytes, resized-past, resized-size}
-use Rattle.hc_images.proofs.Standing.{found-output, has-row, new-are, of-new, old-are, row-at, rows-are, same-place}
+use Rattle.hc_images.proofs.Resizing.{lengths-changed, resized-bit, resized-bytes, resized-history, resized-size}
+use Rattle.hc_images.proofs.Placing.{found-output, has-row, new-are, of-new, old-are, row-at, rows-are, same-place}
 use Rattle.hc_images.proofs.Writing.{not-two}
 use Rattle.hc_images.proofs.lemmas.Bits.{HasBit, HasNoBit, bit-lies, carries-alike}
 
@@ -45,7 +45,7 @@ marked-carries table old new laid ascends blank each = record {
       ∙ blank-bit table old k (MOST_DATAGRAMS * task + d) blank;
 }
 
--- the course of an edit: from `first` the values are taken up, the lengths change behind `taken`, and behind `cut` the values are put down
+-- the course of an edit: from `first` the values are taken up, the lengths change after `taken`, and after `cut` the values are put down
 pub record Course : Type 0 where
   pub old : Table
   pub change : Change
@@ -67,7 +67,7 @@ pub record AreMoved (e : Course) : Type 0 where
   pub entries : KeepEntries e.old (next e)
   pub rows : ChangesAscend e.change.rows
   pub tasks : ChangesAscend e.change.tasks
-  pub stand : Stand e.old e.change.rows e.places
+  pub are_placed : ArePlaced e.old e.change.rows e.places
   pub sizes : HasSizes e.old e.first
   pub takes : WritesEach (length e.places) (of_list e.places) (λ i. bit_at 0) e.first e.taken
   pub reads : ReadsEach (length e.places) (of_list e.places) e.first (word_of e.ones) e.values
@@ -82,24 +82,24 @@ cut-sizes old change taken cut is ascend sizes cuts task d low few =
     ap (λ own. length own) (lengths-changed change old taken cut is ascend sizes cuts task d low few)
     ∙ resized-size (length_in (swapped change old) task d) (slot_bytes taken task d)
 
--- a bit that no changed output takes is what it was behind the taking up, as far as the new length goes
+-- a bit that no changed output takes is what it was after the taking up, as far as the new length goes
 cut_bit : (e : Course) (task d k : ℕ) → AreMoved e → task < TASKS → d < MOST_DATAGRAMS → k < 8 * length_in (next e) task d → bit_of (slot_bytes e.cut task d) k ≡ bit_of (slot_bytes e.taken task d) k
 cut_bit e task d k moved low few below =
     ap (λ own. bit_of own k) (lengths-changed e.change e.old e.taken e.cut moved.table moved.tasks (taken_sizes e moved) moved.cuts task d low few)
     ∙ resized-bit (length_in (next e) task d) (slot_bytes e.taken task d) k below
 
 cut_past : (e : Course) (task d k : ℕ) → AreMoved e → task < TASKS → d < MOST_DATAGRAMS → 8 * length_in (next e) task d ≤ k → bit_of (slot_bytes e.cut task d) k ≡ 0
-cut_past e task d k moved low few past =
+cut_past e task d k moved low few history =
     ap (λ own. bit_of own k) (lengths-changed e.change e.old e.taken e.cut moved.table moved.tasks (taken_sizes e moved) moved.cuts task d low few)
-    ∙ resized-past (length_in (next e) task d) (slot_bytes e.taken task d) k past
+    ∙ resized-history (length_in (next e) task d) (slot_bytes e.taken task d) k history
 
 -- the value of a variable that had no place, and of one that had one
 
-kept_some : (old : Table) (value : ℕ → ℕ → ℕ) (ones : Bool) (variable k : ℕ) (before : VariablePlace) → place_in old variable ≡ Some before → value variable k ≡ carried_bit old value ones variable k
-kept_some old value ones variable k before there = sym (ap (λ found. cond (is_some found) (value variable k) (cond ones 1 0)) there)
+unchanged_some : (old : Table) (value : ℕ → ℕ → ℕ) (ones : Bool) (variable k : ℕ) (before : VariablePlace) → place_in old variable ≡ Some before → value variable k ≡ carried_bit old value ones variable k
+unchanged_some old value ones variable k before there = sym (ap (λ found. cond (is_some found) (value variable k) (cond ones 1 0)) there)
 
-kept_none : (old : Table) (value : ℕ → ℕ → ℕ) (ones : Bool) (variable k : ℕ) → place_in old variable ≡ None → cond ones 1 0 ≡ carried_bit old value ones variable k
-kept_none old value ones variable k none = sym (ap (λ found. cond (is_some found) (value variable k) (cond ones 1 0)) none)
+unchanged_none : (old : Table) (value : ℕ → ℕ → ℕ) (ones : Bool) (variable k : ℕ) → place_in old variable ≡ None → cond ones 1 0 ≡ carried_bit old value ones variable k
+unchanged_none old value ones variable k none = sym (ap (λ found. cond (is_some found) (value variable k) (cond ones 1 0)) none)
 
 -- the value of a changed variable is put down
 
@@ -108,17 +108,17 @@ put_by : (e : Course) (value : ℕ → ℕ → ℕ) (i k : ℕ) (row : ChangedRo
 put_by e value i k row place None moved carries there is below word none =
     let inside = slice_get_within e.change.rows i row there in
     let low : i < length e.places = omega arith in
-    let lacks : of_list e.places i ≡ None = moved.stand.each i row there ∙ ap (λ f. option_and_then output_of f) none in
-    ap (λ n. bit_at n k) (moved.reads.given i low lacks) ∙ word-bit e.ones k word ∙ kept_none e.old value e.ones row.0 k none
+    let lacks : of_list e.places i ≡ None = moved.are_placed.each i row there ∙ ap (λ f. option_and_then output_of f) none in
+    ap (λ n. bit_at n k) (moved.reads.given i low lacks) ∙ word-bit e.ones k word ∙ unchanged_none e.old value e.ones row.0 k none
 put_by e value i k row place (Some before) moved carries there is below word some =
-    let count = moved.stand.count in
+    let count = moved.are_placed.count in
     let inside = slice_get_within e.change.rows i row there in
     let low : i < length e.places = omega arith in
     let entry = moved.entries row.0 before place some is.there in
     let same = entry.bits in
     let was : IsOutput e.old row.0 before = record { there = some; output = sym entry.dir ∙ is.output } in
-    let stood : of_list e.places i ≡ Some before = moved.stand.each i row there ∙ found-output e.old row.0 before was in
-    moved.reads.read i k before low stood (omega arith) ∙ carries.values row.0 k before was (omega arith) ∙ kept_some e.old value e.ones row.0 k before some
+    let stood : of_list e.places i ≡ Some before = moved.are_placed.each i row there ∙ found-output e.old row.0 before was in
+    moved.reads.read i k before low stood (omega arith) ∙ carries.values row.0 k before was (omega arith) ∙ unchanged_some e.old value e.ones row.0 k before some
 
 put_value : (e : Course) (value : ℕ → ℕ → ℕ) (i k : ℕ) (row : ChangedRow) (place : VariablePlace) → AreMoved e → Carries e.old value e.first → slice_get e.change.rows i ≡ Some row → IsOutput (next e) row.0 place → k < place.bits
     → bit_of (slot_bytes e.last place.task place.datagram) (place.bit + k) ≡ carried_bit e.old value e.ones row.0 k
@@ -132,7 +132,7 @@ put_value e value i k row place moved carries there is below =
 -- the value of any other stays where it is
 
 apart_from : (table : Table) (variable other : ℕ) (place another : VariablePlace) (k : ℕ) → IsLaidOut table → other ≢ variable → place_in table variable ≡ Some place → place_in table other ≡ Some another → k < place.bits
-    → ¬ (LiesIn another place.task place.datagram (place.bit + k))
+    → ¬ (LiesInTaskPlace another place.task place.datagram (place.bit + k))
 apart_from table variable other place another k laid differ there there' below lies = search (rules, not-two)
 
 stayed : (e : Course) (value : ℕ → ℕ → ℕ) (variable k : ℕ) (place : VariablePlace) → AreMoved e → Carries e.old value e.first → HasNone e.change.rows variable → IsOutput (next e) variable place → k < place.bits
@@ -140,7 +140,7 @@ stayed : (e : Course) (value : ℕ → ℕ → ℕ) (variable k : ℕ) (place : 
 stayed e value variable k place moved carries none is below =
     let there : place_in e.old variable ≡ Some place = sym (same-place e.change e.old variable moved.table.ascends none) ∙ is.there in
     let lies = moved.laid_out.inside variable place is.there in
-    let count = moved.stand.count in
+    let count = moved.are_placed.count in
     moved.puts.rest place.task place.datagram (place.bit + k) lies.datagram
     (λ i other low at. let own = row-at e.change.rows i low in
     apart_from (next e) variable own.row.0 place other k moved.laid_out (none i own.row own.there) is.there
@@ -149,21 +149,21 @@ stayed e value variable k place moved carries none is below =
     ∙ moved.takes.rest place.task place.datagram (place.bit + k) lies.datagram
     (λ i other low at. let own = row-at e.change.rows i (omega arith) in
     apart_from e.old variable own.row.0 place other k moved.laid (none i own.row own.there) there
-    (old-are e.change e.old e.places moved.stand i own.row other own.there at).there below)
+    (old-are e.change e.old e.places moved.are_placed i own.row other own.there at).there below)
     ∙ carries.values variable k place (record { there = there; output = is.output }) below
-    ∙ kept_some e.old value e.ones variable k place there
+    ∙ unchanged_some e.old value e.ones variable k place there
 
 -- a bit that lies in no output's new place
 
-taken_zero : (e : Course) (i task d k : ℕ) (row : ChangedRow) (place : VariablePlace) → AreMoved e → slice_get e.change.rows i ≡ Some row → IsOutput e.old row.0 place → LiesIn place task d k → bit_of (slot_bytes e.taken task d) k ≡ 0
+taken_zero : (e : Course) (i task d k : ℕ) (row : ChangedRow) (place : VariablePlace) → AreMoved e → slice_get e.change.rows i ≡ Some row → IsOutput e.old row.0 place → LiesInTaskPlace place task d k → bit_of (slot_bytes e.taken task d) k ≡ 0
 taken_zero e i task d k row place moved there is lies =
     let from = lies.from in
     let below = lies.below in
-    let count = moved.stand.count in
+    let count = moved.are_placed.count in
     let inside = slice_get_within e.change.rows i row there in
     let low : i < length e.places = omega arith in
     let whole : place.bit + (k - place.bit) ≡ k = omega arith in
-    let stood : of_list e.places i ≡ Some place = moved.stand.each i row there ∙ found-output e.old row.0 place is in
+    let stood : of_list e.places i ≡ Some place = moved.are_placed.each i row there ∙ found-output e.old row.0 place is in
     search (rules, bit_at-zero)
 
 free_bit : (e : Course) (value : ℕ → ℕ → ℕ) (task d k : ℕ) → AreMoved e → Carries e.old value e.first → task < TASKS → d < MOST_DATAGRAMS → HasNoBit (next e) task d k
@@ -179,7 +179,7 @@ free_bit e value task d k moved carries low few misses (inl has) = elim (by-numb
 free_bit e value task d k moved carries low few misses (inr none) =
     moved.takes.rest task d k few
     (λ i other inside at lies. let own = row-at e.change.rows i (omega arith) in
-    none own.row.0 other (old-are e.change e.old e.places moved.stand i own.row other own.there at) lies)
+    none own.row.0 other (old-are e.change e.old e.places moved.are_placed i own.row other own.there at) lies)
     ∙ carries.others task d k low few none
 
 moved_sizes : (e : Course) → AreMoved e → HasSizes (next e) e.last
@@ -209,7 +209,7 @@ moved-carries e value moved carries = record {
         | inl below ↦
             cut_bit e task d k moved low few below
             ∙ free_bit e value task d k moved carries low few misses (bit-lies e.old task d k moved.table.ascends)
-        | inr past ↦ cut_past e task d k moved low few past
+        | inr history ↦ cut_past e task d k moved low few history
       ];
 }
 

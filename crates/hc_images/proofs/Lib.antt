@@ -4,5 +4,5 @@ pub mod Masks
 pub mod Numbered
 pub mod Outcomes
 pub mod Resizing
-pub mod Standing
+pub mod Placing
 pub mod Writing

@@ -20,9 +20,9 @@ less_one x y some e = omega arith
 pub ones-below : (n : ℕ) → n ≤ 64 → 18446744073709551615 / 2 ^ (64 - n) < 2 ^ n
 ones-below n h = less_one (18446744073709551615 / 2 ^ (64 - n)) (2 ^ n) (pow_pos n) (ones_are n h)
 
--- a run that is told by a number whose bits are those of another
-pub run-told : (old new : List ℕ) (at n : ℕ) (run told : ℕ → ℕ) → ((k : ℕ) → k < n → run k ≡ told k) → ReplacesRun old new at n run → ReplacesRun old new at n told
-run-told old new at n run told same replaced = search rules
+-- a run that is given by a number whose bits are those of another
+pub run-answer_given : (old new : List ℕ) (at n : ℕ) (run answer_given : ℕ → ℕ) → ((k : ℕ) → k < n → run k ≡ answer_given k) → ReplacesRun old new at n run → ReplacesRun old new at n answer_given
+run-answer_given old new at n run answer_given same replaced = search rules
 
 -- a bit of bytes under a mask
 masked_bit : (new bytes mask : List ℕ) → ((i : ℕ) → get_or new i 0 ≡ bit_and (get_or bytes i 0) (get_or mask i 0))
@@ -41,17 +41,17 @@ zero-small = omega arith
 pub zero-bytes : (n : ℕ) → AreBytes (replicate n 0)
 zero-bytes n i low = search (rules, get_or-replicate, length-replicate, zero-small)
 
--- behind the front either the post or the mask has ended
+-- after the front either the post or the mask has ended
 ended : (front bytes mask : List ℕ) (rest i : ℕ) → length mask ≡ length front + rest → length front ≡ min (length front + rest) (length bytes) → length front ≤ i
     → 0 ≡ bit_and (get_or bytes i 0) (get_or mask i 0)
-ended front bytes mask rest i whole count behind = search (rules, cases_lt, get_or_past)
+ended front bytes mask rest i whole count after_it = search (rules, cases_lt, get_or_past)
 
 masked_parts : (front bytes mask : List ℕ) (rest : ℕ) → length mask ≡ length front + rest → length front ≡ min (length front + rest) (length bytes)
     → ((i : ℕ) → i < length front → get_or front i 0 ≡ bit_and (get_or bytes i 0) (get_or mask i 0))
     → (i : ℕ) → get_or (front ++ replicate rest 0) i 0 ≡ bit_and (get_or bytes i 0) (get_or mask i 0)
 masked_parts front bytes mask rest whole count own i = elim (cases_lt i (length front)) [
   | inl low ↦ get_or_append_left front (replicate rest 0) 0 i low ∙ own i low
-  | inr behind ↦ get_or-append_right front (replicate rest 0) i 0 behind ∙ same-at rest (i - length front) 0 ∙ ended front bytes mask rest i whole count behind
+  | inr after_it ↦ get_or-append_right front (replicate rest 0) i 0 after_it ∙ same-at rest (i - length front) 0 ∙ ended front bytes mask rest i whole count after_it
 ]
 
 pub masked-copy : (front bytes mask back : List ℕ) (rest : ℕ) → back ≡ replicate rest 0 → length mask ≡ length front + rest → length front ≡ min (length front + rest) (length bytes)

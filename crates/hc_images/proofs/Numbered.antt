@@ -45,7 +45,7 @@ found-at rows i row ascend there =
     subst (IsFoundIn rows) (get_or_from_slice_get rows i row row there)
     (each-found rows (ascend-once rows ascend) i row (slice_get_within rows i row there))
 
--- a number is that of a row, or of none
+-- a row has this number, or none has
 
 pub record HasNumber {Y : Type 0} (rows : List (ℕ × Y)) (number : ℕ) : Type 0 where
   pub index : ℕ
@@ -56,12 +56,12 @@ pub record HasNumber {Y : Type 0} (rows : List (ℕ × Y)) (number : ℕ) : Type
 abbrev pub HasNone : {Y : Type 0} → List (ℕ × Y) → ℕ → Type 0
 HasNone rows number = (i : ℕ) (row : ℕ × _) → slice_get rows i ≡ Some row → row.0 ≢ number
 
-none_behind : {Y : Type 0} (row : ℕ × Y) (rows : List (ℕ × Y)) (number : ℕ) → row.0 ≢ number → HasNone rows number → HasNone (row ∷ rows) number
-none_behind row rows number other none n own there is = search (rules, same_Some)
+none_after : {Y : Type 0} (row : ℕ × Y) (rows : List (ℕ × Y)) (number : ℕ) → row.0 ≢ number → HasNone rows number → HasNone (row ∷ rows) number
+none_after row rows number other none n own there is = search (rules, same_Some)
 
-behind : {Y : Type 0} (row : ℕ × Y) (rows : List (ℕ × Y)) (number : ℕ) → row.0 ≢ number → HasNumber rows number ⊎ HasNone rows number → HasNumber (row ∷ rows) number ⊎ HasNone (row ∷ rows) number
-behind row rows number other (inl has) = inl (record { index = suc has.index; row = has.row; there = has.there; is = has.is })
-behind row rows number other (inr none) = inr (λ i. none_behind row rows number other none i)
+after_it : {Y : Type 0} (row : ℕ × Y) (rows : List (ℕ × Y)) (number : ℕ) → row.0 ≢ number → HasNumber rows number ⊎ HasNone rows number → HasNumber (row ∷ rows) number ⊎ HasNone (row ∷ rows) number
+after_it row rows number other (inl has) = inl (record { index = suc has.index; row = has.row; there = has.there; is = has.is })
+after_it row rows number other (inr none) = inr (λ i. none_after row rows number other none i)
 
 nothing : {Y : Type 0} (number : ℕ) → HasNone {Y = Y} [] number
 nothing number n row there = search rules
@@ -70,7 +70,7 @@ pub by-number : {Y : Type 0} (rows : List (ℕ × Y)) (number : ℕ) → HasNumb
 by-number [] number = inr (nothing number)
 by-number (row ∷ rows) number = elim (cases_eq row.0 number) [
   | inl same ↦ inl (record { index = 0; row = row; there = refl; is = same })
-  | inr other ↦ behind row rows number other (by-number rows number)
+  | inr other ↦ after_it row rows number other (by-number rows number)
 ]
 
 -- and where none has it, none is found

@@ -1,4 +1,4 @@
--- Bytes of another length, and the lengths of the table to which a change leads.
+-- Bytes of another length, and the lengths of the table that a change leads to.
 use Rattle.std.proofs.Common.{◌≡◌, inl, inr, ℕ, ◌+◌, ◌-◌, ◌*◌, ◌/◌, ◌%◌, ◌<◌, ◌≤◌, get_or, List, [], ◌++◌, length, replicate, sym, ap, ◌∙◌, subst, arith, Option, Some, None, rules}
 use Rattle.std.specs.Prelude.{option_and_then, option_map, slice_get, unwrap_or}
 use Rattle.std.specs.Int.{bit_at}
@@ -15,18 +15,18 @@ use Rattle.hc_places.specs.Swap.{Change, ChangedTask, ChangesAscend, swapped, ta
 use Rattle.hc_places.specs.Table.{IsTable, Table, TaskTable}
 use Rattle.hc_places.proofs.lemmas.Swaps.{swaps-replace}
 use Rattle.hc_images.specs.Packed.{Bytes, HasSizes, length_in, slot_bytes}
-use Rattle.hc_images.specs.Pieces.{Resizes, ResizesEach, length_of, resized}
+use Rattle.hc_images.specs.Pieces.{Resizes, ResizesEach, table_data_length, resized}
 use Rattle.hc_images.proofs.Masks.{same-at, zero-small}
 use Rattle.hc_images.proofs.Numbered.{ascend-differ, HasNone, HasNumber, by-number, found-at, none-found}
 
--- the bits of bytes that are cut, or have zeros behind
+-- the bits of bytes that are cut, or have zeros after
 
-bit-past : (xs : List ℕ) (k : ℕ) → 8 * length xs ≤ k → bit_of xs k ≡ 0
+bit-history : (xs : List ℕ) (k : ℕ) → 8 * length xs ≤ k → bit_of xs k ≡ 0
 unfolding bit_of
-bit-past xs k past = ap (λ b. bit_at b (k % 8)) (get_or_past xs (k / 8) 0 (omega arith)) ∙ bit_at-zero (k % 8)
+bit-history xs k history = ap (λ b. bit_at b (k % 8)) (get_or_past xs (k / 8) 0 (omega arith)) ∙ bit_at-zero (k % 8)
 
-zeros_behind : (xs : List ℕ) (n k : ℕ) → 8 * length xs ≤ k → bit_of (xs ++ replicate n 0) k ≡ 0
-zeros_behind xs n k past =
+zeros_after : (xs : List ℕ) (n k : ℕ) → 8 * length xs ≤ k → bit_of (xs ++ replicate n 0) k ≡ 0
+zeros_after xs n k history =
     let whole : 8 * length xs + (k - 8 * length xs) ≡ k = omega arith in
     search (rules, bit_of-append_right, bit_of-zeros)
 
@@ -34,10 +34,10 @@ pub resized-size : (size : ℕ) (xs : List ℕ) → length (resized size xs) ≡
 resized-size size xs = search (rules, length-append, length-take, length-replicate)
 
 pub resized-bit : (size : ℕ) (xs : List ℕ) (k : ℕ) → k < 8 * size → bit_of (resized size xs) k ≡ bit_of xs k
-resized-bit size xs k low = search (rules, cases_lt, bit_of-append_left, bit_of-take, length-take, zeros_behind, bit-past)
+resized-bit size xs k low = search (rules, cases_lt, bit_of-append_left, bit_of-take, length-take, zeros_after, bit-history)
 
-pub resized-past : (size : ℕ) (xs : List ℕ) (k : ℕ) → 8 * size ≤ k → bit_of (resized size xs) k ≡ 0
-resized-past size xs k past = bit-past (resized size xs) k (let all = resized-size size xs in omega arith)
+pub resized-history : (size : ℕ) (xs : List ℕ) (k : ℕ) → 8 * size ≤ k → bit_of (resized size xs) k ≡ 0
+resized-history size xs k history = bit-history (resized size xs) k (let all = resized-size size xs in omega arith)
 
 pub resized-bytes : (size : ℕ) (xs : List ℕ) → AreBytes xs → AreBytes (resized size xs)
 resized-bytes size xs bytes i low = search (rules, length-take, cases_lt, get_or_append_left, get_or-take, get_or-append_right, same-at, zero-small)
@@ -59,9 +59,9 @@ next-resized n changed last old mid new is ascend each resizes = record {
     | inr more ↦
         let index : n ≡ i = omega arith in
         let same : last ≡ own = same_Some last own (sym is ∙ ap (slice_get changed) index ∙ there) in
-        subst (λ (o : ChangedTask). slot_bytes new o.0 d ≡ resized (length_of o.1 d) (slot_bytes old o.0 d)) same
+        subst (λ (o : ChangedTask). slot_bytes new o.0 d ≡ resized (table_data_length o.1 d) (slot_bytes old o.0 d)) same
         (resizes.own d few
-        ∙ ap (resized (length_of last.1 d))
+        ∙ ap (resized (table_data_length last.1 d))
         (each.rest last.0 d few (λ j other inside at. ascend-differ changed j n other last ascend inside at is)))
   ];
   rest = λ task d few none.
@@ -84,13 +84,13 @@ blank = record { datagrams = []; outputs = 0; inputs = 0 }
 
 new_task : (change : Change) (table : Table) (task : ℕ) (said : Option TaskTable) → IsTable table → ChangesAscend change.tasks → task < TASKS → table_said_of change task ≡ said
     → (own : TaskTable) × (slice_get table.tasks task ≡ Some own) × (slice_get (swapped change table).tasks task ≡ Some (unwrap_or said own))
-new_task change table task said is ascend low told =
+new_task change table task said is ascend low answer_given =
     let own = get_or table.tasks task blank in
     let there = slice_get-get_or table.tasks task blank (omega arith) in (
       own,
       there,
       replaced_by said (slice_get table.tasks task) (slice_get (swapped change table).tasks task) own there
-          (swaps-replace change table ascend task ∙ ap (λ s. option_map (λ (o : TaskTable). unwrap_or s o) (slice_get table.tasks task)) told),
+          (swaps-replace change table ascend task ∙ ap (λ s. option_map (λ (o : TaskTable). unwrap_or s o) (slice_get table.tasks task)) answer_given),
     )
 
 abbrev pub GetsLength : Change → Table → Bytes → Bytes → ℕ → ℕ → Type 0
@@ -100,20 +100,21 @@ said_length : (change : Change) (table : Table) (old new : Bytes) (task d : ℕ)
     → ResizesEach (length change.tasks) change.tasks old new → HasNumber change.tasks task → GetsLength change table old new task d
 said_length change table old new task d is ascend low few each has =
     let row = has.row in
-    let told : table_said_of change row.0 ≡ Some row.1 = ap (option_map (λ (c : ChangedTask). c.1)) (found-at change.tasks has.index row ascend has.there) in
-    let there = new_task change table row.0 (Some row.1) is ascend (subst (λ (t : ℕ). t < TASKS) (sym has.is) low) told in
+    let answer_given : table_said_of change row.0 ≡ Some row.1 = ap (option_map (λ (c : ChangedTask). c.1)) (found-at change.tasks has.index row ascend has.there) in
+    let there = new_task change table row.0 (Some row.1) is ascend (subst (λ (t : ℕ). t < TASKS) (sym has.is) low) answer_given in
     let size = by_task (Some row.1) (swapped change table) row.0 d there.2 in
     search (rules, slice_get_within)
 
-kept_length : (change : Change) (table : Table) (old new : Bytes) (task d : ℕ) → IsTable table → ChangesAscend change.tasks → task < TASKS → d < MOST_DATAGRAMS → HasSizes table old
+unchanged_length : (change : Change) (table : Table) (old new : Bytes) (task d : ℕ) → IsTable table → ChangesAscend change.tasks → task < TASKS → d < MOST_DATAGRAMS → HasSizes table old
     → ResizesEach (length change.tasks) change.tasks old new → HasNone change.tasks task → GetsLength change table old new task d
-kept_length change table old new task d is ascend low few sizes each none =
-    let told : table_said_of change task ≡ None = ap (option_map (λ (c : ChangedTask). c.1)) (none-found change.tasks task none) in
-    let there = new_task change table task None is ascend low told in
+unchanged_length change table old new task d is ascend low few sizes each none =
+    let answer_given : table_said_of change task ≡ None = ap (option_map (λ (c : ChangedTask). c.1)) (none-found change.tasks task none) in
+    let there = new_task change table task None is ascend low answer_given in
     let size : length (slot_bytes old task d) ≡ length_in (swapped change table) task d = search (rules, by_task) in
     search (rules, resized-same)
 
--- once the changed tasks have the lengths of their new tables, each datagram has that of the new table
+-- once the changed tasks have the lengths of their new tables, each datagram has its length of the new
+-- table
 pub lengths-changed : (change : Change) (table : Table) (old new : Bytes) → IsTable table → ChangesAscend change.tasks → HasSizes table old
     → ResizesEach (length change.tasks) change.tasks old new → (task d : ℕ) → task < TASKS → d < MOST_DATAGRAMS → GetsLength change table old new task d
-lengths-changed change table old new is ascend sizes each task d low few = search (rules, by-number, said_length, kept_length)
+lengths-changed change table old new is ascend sizes each task d low few = search (rules, by-number, said_length, unchanged_length)

@@ -10,43 +10,43 @@ use Rattle.hc_records.specs.Image.{VariablePlace}
 use Rattle.hc_records.specs.ImageLaws.{SharesNoBit}
 use Rattle.hc_records.proofs.lemmas.Choices.{less_differs}
 use Rattle.hc_places.specs.Ranges.{IsPlace}
-use Rattle.hc_images.specs.Packed.{Bytes, LiesIn, slot_bytes}
+use Rattle.hc_images.specs.Packed.{Bytes, LiesInTaskPlace, slot_bytes}
 use Rattle.hc_images.proofs.Numbered.{none-some}
-use Rattle.hc_images.specs.Pieces.{AreApart, Fit, Numbered, ReadsEach, Writes, WritesAt, WritesEach}
+use Rattle.hc_images.specs.Pieces.{PlacesAreApart, Fit, Numbered, ReadsEach, WritesPlace, WritesAt, WritesEach}
 
 -- one place is written
 
 beside : (old new : List ℕ) (b : VariablePlace) (run : ℕ → ℕ) (task d k : ℕ) → b.task ≡ task → b.datagram ≡ d → ReplacesRun old new b.bit b.bits run
-    → (LiesIn b task d k → ⊥) → bit_of new k ≡ bit_of old k
+    → (LiesInTaskPlace b task d k → ⊥) → bit_of new k ≡ bit_of old k
 beside old new b run task d k t e replaced misses = search (rules, cases_lt)
 
-kept_bit : (old new : Bytes) (b : VariablePlace) (run : ℕ → ℕ) (task d k : ℕ) → d < MOST_DATAGRAMS → Writes old new b run → (LiesIn b task d k → ⊥)
+unchanged_bit : (old new : Bytes) (b : VariablePlace) (run : ℕ → ℕ) (task d k : ℕ) → d < MOST_DATAGRAMS → WritesPlace old new b run → (LiesInTaskPlace b task d k → ⊥)
     → bit_of (slot_bytes new task d) k ≡ bit_of (slot_bytes old task d) k
-kept_bit old new b run task d k few writes misses = search (rules, cases_eq, beside)
+unchanged_bit old new b run task d k few writes misses = search (rules, cases_eq, beside)
 
-kept_size : (old new : Bytes) (b : VariablePlace) (run : ℕ → ℕ) (task d : ℕ) → d < MOST_DATAGRAMS → Writes old new b run
+unchanged_size : (old new : Bytes) (b : VariablePlace) (run : ℕ → ℕ) (task d : ℕ) → d < MOST_DATAGRAMS → WritesPlace old new b run
     → length (slot_bytes new task d) ≡ length (slot_bytes old task d)
-kept_size old new b run task d few writes = search (rules, cases_eq)
+unchanged_size old new b run task d few writes = search (rules, cases_eq)
 
-kept_sizes : (old new : Bytes) (b : VariablePlace) (run : ℕ → ℕ) (n : ℕ) → Writes old new b run → length (get_or new n []) ≡ length (get_or old n [])
-kept_sizes old new b run n writes =
+unchanged_sizes : (old new : Bytes) (b : VariablePlace) (run : ℕ → ℕ) (n : ℕ) → WritesPlace old new b run → length (get_or new n []) ≡ length (get_or old n [])
+unchanged_sizes old new b run n writes =
     let whole : MOST_DATAGRAMS * (n / MOST_DATAGRAMS) + n % MOST_DATAGRAMS ≡ n = omega arith in
     let few : n % MOST_DATAGRAMS < MOST_DATAGRAMS = omega arith in
-    subst (λ m. length (get_or new m []) ≡ length (get_or old m [])) whole (kept_size old new b run (n / MOST_DATAGRAMS) (n % MOST_DATAGRAMS) few writes)
+    subst (λ m. length (get_or new m []) ≡ length (get_or old m [])) whole (unchanged_size old new b run (n / MOST_DATAGRAMS) (n % MOST_DATAGRAMS) few writes)
 
-kept_bytes : (old new : Bytes) (b : VariablePlace) (run : ℕ → ℕ) (task d : ℕ) → d < MOST_DATAGRAMS → Writes old new b run
+unchanged_bytes : (old new : Bytes) (b : VariablePlace) (run : ℕ → ℕ) (task d : ℕ) → d < MOST_DATAGRAMS → WritesPlace old new b run
     → AreBytes (slot_bytes old task d) → AreBytes (slot_bytes new task d)
-kept_bytes old new b run task d few writes before = search (rules, cases_eq)
+unchanged_bytes old new b run task d few writes before = search (rules, cases_eq)
 
 -- no bit lies in two places that share none
 
-from_two : (a b : VariablePlace) (task d k : ℕ) → LiesIn a task d k → LiesIn b task d k → (a.bit + a.bits ≤ b.bit) ⊎ (b.bit + b.bits ≤ a.bit) → ⊥
+from_two : (a b : VariablePlace) (task d k : ℕ) → LiesInTaskPlace a task d k → LiesInTaskPlace b task d k → (a.bit + a.bits ≤ b.bit) ⊎ (b.bit + b.bits ≤ a.bit) → ⊥
 from_two a b task d k in_a in_b apart = search rules
 
-pub not-two : (a b : VariablePlace) (k : ℕ) → SharesNoBit a b → k < a.bits → LiesIn b a.task a.datagram (a.bit + k) → ⊥
+pub not-two : (a b : VariablePlace) (k : ℕ) → SharesNoBit a b → k < a.bits → LiesInTaskPlace b a.task a.datagram (a.bit + k) → ⊥
 not-two a b k apart low lies = search (rules, from_two)
 
-not-two_by : (b a : VariablePlace) (k : ℕ) → SharesNoBit b a → k < a.bits → LiesIn b a.task a.datagram (a.bit + k) → ⊥
+not-two_by : (b a : VariablePlace) (k : ℕ) → SharesNoBit b a → k < a.bits → LiesInTaskPlace b a.task a.datagram (a.bit + k) → ⊥
 not-two_by b a k apart low lies = search (rules, from_two)
 
 -- some places are written, and then one more
@@ -58,12 +58,12 @@ abbrev IsHeld : (ℕ → ℕ → ℕ) → Bytes → ℕ → VariablePlace → Ty
 IsHeld run bytes i place = (k : ℕ) → k < place.bits → bit_of (slot_bytes bytes place.task place.datagram) (place.bit + k) ≡ run i k
 
 held_still : (n most i : ℕ) (places : Numbered) (run : ℕ → ℕ → ℕ) (old mid new : Bytes) (place last : VariablePlace) → places i ≡ Some place → places n ≡ Some last → i < n → n < most
-    → AreApart most places → WritesEach n places run old mid → Writes mid new last (run n) → IsHeld run new i place
-held_still n most i places run old mid new place last there is less low apart each writes = search (rules, kept_bit, not-two)
+    → PlacesAreApart most places → WritesEach n places run old mid → WritesPlace mid new last (run n) → IsHeld run new i place
+held_still n most i places run old mid new place last there is less low apart each writes = search (rules, unchanged_bit, not-two)
 
 pub next-written : (n most : ℕ) (places : Numbered) (run : ℕ → ℕ → ℕ) (old mid new : Bytes) (found : Option VariablePlace) → places n ≡ found → n < most
-    → AreApart most places → WritesEach n places run old mid → WritesAt found (run n) mid new → WritesEach (n + 1) places run old new
-next-written n most places run old mid new found is low apart each same = search (rules, earlier, held_still, kept_bit, kept_sizes, kept_bytes)
+    → PlacesAreApart most places → WritesEach n places run old mid → WritesAt found (run n) mid new → WritesEach (n + 1) places run old new
+next-written n most places run old mid new found is low apart each same = search (rules, earlier, held_still, unchanged_bit, unchanged_sizes, unchanged_bytes)
 
 -- where the next place lies nothing was written yet
 
@@ -71,12 +71,12 @@ pub next-fits : (n most : ℕ) (places : Numbered) (run : ℕ → ℕ → ℕ) (
     → WritesEach n places run old mid → IfSome found (λ place. place.bit + place.bits ≤ 8 * length (slot_bytes mid place.task place.datagram))
 next-fits n most places run old mid found is low fit each = search rules
 
-next_unwritten : (n most k : ℕ) (places : Numbered) (run : ℕ → ℕ → ℕ) (old mid : Bytes) (place : VariablePlace) → n < most → IsPlace place → AreApart most places
+next_unwritten : (n most k : ℕ) (places : Numbered) (run : ℕ → ℕ → ℕ) (old mid : Bytes) (place : VariablePlace) → n < most → IsPlace place → PlacesAreApart most places
     → WritesEach n places run old mid → places n ≡ Some place → k < place.bits
     → bit_of (slot_bytes mid place.task place.datagram) (place.bit + k) ≡ bit_of (slot_bytes old place.task place.datagram) (place.bit + k)
 next_unwritten n most k places run old mid place low range apart each there below = search (rules, not-two_by)
 
--- so what is read there is what stood there at first
+-- so what is read there is what was there at first
 
 abbrev pub IsValue : Option VariablePlace → ℕ → Bytes → ℕ → Type 0
 IsValue found lacking bytes value =
@@ -92,7 +92,7 @@ earlier_read : (n lacking value i : ℕ) (places : Numbered) (old : Bytes) (valu
 earlier_read n lacking value i places old values place less there reads k below = search (rules, get_or-set_other, less_differs)
 
 pub next-read : (n most lacking value : ℕ) (places : Numbered) (run : ℕ → ℕ → ℕ) (old mid new : Bytes) (values : List ℕ) (found : Option VariablePlace) → places n ≡ found → n < most → length values ≡ most
-    → AreApart most places → WritesEach n places run old mid → WritesAt found (run n) mid new → IsValue found lacking mid value
+    → PlacesAreApart most places → WritesEach n places run old mid → WritesAt found (run n) mid new → IsValue found lacking mid value
     → ReadsEach n places old lacking values → ReadsEach (n + 1) places old lacking (set values n value)
 next-read n most lacking value places run old mid new values None is low count apart each writes own reads =
     search (rules, earlier_read, earlier, cases_lt, get_or-set_other, less_differs, get_or-set_same)

@@ -5,27 +5,27 @@ use Rattle.hc_records.specs.declared.limits.TheConstants.{MOST_DATAGRAMS, TASKS}
 use Rattle.hc_records.specs.Slots.{slot_number}
 
 -- the data of each datagram that a line can have, or none, task by task
-abbrev pub Image : Type 0
-Image = List (Option (List ℕ))
+abbrev pub DatagramImage : Type 0
+DatagramImage = List (Option (List ℕ))
 
 -- an image has a slot for each datagram that each of the eight tasks can have
-abbrev pub IsWhole : Image → Type 0
-IsWhole image = length image ≡ MOST_DATAGRAMS * TASKS
+abbrev pub HasAllSlots : DatagramImage → Type 0
+HasAllSlots image = length image ≡ MOST_DATAGRAMS * TASKS
 
 -- what an image has of a datagram of a task
-abbrev pub data_of : Image → ℕ → ℕ → Option (List ℕ)
+abbrev pub data_of : DatagramImage → ℕ → ℕ → Option (List ℕ)
 data_of image task d = slice_index_or image (slot_number task d) None
 
 -- those of the first datagrams of a task, as many as the task has in a line
-abbrev pub data_of_first : Image → ℕ → ℕ → List (Option (List ℕ))
+abbrev pub data_of_first : DatagramImage → ℕ → ℕ → List (Option (List ℕ))
 data_of_first image task count = map (data_of image task) (range_with_len 0 count)
 
 -- no datagram has data: so an epoch begins
-abbrev pub HasNone : Image → Type 0
+abbrev pub HasNone : DatagramImage → Type 0
 HasNone image = (task d : ℕ) → data_of image task d ≡ None
 
 -- a datagram has these data from then on, and every other one keeps what it had
-abbrev pub Renews : Image → Image → ℕ → ℕ → List ℕ → Type 0
+abbrev pub Renews : DatagramImage → DatagramImage → ℕ → ℕ → List ℕ → Type 0
 Renews old new task d bytes =
     (t e : ℕ) → e < MOST_DATAGRAMS
     → data_of new t e ≡ (if (task == t) && (d == e) then Some bytes else data_of old t e)

@@ -8,5 +8,5 @@ pub record Moves : Type 0 where
   pub change : Change
 
 -- the table to whose places they lead
-abbrev pub table_after : Moves → Table
-table_after moves = swapped moves.change moves.before
+abbrev pub moved_table : Moves → Table
+moved_table moves = swapped moves.change moves.before

@@ -1,4 +1,4 @@
--- The bytes of datagrams as they are sent: at each output variable's place stand the bits of its value, and every other bit is 0.
+-- The bytes of datagrams as they are sent: at each output variable's place are the bits of its value, and every other bit is 0.
 -- Bits are counted from the least significant bit of the first byte, and images are task by task: this project's profile.
 use Rattle.std.specs.Prelude.{◌≡◌, ◌≢◌, ℕ, ◌+◌, ◌*◌, ◌<◌, ◌≤◌, nat_lt, ◌&&◌, if◌then◌else◌, List, [], length, slice_index_or, Some}
 use Rattle.std.specs.Option.{option_map_or}
@@ -22,7 +22,7 @@ slot_bytes bytes task d = slice_index_or bytes (slot_number task d) []
 abbrev pub length_in : Table → ℕ → ℕ → ℕ
 length_in table task d = option_map_or (λ datagram. datagram.length) (datagram_in table task d) 0
 
--- the byte of its task's image, counted from 0, at which a datagram's data begin; 0 where the table has no such datagram
+-- the byte of its task's image, counted from 0, where a datagram's data begin; 0 where the table has no such datagram
 abbrev pub offset_in : Table → ℕ → ℕ → ℕ
 offset_in table task d = option_map_or (λ datagram. datagram.offset) (datagram_in table task d) 0
 
@@ -45,7 +45,7 @@ pub record IsOutput (table : Table) (variable : ℕ) (place : VariablePlace) : T
   pub output : place.dir ≡ Out
 
 -- a bit of a datagram of a task lies in a place
-pub record LiesIn (place : VariablePlace) (task d k : ℕ) : Type 0 where
+pub record LiesInTaskPlace (place : VariablePlace) (task d k : ℕ) : Type 0 where
   pub task_is : place.task ≡ task
   pub datagram : place.datagram ≡ d
   pub from : place.bit ≤ k
@@ -60,7 +60,7 @@ HasSizes table bytes =
 abbrev pub HasBytes : Bytes → Type 0
 HasBytes bytes = (task d : ℕ) → task < TASKS → d < MOST_DATAGRAMS → AreBytes (slot_bytes bytes task d)
 
--- so many, in which each output variable has the bits of its value, and each bit that lies in no output variable's place is 0
+-- so many, where each output variable has the bits of its value, and each bit that lies in no output variable's place is 0
 pub record Carries (table : Table) (value : ℕ → ℕ → ℕ) (bytes : Bytes) : Type 0 where
   pub sizes : HasSizes table bytes
   pub all_bytes : HasBytes bytes
@@ -69,10 +69,10 @@ pub record Carries (table : Table) (value : ℕ → ℕ → ℕ) (bytes : Bytes)
       → bit_of (slot_bytes bytes place.task place.datagram) (place.bit + k) ≡ value variable k
   pub others :
       (task d k : ℕ) → task < TASKS → d < MOST_DATAGRAMS
-      → ((variable : ℕ) (place : VariablePlace) → IsOutput table variable place → ¬ (LiesIn place task d k))
+      → ((variable : ℕ) (place : VariablePlace) → IsOutput table variable place → ¬ (LiesInTaskPlace place task d k))
       → bit_of (slot_bytes bytes task d) k ≡ 0
 
--- what is kept: the bytes as they are sent, and masks, in which just the bits of output variables are 1
+-- what is kept: the bytes as they are sent, and masks, where just the bits of output variables are 1
 pub record Packed : Type 0 where
   pub sent : Bytes
   pub masks : Bytes
@@ -83,12 +83,12 @@ sent_bytes packed task d =
     if nat_lt task TASKS && nat_lt d MOST_DATAGRAMS then slot_bytes packed.sent task d else []
 
 -- the outputs of a table with these values: bit k of a variable's value is `value variable k`
-pub record Holds (table : Table) (value : ℕ → ℕ → ℕ) (packed : Packed) : Type 0 where
+pub record HoldsOutputValues (table : Table) (value : ℕ → ℕ → ℕ) (packed : Packed) : Type 0 where
   pub sent : Carries table value packed.sent
   pub masks : Carries table (λ variable k. 1) packed.masks
 
 -- bytes and masks of a datagram are as many
-pub record IsWhole (packed : Packed) : Type 0 where
+pub record MasksFitBytes (packed : Packed) : Type 0 where
   pub sent : length packed.sent ≡ MOST_DATAGRAMS * TASKS
   pub masks : length packed.masks ≡ MOST_DATAGRAMS * TASKS
   pub sizes : (n : ℕ) → length (slice_index_or packed.masks n []) ≡ length (slice_index_or packed.sent n [])

@@ -10,9 +10,9 @@ use Rattle.hc_records.specs.ImageLaws.{SharesNoBit}
 use Rattle.hc_records.specs.Keys.{same_dir}
 use Rattle.hc_places.specs.Ranges.{IsPlace}
 use Rattle.hc_places.specs.Swap.{ChangedRow, ChangedTask}
-use Rattle.hc_places.specs.Table.{IsTable, Row, Table, TaskTable, datagrams_in, place_in}
+use Rattle.hc_places.specs.Table.{IsTable, VariableRow, Table, TaskTable, datagrams_in, place_in}
 use Rattle.hc_images.specs.Moves.{Moves}
-use Rattle.hc_images.specs.Packed.{Bytes, LiesIn, length_in, offset_in, slot_bytes}
+use Rattle.hc_images.specs.Packed.{Bytes, LiesInTaskPlace, length_in, offset_in, slot_bytes, Carries}
 
 -- the bytes of each datagram of a table are zeros
 pub record AreBlank (table : Table) (bytes : Bytes) : Type 0 where
@@ -20,16 +20,16 @@ pub record AreBlank (table : Table) (bytes : Bytes) : Type 0 where
   pub zeros :
       (task d : ℕ) → task < TASKS → d < MOST_DATAGRAMS → slot_bytes bytes task d ≡ replicate (length_in table task d) 0
 
--- a place, if it is that of an output variable
+-- a place, if it is an output variable's
 abbrev pub output_of : VariablePlace → Option VariablePlace
 output_of place = if same_dir place.dir Out then Some place else None
 
--- where an output variable stands in a table; none for any other variable
+-- where an output variable is in a table; none for any other variable
 abbrev pub output_in : Table → ℕ → Option VariablePlace
 output_in table variable = option_and_then output_of (place_in table variable)
 
 -- the bits of a place become those of a run, and every other bit of every datagram stays
-pub record Writes (old new : Bytes) (place : VariablePlace) (run : ℕ → ℕ) : Type 0 where
+pub record WritesPlace (old new : Bytes) (place : VariablePlace) (run : ℕ → ℕ) : Type 0 where
   pub own :
       ReplacesRun (slot_bytes old place.task place.datagram) (slot_bytes new place.task place.datagram) place.bit place.bits run
   pub rest :
@@ -41,9 +41,14 @@ pub record Writes (old new : Bytes) (place : VariablePlace) (run : ℕ → ℕ) 
 
 -- so it is at a place that may be lacking
 abbrev pub WritesAt : Option VariablePlace → (ℕ → ℕ) → Bytes → Bytes → Type 0
-WritesAt found run old new = MatchOption found (new ≡ old) (λ place. IsPlace place × Writes old new place run)
+WritesAt found run old new = MatchOption found (new ≡ old) (λ place. IsPlace place × WritesPlace old new place run)
 
--- the first n of numbered places, some of which may be lacking
+-- a word has the bits at a place
+abbrev pub ReadsAt : Bytes → VariablePlace → ℕ → Type 0
+ReadsAt bytes place word =
+    (k : ℕ) → k < place.bits → bit_at word k ≡ bit_of (slot_bytes bytes place.task place.datagram) (place.bit + k)
+
+-- the first n of numbered places; some may be lacking
 abbrev pub Numbered : Type 0
 Numbered = ℕ → Option VariablePlace
 
@@ -54,15 +59,15 @@ Fit n places bytes =
     → place.bit + place.bits ≤ 8 * length (slot_bytes bytes place.task place.datagram)
 
 -- no two share a bit
-abbrev pub AreApart : ℕ → Numbered → Type 0
-AreApart n places =
+abbrev pub PlacesAreApart : ℕ → Numbered → Type 0
+PlacesAreApart n places =
     (i j : ℕ) (place another : VariablePlace) → i < j → j < n → places i ≡ Some place → places j ≡ Some another
     → SharesNoBit place another
 
 -- no bit of theirs is this one
 abbrev pub Miss : ℕ → Numbered → ℕ → ℕ → ℕ → Type 0
 Miss n places task d k =
-    (i : ℕ) (place : VariablePlace) → i < n → places i ≡ Some place → ¬ (LiesIn place task d k)
+    (i : ℕ) (place : VariablePlace) → i < n → places i ≡ Some place → ¬ (LiesInTaskPlace place task d k)
 
 -- the bits of each become those of its run, and every other bit of every datagram stays
 pub record WritesEach (n : ℕ) (places : Numbered) (run : ℕ → ℕ → ℕ) (old new : Bytes) : Type 0 where
@@ -77,7 +82,7 @@ pub record WritesEach (n : ℕ) (places : Numbered) (run : ℕ → ℕ → ℕ) 
   pub bytes : (task d : ℕ) → d < MOST_DATAGRAMS → AreBytes (slot_bytes old task d) → AreBytes (slot_bytes new task d)
   pub all : length new ≡ length old
 
--- the value of each is what stood there, and that of one that is lacking is given
+-- the value of each is what was there, and the value of a lacking one is given
 pub record ReadsEach (n : ℕ) (places : Numbered) (bytes : Bytes) (lacking : ℕ) (values : List ℕ) : Type 0 where
   pub read :
       (i k : ℕ) (place : VariablePlace) → i < n → places i ≡ Some place → k < place.bits
@@ -85,7 +90,7 @@ pub record ReadsEach (n : ℕ) (places : Numbered) (bytes : Bytes) (lacking : �
   pub given : (i : ℕ) → i < n → places i ≡ None → slice_index_or values i 0 ≡ lacking
 
 -- the output places of a table's rows
-abbrev pub of_rows : List Row → Numbered
+abbrev pub of_rows : List VariableRow → Numbered
 of_rows rows i = option_and_then (λ row. output_of row.1) (slice_get rows i)
 
 -- the places of a list
@@ -96,17 +101,17 @@ of_list places i = slice_index_or places i None
 abbrev pub of_changed : List ChangedRow → Numbered
 of_changed changed i = option_and_then (λ row. option_and_then output_of row.1) (slice_get changed i)
 
--- bytes of another length: cut, or with zeros behind
+-- bytes of another length: cut, or with zeros after
 abbrev pub resized : ℕ → List ℕ → List ℕ
 resized size bytes = take size bytes ++ replicate (size - length bytes) 0
 
 -- the length of a datagram in the table of its task; 0 where the task has no such datagram
-abbrev pub length_of : TaskTable → ℕ → ℕ
-length_of table d = option_map_or (λ datagram. datagram.length) (slice_get table.datagrams d) 0
+abbrev pub table_data_length : TaskTable → ℕ → ℕ
+table_data_length table d = option_map_or (λ datagram. datagram.length) (slice_get table.datagrams d) 0
 
 -- the bytes of a task's datagrams get the lengths of its table, and those of every other task stay
 pub record Resizes (task : ℕ) (table : TaskTable) (old new : Bytes) : Type 0 where
-  pub own : (d : ℕ) → d < MOST_DATAGRAMS → slot_bytes new task d ≡ resized (length_of table d) (slot_bytes old task d)
+  pub own : (d : ℕ) → d < MOST_DATAGRAMS → slot_bytes new task d ≡ resized (table_data_length table d) (slot_bytes old task d)
   pub rest : (other d : ℕ) → d < MOST_DATAGRAMS → other ≢ task → slot_bytes new other d ≡ slot_bytes old other d
   pub all : length new ≡ length old
 
@@ -114,7 +119,7 @@ pub record Resizes (task : ℕ) (table : TaskTable) (old new : Bytes) : Type 0 w
 pub record ResizesEach (n : ℕ) (changed : List ChangedTask) (old new : Bytes) : Type 0 where
   pub own :
       (i d : ℕ) (own : ChangedTask) → i < n → slice_get changed i ≡ Some own → d < MOST_DATAGRAMS
-      → slot_bytes new own.0 d ≡ resized (length_of own.1 d) (slot_bytes old own.0 d)
+      → slot_bytes new own.0 d ≡ resized (table_data_length own.1 d) (slot_bytes old own.0 d)
   pub rest :
       (task d : ℕ) → d < MOST_DATAGRAMS
       → ((i : ℕ) (own : ChangedTask) → i < n → slice_get changed i ≡ Some own → own.0 ≢ task)
@@ -126,20 +131,24 @@ abbrev pub carried_bit : Table → (ℕ → ℕ → ℕ) → Bool → ℕ → �
 carried_bit old value ones variable k =
     if is_some (place_in old variable) then value variable k else (if ones then 1 else 0)
 
+-- whatever values the bytes carry at their places in one table, they carry them over to those in the next
+abbrev pub CarriesOver : Table → Table → Bool → Bytes → Bytes → Type 0
+CarriesOver old new ones before after = (value : ℕ → ℕ → ℕ) → Carries old value before → Carries new (carried_bit old value ones) after
+
 -- a word of ones, or of zeros
 abbrev pub word_of : Bool → ℕ
 word_of ones = if ones then 2 ^ 64 - 1 else 0
 
--- where each changed variable stands as an output in a table
-pub record Stand (table : Table) (changed : List ChangedRow) (places : List (Option VariablePlace)) : Type 0 where
+-- where each changed variable is as an output in a table
+pub record ArePlaced (table : Table) (changed : List ChangedRow) (places : List (Option VariablePlace)) : Type 0 where
   pub count : length places ≡ length changed
   pub each :
       (i : ℕ) (row : ChangedRow) → slice_get changed i ≡ Some row → of_list places i ≡ output_in table row.0
 
--- what the code keeps of moves: where changed variables stand, and room for their values
-pub record Keeps (moves : Moves) (places : List (Option VariablePlace)) (values : List ℕ) : Type 0 where
+-- what the code keeps of moves: where changed variables are, and room for their values
+pub record HoldsMoves (moves : Moves) (places : List (Option VariablePlace)) (values : List ℕ) : Type 0 where
   pub table : IsTable moves.before
-  pub stand : Stand moves.before moves.change.rows places
+  pub are_placed : ArePlaced moves.before moves.change.rows places
   pub room : length values ≡ length moves.change.rows
 
 -- each datagram of the task takes the bits of its mask from the post, from its offset on, and every other one stays

@@ -6,21 +6,21 @@ use Rattle.hc_records.specs.Image.{VariablePlace}
 use Rattle.hc_places.specs.Table.{Table, place_in}
 use Rattle.hc_images.specs.Packed.{offset_in}
 
--- where a bit of a variable stands in its task's image
-abbrev pub image_bit : Table → VariablePlace → ℕ → ℕ
-image_bit table place k = 8 * offset_in table place.task place.datagram + place.bit + k
+-- where a bit of a variable is in its task's image
+abbrev pub table_image_bit : Table → VariablePlace → ℕ → ℕ
+table_image_bit table place k = 8 * offset_in table place.task place.datagram + place.bit + k
 
 -- a post of a task has a value for each variable that the task has: its bits in the image
-abbrev pub posted : Table → ℕ → List ℕ → (ℕ → ℕ → ℕ) → ℕ → ℕ → ℕ
-posted table task bytes value variable k =
-    option_map_or (λ place. if place.task == task then bit_of bytes (image_bit table place k) else value variable k)
+abbrev pub posted_values : Table → ℕ → List ℕ → (ℕ → ℕ → ℕ) → ℕ → ℕ → ℕ
+posted_values table task bytes value variable k =
+    option_map_or (λ place. if place.task == task then bit_of bytes (table_image_bit table place k) else value variable k)
     (place_in table variable) (value variable k)
 
 -- over an edit a variable keeps its value where it had a place; the value of one that had none is 0
-abbrev pub kept : Table → (ℕ → ℕ → ℕ) → ℕ → ℕ → ℕ
-kept old value variable k = if is_some (place_in old variable) then value variable k else 0
+abbrev pub unchanged : Table → (ℕ → ℕ → ℕ) → ℕ → ℕ → ℕ
+unchanged old value variable k = if is_some (place_in old variable) then value variable k else 0
 
--- a variable that stands in both tables has its bits and its direction in both: it is one entry of a project
+-- a variable that is in both tables has its bits and its direction in both: it is one entry of a project
 pub record KeepsItsEntry (place another : VariablePlace) : Type 0 where
   pub bits : another.bits ≡ place.bits
   pub dir : another.dir ≡ place.dir

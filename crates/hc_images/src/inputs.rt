@@ -1,6 +1,6 @@
 //! The data of all datagrams that a line can have.
 ghost use Rattle.std.specs.Prelude.{◌≡◌, ◌+◌, ◌<◌, ◌≤◌, ℕ, None, length, slice_index_or};
-ghost use Rattle.hc_images.specs.Image.{IsWhole};
+ghost use Rattle.hc_images.specs.Image.{HasAllSlots};
 ghost use Rattle.hc_images.specs.inner.Used.{NoneAfter};
 
 use crate::slot::Slot;
@@ -23,11 +23,12 @@ fn clear_slots(slots: &mut [Slot], from: usize, count: usize)
     }
 }
 
-/// No slot has data from now on. Of each task the first datagrams alone may have data, as many as are told.
+/// No slot has data from now on. Of each task the first datagrams alone may have data, as many as are
+/// reported.
 fn clear_used(slots: &mut [Slot], used: &mut [u8; 8])
-    requires whole { IsWhole slots.old }
+    requires whole { HasAllSlots slots.old }
     requires used { NoneAfter used.old slots.old }
-    ensures size { IsWhole slots.new }
+    ensures size { HasAllSlots slots.new }
     ensures none { (n : ℕ) → slice_index_or slots.new n None ≡ None }
 {
     for task in 0..usize::from(TASKS) {
@@ -55,14 +56,14 @@ impl Drop for Inputs {
 
 impl Model for Inputs {
     ghost use Rattle.std.specs.Prelude.{◌≡◌, length};
-    ghost use Rattle.hc_images.specs.Image.{Image, IsWhole};
+    ghost use Rattle.hc_images.specs.Image.{DatagramImage, HasAllSlots};
     ghost use Rattle.hc_images.specs.inner.Used.{NoneAfter};
 
-    ghost Value = { Image };
+    ghost Value = { DatagramImage };
 
     ghost view = { λ inputs. inputs.slots.items };
 
-    ghost invariant = { λ inputs. IsWhole inputs.slots.items × NoneAfter inputs.used inputs.slots.items };
+    ghost invariant = { λ inputs. HasAllSlots inputs.slots.items × NoneAfter inputs.used inputs.slots.items };
 }
 
 impl Inputs {
@@ -71,7 +72,7 @@ impl Inputs {
     ghost use Rattle.std.specs.Option.{option_copied};
     ghost use Rattle.hc_images.specs.Image.{HasNone, Renews, data_of, data_of_first};
 
-    /// An image in which no datagram has data. `AllocError` where the growth was refused; no other call
+    /// An image where no datagram has data. `AllocError` where the growth was refused; no other call
     /// but `read` takes memory.
     pub fn new(alloc: Global) -> Result<Inputs, AllocError>
         ensures { IfOk result (λ inputs. HasNone inputs) }

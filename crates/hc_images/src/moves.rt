@@ -1,13 +1,13 @@
 //! What an edit does to output values. The core makes the moves before the edit changes anything, and the
 //! outputs carry them out.
-ghost use Rattle.std.specs.Prelude.{◌≡◌, ◌*◌, ℕ, length};
+ghost use Rattle.std.specs.Prelude.{◌≡◌, ◌*◌, length};
 ghost use Rattle.hc_records.specs.declared.limits.TheConstants.{MOST_DATAGRAMS, TASKS};
 ghost use Rattle.hc_places.specs.Swap.{swapped};
-ghost use Rattle.hc_images.specs.Packed.{Carries, HasSizes, IsLaidOut};
-ghost use Rattle.hc_images.specs.Pieces.{Keeps, carried_bit, word_of};
+ghost use Rattle.hc_images.specs.Packed.{HasSizes, IsLaidOut};
+ghost use Rattle.hc_images.specs.Pieces.{HoldsMoves, word_of, CarriesOver};
 ghost use Rattle.hc_images.specs.Values.{KeepEntries};
 
-use crate::row::Row;
+use crate::row::DatagramBytes;
 use crate::rows::{output, put_down, resize, take_up};
 use hc_places::swap::Swap;
 use hc_places::table::{Place, Places};
@@ -15,8 +15,8 @@ use std::alloc::{AllocError, Global};
 use std::marker::Model;
 use std::snapshot::Snapshot;
 
-/// Where the variables that an edit moves, or that appear or go, stood as outputs, with the memory for their
-/// values. Contracts see the table in which they stood, and what the edit changes in it.
+/// Where the variables that an edit moves, or that appear or go, was as outputs, with the memory for their
+/// values. Contracts see the table where they were, and what the edit changes in it.
 #[derive(Drop)]
 pub struct Moves {
     before: Snapshot<Places>,
@@ -27,13 +27,13 @@ pub struct Moves {
 
 impl Model for Moves {
     ghost use Rattle.hc_images.specs.Moves.{Moves};
-    ghost use Rattle.hc_images.specs.Pieces.{Keeps};
+    ghost use Rattle.hc_images.specs.Pieces.{HoldsMoves};
 
     ghost Value = { Moves };
 
     ghost view = { λ moves. record { before = moves.before.value; change = moves.swap.value.change } };
 
-    ghost invariant = { λ moves. Keeps (record { before = moves.before.value; change = moves.swap.value.change }) moves.places.items moves.values.items };
+    ghost invariant = { λ moves. HoldsMoves (record { before = moves.before.value; change = moves.swap.value.change }) moves.places.items moves.values.items };
 }
 
 /// A word of ones, or of zeros.
@@ -46,7 +46,7 @@ fn word_of(ones: bool) -> u64
 /// Carries bits over from the places in the one table to those in the other: all are taken up before any is
 /// put down. The bits of a variable that had no place are all ones or all zeros.
 fn carry_over(
-    rows: &mut [Row],
+    rows: &mut [DatagramBytes],
     places: &[Option<Place>],
     values: &mut [u64],
     before: &Snapshot<Places>,
@@ -54,12 +54,12 @@ fn carry_over(
     ones: bool,
 )
     requires all { length rows.old ≡ MOST_DATAGRAMS * TASKS }
-    requires keeps { Keeps (record { before = before.now.value; change = swap.now.change }) places.now values.old }
+    requires stays { HoldsMoves (record { before = before.now.value; change = swap.now.change }) places.now values.old }
     requires laid { IsLaidOut before.now.value }
     requires laid_out { IsLaidOut (swapped swap.now.change before.now.value) }
     requires entries { KeepEntries before.now.value (swapped swap.now.change before.now.value) }
     requires sizes { HasSizes before.now.value rows.old }
-    ensures carried { (value : ℕ → ℕ → ℕ) → Carries before.now.value value rows.old → Carries (swapped swap.now.change before.now.value) (carried_bit before.now.value value ones) rows.new }
+    ensures carried { CarriesOver before.now.value (swapped swap.now.change before.now.value) ones rows.old rows.new }
     ensures sizes { HasSizes (swapped swap.now.change before.now.value) rows.new }
     ensures all { length rows.new ≡ MOST_DATAGRAMS * TASKS }
     ensures room { length values.new ≡ length values.old }
@@ -72,14 +72,14 @@ fn carry_over(
 }
 
 impl Moves {
-    ghost use Rattle.std.specs.Prelude.{◌≡◌, ◌*◌, ℕ, IfOk, IsTrue, length};
+    ghost use Rattle.std.specs.Prelude.{◌≡◌, ◌*◌, IfOk, length};
     ghost use Rattle.hc_records.specs.declared.limits.TheConstants.{MOST_DATAGRAMS, TASKS};
-    ghost use Rattle.hc_images.specs.Moves.{table_after};
-    ghost use Rattle.hc_images.specs.Packed.{Carries, HasSizes, IsLaidOut};
-    ghost use Rattle.hc_images.specs.Pieces.{carried_bit};
+    ghost use Rattle.hc_images.specs.Moves.{moved_table};
+    ghost use Rattle.hc_images.specs.Packed.{HasSizes, IsLaidOut};
+    ghost use Rattle.hc_images.specs.Pieces.{CarriesOver};
     ghost use Rattle.hc_images.specs.Values.{KeepEntries};
 
-    /// The moves of output values over what a swap changes in a table. The swap tells where the changed variables stand
+    /// The moves of output values over what a swap changes in a table. The swap says where the changed variables are
     /// there, and no others are looked at. `AllocError` where a growth was refused.
     pub fn of(alloc: Global, old: &Places, swap: &Swap) -> Result<Moves, AllocError>
         ensures { IfOk result (λ moves. moves ≡ record { before = old.now; change = swap.now.change }) }
@@ -101,15 +101,15 @@ impl Moves {
     }
 
     /// Carries bits over to their new places, as `carry_over` does.
-    pub(crate) fn carry(&mut self, rows: &mut Vec<Row>, swap: &Swap, ones: bool)
+    pub(crate) fn carry(&mut self, rows: &mut Vec<DatagramBytes>, swap: &Swap, ones: bool)
         requires all { length rows.old.items ≡ MOST_DATAGRAMS * TASKS }
         requires swap { swap.now.change ≡ self.old.change }
         requires laid { IsLaidOut self.old.before }
-        requires laid_out { IsLaidOut (table_after self.old) }
-        requires entries { KeepEntries self.old.before (table_after self.old) }
+        requires laid_out { IsLaidOut (moved_table self.old) }
+        requires entries { KeepEntries self.old.before (moved_table self.old) }
         requires sizes { HasSizes self.old.before rows.old.items }
-        ensures carried { (value : ℕ → ℕ → ℕ) → Carries self.old.before value rows.old.items → Carries (table_after self.old) (carried_bit self.old.before value ones) rows.new.items }
-        ensures sizes { HasSizes (table_after self.old) rows.new.items }
+        ensures carried { CarriesOver self.old.before (moved_table self.old) ones rows.old.items rows.new.items }
+        ensures sizes { HasSizes (moved_table self.old) rows.new.items }
         ensures all { length rows.new.items ≡ MOST_DATAGRAMS * TASKS }
         ensures same { self.new ≡ self.old }
     {

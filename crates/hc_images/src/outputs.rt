@@ -1,10 +1,10 @@
 //! The output values of a line, packed as they are sent.
 ghost use Rattle.std.specs.Prelude.{◌≡◌, drop};
-ghost use Rattle.hc_images.specs.Packed.{IsWhole};
+ghost use Rattle.hc_images.specs.Packed.{MasksFitBytes};
 ghost use Rattle.hc_images.specs.Pieces.{Posts};
 
 use crate::moves::Moves;
-use crate::row::Row;
+use crate::row::DatagramBytes;
 use crate::rows::{blank_rows, make_masks};
 use hc_places::swap::Swap;
 use hc_places::table::Places;
@@ -19,8 +19,8 @@ use std::marker::Model;
 /// post takes memory, and an edit for the moved values alone.
 #[derive(Debug)]
 pub struct Outputs {
-    sent: Vec<Row>,
-    masks: Vec<Row>,
+    sent: Vec<DatagramBytes>,
+    masks: Vec<DatagramBytes>,
 }
 
 impl Drop for Outputs {
@@ -30,13 +30,13 @@ impl Drop for Outputs {
 }
 
 impl Model for Outputs {
-    ghost use Rattle.hc_images.specs.Packed.{IsWhole, Packed};
+    ghost use Rattle.hc_images.specs.Packed.{MasksFitBytes, Packed};
 
     ghost Value = { Packed };
 
     ghost view = { λ outputs. record { sent = outputs.sent.items; masks = outputs.masks.items } };
 
-    ghost invariant = { λ outputs. IsWhole (record { sent = outputs.sent.items; masks = outputs.masks.items }) };
+    ghost invariant = { λ outputs. MasksFitBytes (record { sent = outputs.sent.items; masks = outputs.masks.items }) };
 }
 
 /// The bytes from one on; none where there are fewer.
@@ -50,8 +50,14 @@ fn from_byte(bytes: &[u8], offset: u16) -> &[u8]
 }
 
 /// Takes a post of a task into the bytes of its datagrams, by their masks.
-fn post_datagrams(sent: &mut [Row], masks: &[Row], places: &Places, task: Task, bytes: &[u8])
-    requires { IsWhole (record { sent = sent.old; masks = masks.now }) }
+fn post_datagrams(
+    sent: &mut [DatagramBytes],
+    masks: &[DatagramBytes],
+    places: &Places,
+    task: Task,
+    bytes: &[u8],
+)
+    requires { MasksFitBytes (record { sent = sent.old; masks = masks.now }) }
     ensures { Posts places.now sent.old sent.new masks.now task bytes.now }
 {
     let datagrams = places.datagrams(task.number());
@@ -62,8 +68,14 @@ fn post_datagrams(sent: &mut [Row], masks: &[Row], places: &Places, task: Task, 
 }
 
 /// The same of all rows that are kept.
-fn post_all(sent: &mut Vec<Row>, masks: &Vec<Row>, places: &Places, task: Task, bytes: &[u8])
-    requires { IsWhole (record { sent = sent.old.items; masks = masks.now.items }) }
+fn post_all(
+    sent: &mut Vec<DatagramBytes>,
+    masks: &Vec<DatagramBytes>,
+    places: &Places,
+    task: Task,
+    bytes: &[u8],
+)
+    requires { MasksFitBytes (record { sent = sent.old.items; masks = masks.now.items }) }
     ensures { Posts places.now sent.old.items sent.new.items masks.now.items task bytes.now }
 {
     post_datagrams(sent.as_mut_slice(), masks.as_slice(), places, task, bytes);
@@ -71,15 +83,15 @@ fn post_all(sent: &mut Vec<Row>, masks: &Vec<Row>, places: &Places, task: Task, 
 
 impl Outputs {
     ghost use Rattle.std.specs.Prelude.{◌≡◌, ℕ, IfOk};
-    ghost use Rattle.hc_images.specs.Moves.{table_after};
-    ghost use Rattle.hc_images.specs.Packed.{HasSizes, Holds, IsLaidOut, sent_bytes};
-    ghost use Rattle.hc_images.specs.Values.{KeepEntries, kept, posted};
+    ghost use Rattle.hc_images.specs.Moves.{moved_table};
+    ghost use Rattle.hc_images.specs.Packed.{HasSizes, HoldsOutputValues, IsLaidOut, sent_bytes};
+    ghost use Rattle.hc_images.specs.Values.{KeepEntries, unchanged, posted_values};
 
     /// The outputs of a table whose values are all 0. `AllocError` where a growth was refused; no other call
     /// takes memory.
     pub fn new(alloc: Global, places: &Places) -> Result<Outputs, AllocError>
         requires { IsLaidOut places.now }
-        ensures { IfOk result (λ outputs. Holds places.now (λ variable k. 0) outputs) }
+        ensures { IfOk result (λ outputs. HoldsOutputValues places.now (λ variable k. 0) outputs) }
     {
         let sent = blank_rows(alloc, places)?;
         let mut masks = blank_rows(alloc, places)?;
@@ -87,17 +99,17 @@ impl Outputs {
         Ok(Outputs { sent, masks })
     }
 
-    /// A post of a task by the table of the present line: the task's output variables have their
-    /// bits in the post as their values, bits behind its end being 0; those of other tasks keep theirs.
-    /// Bits of the post that belong to no output variable are never sent. It takes no memory.
+    /// A post of a task by the table of the present line: the task's output variables have their bits
+    /// in the post as their values, bits after its end being 0; those of other tasks keep theirs. Bits
+    /// of the post that belong to no output variable are never sent. It takes no memory.
     pub fn post(&mut self, places: &Places, task: Task, bytes: &[u8])
         requires { IsLaidOut places.now }
-        ensures { (value : ℕ → ℕ → ℕ) → Holds places.now value self.old → Holds places.now (posted places.now task bytes.now value) self.new }
+        ensures { (value : ℕ → ℕ → ℕ) → HoldsOutputValues places.now value self.old → HoldsOutputValues places.now (posted_values places.now task bytes.now value) self.new }
     {
         post_all(&mut self.sent, &self.masks, places, task, bytes);
     }
 
-    /// The data with which a datagram is sent, by its task, 0 to 7, and its number in the task, 0 to 15; no
+    /// The data that a datagram is sent with, by its task, 0 to 7, and its number in the task, 0 to 15; no
     /// bytes where the table has no such datagram, and for any other task or number.
     pub fn bytes(&self, task: u8, number: u8) -> &[u8]
         ensures { result.now ≡ sent_bytes self.now task number }
@@ -115,10 +127,10 @@ impl Outputs {
     pub fn change(&mut self, moves: Moves, swap: &Swap)
         requires swap { swap.now.change ≡ moves.change }
         requires laid { IsLaidOut moves.before }
-        requires laid_out { IsLaidOut (table_after moves) }
-        requires entries { KeepEntries moves.before (table_after moves) }
+        requires laid_out { IsLaidOut (moved_table moves) }
+        requires entries { KeepEntries moves.before (moved_table moves) }
         requires sizes { HasSizes moves.before self.old.sent }
-        ensures { (value : ℕ → ℕ → ℕ) → Holds moves.before value self.old → Holds (table_after moves) (kept moves.before value) self.new }
+        ensures { (value : ℕ → ℕ → ℕ) → HoldsOutputValues moves.before value self.old → HoldsOutputValues (moved_table moves) (unchanged moves.before value) self.new }
     {
         let mut moves = moves;
         moves.carry(&mut self.sent, swap, false);

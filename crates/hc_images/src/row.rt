@@ -9,11 +9,11 @@ use std::marker::Model;
 
 /// The bytes of a datagram, at most 1,486, with room for so many.
 #[derive(Debug, Drop)]
-pub(crate) struct Row {
+pub(crate) struct DatagramBytes {
     bytes: ArrayVec<u8, 1486>,
 }
 
-impl Model for Row {
+impl Model for DatagramBytes {
     ghost use Rattle.std.specs.Prelude.{ℕ, List};
 
     ghost Value = { List ℕ };
@@ -21,7 +21,8 @@ impl Model for Row {
     ghost view = { λ row. row.bytes.items };
 }
 
-/// Each byte becomes that of `bytes` at its index with the bits of the mask alone, or 0 behind their end.
+/// Each byte becomes the one of `bytes` at its index with the bits of the mask alone, or 0 after their
+/// end.
 fn copy_masked(own: &mut [u8], mask: &[u8], bytes: &[u8])
     requires { length mask.now ≡ length own.old }
     ensures bits { (k : ℕ) → bit_of own.new k ≡ min (bit_of bytes.now k) (bit_of mask.now k) }
@@ -66,7 +67,7 @@ fn put_run(bytes: &mut [u8], at: usize, bits: u8, value: u64)
     put_bits(bytes, at, usize::from(bits), lowest(value, bits));
 }
 
-impl Row {
+impl DatagramBytes {
     ghost use Rattle.std.specs.Prelude.{◌≡◌, ◌+◌, ◌*◌, ◌<◌, ◌≤◌, ℕ, length, min, replicate};
     ghost use Rattle.std.specs.Int.{bit_at};
     ghost use Rattle.hc_bits.specs.Bits.{AreBytes, bit_of, ReplacesRun};
@@ -74,7 +75,7 @@ impl Row {
     ghost use Rattle.hc_images.specs.Pieces.{resized};
 
     /// So many zeros.
-    pub(crate) fn zeros(length: u16) -> Row
+    pub(crate) fn zeros(length: u16) -> DatagramBytes
         requires { length ≤ MOST_DATAGRAM_BYTES }
         ensures { result ≡ replicate length 0 }
     {
@@ -82,7 +83,7 @@ impl Row {
         for _ in 0..length {
             bytes.push(0);
         }
-        Row { bytes }
+        DatagramBytes { bytes }
     }
 
     /// The bytes.
@@ -92,7 +93,7 @@ impl Row {
         self.bytes.as_slice()
     }
 
-    /// Gets another length: bytes behind it go, and those that come are zeros.
+    /// Gets another length: bytes after it go, and those that come are zeros.
     pub(crate) fn resize(&mut self, length: u16)
         requires { length ≤ MOST_DATAGRAM_BYTES }
         ensures { self.new ≡ resized length self.old }
@@ -127,7 +128,7 @@ impl Row {
     }
 
     /// Takes the bits of the mask from bytes, from their first on; every other bit becomes 0.
-    pub(crate) fn post(&mut self, mask: &Row, bytes: &[u8])
+    pub(crate) fn post(&mut self, mask: &DatagramBytes, bytes: &[u8])
         requires { length mask.now ≡ length self.old }
         ensures bits { (k : ℕ) → bit_of self.new k ≡ min (bit_of bytes.now k) (bit_of mask.now k) }
         ensures size { length self.new ≡ length self.old }

@@ -1,14 +1,13 @@
 //! The bytes of all datagrams that a line can have: made for a table, and what an edit does to them.
-ghost use Rattle.std.specs.Prelude.{◌≡◌, ◌+◌, ◌*◌, ◌<◌, ◌≤◌, ℕ, IfOk, IfSome, Some, length, option_and_then, slice_index_or};
+ghost use Rattle.std.specs.Prelude.{◌≡◌, ◌+◌, ◌*◌, ◌<◌, ◌≤◌, IfOk, IfSome, Some, length, option_and_then, slice_index_or};
 ghost use Rattle.std.specs.Int.{bit_at};
 ghost use Rattle.std.specs.Option.{MatchOption};
-ghost use Rattle.hc_bits.specs.Bits.{bit_of};
 ghost use Rattle.hc_records.specs.declared.limits.TheConstants.{MOST_DATAGRAMS, TASKS};
 ghost use Rattle.hc_places.specs.Swap.{ChangesAscend};
 ghost use Rattle.hc_images.specs.Packed.{Carries, IsLaidOut, length_in, slot_bytes};
-ghost use Rattle.hc_images.specs.Pieces.{AreApart, AreBlank, Fit, ReadsEach, Resizes, ResizesEach, WritesAt, WritesEach, length_of, of_changed, of_list, output_of};
+ghost use Rattle.hc_images.specs.Pieces.{PlacesAreApart, AreBlank, Fit, ReadsEach, Resizes, ResizesEach, WritesAt, WritesEach, table_data_length, of_changed, of_list, output_of, ReadsAt};
 
-use crate::row::Row;
+use crate::row::DatagramBytes;
 use hc_places::swap::{ChangedRow, ChangedTask};
 use hc_places::table::{Place, Places, TaskTable};
 use hc_records::limits::{MOST_DATAGRAMS, TASKS};
@@ -29,7 +28,7 @@ fn length_in(places: &Places, task: u8, number: u8) -> u16
 }
 
 /// Rows for the datagrams of a table, all 0. `AllocError` where the growth was refused.
-pub(crate) fn blank_rows(alloc: Global, places: &Places) -> Result<Vec<Row>, AllocError>
+pub(crate) fn blank_rows(alloc: Global, places: &Places) -> Result<Vec<DatagramBytes>, AllocError>
     ensures { IfOk result (λ rows. AreBlank places.now rows.items) }
 {
     let mut rows = Vec::with_capacity(alloc, SLOTS)?;
@@ -39,12 +38,12 @@ pub(crate) fn blank_rows(alloc: Global, places: &Places) -> Result<Vec<Row>, All
             (slot / MOST_DATAGRAMS) as u8,
             (slot % MOST_DATAGRAMS) as u8,
         );
-        rows.push(Row::zeros(length))?;
+        rows.push(DatagramBytes::zeros(length))?;
     }
     Ok(rows)
 }
 
-/// A place, if there is one and it is that of an output variable.
+/// A place, if there is one and it is an output variable's.
 pub(crate) fn output(place: Option<Place>) -> Option<Place>
     ensures { result ≡ option_and_then output_of place }
 {
@@ -57,7 +56,7 @@ pub(crate) fn output(place: Option<Place>) -> Option<Place>
 }
 
 /// Puts the lowest bits of a value at a place.
-fn put_at(rows: &mut [Row], place: Place, value: u64)
+fn put_at(rows: &mut [DatagramBytes], place: Place, value: u64)
     requires all { length rows.old ≡ MOST_DATAGRAMS * TASKS }
     requires within { place.bit + place.bits ≤ 8 * length (slot_bytes rows.old place.task place.datagram) }
     ensures { WritesAt (Some place) (bit_at value) rows.old rows.new }
@@ -66,16 +65,16 @@ fn put_at(rows: &mut [Row], place: Place, value: u64)
 }
 
 /// The bits at a place, as a number.
-fn value_at(rows: &[Row], place: Place) -> u64
+fn value_at(rows: &[DatagramBytes], place: Place) -> u64
     requires all { length rows.now ≡ MOST_DATAGRAMS * TASKS }
     requires within { place.bit + place.bits ≤ 8 * length (slot_bytes rows.now place.task place.datagram) }
-    ensures { (k : ℕ) → k < place.bits → bit_at result k ≡ bit_of (slot_bytes rows.now place.task place.datagram) (place.bit + k) }
+    ensures { ReadsAt rows.now place result }
 {
     rows[slot_number(place.task, place.datagram)].value(place.bit, place.bits)
 }
 
 /// Puts the lowest bits of a value at a place, if there is one.
-fn put(rows: &mut [Row], place: Option<Place>, value: u64)
+fn put(rows: &mut [DatagramBytes], place: Option<Place>, value: u64)
     requires all { length rows.old ≡ MOST_DATAGRAMS * TASKS }
     requires within { IfSome place (λ place. place.bit + place.bits ≤ 8 * length (slot_bytes rows.old place.task place.datagram)) }
     ensures { WritesAt place (bit_at value) rows.old rows.new }
@@ -86,11 +85,11 @@ fn put(rows: &mut [Row], place: Option<Place>, value: u64)
 }
 
 /// Takes the bits at a place up, which are 0 from then on; if there is none, the value that is given.
-fn take(rows: &mut [Row], place: Option<Place>, lacking: u64) -> u64
+fn take(rows: &mut [DatagramBytes], place: Option<Place>, lacking: u64) -> u64
     requires all { length rows.old ≡ MOST_DATAGRAMS * TASKS }
     requires within { IfSome place (λ place. place.bit + place.bits ≤ 8 * length (slot_bytes rows.old place.task place.datagram)) }
     ensures writes { WritesAt place (bit_at 0) rows.old rows.new }
-    ensures value { MatchOption place (result ≡ lacking) (λ place. (k : ℕ) → k < place.bits → bit_at result k ≡ bit_of (slot_bytes rows.old place.task place.datagram) (place.bit + k)) }
+    ensures value { MatchOption place (result ≡ lacking) (λ place. ReadsAt rows.old place result) }
 {
     let Some(place) = place else {
         return lacking;
@@ -101,7 +100,7 @@ fn take(rows: &mut [Row], place: Option<Place>, lacking: u64) -> u64
 }
 
 /// Makes ones of the bits of a table's output variables, in bytes that are all 0.
-fn mark(rows: &mut [Row], places: &Places)
+fn mark(rows: &mut [DatagramBytes], places: &Places)
     requires laid { IsLaidOut places.now }
     requires blank { AreBlank places.now rows.old }
     ensures carries { Carries places.now (λ variable k. 1) rows.new }
@@ -113,7 +112,7 @@ fn mark(rows: &mut [Row], places: &Places)
 }
 
 /// Makes the masks of a table of bytes that are all 0.
-pub(crate) fn make_masks(rows: &mut Vec<Row>, places: &Places)
+pub(crate) fn make_masks(rows: &mut Vec<DatagramBytes>, places: &Places)
     requires laid { IsLaidOut places.now }
     requires blank { AreBlank places.now rows.old.items }
     ensures carries { Carries places.now (λ variable k. 1) rows.new.items }
@@ -123,11 +122,16 @@ pub(crate) fn make_masks(rows: &mut Vec<Row>, places: &Places)
 }
 
 /// Takes the values at places up; the value of one that is lacking is given.
-pub(crate) fn take_up(rows: &mut [Row], places: &[Option<Place>], lacking: u64, values: &mut [u64])
+pub(crate) fn take_up(
+    rows: &mut [DatagramBytes],
+    places: &[Option<Place>],
+    lacking: u64,
+    values: &mut [u64],
+)
     requires all { length rows.old ≡ MOST_DATAGRAMS * TASKS }
     requires values { length values.old ≡ length places.now }
     requires fit { Fit (length places.now) (of_list places.now) rows.old }
-    requires apart { AreApart (length places.now) (of_list places.now) }
+    requires apart { PlacesAreApart (length places.now) (of_list places.now) }
     ensures writes { WritesEach (length places.now) (of_list places.now) (λ i. bit_at 0) rows.old rows.new }
     ensures reads { ReadsEach (length places.now) (of_list places.now) rows.old lacking values.new }
     ensures values { length values.new ≡ length places.now }
@@ -138,11 +142,11 @@ pub(crate) fn take_up(rows: &mut [Row], places: &[Option<Place>], lacking: u64, 
 }
 
 /// Puts the values of changed variables down at the new places of the outputs among them.
-pub(crate) fn put_down(rows: &mut [Row], changed: &[ChangedRow], values: &[u64])
+pub(crate) fn put_down(rows: &mut [DatagramBytes], changed: &[ChangedRow], values: &[u64])
     requires all { length rows.old ≡ MOST_DATAGRAMS * TASKS }
     requires values { length values.now ≡ length changed.now }
     requires fit { Fit (length changed.now) (of_changed changed.now) rows.old }
-    requires apart { AreApart (length changed.now) (of_changed changed.now) }
+    requires apart { PlacesAreApart (length changed.now) (of_changed changed.now) }
     ensures { WritesEach (length changed.now) (of_changed changed.now) (λ i. bit_at (slice_index_or values.now i 0)) rows.old rows.new }
 {
     for i in 0..changed.len() {
@@ -152,7 +156,7 @@ pub(crate) fn put_down(rows: &mut [Row], changed: &[ChangedRow], values: &[u64])
 
 /// The bytes of a datagram in the table of its task; 0 where the task has no such datagram.
 fn length_of(table: &TaskTable, number: usize) -> u16
-    ensures length { result ≡ length_of table.now number }
+    ensures length { result ≡ table_data_length table.now number }
     ensures most { result ≤ 1486 }
 {
     match table.datagrams().get(number) {
@@ -162,7 +166,7 @@ fn length_of(table: &TaskTable, number: usize) -> u16
 }
 
 /// Gives the datagrams of a task the lengths of its table.
-fn resize_task(rows: &mut [Row], task: Task, table: &TaskTable)
+fn resize_task(rows: &mut [DatagramBytes], task: Task, table: &TaskTable)
     requires { length rows.old ≡ MOST_DATAGRAMS * TASKS }
     ensures { Resizes task table.now rows.old rows.new }
 {
@@ -173,7 +177,7 @@ fn resize_task(rows: &mut [Row], task: Task, table: &TaskTable)
 }
 
 /// Gives the datagrams of changed tasks the lengths of their new tables.
-pub(crate) fn resize(rows: &mut [Row], changed: &[ChangedTask])
+pub(crate) fn resize(rows: &mut [DatagramBytes], changed: &[ChangedTask])
     requires all { length rows.old ≡ MOST_DATAGRAMS * TASKS }
     requires ascends { ChangesAscend changed.now }
     ensures { ResizesEach (length changed.now) changed.now rows.old rows.new }

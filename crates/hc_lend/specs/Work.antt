@@ -1,5 +1,5 @@
 -- A list in parts, and what work leaves of each.
-use Rattle.std.specs.Prelude.{ℕ, List, [], ◌∷◌, take, drop, map, All}
+use Rattle.std.specs.Prelude.{ℕ, List, [], ◌∷◌, take, drop, map, All, ◌≡◌, ◌+◌, ◌^◌, ◌<◌, length, sum}
 use Rattle.std.specs.List.{enumerate_from, range_with_len}
 
 -- the parts of these lengths, one after another
@@ -7,7 +7,7 @@ abbrev pub parts_of : List ℕ → List ℕ → List (List ℕ)
 parts_of [] bytes = []
 parts_of (n ∷ ns) bytes = take n bytes ∷ parts_of ns (drop n bytes)
 
--- each part with its number, of which the first has this one
+-- each part with its number, from this one on
 abbrev pub numbered_parts : ℕ → List ℕ → List ℕ → List (ℕ × List ℕ)
 numbered_parts first lengths bytes = enumerate_from first (parts_of lengths bytes)
 
@@ -19,6 +19,15 @@ worked_parts leaves first lengths bytes = map (λ part. leaves part.0 part.1) (n
 abbrev pub CanWorkOnEach : (ℕ → List ℕ → Type 0) → ℕ → List ℕ → List ℕ → Type 0
 CanWorkOnEach can first lengths bytes = All (λ part. can part.0 part.1) (numbered_parts first lengths bytes)
 
--- so many workers have passed a gate, of which the first has this number
+-- these are the lengths of parts that make up some bytes; the parts have numbers from this one on, each a machine number, and each may be worked on
+abbrev pub CanWorkOnAll : (ℕ → List ℕ → Type 0) → ℕ → List ℕ → List ℕ → Type 0
+CanWorkOnAll can first lengths bytes = (sum lengths ≡ length bytes) × (first + length lengths < 2 ^ 64) × CanWorkOnEach can first lengths bytes
+
+-- so many workers from this number on have passed a gate
 abbrev pub HavePassed : (ℕ → Type 0) → ℕ → ℕ → Type 0
 HavePassed passed first count = All passed (range_with_len first count)
+
+-- each part is left as its worker leaves it, and each worker has passed a gate
+abbrev pub AreWorked : (ℕ → List ℕ → List ℕ) → (ℕ → Type 0) → ℕ → List ℕ → List ℕ → List ℕ → Type 0
+AreWorked leaves passed first lengths old new =
+    (parts_of lengths new ≡ worked_parts leaves first lengths old) × HavePassed passed first (length lengths)

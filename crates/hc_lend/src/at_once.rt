@@ -3,7 +3,7 @@
 ghost use Rattle.std.specs.Prelude.{◌≡◌, ◌+◌, ◌<◌, ◌^◌, length, sum, List, ℕ};
 ghost use Rattle.std.specs.List.{concat};
 ghost use Rattle.std.specs.Thread.{IsSync};
-ghost use Rattle.hc_lend.specs.Work.{parts_of, worked_parts, CanWorkOnEach, HavePassed};
+ghost use Rattle.hc_lend.specs.Work.{parts_of, worked_parts, CanWorkOnEach, HavePassed, AreWorked, CanWorkOnAll};
 
 use crate::parts::Parts;
 use std::thread::{Threads, join_mut};
@@ -34,11 +34,11 @@ pub trait Gate {
         ensures { passed self.now worker };
 }
 
-/// Works on all parts at once, with one worker for each: this thread for the last part, and a thread of
-/// its own for every other. Each worker calls the gate once, with its part's number, and then does its work.
-/// It returns once all workers are done. It takes no memory and is never refused. With no part it does nothing.
+/// Works on all parts at once, with one worker for each: this thread for the last part, and a thread of its own
+/// for every other. Each worker calls the gate once, with its part's number, and then does its work. It returns
+/// once all workers are done. It takes no memory and is never refused. With no part it does nothing.
 ///
-/// A part for which the system makes no thread is worked on in this thread, after the parts behind it.
+/// A part is worked on in this thread, after the parts that follow it, where the system makes no thread for it.
 /// No clause says that the workers run at once, or that a worker calls the gate no second time.
 pub fn each_at_once<R: Threads + Sync, W: PartWork + Sync, G: Gate + Sync>(
     rt: &R,
@@ -57,7 +57,7 @@ pub fn each_at_once<R: Threads + Sync, W: PartWork + Sync, G: Gate + Sync>(
     rest_at_once(rt, bytes, lengths, 0, work, gate);
 }
 
-// One worker for each part of these lengths, of which the first has the number `first`.
+/// Works on all parts at once, with one worker for each. The lengths are in bytes, and the first part has the number `first`.
 fn rest_at_once<R: Threads + Sync, W: PartWork + Sync, G: Gate + Sync>(
     rt: &R,
     bytes: &mut [u8],
@@ -88,18 +88,13 @@ fn rest_at_once<R: Threads + Sync, W: PartWork + Sync, G: Gate + Sync>(
             ensures { (part.exit.now ≡ W.leaves work.entry.now first part.entry.now) × G.passed gate.entry.now first }
         { work_alone(first, part, work, gate) },
         &mut ||
-            requires { IsSync R.row × IsSync W.row × IsSync G.row
-                × (sum lengths.now ≡ length rest.now)
-                × (first + 1 + length lengths.now < 2 ^ 64)
-                × CanWorkOnEach (W.can_work work.now) (first + 1) lengths.now rest.now }
-            ensures { (parts_of lengths.entry.now rest.exit.now
-                ≡ worked_parts (W.leaves work.entry.now) (first + 1) lengths.entry.now rest.entry.now)
-                × HavePassed (G.passed gate.entry.now) (first + 1) (length lengths.entry.now) }
+            requires { IsSync R.row × IsSync W.row × IsSync G.row × CanWorkOnAll (W.can_work work.now) (first + 1) lengths.now rest.now }
+            ensures { AreWorked (W.leaves work.entry.now) (G.passed gate.entry.now) (first + 1) lengths.entry.now rest.entry.now rest.exit.now }
         { rest_at_once(rt, rest, lengths, first + 1, work, gate) },
     );
 }
 
-// What one worker does.
+/// Passes the gate as the worker of this part, and then works on its bytes.
 fn work_alone<W: PartWork, G: Gate>(part: usize, bytes: &mut [u8], work: &W, gate: &G)
     requires { W.can_work work.now part bytes.old }
     ensures left { bytes.new ≡ W.leaves work.now part bytes.old }

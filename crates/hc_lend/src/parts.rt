@@ -51,7 +51,7 @@ impl<'a> Parts<'a> {
     }
 }
 
-// The first length, and the others.
+/// The first length, and the others. There must be one.
 fn split_lengths<'a>(lengths: &'a [u32]) -> (u32, &'a [u32])
     requires { 0 < length lengths.now }
     ensures { lengths.now ≡ result.0 ∷ result.1.now }
@@ -59,7 +59,7 @@ fn split_lengths<'a>(lengths: &'a [u32]) -> (u32, &'a [u32])
     (lengths[0], &lengths[1..])
 }
 
-// The first `at` bytes, and the others.
+/// The first `at` bytes, and the others. There must be as many.
 fn cut<'a>(bytes: &'a mut [u8], at: u32) -> (&'a mut [u8], &'a mut [u8])
     requires { at ≤ length bytes.old }
     ensures* writes_back { sem 𝓛 (LendsBoth (Array u8 0) (Array u8 0) (Array u8 0) bytes.entry result ◌++◌) }

@@ -6,10 +6,10 @@ use Rattle.std.proofs.lemmas.Grind.{common_steps}
 use Rattle.hc_frames.specs.declared.commands.Command.{Command}
 use Rattle.hc_frames.specs.declared.commands.Command.TheVariants.{Aprd, Apwr, Fpwr, Lrw}
 use Rattle.hc_frames.specs.Arrived.{fault_in, reading_of}
-use Rattle.hc_frames.specs.FrameText.{Carried}
-use Rattle.hc_machine.specs.Commands.{count_of, is_at_position, is_at_station, memory_behind_datagram, memory_behind_command, register_of, served, written}
+use Rattle.hc_frames.specs.FrameText.{WireDatagram}
+use Rattle.hc_machine.specs.Commands.{counter_added, is_at_position, is_at_station, memory_after_datagram, memory_after_command, register_of, served, register_written}
 use Rattle.hc_machine.specs.Fmmus.{fmmus_of}
-use Rattle.hc_machine.specs.Frames.{memory_behind_datagrams, memory_behind}
+use Rattle.hc_machine.specs.Frames.{memory_after_datagrams, memory_after}
 use Rattle.hc_machine.specs.Laws.{AliasStays, CountersRise}
 use Rattle.hc_machine.specs.Logical.{logical_count, logical_memory, reads_any, writes_any}
 use Rattle.hc_machine.specs.Memory.{with_alias_of, with_part}
@@ -33,11 +33,11 @@ length-part at part bytes within =
     length-append (take at bytes) (part ++ drop (at + length part) bytes) ∙ ap (λ (n : ℕ). length (take at bytes) + n) (length-append part (drop (at + length part) bytes))
     ∙ omega (arith, length-take at bytes, length-drop (at + length part) bytes)
 
-same-written : (memory bytes : List ℕ) (register : ℕ) → length memory ≡ 12288 → register + length bytes ≤ 12288 → SameAlias memory (written memory register bytes)
-unfolding written
+same-written : (memory bytes : List ℕ) (register : ℕ) → length memory ≡ 12288 → register + length bytes ≤ 12288 → SameAlias memory (register_written memory register bytes)
+unfolding register_written
 same-written memory bytes register long within = put-back memory (with_part register bytes memory) (length-part register bytes memory (omega arith) ∙ long)
 
-same-if : (b : Bool) (memory bytes : List ℕ) (register : ℕ) → length memory ≡ 12288 → (b ≡ true → register + length bytes ≤ 12288) → SameAlias memory (if b then written memory register bytes else memory)
+same-if : (b : Bool) (memory bytes : List ℕ) (register : ℕ) → length memory ≡ 12288 → (b ≡ true → register + length bytes ≤ 12288) → SameAlias memory (if b then register_written memory register bytes else memory)
 same-if true memory bytes register long within = same-written memory bytes register long (within refl)
 same-if false memory bytes register long within = record { long = long; low = refl; high = refl }
 
@@ -45,34 +45,34 @@ same-logical : (memory bytes : List ℕ) (from : ℕ) → length memory ≡ 1228
 unfolding logical_memory
 same-logical memory bytes from long = put-back memory _ (length-bytes_with (length memory) _ ∙ long)
 
-same-after : (command : Command) (memory bytes : List ℕ) (address : ℕ) → length memory ≡ 12288 → SameAlias memory (memory_behind_command command memory address bytes)
+same-after : (command : Command) (memory bytes : List ℕ) (address : ℕ) → length memory ≡ 12288 → SameAlias memory (memory_after_command command memory address bytes)
 same-after Aprd memory bytes address long = record { long = long; low = refl; high = refl }
 same-after Apwr memory bytes address long = same-if (is_at_position address (length bytes)) memory bytes (register_of address) long (λ e. grind (arith, nat_tests))
 same-after Fpwr memory bytes address long = same-if (is_at_station memory address (length bytes)) memory bytes (register_of address) long (λ e. grind (arith, nat_tests))
 same-after Lrw memory bytes address long = same-logical memory bytes (8 * address) long
 
-same-kept : (memory : List ℕ) (d : Carried) → length memory ≡ 12288 → SameAlias memory (memory_behind_datagram memory d)
-unfolding memory_behind_datagram
-same-kept memory d long = same-after d.command memory d.bytes d.address long
+same-unchanged : (memory : List ℕ) (d : WireDatagram) → length memory ≡ 12288 → SameAlias memory (memory_after_datagram memory d)
+unfolding memory_after_datagram
+same-unchanged memory d long = same-after d.command memory d.bytes d.address long
 
-pub length-kept : (memory : List ℕ) (d : Carried) → length memory ≡ 12288 → length (memory_behind_datagram memory d) ≡ 12288
-length-kept memory d long = (same-kept memory d long).long
+pub length-unchanged : (memory : List ℕ) (d : WireDatagram) → length memory ≡ 12288 → length (memory_after_datagram memory d) ≡ 12288
+length-unchanged memory d long = (same-unchanged memory d long).long
 
-same-all : (memory : List ℕ) (ds : List Carried) → length memory ≡ 12288 → SameAlias memory (memory_behind_datagrams memory ds)
+same-all : (memory : List ℕ) (ds : List WireDatagram) → length memory ≡ 12288 → SameAlias memory (memory_after_datagrams memory ds)
 same-all memory [] long = record { long = long; low = refl; high = refl }
 same-all memory (d ∷ ds) long =
-    let first : SameAlias memory (memory_behind_datagram memory d) = same-kept memory d long in
-    let others : SameAlias (memory_behind_datagram memory d) (memory_behind_datagrams (memory_behind_datagram memory d) ds) = same-all (memory_behind_datagram memory d) ds first.long in
+    let first : SameAlias memory (memory_after_datagram memory d) = same-unchanged memory d long in
+    let others : SameAlias (memory_after_datagram memory d) (memory_after_datagrams (memory_after_datagram memory d) ds) = same-all (memory_after_datagram memory d) ds first.long in
     record { long = others.long; low = others.low ∙ first.low; high = others.high ∙ first.high }
 
-same-read : (b : Bool) (memory : List ℕ) (ds : List Carried) → length memory ≡ 12288 → SameAlias memory (if b then memory_behind_datagrams memory ds else memory)
+same-read : (b : Bool) (memory : List ℕ) (ds : List WireDatagram) → length memory ≡ 12288 → SameAlias memory (if b then memory_after_datagrams memory ds else memory)
 same-read true memory ds long = same-all memory ds long
 same-read false memory ds long = record { long = long; low = refl; high = refl }
 
 pub alias-stays : AliasStays
-unfolding memory_behind
+unfolding memory_after
 alias-stays memory frame long =
-    let same : SameAlias memory (if is_none (fault_in frame) then memory_behind_datagrams memory (reading_of frame).parts else memory) = same-read (is_none (fault_in frame)) memory (reading_of frame).parts long in
+    let same : SameAlias memory (if is_none (fault_in frame) then memory_after_datagrams memory (reading_of frame).parts else memory) = same-read (is_none (fault_in frame)) memory (reading_of frame).parts long in
     (same.long, same.low, same.high)
 
 one-most : (b : Bool) → (if b then 1 else 0) ≤ 3
@@ -86,7 +86,7 @@ logical-most : (memory : List ℕ) (from n : ℕ) → logical_count memory from 
 unfolding logical_count
 logical-most memory from n = three-most (reads_any from (8 * n) (fmmus_of memory)) (writes_any from (8 * n) (fmmus_of memory))
 
-count-most : (command : Command) (memory : List ℕ) (address n : ℕ) → count_of command memory address n ≤ 3
+count-most : (command : Command) (memory : List ℕ) (address n : ℕ) → counter_added command memory address n ≤ 3
 count-most Aprd memory address n = one-most (is_at_position address n)
 count-most Apwr memory address n = one-most (is_at_position address n)
 count-most Fpwr memory address n = one-most (is_at_station memory address n)
@@ -94,4 +94,4 @@ count-most Lrw memory address n = logical-most memory (8 * address) n
 
 pub counters-rise : CountersRise
 unfolding served
-counters-rise memory d = (count_of d.command memory d.address (length d.bytes), count-most d.command memory d.address (length d.bytes), refl)
+counters-rise memory d = (counter_added d.command memory d.address (length d.bytes), count-most d.command memory d.address (length d.bytes), refl)

@@ -1,4 +1,4 @@
--- What the working counter of a logical datagram tells of its pairs.
+-- What the working counter of a logical datagram says of its pairs.
 use Rattle.std.proofs.Common.{◌≡◌, ◌⊎◌, ℕ, suc, ◌+◌, ◌-◌, ◌*◌, ◌<◌, ◌≤◌, Bool, true, false, List, [], ◌∷◌, length, get_or, min, max, refl, arith, inl, inr}
 use Rattle.std.specs.Prelude.{◌&&◌, ◌||◌, if◌then◌else◌}
 use Rattle.std.specs.List.{list_any}
@@ -7,8 +7,8 @@ use Rattle.std.proofs.lemmas.List.Folds.{list_any_at}
 use Rattle.std.proofs.lemmas.Bool.{and_from, and_parts}
 use Rattle.hc_machine.specs.declared.fmmu.Fmmu.{Fmmu}
 use Rattle.hc_machine.specs.Fmmus.{fmmus_of, idle}
-use Rattle.hc_machine.specs.Laws.{IsRead, IsWritten, LogicalCountsTellPairs, Pairs}
-use Rattle.hc_machine.specs.Logical.{logical_count, meets, memory_bit, reads_any, writes_any}
+use Rattle.hc_machine.specs.Laws.{IsRead, IsPairedForWriting, LogicalCountsSayPairs, Pairs}
+use Rattle.hc_machine.specs.Logical.{logical_count, fmmu_meets, memory_bit, reads_any, writes_any}
 use Rattle.hc_machine.proofs.Paired.{fmmu-count, read-by, reads-back, write-by, writes-back}
 use Rattle.hc_machine.proofs.Unmapped.{meets-some}
 
@@ -24,7 +24,7 @@ holds-of p (f ∷ fs) some = by (p f) refl some (holds-of p fs)
     by true here some others = (0, omega arith, here)
     by false here some others = let there = others some in (suc there.0, omega (arith, there.1), there.2)
 
-meets-pair : (f : Fmmu) (from size k m : ℕ) → k < size → Pairs f (from + k) m → meets from size f ≡ true
+meets-pair : (f : Fmmu) (from size k m : ℕ) → k < size → Pairs f (from + k) m → fmmu_meets from size f ≡ true
 meets-pair f from size k m low pairs =
     let start : f.logical ≤ from + k = pairs.0 in
     let end : from + k < f.logical + f.width = pairs.1 in
@@ -32,7 +32,7 @@ meets-pair f from size k m low pairs =
     grind (arith, nat_tests)
 
 -- the first of the bits that an FMMU and a datagram share
-shared : (f : Fmmu) (from size : ℕ) → meets from size f ≡ true → (k : ℕ) × (k < size) × Pairs f (from + k) (memory_bit f (from + k))
+shared : (f : Fmmu) (from size : ℕ) → fmmu_meets from size f ≡ true → (k : ℕ) × (k < size) × Pairs f (from + k) (memory_bit f (from + k))
 shared f from size met =
     let some : max f.logical from < min (f.logical + f.width) (from + size) = meets-some f from size met in
     (max f.logical from - from, omega arith, (omega arith, omega arith, refl))
@@ -41,51 +41,51 @@ module _ (memory : List ℕ) (from n : ℕ) where
   abbrev size : ℕ
   size = 8 * n
 
-  read-told : reads_any from size (fmmus_of memory) ≡ true → IsRead memory from n
-  read-told some =
-      let at = holds-of (λ f. f.reads && meets from size f) (fmmus_of memory) some in
+  read-answer_given : reads_any from size (fmmus_of memory) ≡ true → IsRead memory from n
+  read-answer_given some =
+      let at = holds-of (λ f. f.reads && fmmu_meets from size f) (fmmus_of memory) some in
       let f : Fmmu = get_or (fmmus_of memory) at.0 idle in
-      let parts = and_parts f.reads (meets from size f) at.2 in
+      let parts = and_parts f.reads (fmmu_meets from size f) at.2 in
       let bit = shared f from size parts.1 in
       let number : at.0 < 16 = omega (arith, at.1, fmmu-count memory) in
       (at.0, bit.0, memory_bit f (from + bit.0), number, bit.1, reads-back memory at.0 (from + bit.0) (memory_bit f (from + bit.0)) number parts.0 bit.2)
 
-  told-read : IsRead memory from n → reads_any from size (fmmus_of memory) ≡ true
-  told-read (i, k, m, number, low, reads) =
+  answer_given-read : IsRead memory from n → reads_any from size (fmmus_of memory) ≡ true
+  answer_given-read (i, k, m, number, low, reads) =
       let by = read-by memory i (from + k) m number reads in
       let f : Fmmu = get_or (fmmus_of memory) i idle in
-      list_any_at (λ f. f.reads && meets from size f) (fmmus_of memory) i idle (omega (arith, fmmu-count memory))
-      (and_from f.reads (meets from size f) by.0 (meets-pair f from size k m low by.1))
+      list_any_at (λ f. f.reads && fmmu_meets from size f) (fmmus_of memory) i idle (omega (arith, fmmu-count memory))
+      (and_from f.reads (fmmu_meets from size f) by.0 (meets-pair f from size k m low by.1))
 
-  written-told : writes_any from size (fmmus_of memory) ≡ true → IsWritten memory from n
-  written-told some =
-      let at = holds-of (λ f. f.writes && meets from size f) (fmmus_of memory) some in
+  written-answer_given : writes_any from size (fmmus_of memory) ≡ true → IsPairedForWriting memory from n
+  written-answer_given some =
+      let at = holds-of (λ f. f.writes && fmmu_meets from size f) (fmmus_of memory) some in
       let f : Fmmu = get_or (fmmus_of memory) at.0 idle in
-      let parts = and_parts f.writes (meets from size f) at.2 in
+      let parts = and_parts f.writes (fmmu_meets from size f) at.2 in
       let bit = shared f from size parts.1 in
       let number : at.0 < 16 = omega (arith, at.1, fmmu-count memory) in
       (at.0, bit.0, memory_bit f (from + bit.0), number, bit.1, writes-back memory at.0 (from + bit.0) (memory_bit f (from + bit.0)) number parts.0 bit.2)
 
-  told-written : IsWritten memory from n → writes_any from size (fmmus_of memory) ≡ true
-  told-written (i, k, m, number, low, writes) =
+  answer_given-written : IsPairedForWriting memory from n → writes_any from size (fmmus_of memory) ≡ true
+  answer_given-written (i, k, m, number, low, writes) =
       let by = write-by memory i (from + k) m number writes in
       let f : Fmmu = get_or (fmmus_of memory) i idle in
-      list_any_at (λ f. f.writes && meets from size f) (fmmus_of memory) i idle (omega (arith, fmmu-count memory))
-      (and_from f.writes (meets from size f) by.0 (meets-pair f from size k m low by.1))
+      list_any_at (λ f. f.writes && fmmu_meets from size f) (fmmus_of memory) i idle (omega (arith, fmmu-count memory))
+      (and_from f.writes (fmmu_meets from size f) by.0 (meets-pair f from size k m low by.1))
 
 -- a test as the number that it adds
-told : (b : Bool) (n : ℕ) (A : Type 0) → (b ≡ true → A) → (A → b ≡ true) → (((if b then n else 0) ≡ n) × A) ⊎ (((if b then n else 0) ≡ 0) × (¬ A))
-told true n A there back = inl (refl, there refl)
-told false n A there back = inr (refl, λ a. let e : false ≡ true = back a in cc)
+answer_given : (b : Bool) (n : ℕ) (A : Type 0) → (b ≡ true → A) → (A → b ≡ true) → (((if b then n else 0) ≡ n) × A) ⊎ (((if b then n else 0) ≡ 0) × (¬ A))
+answer_given true n A there back = inl (refl, there refl)
+answer_given false n A there back = inr (refl, λ a. let e : false ≡ true = back a in cc)
 
-pub counts-tell : LogicalCountsTellPairs
+pub counts-say : LogicalCountsSayPairs
 unfolding logical_count
-counts-tell memory from n =
+counts-say memory from n =
     let read : Bool = reads_any from (8 * n) (fmmus_of memory) in
     let written : Bool = writes_any from (8 * n) (fmmus_of memory) in (
       if read then 1 else 0,
       if written then 2 else 0,
       refl,
-      told read 1 (IsRead memory from n) (read-told memory from n) (told-read memory from n),
-      told written 2 (IsWritten memory from n) (written-told memory from n) (told-written memory from n),
+      answer_given read 1 (IsRead memory from n) (read-answer_given memory from n) (answer_given-read memory from n),
+      answer_given written 2 (IsPairedForWriting memory from n) (written-answer_given memory from n) (answer_given-written memory from n),
     )

@@ -8,11 +8,11 @@ use Rattle.std.proofs.lemmas.List.{take_at}
 use Rattle.hc_frames.specs.declared.limits.TheConstants.{MAX_DATAGRAMS}
 use Rattle.hc_frames.specs.declared.reading.faults.FrameFault.{FrameFault}
 use Rattle.hc_frames.specs.declared.reading.faults.FrameFault.TheVariants.{Short, NotEtherCat, BadType, BadLength}
-use Rattle.hc_frames.specs.Arrived.{Answers, Reading, datagram_bytes, datagrams_in, fault_in, fill_region, has_bad_length, has_bad_type, is_not_ethercat, is_short, is_whole, more_between, reading_of, region}
-use Rattle.hc_frames.specs.FrameText.{Carried, carried_frame, carried_texts, head_to}
+use Rattle.hc_frames.specs.Arrived.{Answers, Reading, datagram_bytes, datagram_tails, fault_in, fill_region, has_bad_length, has_bad_type, is_not_ethercat, is_short, is_whole, more_between, reading_of, region}
+use Rattle.hc_frames.specs.FrameText.{WireDatagram, carried_frame, carried_texts, head_to}
 use Rattle.hc_frames.proofs.lemmas.Opening.{drop_front, drop_twice}
 use Rattle.hc_frames.proofs.lemmas.Spelling.{frame-carried}
-use Rattle.hc_machine.specs.Frames.{memory_behind_datagrams, all_served, frame_after, memory_behind}
+use Rattle.hc_machine.specs.Frames.{memory_after_datagrams, all_served, frame_after, memory_after}
 use Rattle.hc_machine.specs.Rewriting.{ServesTexts}
 
 -- what the reader answers
@@ -57,9 +57,9 @@ least m n e = grind (arith, nat_tests)
 pub readable-long : (bytes : List ℕ) → is_none (fault_in bytes) ≡ true → 16 + datagram_bytes bytes ≤ length bytes
 readable-long bytes none = least (length bytes) (16 + datagram_bytes bytes) (neither _ _ (neither _ _ (good-length bytes (no-fault _ none))).1).0
 
-pub readable-whole : (bytes : List ℕ) → is_none (fault_in bytes) ≡ true → list_all is_whole (datagrams_in (region bytes)) ≡ true
+pub readable-whole : (bytes : List ℕ) → is_none (fault_in bytes) ≡ true → list_all is_whole (datagram_tails (region bytes)) ≡ true
 readable-whole bytes none =
-    let ds : List (List ℕ) = datagrams_in (region bytes) in
+    let ds : List (List ℕ) = datagram_tails (region bytes) in
     let long = neither (nat_lt MAX_DATAGRAMS (datagram_bytes bytes)) _ (good-length bytes (no-fault _ none)) in
     let filled : fill_region ds ≡ true = turned _ (neither (nat_lt (length bytes) (16 + datagram_bytes bytes)) _ long.1).1 in
     (both (list_all is_whole ds) (more_between ds) (both (nat_lt 0 (length ds)) (list_all is_whole ds && more_between ds) filled).1).0
@@ -75,7 +75,7 @@ module _ (bytes : List ℕ) (all : All (λ b. b < 256) bytes) (none : is_none (f
   abbrev serial : ℕ
   serial = (reading_of bytes).serial
 
-  abbrev parts : List Carried
+  abbrev parts : List WireDatagram
   parts = (reading_of bytes).parts
 
   abbrev text : List ℕ
@@ -84,11 +84,11 @@ module _ (bytes : List ℕ) (all : All (λ b. b < 256) bytes) (none : is_none (f
   abbrev head : ℕ → List ℕ
   head size = head_to (take 6 bytes) (slice_index bytes 6) serial size
 
-  abbrev behind : List ℕ
-  behind = drop (16 + datagram_bytes bytes) bytes
+  abbrev after_it : List ℕ
+  after_it = drop (16 + datagram_bytes bytes) bytes
 
-  whole-frame : bytes ≡ head (length text) ++ (text ++ behind)
-  whole-frame = (frame-carried bytes all (no-fault _ none)).1 ∙ append_assoc (head (length text)) text behind
+  whole-frame : bytes ≡ head (length text) ++ (text ++ after_it)
+  whole-frame = (frame-carried bytes all (no-fault _ none)).1 ∙ append_assoc (head (length text)) text after_it
 
   head-size : (n : ℕ) → length (head n) ≡ 16
   head-size n =
@@ -98,20 +98,20 @@ module _ (bytes : List ℕ) (all : All (λ b. b < 256) bytes) (none : is_none (f
   text-size : length text ≡ datagram_bytes bytes
   text-size =
       let long : 16 + datagram_bytes bytes ≤ length bytes = readable-long bytes none in
-      let size : length bytes ≡ 16 + (length text + length behind) =
-      ap length whole-frame ∙ length-append (head (length text)) (text ++ behind) ∙ ap₂ (λ (m n : ℕ). m + n) (head-size (length text)) (length-append text behind) in
+      let size : length bytes ≡ 16 + (length text + length after_it) =
+      ap length whole-frame ∙ length-append (head (length text)) (text ++ after_it) ∙ ap₂ (λ (m n : ℕ). m + n) (head-size (length text)) (length-append text after_it) in
       omega (arith, length-drop (16 + datagram_bytes bytes) bytes)
 
   region-text : region bytes ≡ text
   region-text =
-      ap (take (datagram_bytes bytes)) (ap (drop 16) whole-frame ∙ drop_front (head (length text)) (text ++ behind) 16 (head-size (length text)))
-      ∙ take_at text behind (datagram_bytes bytes) text-size
+      ap (take (datagram_bytes bytes)) (ap (drop 16) whole-frame ∙ drop_front (head (length text)) (text ++ after_it) 16 (head-size (length text)))
+      ∙ take_at text after_it (datagram_bytes bytes) text-size
 
   head-text : take 16 bytes ≡ head (length text)
-  head-text = ap (take 16) whole-frame ∙ take_at (head (length text)) (text ++ behind) 16 (head-size (length text))
+  head-text = ap (take 16) whole-frame ∙ take_at (head (length text)) (text ++ after_it) 16 (head-size (length text))
 
   module _ (memory memory' region' : List ℕ) (same : length region' ≡ length (region bytes)) (serves : ServesTexts memory memory' (region bytes) region') where
-    done : (region' ≡ carried_texts serial (all_served memory parts)) × (memory' ≡ memory_behind_datagrams memory parts)
+    done : (region' ≡ carried_texts serial (all_served memory parts)) × (memory' ≡ memory_after_datagrams memory parts)
     done = serves serial parts (frame-carried bytes all (no-fault _ none)).0.fits region-text
 
     pub frame-served : (n : ℕ) → n ≡ datagram_bytes bytes → take 16 bytes ++ (region' ++ drop n (drop 16 bytes)) ≡ frame_after memory bytes
@@ -121,9 +121,9 @@ module _ (bytes : List ℕ) (all : All (λ b. b < 256) bytes) (none : is_none (f
         let size : length text ≡ length new = sym (ap length region-text) ∙ sym same ∙ ap length done.0 in
         ap₂ (λ (h r : List ℕ). h ++ (r ++ drop n (drop 16 bytes))) (head-text ∙ ap head size) done.0
         ∙ ap (λ (b : List ℕ). head (length new) ++ (new ++ b)) (drop_twice 16 n bytes ∙ ap (λ (k : ℕ). drop (16 + k) bytes) is)
-        ∙ sym (append_assoc (head (length new)) new behind)
-        ∙ sym (ap (λ (b : Bool). if b then carried_frame (take 6 bytes) (slice_index bytes 6) serial (all_served memory parts) behind else bytes) none)
+        ∙ sym (append_assoc (head (length new)) new after_it)
+        ∙ sym (ap (λ (b : Bool). if b then carried_frame (take 6 bytes) (slice_index bytes 6) serial (all_served memory parts) after_it else bytes) none)
 
-    pub memory-served : memory' ≡ memory_behind memory bytes
-    unfolding memory_behind
-    memory-served = done.1 ∙ sym (ap (λ (b : Bool). if b then memory_behind_datagrams memory parts else memory) none)
+    pub memory-served : memory' ≡ memory_after memory bytes
+    unfolding memory_after
+    memory-served = done.1 ∙ sym (ap (λ (b : Bool). if b then memory_after_datagrams memory parts else memory) none)

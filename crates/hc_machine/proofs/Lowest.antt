@@ -6,10 +6,10 @@ use Rattle.std.proofs.lemmas.Bool.{cases_eq, cases_lt, and_from, and_parts, fals
 use Rattle.std.proofs.lemmas.List.FromFn.{get_or-map-range_with_len, length-map-range_with_len}
 use Rattle.std.proofs.lemmas.Nat.Bits.{bit_at-lt}
 use Rattle.hc_bits.specs.Bits.{bit_of}
-use Rattle.hc_bits.proofs.lemmas.Bits.{bit_of-lt, bit_of-kept, bit_of-byte}
+use Rattle.hc_bits.proofs.lemmas.Bits.{bit_of-lt, bit_of-unchanged, bit_of-byte}
 use Rattle.hc_machine.specs.declared.fmmu.Fmmu.{Fmmu}
-use Rattle.hc_machine.specs.Fmmus.{fmmus_of, idle, is_within}
-use Rattle.hc_machine.specs.Laws.{Reads, ReadBitsComeFromMemory, UnreadBitsStay, UnwrittenBitsStay, Writes, WrittenBitsComeFromData}
+use Rattle.hc_machine.specs.Fmmus.{fmmus_of, idle, is_in_run}
+use Rattle.hc_machine.specs.Laws.{Reads, ReadBitsComeFromMemory, UnreadBitsStay, UnwrittenBitsStay, FmmuWrites, WrittenBitsComeFromData}
 use Rattle.hc_machine.specs.Logical.{bit_read, bit_written, logical_bit, logical_data, logical_memory, memory_bit}
 use Rattle.hc_machine.specs.Memory.{byte_with, bytes_with, with_alias_of}
 use Rattle.hc_machine.proofs.Paired.{fmmu-count, read-by, reads-back, within-back, write-by, writes-back}
@@ -75,7 +75,7 @@ bit_of-bytes_with n bit k small low =
 
 -- ---- what is read
 abbrev pub reads-at : Fmmu → ℕ → Bool
-reads-at f x = f.reads && is_within f.logical f.width x
+reads-at f x = f.reads && is_in_run f.logical f.width x
 
 read-lowest : (fs : List Fmmu) (i : ℕ) (memory : ℕ → ℕ) (x was : ℕ) → i < length fs → reads-at (get_or fs i idle) x ≡ true → ((j : ℕ) → j < i → reads-at (get_or fs j idle) x ≡ false)
     → bit_read fs memory x was ≡ memory (memory_bit (get_or fs i idle) x)
@@ -110,7 +110,7 @@ data-bit memory bytes from k low =
 pub not-read : (memory : List ℕ) (j x : ℕ) → j < 16 → ((n : ℕ) → ¬ Reads memory j x n) → reads-at (get_or (fmmus_of memory) j idle) x ≡ false
 not-read memory j x low none =
     let f : Fmmu = get_or (fmmus_of memory) j idle in
-    false_from_ne_true (reads-at f x) (λ e. let parts = and_parts f.reads (is_within f.logical f.width x) e in
+    false_from_ne_true (reads-at f x) (λ e. let parts = and_parts f.reads (is_in_run f.logical f.width x) e in
     let place = within-back f.logical f.width x parts.1 in
     none (memory_bit f x) (reads-back memory j x (memory_bit f x) low parts.0 (place.0, place.1, refl)))
 
@@ -118,7 +118,7 @@ pub read-from-memory : ReadBitsComeFromMemory
 read-from-memory memory bytes from k i m low number reads before =
     let f : Fmmu = get_or (fmmus_of memory) i idle in
     let by = read-by memory i (from + k) m number reads in
-    let here : reads-at f (from + k) ≡ true = and_from f.reads (is_within f.logical f.width (from + k)) by.0 (within_yes f.logical f.width (from + k) by.1.0 by.1.1) in
+    let here : reads-at f (from + k) ≡ true = and_from f.reads (is_in_run f.logical f.width (from + k)) by.0 (within_yes f.logical f.width (from + k) by.1.0 by.1.1) in
     data-bit memory bytes from k low
     ∙ read-lowest (fmmus_of memory) i (bit_of memory) (from + k) (bit_of bytes k) (omega (arith, fmmu-count memory)) here (λ j h. not-read memory j (from + k) (omega arith) (λ n. before j n h))
     ∙ ap (bit_of memory) (sym by.1.2)
@@ -130,7 +130,7 @@ unread-stays memory bytes from k low none =
 
 -- ---- what is written
 abbrev pub writes-at : ℕ → ℕ → Fmmu → ℕ → Bool
-writes-at from n f m = f.writes && is_within f.memory f.width m && is_within from n (logical_bit f m)
+writes-at from n f m = f.writes && is_in_run f.memory f.width m && is_in_run from n (logical_bit f m)
 
 write-lowest : (fs : List Fmmu) (i : ℕ) (came : ℕ → ℕ) (from n m was : ℕ) → i < length fs → writes-at from n (get_or fs i idle) m ≡ true → ((j : ℕ) → j < i → writes-at from n (get_or fs j idle) m ≡ false)
     → bit_written fs came from n m was ≡ came (logical_bit (get_or fs i idle) m - from)
@@ -154,8 +154,8 @@ write-small (f ∷ fs) came from n m was small low = chosen-small (writes-at fro
 
 alias-outside : (old new : List ℕ) (m : ℕ) → (m < 144) ⊎ (160 ≤ m) → bit_of (with_alias_of old new) m ≡ bit_of new m
 unfolding with_alias_of
-alias-outside old new m (inl low) = bit_of-kept _ new m (get_or-set_other _ 19 (m / 8) _ 0 (omega arith) ∙ get_or-set_other new 18 (m / 8) _ 0 (omega arith))
-alias-outside old new m (inr high) = bit_of-kept _ new m (get_or-set_other _ 19 (m / 8) _ 0 (omega arith) ∙ get_or-set_other new 18 (m / 8) _ 0 (omega arith))
+alias-outside old new m (inl low) = bit_of-unchanged _ new m (get_or-set_other _ 19 (m / 8) _ 0 (omega arith) ∙ get_or-set_other new 18 (m / 8) _ 0 (omega arith))
+alias-outside old new m (inr high) = bit_of-unchanged _ new m (get_or-set_other _ 19 (m / 8) _ 0 (omega arith) ∙ get_or-set_other new 18 (m / 8) _ 0 (omega arith))
 
 memory-bit : (memory bytes : List ℕ) (from m : ℕ) → m < 8 * length memory → (m < 144) ⊎ (160 ≤ m)
     → bit_of (logical_memory memory from bytes) m ≡ bit_written (fmmus_of memory) (bit_of bytes) from (8 * length bytes) m (bit_of memory m)
@@ -165,11 +165,11 @@ memory-bit memory bytes from m low outside =
     ∙ bit_of-bytes_with (length memory) (λ m. bit_written (fmmus_of memory) (bit_of bytes) from (8 * length bytes) m (bit_of memory m)) m
     (λ j. write-small (fmmus_of memory) (bit_of bytes) from (8 * length bytes) j (bit_of memory j) (bit_of-lt bytes) (bit_of-lt memory j)) low
 
-pub not-written : (memory : List ℕ) (from size j m : ℕ) → j < 16 → ((n : ℕ) → n < size → ¬ Writes memory j (from + n) m) → writes-at from size (get_or (fmmus_of memory) j idle) m ≡ false
+pub not-written : (memory : List ℕ) (from size j m : ℕ) → j < 16 → ((n : ℕ) → n < size → ¬ FmmuWrites memory j (from + n) m) → writes-at from size (get_or (fmmus_of memory) j idle) m ≡ false
 not-written memory from size j m low none =
     let f : Fmmu = get_or (fmmus_of memory) j idle in
-    false_from_ne_true (writes-at from size f m) (λ e. let outer = and_parts (f.writes && is_within f.memory f.width m) (is_within from size (logical_bit f m)) e in
-    let inner = and_parts f.writes (is_within f.memory f.width m) outer.0 in
+    false_from_ne_true (writes-at from size f m) (λ e. let outer = and_parts (f.writes && is_in_run f.memory f.width m) (is_in_run from size (logical_bit f m)) e in
+    let inner = and_parts f.writes (is_in_run f.memory f.width m) outer.0 in
     let place = within-back f.memory f.width m inner.1 in
     let logical = within-back from size (logical_bit f m) outer.1 in
     let back : f.logical + (m - f.memory) ≡ from + (logical_bit f m - from) = omega arith in
@@ -186,7 +186,7 @@ written-from-data memory bytes from k i m long outside low number writes before 
     let logical : logical_bit f m ≡ from + k = omega arith in
     let inside : m < 8 * length memory = omega (arith, writes.1.inside) in
     let here : writes-at from size f m ≡ true =
-    and_from (f.writes && is_within f.memory f.width m) (is_within from size (logical_bit f m)) (and_from f.writes (is_within f.memory f.width m) by.0 (within_yes f.memory f.width m (omega arith) (omega arith)))
+    and_from (f.writes && is_in_run f.memory f.width m) (is_in_run from size (logical_bit f m)) (and_from f.writes (is_in_run f.memory f.width m) by.0 (within_yes f.memory f.width m (omega arith) (omega arith)))
     (within_yes from size (logical_bit f m) (omega arith) (omega arith)) in
     let same : logical_bit f m - from ≡ k = omega arith in
     memory-bit memory bytes from m inside outside
@@ -196,10 +196,10 @@ written-from-data memory bytes from k i m long outside low number writes before 
 alias-inside : (old new : List ℕ) (m : ℕ) → length new ≡ 12288 → 144 ≤ m → m < 160 → bit_of (with_alias_of old new) m ≡ bit_of old m
 unfolding with_alias_of
 alias-inside old new m long low high = elim (cases_eq (m / 8) 18) [
-  | inl e ↦ bit_of-kept _ old m (ap (λ (i : ℕ). get_or (set (set new 18 (get_or old 18 0)) 19 (get_or old 19 0)) i 0) e ∙ get_or-set_other (set new 18 (get_or old 18 0)) 19 18 _ 0 (omega arith)
+  | inl e ↦ bit_of-unchanged _ old m (ap (λ (i : ℕ). get_or (set (set new 18 (get_or old 18 0)) 19 (get_or old 19 0)) i 0) e ∙ get_or-set_other (set new 18 (get_or old 18 0)) 19 18 _ 0 (omega arith)
       ∙ get_or-set_same new 18 (get_or old 18 0) 0 (omega arith) ∙ ap (λ (i : ℕ). get_or old i 0) (sym e))
   | inr n ↦ let e : m / 8 ≡ 19 = omega arith in
-      bit_of-kept _ old m (ap (λ (i : ℕ). get_or (set (set new 18 (get_or old 18 0)) 19 (get_or old 19 0)) i 0) e ∙ get_or-set_same (set new 18 (get_or old 18 0)) 19 (get_or old 19 0) 0 (omega (arith, length-set {A = ℕ}))
+      bit_of-unchanged _ old m (ap (λ (i : ℕ). get_or (set (set new 18 (get_or old 18 0)) 19 (get_or old 19 0)) i 0) e ∙ get_or-set_same (set new 18 (get_or old 18 0)) 19 (get_or old 19 0) 0 (omega (arith, length-set {A = ℕ}))
       ∙ ap (λ (i : ℕ). get_or old i 0) (sym e))
 ]
 
@@ -216,6 +216,6 @@ unwritten-stays memory bytes from m long inside none =
       | inl low ↦ memory-bit memory bytes from m (omega arith) (inl low) ∙ stays
       | inr high ↦ elim (cases_lt m 160) [
         | inl alias ↦ alias-bit memory bytes from m long high alias
-        | inr past ↦ memory-bit memory bytes from m (omega arith) (inr past) ∙ stays
+        | inr history ↦ memory-bit memory bytes from m (omega arith) (inr history) ∙ stays
       ]
     ]

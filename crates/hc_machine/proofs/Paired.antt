@@ -3,8 +3,8 @@ use Rattle.std.proofs.Common.{◌≡◌, ℕ, ◌+◌, ◌-◌, ◌<◌, ◌≤�
 use Rattle.std.proofs.lemmas.Bool.Decides.{nat_tests}
 use Rattle.std.proofs.lemmas.List.FromFn.{get_or-map-range_with_len, length-map-range_with_len}
 use Rattle.hc_machine.specs.declared.fmmu.Fmmu.{Fmmu}
-use Rattle.hc_machine.specs.Fmmus.{block_at, end_logical, first_logical, first_memory, fmmu_of, fmmus_of, idle, is_active, is_read, is_within, is_write}
-use Rattle.hc_machine.specs.Laws.{FmmusAreTheirPairs, IsPair, Pairs, Reads, Writes}
+use Rattle.hc_machine.specs.Fmmus.{fmmu_block_at, end_logical, first_logical, first_memory, fmmu_of, fmmus_of, idle, is_active, is_read, is_in_run, is_write_fmmu}
+use Rattle.hc_machine.specs.Laws.{FmmusAreTheirPairs, IsPair, Pairs, Reads, FmmuWrites}
 use Rattle.hc_machine.proofs.Pairs.{within_yes}
 
 abbrev active-fmmu : List ℕ → Fmmu
@@ -13,7 +13,7 @@ active-fmmu block = record {
   memory = first_memory block;
   width = min (end_logical block - first_logical block) (98304 - first_memory block);
   reads = is_read block;
-  writes = is_write block;
+  writes = is_write_fmmu block;
 }
 
 fmmu-active : (block : List ℕ) → is_active block ≡ true → active-fmmu block ≡ fmmu_of block
@@ -48,42 +48,42 @@ pub pairs-are-blocks : FmmusAreTheirPairs
 pairs-are-blocks block x m = (pairs-of-block block x m, block-of-pairs (is_active block) block x m refl)
 
 -- an FMMU of the sixteen
-pub fmmu-at : (memory : List ℕ) (i : ℕ) → i < 16 → get_or (fmmus_of memory) i idle ≡ fmmu_of (block_at memory i)
+pub fmmu-at : (memory : List ℕ) (i : ℕ) → i < 16 → get_or (fmmus_of memory) i idle ≡ fmmu_of (fmmu_block_at memory i)
 unfolding fmmus_of
-fmmu-at memory i low = get_or-map-range_with_len (λ i. fmmu_of (block_at memory i)) 0 16 i i idle low (omega arith)
+fmmu-at memory i low = get_or-map-range_with_len (λ i. fmmu_of (fmmu_block_at memory i)) 0 16 i i idle low (omega arith)
 
 pub fmmu-count : (memory : List ℕ) → length (fmmus_of memory) ≡ 16
 unfolding fmmus_of
-fmmu-count memory = length-map-range_with_len (λ i. fmmu_of (block_at memory i)) 0 16
+fmmu-count memory = length-map-range_with_len (λ i. fmmu_of (fmmu_block_at memory i)) 0 16
 
 reads-of-block : (block : List ℕ) → is_active block ≡ true → is_read block ≡ (fmmu_of block).reads
 reads-of-block block on = ap (λ (f : Fmmu). f.reads) (fmmu-active block on)
 
-writes-of-block : (block : List ℕ) → is_active block ≡ true → is_write block ≡ (fmmu_of block).writes
+writes-of-block : (block : List ℕ) → is_active block ≡ true → is_write_fmmu block ≡ (fmmu_of block).writes
 writes-of-block block on = ap (λ (f : Fmmu). f.writes) (fmmu-active block on)
 
-pub within-back : (from n x : ℕ) → is_within from n x ≡ true → (from ≤ x) × (x < from + n)
+pub within-back : (from n x : ℕ) → is_in_run from n x ≡ true → (from ≤ x) × (x < from + n)
 within-back from n x e = (grind (arith, nat_tests), grind (arith, nat_tests))
 
 -- what reads and what writes, by the FMMU
 pub read-by : (memory : List ℕ) (i x m : ℕ) → i < 16 → Reads memory i x m → ((get_or (fmmus_of memory) i idle).reads ≡ true) × Pairs (get_or (fmmus_of memory) i idle) x m
 read-by memory i x m low reads =
     let here = sym (fmmu-at memory i low) in
-    (ap (λ (f : Fmmu). f.reads) (sym here) ∙ sym (reads-of-block (block_at memory i) reads.1.active) ∙ reads.0, subst (λ (f : Fmmu). Pairs f x m) here (pairs-of-block (block_at memory i) x m reads.1))
+    (ap (λ (f : Fmmu). f.reads) (sym here) ∙ sym (reads-of-block (fmmu_block_at memory i) reads.1.active) ∙ reads.0, subst (λ (f : Fmmu). Pairs f x m) here (pairs-of-block (fmmu_block_at memory i) x m reads.1))
 
-pub write-by : (memory : List ℕ) (i x m : ℕ) → i < 16 → Writes memory i x m → ((get_or (fmmus_of memory) i idle).writes ≡ true) × Pairs (get_or (fmmus_of memory) i idle) x m
+pub write-by : (memory : List ℕ) (i x m : ℕ) → i < 16 → FmmuWrites memory i x m → ((get_or (fmmus_of memory) i idle).writes ≡ true) × Pairs (get_or (fmmus_of memory) i idle) x m
 write-by memory i x m low writes =
     let here = sym (fmmu-at memory i low) in
-    (ap (λ (f : Fmmu). f.writes) (sym here) ∙ sym (writes-of-block (block_at memory i) writes.1.active) ∙ writes.0, subst (λ (f : Fmmu). Pairs f x m) here (pairs-of-block (block_at memory i) x m writes.1))
+    (ap (λ (f : Fmmu). f.writes) (sym here) ∙ sym (writes-of-block (fmmu_block_at memory i) writes.1.active) ∙ writes.0, subst (λ (f : Fmmu). Pairs f x m) here (pairs-of-block (fmmu_block_at memory i) x m writes.1))
 
 pub reads-back : (memory : List ℕ) (i x m : ℕ) → i < 16 → (get_or (fmmus_of memory) i idle).reads ≡ true → Pairs (get_or (fmmus_of memory) i idle) x m → Reads memory i x m
 reads-back memory i x m low on pairs =
     let here = fmmu-at memory i low in
-    let pair : IsPair (block_at memory i) x m = (pairs-are-blocks (block_at memory i) x m).1 (subst (λ (f : Fmmu). Pairs f x m) here pairs) in
-    (reads-of-block (block_at memory i) pair.active ∙ ap (λ (f : Fmmu). f.reads) (sym here) ∙ on, pair)
+    let pair : IsPair (fmmu_block_at memory i) x m = (pairs-are-blocks (fmmu_block_at memory i) x m).1 (subst (λ (f : Fmmu). Pairs f x m) here pairs) in
+    (reads-of-block (fmmu_block_at memory i) pair.active ∙ ap (λ (f : Fmmu). f.reads) (sym here) ∙ on, pair)
 
-pub writes-back : (memory : List ℕ) (i x m : ℕ) → i < 16 → (get_or (fmmus_of memory) i idle).writes ≡ true → Pairs (get_or (fmmus_of memory) i idle) x m → Writes memory i x m
+pub writes-back : (memory : List ℕ) (i x m : ℕ) → i < 16 → (get_or (fmmus_of memory) i idle).writes ≡ true → Pairs (get_or (fmmus_of memory) i idle) x m → FmmuWrites memory i x m
 writes-back memory i x m low on pairs =
     let here = fmmu-at memory i low in
-    let pair : IsPair (block_at memory i) x m = (pairs-are-blocks (block_at memory i) x m).1 (subst (λ (f : Fmmu). Pairs f x m) here pairs) in
-    (writes-of-block (block_at memory i) pair.active ∙ ap (λ (f : Fmmu). f.writes) (sym here) ∙ on, pair)
+    let pair : IsPair (fmmu_block_at memory i) x m = (pairs-are-blocks (fmmu_block_at memory i) x m).1 (subst (λ (f : Fmmu). Pairs f x m) here pairs) in
+    (writes-of-block (fmmu_block_at memory i) pair.active ∙ ap (λ (f : Fmmu). f.writes) (sym here) ∙ on, pair)

@@ -7,16 +7,16 @@ use Rattle.std.proofs.lemmas.Bool.Decides.{nat_tests}
 use Rattle.std.proofs.lemmas.Grind.{common_steps}
 use Rattle.hc_bits.specs.Bits.{bit_of, ReplacesRun}
 use Rattle.hc_machine.specs.declared.fmmu.Fmmu.{Fmmu}
-use Rattle.hc_machine.specs.Fmmus.{idle, is_within}
+use Rattle.hc_machine.specs.Fmmus.{idle, is_in_run}
 use Rattle.hc_machine.specs.Logical.{memory_bit, logical_bit, bit_read, bit_written}
 
-pub within_yes : (from n x : ℕ) → from ≤ x → x < from + n → is_within from n x ≡ true
+pub within_yes : (from n x : ℕ) → from ≤ x → x < from + n → is_in_run from n x ≡ true
 within_yes from n x p q = grind (arith, nat_tests)
 
-within_below : (from n x : ℕ) → x < from → is_within from n x ≡ false
+within_below : (from n x : ℕ) → x < from → is_in_run from n x ≡ false
 within_below from n x p = grind (arith, nat_tests)
 
-within_above : (from n x : ℕ) → from + n ≤ x → is_within from n x ≡ false
+within_above : (from n x : ℕ) → from + n ≤ x → is_in_run from n x ≡ false
 within_above from n x p = grind (arith, nat_tests)
 
 -- the first FMMU is laid over what the others give
@@ -37,7 +37,7 @@ pub read_off : (f : Fmmu) (memory : ℕ → ℕ) (x was : ℕ) → f.reads ≡ f
 unfolding bit_read
 read_off f memory x was r = rw r refl
 
-read_out : (f : Fmmu) (memory : ℕ → ℕ) (x was : ℕ) → is_within f.logical f.width x ≡ false → bit_read (f ∷ []) memory x was ≡ was
+read_out : (f : Fmmu) (memory : ℕ → ℕ) (x was : ℕ) → is_in_run f.logical f.width x ≡ false → bit_read (f ∷ []) memory x was ≡ was
 unfolding bit_read
 read_out f memory x was e = rw e (and_false f.reads)
   where
@@ -88,13 +88,13 @@ and_first false b x y = refl
 and_last : (a b : Bool) (x y : ℕ) → (if a && b && false then x else y) ≡ y
 and_last a b x y = grind (arith, common_steps)
 
-write_out : (f : Fmmu) (sent : ℕ → ℕ) (from n m was : ℕ) → is_within f.memory f.width m ≡ false → bit_written (f ∷ []) sent from n m was ≡ was
+write_out : (f : Fmmu) (sent : ℕ → ℕ) (from n m was : ℕ) → is_in_run f.memory f.width m ≡ false → bit_written (f ∷ []) sent from n m was ≡ was
 unfolding bit_written
-write_out f sent from n m was e = rw e (and_first f.writes (is_within from n (logical_bit f m)) _ _)
+write_out f sent from n m was e = rw e (and_first f.writes (is_in_run from n (logical_bit f m)) _ _)
 
-write_past : (f : Fmmu) (sent : ℕ → ℕ) (from n m was : ℕ) → is_within from n (logical_bit f m) ≡ false → bit_written (f ∷ []) sent from n m was ≡ was
+write_past : (f : Fmmu) (sent : ℕ → ℕ) (from n m was : ℕ) → is_in_run from n (logical_bit f m) ≡ false → bit_written (f ∷ []) sent from n m was ≡ was
 unfolding bit_written
-write_past f sent from n m was e = rw e (and_last f.writes (is_within f.memory f.width m) _ _)
+write_past f sent from n m was e = rw e (and_last f.writes (is_in_run f.memory f.width m) _ _)
 
 pub clip_write : (f : Fmmu) (sent : ℕ → ℕ) (old new : List ℕ) (first n start stop : ℕ) → start ≡ max f.logical first → stop ≡ min (f.logical + f.width) (first + n)
     → start < stop → f.writes ≡ true → ReplacesRun old new (f.memory + (start - f.logical)) (stop - start) (λ k. sent (start - first + k))
@@ -114,7 +114,7 @@ clip_write f sent old new first n start stop e g some w copied m =
               ∙ sym (write_yes f sent first n m (bit_of old m) w high (omega arith) (omega arith) (omega arith))
           | inr after ↦ copied.after m after ∙ elim (cases_lt m (f.memory + f.width)) [
             | inl within ↦ sym (write_past f sent first n m (bit_of old m) (within_above first n (logical_bit f m) (omega arith)))
-            | inr past ↦ sym (write_out f sent first n m (bit_of old m) (within_above f.memory f.width m past))
+            | inr history ↦ sym (write_out f sent first n m (bit_of old m) (within_above f.memory f.width m history))
           ]
         ]
       ]
@@ -126,7 +126,7 @@ clip_no_write f sent first n start stop m was e g none =
     elim (cases_lt m f.memory) [
       | inl low ↦ write_out f sent first n m was (within_below f.memory f.width m low)
       | inr high ↦ elim (cases_lt m (f.memory + f.width)) [
-        | inr past ↦ write_out f sent first n m was (within_above f.memory f.width m past)
+        | inr history ↦ write_out f sent first n m was (within_above f.memory f.width m history)
         | inl within ↦ elim (cases_lt (logical_bit f m) first) [
           | inl before ↦ write_past f sent first n m was (within_below first n (logical_bit f m) before)
           | inr after ↦ write_past f sent first n m was (within_above first n (logical_bit f m) (omega arith))
@@ -151,12 +151,12 @@ read_first fs rest f memory x was e = sym (bit_read-over f rest memory x was) �
 pub written_first : (fs rest : List Fmmu) (f : Fmmu) (sent : ℕ → ℕ) (from n m was : ℕ) → fs ≡ f ∷ rest → bit_written (f ∷ []) sent from n m (bit_written rest sent from n m was) ≡ bit_written fs sent from n m was
 written_first fs rest f sent from n m was e = sym (bit_written-over f rest sent from n m was) ∙ ap (λ l. bit_written l sent from n m was) (sym e)
 
--- the FMMUs from one on are it and those behind it
+-- the FMMUs from one on are it and those after it
 pub laid-next : (fs : List Fmmu) (k : ℕ) → k < length fs → drop (length fs - (k + 1)) fs ≡ get_or fs (length fs - 1 - k) idle ∷ drop (length fs - k) fs
 laid-next fs k low =
     let here : length fs - (k + 1) ≡ length fs - 1 - k = omega arith in
-    let behind : length fs - 1 - k + 1 ≡ length fs - k = omega arith in
-    ap (λ (n : ℕ). drop n fs) here ∙ drop_more fs (length fs - 1 - k) idle (omega arith) ∙ ap (λ (n : ℕ). get_or fs (length fs - 1 - k) idle ∷ drop n fs) behind
+    let after_it : length fs - 1 - k + 1 ≡ length fs - k = omega arith in
+    ap (λ (n : ℕ). drop n fs) here ∙ drop_more fs (length fs - 1 - k) idle (omega arith) ∙ ap (λ (n : ℕ). get_or fs (length fs - 1 - k) idle ∷ drop n fs) after_it
 
 none-laid : (fs : List Fmmu) → length (drop (length fs - 0) fs) < 1
 none-laid fs = omega (arith, length-drop (length fs - 0) fs)

@@ -2,7 +2,7 @@
 use Rattle.std.proofs.Common.{◌≡◌, ℕ, ◌+◌, ◌%◌, Bool, List, [], ◌++◌, length, take, drop, refl, sym, ap, ◌∙◌, append_assoc, append-nil, length-append}
 use Rattle.std.specs.Int.{w16, w32, to_le_bytes}
 use Rattle.hc_frames.specs.declared.commands.Command.{Command}
-use Rattle.hc_frames.specs.FrameText.{Carried, carried_head, carried_text}
+use Rattle.hc_frames.specs.FrameText.{WireDatagram, carried_head, carried_text}
 use Rattle.hc_frames.proofs.lemmas.Replaced.{middle-replaced}
 use Rattle.hc_machine.specs.Memory.{with_part}
 use Rattle.hc_machine.specs.Rewriting.{rewritten}
@@ -28,12 +28,12 @@ module _ (index : ℕ) (command : Command) (more : Bool) (interrupt size : ℕ) 
       ∙ ap (λ (xs : List ℕ). head address' ++ bytes' ++ xs) (append-nil counter')
       ∙ append_assoc (head address') bytes' counter'
 
-pub text-rewritten : (serial : ℕ) (more : Bool) (d e : Carried) → e.command ≡ d.command → e.interrupt ≡ d.interrupt → length e.bytes ≡ length d.bytes
+pub text-rewritten : (serial : ℕ) (more : Bool) (d e : WireDatagram) → e.command ≡ d.command → e.interrupt ≡ d.interrupt → length e.bytes ≡ length d.bytes
     → rewritten (carried_text serial more d) e ≡ carried_text serial more e
 text-rewritten serial more d e same_command same_interrupt same_size =
     let index : ℕ = serial % 256 in
     let end : List ℕ = to_le_bytes w16 e.counter in
-    let cut : (c : Carried) → carried_text serial more c ≡ carried_head index c.command c.address (length c.bytes) more c.interrupt ++ (c.bytes ++ to_le_bytes w16 c.counter) =
+    let cut : (c : WireDatagram) → carried_text serial more c ≡ carried_head index c.command c.address (length c.bytes) more c.interrupt ++ (c.bytes ++ to_le_bytes w16 c.counter) =
     λ c. append_assoc (carried_head index c.command c.address (length c.bytes) more c.interrupt) c.bytes (to_le_bytes w16 c.counter) in
     ap (λ (xs : List ℕ). rewritten xs e) (cut d)
     ∙ all-replaced index d.command more d.interrupt (length d.bytes) d.address e.address d.bytes e.bytes (to_le_bytes w16 d.counter) end same_size refl

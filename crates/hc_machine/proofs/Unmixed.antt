@@ -7,8 +7,8 @@ use Rattle.std.proofs.lemmas.List.{ext_get_or}
 use Rattle.std.proofs.lemmas.List.FromFn.{length-map-range_with_len, get_or-map-range_with_len}
 use Rattle.std.proofs.lemmas.Bool.{or_parts}
 use Rattle.hc_machine.specs.declared.fmmu.Fmmu.{Fmmu}
-use Rattle.hc_machine.specs.Fmmus.{is_within}
-use Rattle.hc_machine.specs.Logical.{bit_read, bit_written, logical_bit, meets, memory_bit, reads_any}
+use Rattle.hc_machine.specs.Fmmus.{is_in_run}
+use Rattle.hc_machine.specs.Logical.{bit_read, bit_written, logical_bit, fmmu_meets, memory_bit, reads_any}
 use Rattle.hc_machine.specs.Memory.{byte_with, bytes_with}
 
 -- bytes of the same bits
@@ -35,12 +35,12 @@ apart false b c e f = refl
 apart true b c e f = f e
 
 -- a logical bit of a run that no FMMU reads stays
-unread-stays : (fs : List Fmmu) (first width x : ℕ) (memory : ℕ → ℕ) (was : ℕ) → reads_any first width fs ≡ false → is_within first width x ≡ true → bit_read fs memory x was ≡ was
+unread-stays : (fs : List Fmmu) (first width x : ℕ) (memory : ℕ → ℕ) (was : ℕ) → reads_any first width fs ≡ false → is_in_run first width x ≡ true → bit_read fs memory x was ≡ was
 unfolding bit_read
 unread-stays [] first width x memory was none inside = refl
 unread-stays (f ∷ fs) first width x memory was none inside =
-    let two = or_parts (f.reads && meets first width f) (reads_any first width fs) none in
-    let off : (f.reads && is_within f.logical f.width x) ≡ false = apart f.reads (meets first width f) (is_within f.logical f.width x) two.0 (λ e. grind (arith, nat_tests)) in
+    let two = or_parts (f.reads && fmmu_meets first width f) (reads_any first width fs) none in
+    let off : (f.reads && is_in_run f.logical f.width x) ≡ false = apart f.reads (fmmu_meets first width f) (is_in_run f.logical f.width x) two.0 (λ e. grind (arith, nat_tests)) in
     ap (λ (b : Bool). if b then memory (memory_bit f x) else bit_read fs memory x was) off ∙ unread-stays fs first width x memory was two.1 inside
 
 -- what is written is what came in, also once the data were read
@@ -50,15 +50,15 @@ unfolding bit_written
 written-unmixed all [] memory came now from n m was none is = refl
 written-unmixed all (f ∷ fs) memory came now from n m was none is =
     let two = or_parts (f.writes && reads_any f.logical f.width all) (list_any (λ g. g.writes && reads_any g.logical g.width all) fs) none in
-    by f.writes refl two.0 (is_within f.memory f.width m) refl (is_within from n (logical_bit f m)) refl (written-unmixed all fs memory came now from n m was two.1 is)
+    by f.writes refl two.0 (is_in_run f.memory f.width m) refl (is_in_run from n (logical_bit f m)) refl (written-unmixed all fs memory came now from n m was two.1 is)
   where
-    by : (w : Bool) → f.writes ≡ w → (w && reads_any f.logical f.width all) ≡ false → (a : Bool) → is_within f.memory f.width m ≡ a → (b : Bool) → is_within from n (logical_bit f m) ≡ b
+    by : (w : Bool) → f.writes ≡ w → (w && reads_any f.logical f.width all) ≡ false → (a : Bool) → is_in_run f.memory f.width m ≡ a → (b : Bool) → is_in_run from n (logical_bit f m) ≡ b
         → bit_written fs now from n m was ≡ bit_written fs came from n m was
         → (if w && a && b then now (logical_bit f m - from) else bit_written fs now from n m was) ≡ (if w && a && b then came (logical_bit f m - from) else bit_written fs came from n m was)
     by true e off true ea true eb others =
         let k : ℕ = logical_bit f m - from in
         let low : k < n = grind (arith, nat_tests) in
-        let inside : is_within f.logical f.width (from + k) ≡ true = grind (arith, nat_tests) in
+        let inside : is_in_run f.logical f.width (from + k) ≡ true = grind (arith, nat_tests) in
         is k low ∙ unread-stays all f.logical f.width (from + k) memory (came k) off inside
     by true e off true ea false eb others = others
     by true e off false ea b eb others = others

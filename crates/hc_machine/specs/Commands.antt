@@ -4,7 +4,7 @@ use Rattle.hc_frames.specs.declared.commands.Command.{Command}
 use Rattle.hc_frames.specs.declared.commands.Command.TheVariants.{Aprd, Apwr, Fpwr, Lrw}
 use Rattle.hc_frames.specs.declared.limits.TheConstants.{STATION_REGISTER}
 use Rattle.hc_frames.specs.Arrived.{word_at}
-use Rattle.hc_frames.specs.FrameText.{Carried}
+use Rattle.hc_frames.specs.FrameText.{WireDatagram}
 use Rattle.hc_machine.specs.declared.limits.TheConstants.{MEMORY_BYTES}
 use Rattle.hc_machine.specs.Logical.{logical_count, logical_data, logical_memory}
 use Rattle.hc_machine.specs.Memory.{with_alias_of, with_part}
@@ -30,15 +30,15 @@ abbrev pub next_position : ℕ → ℕ
 next_position address = (address % 65536 + 1) % 65536 + 65536 * register_of address
 
 -- a write of bytes from a register on
-unfoldable pub written : List ℕ → ℕ → List ℕ → List ℕ
-written memory register bytes = with_alias_of memory (with_part register bytes memory)
+unfoldable pub register_written : List ℕ → ℕ → List ℕ → List ℕ
+register_written memory register bytes = with_alias_of memory (with_part register bytes memory)
 
--- the memory behind a datagram
-abbrev pub memory_behind_command : Command → List ℕ → ℕ → List ℕ → List ℕ
-memory_behind_command Aprd memory address bytes = memory
-memory_behind_command Apwr memory address bytes = if is_at_position address (length bytes) then written memory (register_of address) bytes else memory
-memory_behind_command Fpwr memory address bytes = if is_at_station memory address (length bytes) then written memory (register_of address) bytes else memory
-memory_behind_command Lrw memory address bytes = logical_memory memory (8 * address) bytes
+-- the memory after a datagram
+abbrev pub memory_after_command : Command → List ℕ → ℕ → List ℕ → List ℕ
+memory_after_command Aprd memory address bytes = memory
+memory_after_command Apwr memory address bytes = if is_at_position address (length bytes) then register_written memory (register_of address) bytes else memory
+memory_after_command Fpwr memory address bytes = if is_at_station memory address (length bytes) then register_written memory (register_of address) bytes else memory
+memory_after_command Lrw memory address bytes = logical_memory memory (8 * address) bytes
 
 -- its data
 abbrev pub data_after : Command → List ℕ → ℕ → List ℕ → List ℕ
@@ -56,22 +56,22 @@ address_after Fpwr address = address
 address_after Lrw address = address
 
 -- what is added to its working counter
-abbrev pub count_of : Command → List ℕ → ℕ → ℕ → ℕ
-count_of Aprd memory address n = if is_at_position address n then 1 else 0
-count_of Apwr memory address n = if is_at_position address n then 1 else 0
-count_of Fpwr memory address n = if is_at_station memory address n then 1 else 0
-count_of Lrw memory address n = logical_count memory (8 * address) n
+abbrev pub counter_added : Command → List ℕ → ℕ → ℕ → ℕ
+counter_added Aprd memory address n = if is_at_position address n then 1 else 0
+counter_added Apwr memory address n = if is_at_position address n then 1 else 0
+counter_added Fpwr memory address n = if is_at_station memory address n then 1 else 0
+counter_added Lrw memory address n = logical_count memory (8 * address) n
 
 -- a datagram as a slave passes it on: its working counter wraps
-unfoldable pub served : List ℕ → Carried → Carried
+unfoldable pub served : List ℕ → WireDatagram → WireDatagram
 served memory d = record {
   command = d.command;
   address = address_after d.command d.address;
   interrupt = d.interrupt;
   bytes = data_after d.command memory d.address d.bytes;
-  counter = (d.counter + count_of d.command memory d.address (length d.bytes)) % 65536;
+  counter = (d.counter + counter_added d.command memory d.address (length d.bytes)) % 65536;
 }
 
--- the slave's memory behind the datagram
-unfoldable pub memory_behind_datagram : List ℕ → Carried → List ℕ
-memory_behind_datagram memory d = memory_behind_command d.command memory d.address d.bytes
+-- the slave's memory after the datagram
+unfoldable pub memory_after_datagram : List ℕ → WireDatagram → List ℕ
+memory_after_datagram memory d = memory_after_command d.command memory d.address d.bytes

@@ -7,8 +7,8 @@ use Rattle.hc_machine.specs.declared.fmmu.Fmmu.{Fmmu}
 use Rattle.hc_machine.specs.declared.limits.TheConstants.{ACTIVATE_BYTE, FMMUS, MEMORY_BITS}
 
 -- the block of an FMMU, counted from 0
-abbrev pub block_at : List ℕ → ℕ → List ℕ
-block_at memory i = slice_range memory (FMMU_BLOCKS + FMMU_BLOCK_BYTES * i) (FMMU_BLOCKS + FMMU_BLOCK_BYTES * i + FMMU_BLOCK_BYTES)
+abbrev pub fmmu_block_at : List ℕ → ℕ → List ℕ
+fmmu_block_at memory i = slice_range memory (FMMU_BLOCKS + FMMU_BLOCK_BYTES * i) (FMMU_BLOCKS + FMMU_BLOCK_BYTES * i + FMMU_BLOCK_BYTES)
 
 -- a block has the logical start address in its bytes 0 to 3, the length in bytes in 4 and 5, the logical start and stop bit in 6 and 7, the physical start address in 8 and 9 and its start bit in 10, the type in 11 and the activation in 12: bit 0 of it
 abbrev pub is_active : List ℕ → Bool
@@ -19,14 +19,14 @@ abbrev pub is_read : List ℕ → Bool
 is_read block = slice_index block 11 % 2 == 1
 
 -- bit 1 of the type is set: the master writes through this FMMU
-abbrev pub is_write : List ℕ → Bool
-is_write block = slice_index block 11 / 2 % 2 == 1
+abbrev pub is_write_fmmu : List ℕ → Bool
+is_write_fmmu block = slice_index block 11 / 2 % 2 == 1
 
--- the first logical bit, and the one behind the last: the stop bit is in the last of `length` bytes, and the numbers don't wrap. Of the bit fields the low three bits count. The difference stops at 0, so that a length of 0 at address 0 pairs nothing
+-- the first logical bit, and the one after the last: the stop bit is in the last of `length` bytes, and the numbers don't wrap. Of the bit fields the low three bits count. The difference stops at 0, so that a length of 0 at address 0 pairs nothing
 abbrev pub first_logical : List ℕ → ℕ
 first_logical block = 8 * long_at block 0 + slice_index block 6 % 8
 
--- the logical bit behind the last one of a block
+-- the logical bit after the last one of a block
 abbrev pub end_logical : List ℕ → ℕ
 end_logical block = 8 * (long_at block 0 + word_at block 4) + slice_index block 7 % 8 + 1 - 8
 
@@ -47,17 +47,17 @@ fmmu_of block =
       memory = first_memory block;
       width = min (end_logical block - first_logical block) (MEMORY_BITS - first_memory block);
       reads = is_read block;
-      writes = is_write block;
+      writes = is_write_fmmu block;
     }
     else idle
 
 -- the sixteen, in the order of their numbers
 unfoldable pub fmmus_of : List ℕ → List Fmmu
-fmmus_of memory = map (λ i. fmmu_of (block_at memory i)) (range_with_len 0 FMMUS)
+fmmus_of memory = map (λ i. fmmu_of (fmmu_block_at memory i)) (range_with_len 0 FMMUS)
 
 -- one of the n numbers from `from` on
-abbrev pub is_within : ℕ → ℕ → ℕ → Bool
-is_within from n x = nat_le from x && nat_lt x (from + n)
+abbrev pub is_in_run : ℕ → ℕ → ℕ → Bool
+is_in_run from n x = nat_le from x && nat_lt x (from + n)
 
 -- the pairs lie in memory, and the logical bits among those that a block can name
 pub record IsInMemory (fmmu : Fmmu) : Type 0 where

@@ -3,15 +3,15 @@ use Rattle.std.specs.Prelude.{◌≡◌, All, ℕ, ◌+◌, ◌*◌, ◌%◌, �
 use Rattle.hc_bits.specs.Bits.{AreBytes, bit_of}
 use Rattle.hc_frames.specs.declared.limits.TheConstants.{ALIAS_REGISTER}
 use Rattle.hc_frames.specs.Arrived.{fault_in}
-use Rattle.hc_frames.specs.FrameText.{Carried, Datagram}
+use Rattle.hc_frames.specs.FrameText.{WireDatagram, Datagram}
 use Rattle.hc_frames.specs.Laws.{CanBeCarried}
 use Rattle.hc_frames.specs.Returned.{IsReturned}
 use Rattle.hc_registers.specs.Fields.{long_at, word_at}
 use Rattle.hc_machine.specs.declared.fmmu.Fmmu.{Fmmu}
 use Rattle.hc_machine.specs.declared.limits.TheConstants.{FMMUS, MEMORY_BITS, MEMORY_BYTES}
 use Rattle.hc_machine.specs.Commands.{served}
-use Rattle.hc_machine.specs.Fmmus.{block_at, fmmu_of, is_active, is_read, is_write}
-use Rattle.hc_machine.specs.Frames.{all_served, frame_after, memory_behind}
+use Rattle.hc_machine.specs.Fmmus.{fmmu_block_at, fmmu_of, is_active, is_read, is_write_fmmu}
+use Rattle.hc_machine.specs.Frames.{all_served, frame_after, memory_after}
 use Rattle.hc_machine.specs.Logical.{logical_count, logical_data, logical_memory, memory_bit}
 
 -- logical bit x and memory bit m are a pair of an FMMU block: it is active; x lies from bit `8 * start + start bit` to bit `8 * (start + length - 1) + stop bit`, both included; m is as far from bit `8 * physical start + start bit` as x is from the first; and m lies in memory
@@ -32,11 +32,11 @@ FmmusAreTheirPairs = (block : List ℕ) (x m : ℕ) → IsPair block x m ↔ Pai
 
 -- FMMU i reads logical bit x from memory bit m, or writes it there
 abbrev pub Reads : List ℕ → ℕ → ℕ → ℕ → Type 0
-Reads memory i x m = (is_read (block_at memory i) ≡ true) × IsPair (block_at memory i) x m
+Reads memory i x m = (is_read (fmmu_block_at memory i) ≡ true) × IsPair (fmmu_block_at memory i) x m
 
 -- FMMU i is a writing one, and pairs logical bit x with memory bit m
-abbrev pub Writes : List ℕ → ℕ → ℕ → ℕ → Type 0
-Writes memory i x m = (is_write (block_at memory i) ≡ true) × IsPair (block_at memory i) x m
+abbrev pub FmmuWrites : List ℕ → ℕ → ℕ → ℕ → Type 0
+FmmuWrites memory i x m = (is_write_fmmu (fmmu_block_at memory i) ≡ true) × IsPair (fmmu_block_at memory i) x m
 
 -- a bit of the data becomes the memory bit that the lowest FMMU that reads it pairs with it
 abbrev pub ReadBitsComeFromMemory : Type 0
@@ -53,20 +53,20 @@ UnreadBitsStay =
 -- a memory bit, but for the alias's, becomes the data's bit that the lowest FMMU that writes it pairs with it
 abbrev pub WrittenBitsComeFromData : Type 0
 WrittenBitsComeFromData =
-    (memory bytes : List ℕ) (from k i m : ℕ) → length memory ≡ MEMORY_BYTES → (m < 8 * ALIAS_REGISTER) ⊎ (8 * (ALIAS_REGISTER + 2) ≤ m) → k < 8 * length bytes → i < FMMUS → Writes memory i (from + k) m
-    → ((j n : ℕ) → j < i → n < 8 * length bytes → ¬ Writes memory j (from + n) m)
+    (memory bytes : List ℕ) (from k i m : ℕ) → length memory ≡ MEMORY_BYTES → (m < 8 * ALIAS_REGISTER) ⊎ (8 * (ALIAS_REGISTER + 2) ≤ m) → k < 8 * length bytes → i < FMMUS → FmmuWrites memory i (from + k) m
+    → ((j n : ℕ) → j < i → n < 8 * length bytes → ¬ FmmuWrites memory j (from + n) m)
     → bit_of (logical_memory memory from bytes) m ≡ bit_of bytes k
 
 -- one that no FMMU pairs with a bit of the data stays
 abbrev pub UnwrittenBitsStay : Type 0
 UnwrittenBitsStay =
-    (memory bytes : List ℕ) (from m : ℕ) → length memory ≡ MEMORY_BYTES → m < MEMORY_BITS → ((j n : ℕ) → j < FMMUS → n < 8 * length bytes → ¬ Writes memory j (from + n) m)
+    (memory bytes : List ℕ) (from m : ℕ) → length memory ≡ MEMORY_BYTES → m < MEMORY_BITS → ((j n : ℕ) → j < FMMUS → n < 8 * length bytes → ¬ FmmuWrites memory j (from + n) m)
     → bit_of (logical_memory memory from bytes) m ≡ bit_of memory m
 
 -- a datagram that no active FMMU meets stays as it is, and so does memory
 abbrev pub UnmappedDatagramsPass : Type 0
 UnmappedDatagramsPass =
-    (memory bytes : List ℕ) (from : ℕ) → length memory ≡ MEMORY_BYTES → AreBytes memory → AreBytes bytes → ((j n m : ℕ) → j < FMMUS → n < 8 * length bytes → ¬ IsPair (block_at memory j) (from + n) m)
+    (memory bytes : List ℕ) (from : ℕ) → length memory ≡ MEMORY_BYTES → AreBytes memory → AreBytes bytes → ((j n m : ℕ) → j < FMMUS → n < 8 * length bytes → ¬ IsPair (fmmu_block_at memory j) (from + n) m)
     → (logical_data memory from bytes ≡ bytes) × (logical_memory memory from bytes ≡ memory) × (logical_count memory from (length bytes) ≡ 0)
 
 -- an FMMU reads one of the bits of n bytes of data, or writes one: into the alias too, which stays
@@ -74,21 +74,21 @@ abbrev pub IsRead : List ℕ → ℕ → ℕ → Type 0
 IsRead memory from n = (i : ℕ) × (k : ℕ) × (m : ℕ) × (i < FMMUS) × (k < 8 * n) × Reads memory i (from + k) m
 
 -- a write FMMU pairs one of the bits of n bytes of data from this logical bit on
-abbrev pub IsWritten : List ℕ → ℕ → ℕ → Type 0
-IsWritten memory from n = (i : ℕ) × (k : ℕ) × (m : ℕ) × (i < FMMUS) × (k < 8 * n) × Writes memory i (from + k) m
+abbrev pub IsPairedForWriting : List ℕ → ℕ → ℕ → Type 0
+IsPairedForWriting memory from n = (i : ℕ) × (k : ℕ) × (m : ℕ) × (i < FMMUS) × (k < 8 * n) × FmmuWrites memory i (from + k) m
 
--- a working counter tells the pairs: 1 where a bit is read and 2 where one is written, however many there are
-abbrev pub LogicalCountsTellPairs : Type 0
-LogicalCountsTellPairs =
+-- a working counter gives the pairs: 1 where a bit is read and 2 where one is written, however many there are
+abbrev pub LogicalCountsSayPairs : Type 0
+LogicalCountsSayPairs =
     (memory : List ℕ) (from n : ℕ) → (r : ℕ) × (w : ℕ) × (logical_count memory from n ≡ r + w)
     × (((r ≡ 1) × IsRead memory from n) ⊎ ((r ≡ 0) × (¬ IsRead memory from n)))
-    × (((w ≡ 2) × IsWritten memory from n) ⊎ ((w ≡ 0) × (¬ IsWritten memory from n)))
+    × (((w ≡ 2) × IsPairedForWriting memory from n) ⊎ ((w ≡ 0) × (¬ IsPairedForWriting memory from n)))
 
 -- a working counter rises by 0 to 3, and wraps
 abbrev pub CountersRise : Type 0
-CountersRise = (memory : List ℕ) (d : Carried) → (n : ℕ) × (n ≤ 3) × ((served memory d).counter ≡ (d.counter + n) % 65536)
+CountersRise = (memory : List ℕ) (d : WireDatagram) → (n : ℕ) × (n ≤ 3) × ((served memory d).counter ≡ (d.counter + n) % 65536)
 
--- a frame that is read is read behind a slave too
+-- a frame that is read is read after a slave too
 abbrev pub ServedFramesAreRead : Type 0
 ServedFramesAreRead =
     (memory frame : List ℕ) → length memory ≡ MEMORY_BYTES → All (λ b. b < 256) frame → is_none (fault_in frame) ≡ true → is_none (fault_in (frame_after memory frame)) ≡ true
@@ -97,16 +97,16 @@ ServedFramesAreRead =
 abbrev pub SizesStay : Type 0
 SizesStay =
     (memory : List ℕ) → length memory ≡ MEMORY_BYTES
-    → ((d : Carried) → length (served memory d).bytes ≡ length d.bytes) × ((frame : List ℕ) → All (λ b. b < 256) frame → length (frame_after memory frame) ≡ length frame)
+    → ((d : WireDatagram) → length (served memory d).bytes ≡ length d.bytes) × ((frame : List ℕ) → All (λ b. b < 256) frame → length (frame_after memory frame) ≡ length frame)
 
--- a returned text of a sending is a returned text of it behind a slave too, with the datagrams as the slave serves them
+-- a returned text of a sending is a returned text of it after a slave too, with the datagrams as the slave serves them
 abbrev pub ReturnedTextsComeBack : Type 0
 ReturnedTextsComeBack =
-    (memory : List ℕ) → length memory ≡ MEMORY_BYTES → (serial : ℕ) (ds : List Datagram) (parts : List Carried) (bytes : List ℕ) → IsReturned serial ds parts bytes → CanBeCarried serial parts
+    (memory : List ℕ) → length memory ≡ MEMORY_BYTES → (serial : ℕ) (ds : List Datagram) (parts : List WireDatagram) (bytes : List ℕ) → IsReturned serial ds parts bytes → CanBeCarried serial parts
     → IsReturned serial ds (all_served memory parts) (frame_after memory bytes) × CanBeCarried serial (all_served memory parts)
 
 -- no frame changes the configured station alias, nor how many bytes memory has
 abbrev pub AliasStays : Type 0
 AliasStays =
     (memory frame : List ℕ) → length memory ≡ MEMORY_BYTES
-    → (length (memory_behind memory frame) ≡ MEMORY_BYTES) × (slice_index (memory_behind memory frame) ALIAS_REGISTER ≡ slice_index memory ALIAS_REGISTER) × (slice_index (memory_behind memory frame) (ALIAS_REGISTER + 1) ≡ slice_index memory (ALIAS_REGISTER + 1))
+    → (length (memory_after memory frame) ≡ MEMORY_BYTES) × (slice_index (memory_after memory frame) ALIAS_REGISTER ≡ slice_index memory ALIAS_REGISTER) × (slice_index (memory_after memory frame) (ALIAS_REGISTER + 1) ≡ slice_index memory (ALIAS_REGISTER + 1))

@@ -2,7 +2,7 @@
 
 ghost use Rattle.std.specs.Prelude.{◌≡◌, ◌≤◌, length};
 ghost use Rattle.hc_frames.specs.declared.commands.Command.TheVariants.{Aprd, Apwr, Fpwr};
-ghost use Rattle.hc_machine.specs.Commands.{address_after, count_of, data_after, is_at_position, is_at_station, memory_behind_command, lies_in_memory, register_of};
+ghost use Rattle.hc_machine.specs.Commands.{address_after, counter_added, data_after, is_at_position, is_at_station, memory_after_command, lies_in_memory, register_of};
 
 use crate::limits::MEMORY_BYTES;
 use crate::logical::serve_logical;
@@ -61,7 +61,7 @@ fn serve_read(memory: &[u8], address: u32, bytes: &mut [u8]) -> u16
     requires memory { length memory.now ≡ MEMORY_BYTES }
     requires short { length bytes.old ≤ MAX_DATA }
     ensures data { bytes.new ≡ data_after Aprd memory.now address bytes.old }
-    ensures count { result ≡ count_of Aprd memory.now address (length bytes.old) }
+    ensures count { result ≡ counter_added Aprd memory.now address (length bytes.old) }
 {
     if !is_at_position(address, bytes.len()) {
         return 0;
@@ -74,8 +74,8 @@ fn serve_read(memory: &[u8], address: u32, bytes: &mut [u8]) -> u16
 fn serve_position(memory: &mut [u8], address: u32, bytes: &[u8]) -> u16
     requires memory { length memory.old ≡ MEMORY_BYTES }
     requires short { length bytes.now ≤ MAX_DATA }
-    ensures memory { memory.new ≡ memory_behind_command Apwr memory.old address bytes.now }
-    ensures count { result ≡ count_of Apwr memory.old address (length bytes.now) }
+    ensures memory { memory.new ≡ memory_after_command Apwr memory.old address bytes.now }
+    ensures count { result ≡ counter_added Apwr memory.old address (length bytes.now) }
 {
     if !is_at_position(address, bytes.len()) {
         return 0;
@@ -88,8 +88,8 @@ fn serve_position(memory: &mut [u8], address: u32, bytes: &[u8]) -> u16
 fn serve_station(memory: &mut [u8], address: u32, bytes: &[u8]) -> u16
     requires memory { length memory.old ≡ MEMORY_BYTES }
     requires short { length bytes.now ≤ MAX_DATA }
-    ensures memory { memory.new ≡ memory_behind_command Fpwr memory.old address bytes.now }
-    ensures count { result ≡ count_of Fpwr memory.old address (length bytes.now) }
+    ensures memory { memory.new ≡ memory_after_command Fpwr memory.old address bytes.now }
+    ensures count { result ≡ counter_added Fpwr memory.old address (length bytes.now) }
 {
     if !is_at_station(memory, address, bytes.len()) {
         return 0;
@@ -110,9 +110,9 @@ pub(crate) fn serve(
     requires memory { length memory.old ≡ MEMORY_BYTES }
     requires spare { length spare.old ≡ MAX_DATA }
     requires short { length bytes.old ≤ MAX_DATA }
-    ensures memory { memory.new ≡ memory_behind_command command memory.old address bytes.old }
+    ensures memory { memory.new ≡ memory_after_command command memory.old address bytes.old }
     ensures data { bytes.new ≡ data_after command memory.old address bytes.old }
-    ensures count { result ≡ count_of command memory.old address (length bytes.old) }
+    ensures count { result ≡ counter_added command memory.old address (length bytes.old) }
 {
     match command {
         Command::Aprd => serve_read(memory, address, bytes),

@@ -1,8 +1,8 @@
 //! An FMMU as its pairs of logical bits and memory bits (ETG.1000.4, 6.6).
 
 ghost use Rattle.std.specs.Prelude.{◌≡◌, ◌+◌, ◌^◌, ◌<◌, ◌≤◌, [], ◌∷◌, ◌++◌, cond, filter, length, All, true};
-ghost use Rattle.hc_machine.specs.Fmmus.{block_at, fmmu_of, fmmus_of, is_active, IsInMemory};
-ghost use Rattle.hc_machine.specs.Logical.{meets};
+ghost use Rattle.hc_machine.specs.Fmmus.{fmmu_block_at, fmmu_of, fmmus_of, is_active, IsInMemory};
+ghost use Rattle.hc_machine.specs.Logical.{fmmu_meets};
 
 use crate::limits::{ACTIVATE_BYTE, FMMUS, MEMORY_BITS, MEMORY_BYTES};
 use arrayvec::ArrayVec;
@@ -31,7 +31,7 @@ pub(crate) struct Fmmu {
 fn block_at(memory: &[u8], i: usize) -> [u8; 16]
     requires memory { length memory.now ≡ MEMORY_BYTES }
     requires number { i < FMMUS }
-    ensures { result ≡ block_at memory.now i }
+    ensures { result ≡ fmmu_block_at memory.now i }
 {
     let at = usize::from(FMMU_BLOCKS) + usize::from(FMMU_BLOCK_BYTES) * i;
     let mut block = [0; 16];
@@ -65,19 +65,19 @@ fn fmmu_of(block: &[u8; 16]) -> Fmmu
 pub(crate) fn meets(fmmu: &Fmmu, from: usize, n: usize) -> bool
     requires in_memory { IsInMemory fmmu.now }
     requires fits { from + n < 2 ^ 41 }
-    ensures { result ≡ meets from n fmmu.now }
+    ensures { result ≡ fmmu_meets from n fmmu.now }
 {
     fmmu.logical.max(from) < (fmmu.logical + fmmu.width).min(from + n)
 }
 
-/// Adds FMMU `i`, as it stands in memory, where it pairs one of the `n` logical bits from `from` on.
+/// Adds FMMU `i`, as it is in memory, where it pairs one of the `n` logical bits from `from` on.
 fn add_mapped(mapped: &mut ArrayVec<Fmmu, 16>, memory: &[u8], i: usize, from: usize, n: usize)
     requires memory { length memory.now ≡ MEMORY_BYTES }
     requires number { i < FMMUS }
     requires room { length mapped.old.items < 16 }
     requires all_in_memory { All IsInMemory mapped.old.items }
     requires fits { from + n < 2 ^ 41 }
-    ensures value { mapped.new.items ≡ mapped.old.items ++ cond (meets from n (fmmu_of (block_at memory.now i))) (fmmu_of (block_at memory.now i) ∷ []) [] }
+    ensures value { mapped.new.items ≡ mapped.old.items ++ cond (fmmu_meets from n (fmmu_of (fmmu_block_at memory.now i))) (fmmu_of (fmmu_block_at memory.now i) ∷ []) [] }
     ensures room { length mapped.new.items ≤ length mapped.old.items + 1 }
     ensures in_memory { All IsInMemory mapped.new.items }
 {
@@ -98,7 +98,7 @@ pub(crate) fn add_all_mapped(mapped: &mut ArrayVec<Fmmu, 16>, memory: &[u8], fro
     requires none { mapped.old.items ≡ [] }
     requires memory { length memory.now ≡ MEMORY_BYTES }
     requires fits { from + n < 2 ^ 41 }
-    ensures value { mapped.new.items ≡ filter (meets from n) (fmmus_of memory.now) }
+    ensures value { mapped.new.items ≡ filter (fmmu_meets from n) (fmmus_of memory.now) }
     ensures in_memory { All IsInMemory mapped.new.items }
 {
     for i in 0..FMMUS {

@@ -2,15 +2,15 @@
 
 ghost use Rattle.std.specs.Prelude.{◌≡◌, ◌+◌, ◌<◌, ◌≤◌, All, is_none, length, true};
 ghost use Rattle.std.specs.List.{list_all};
-ghost use Rattle.hc_frames.specs.Arrived.{datagram_bytes, datagrams_in, fault_in, is_whole, region};
-ghost use Rattle.hc_machine.specs.Frames.{frame_after, memory_behind};
+ghost use Rattle.hc_frames.specs.Arrived.{datagram_bytes, datagram_tails, fault_in, is_whole, region};
+ghost use Rattle.hc_machine.specs.Frames.{frame_after, memory_after};
 
 use crate::datagrams::{LENGTHS, serve_datagrams};
 use crate::limits::MEMORY_BYTES;
 use hc_frames::limits::{HEAD_BYTES, MAX_DATA};
 use hc_frames::reading::{read_frame, word_at};
 
-/// The first byte of the EtherCAT header, behind the Ethernet header.
+/// The first byte of the EtherCAT header, after the Ethernet header.
 const HEADER_AT: usize = 14;
 
 /// Whether the reader reads a frame, so that slaves act on it.
@@ -26,20 +26,20 @@ fn end_of_datagrams(frame: &[u8]) -> usize
     ensures end { result ≡ 16 + datagram_bytes frame.now }
     ensures within { result ≤ length frame.now }
     ensures bytes { All (λ b. b < 256) frame.now }
-    ensures whole { list_all is_whole (datagrams_in (region frame.now)) ≡ true }
+    ensures whole { list_all is_whole (datagram_tails (region frame.now)) ≡ true }
 {
     HEAD_BYTES + usize::from(word_at(frame, HEADER_AT) % LENGTHS)
 }
 
 /// Does what a slave does with a frame that the reader reads, in the frame's place, over memory that the caller keeps: the
 /// 12,288 bytes of the slave's memory, and 1,486 bytes of room for the data of a datagram, whatever they hold. The frame is
-/// read behind it too. Takes no memory.
+/// read after it too. Takes no memory.
 pub fn serve_frame(memory: &mut [u8], spare: &mut [u8], frame: &mut [u8])
     requires memory { length memory.old ≡ MEMORY_BYTES }
     requires spare { length spare.old ≡ MAX_DATA }
     requires readable { is_none (fault_in frame.old) ≡ true }
     ensures frame { frame.new ≡ frame_after memory.old frame.old }
-    ensures memory { memory.new ≡ memory_behind memory.old frame.old }
+    ensures memory { memory.new ≡ memory_after memory.old frame.old }
     ensures readable { is_none (fault_in frame.new) ≡ true }
 {
     let end = end_of_datagrams(frame);

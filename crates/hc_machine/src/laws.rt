@@ -1,6 +1,6 @@
 //! What follows from the definitions of `specs/`, so that a reader can trust them and a caller can use it: each function
 //! here does nothing, and its contract is a law. Nobody calls it.
-ghost use Rattle.hc_machine.specs.Laws.{AliasStays, CountersRise, FmmusAreTheirPairs, LogicalCountsTellPairs, ReadBitsComeFromMemory, ReturnedTextsComeBack, ServedFramesAreRead, SizesStay, UnmappedDatagramsPass, UnreadBitsStay, UnwrittenBitsStay, WrittenBitsComeFromData};
+ghost use Rattle.hc_machine.specs.Laws.{AliasStays, CountersRise, FmmusAreTheirPairs, LogicalCountsSayPairs, ReadBitsComeFromMemory, ReturnedTextsComeBack, ServedFramesAreRead, SizesStay, UnmappedDatagramsPass, UnreadBitsStay, UnwrittenBitsStay, WrittenBitsComeFromData};
 
 /// An FMMU has exactly the pairs that its block says: the k-th logical bit with the k-th memory bit, from the start bit of
 /// the first byte to the stop bit of the last, as far as memory goes; none where it isn't active, where its length is 0, or
@@ -38,8 +38,8 @@ pub fn unmapped_datagrams_pass()
 /// A logical datagram's working counter rises by 1 where an FMMU pairs a bit of it for reading, and by 2 where one pairs a bit
 /// of it for writing, each once however many bits and FMMUs there are. A bit written into the alias counts though the alias
 /// stays.
-pub fn logical_counts_tell_pairs()
-    ensures { LogicalCountsTellPairs }
+pub fn logical_counts_say_pairs()
+    ensures { LogicalCountsSayPairs }
 {}
 
 /// A working counter rises by 0 to 3, and wraps at 65,536.
@@ -57,13 +57,13 @@ pub fn alias_stays()
     ensures { AliasStays }
 {}
 
-/// What may come back of a sending may come back of it behind one more slave: its commands, sizes and addresses stay, but for
+/// What may come back of a sending may come back of it after one more slave: its commands, sizes and addresses stay, but for
 /// a position, which is counted up.
 pub fn returned_texts_come_back()
     ensures { ReturnedTextsComeBack }
 {}
 
-/// A frame that the reader reads is read behind a slave too.
+/// A frame that the reader reads is read after a slave too.
 pub fn served_frames_are_read()
     ensures { ServedFramesAreRead }
 {}

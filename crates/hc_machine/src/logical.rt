@@ -6,7 +6,7 @@ ghost use Rattle.std.specs.List.{list_any};
 ghost use Rattle.hc_bits.specs.Bits.{bit_of};
 ghost use Rattle.hc_machine.specs.Fmmus.{fmmus_of, IsInMemory};
 ghost use Rattle.hc_machine.specs.Memory.{bytes_with};
-ghost use Rattle.hc_machine.specs.Logical.{bit_read, bit_written, logical_count, logical_data, logical_memory, meets, mixes_any, reads_any};
+ghost use Rattle.hc_machine.specs.Logical.{bit_read, bit_written, logical_count, logical_data, logical_memory, fmmu_meets, mixes_any, reads_any};
 
 use crate::fmmu::{Fmmu, add_all_mapped, meets};
 use crate::limits::MEMORY_BYTES;
@@ -94,7 +94,7 @@ fn reads_any(fmmus: &[Fmmu], from: usize, n: usize) -> bool
 /// Puts the memory bits that are read into the data, by the FMMUs that the datagram meets; seen as the bytes that they
 /// leave.
 fn read_data(fmmus: &[Fmmu], memory: &[u8], from: usize, bytes: &mut [u8])
-    requires mapped { fmmus.now ≡ filter (meets from (8 * length bytes.old)) (fmmus_of memory.now) }
+    requires mapped { fmmus.now ≡ filter (fmmu_meets from (8 * length bytes.old)) (fmmus_of memory.now) }
     requires in_memory { All IsInMemory fmmus.now }
     requires memory { length memory.now ≡ MEMORY_BYTES }
     requires short { length bytes.old ≤ MAX_DATA }
@@ -107,7 +107,7 @@ fn read_data(fmmus: &[Fmmu], memory: &[u8], from: usize, bytes: &mut [u8])
 
 /// Puts the bits that are written into memory, by the FMMUs that the datagram meets; seen as the bytes that they leave.
 fn write_data(fmmus: &[Fmmu], bytes: &[u8], from: usize, memory: &mut [u8])
-    requires mapped { fmmus.now ≡ filter (meets from (8 * length bytes.now)) (fmmus_of memory.old) }
+    requires mapped { fmmus.now ≡ filter (fmmu_meets from (8 * length bytes.now)) (fmmus_of memory.old) }
     requires in_memory { All IsInMemory fmmus.now }
     requires memory { length memory.old ≡ MEMORY_BYTES }
     requires short { length bytes.now ≤ MAX_DATA }
@@ -141,7 +141,7 @@ fn mixes_any(fmmus: &[Fmmu]) -> bool
 /// Puts the memory bits that are read into the data, and the data bits that came in into memory, by the FMMUs that the
 /// datagram meets. What came in is kept in `spare` where a bit of it is both read and written.
 fn exchange_data(fmmus: &[Fmmu], memory: &mut [u8], spare: &mut [u8], from: usize, bytes: &mut [u8])
-    requires mapped { fmmus.now ≡ filter (meets from (8 * length bytes.old)) (fmmus_of memory.old) }
+    requires mapped { fmmus.now ≡ filter (fmmu_meets from (8 * length bytes.old)) (fmmus_of memory.old) }
     requires in_memory { All IsInMemory fmmus.now }
     requires memory { length memory.old ≡ MEMORY_BYTES }
     requires spare { length spare.old ≡ MAX_DATA }

@@ -3,7 +3,7 @@
 ghost use Rattle.std.specs.Prelude.{◌≡◌, ◌+◌, ◌≤◌, IfOk, is_none, length, true, vec_len};
 ghost use Rattle.std.specs.Borrow.{sem};
 ghost use Rattle.hc_frames.specs.Arrived.{fault_in};
-ghost use Rattle.hc_machine.specs.Frames.{frame_after, memory_behind};
+ghost use Rattle.hc_machine.specs.Frames.{frame_after, memory_after};
 ghost use Rattle.hc_machine.specs.Lending.{LendsMemory};
 ghost use Rattle.hc_machine.specs.Memory.{fresh_memory, with_part, zeros};
 
@@ -67,10 +67,10 @@ impl SlaveMachine {
     }
 
     /// Does what the slave does with a frame, in the frame's place. A frame that the reader doesn't read stays as it is; one
-    /// that it reads is read behind the slave too. Takes no memory.
+    /// that it reads is read after the slave too. Takes no memory.
     pub fn process(&mut self, frame: &mut [u8])
         ensures frame { frame.new ≡ frame_after self.old frame.old }
-        ensures memory { self.new ≡ memory_behind self.old frame.old }
+        ensures memory { self.new ≡ memory_after self.old frame.old }
         ensures readable { is_none (fault_in frame.old) ≡ true → is_none (fault_in frame.new) ≡ true }
     {
         if is_readable(frame) {
@@ -79,11 +79,11 @@ impl SlaveMachine {
     }
 
     /// Does what `process` does with a frame that the reader reads, and doesn't read it once more: who passes a frame through
-    /// many slaves reads it once, since it is read behind each of them too. Takes no memory.
+    /// many slaves reads it once, since it is read after each of them too. Takes no memory.
     pub fn process_readable(&mut self, frame: &mut [u8])
         requires { is_none (fault_in frame.old) ≡ true }
         ensures frame { frame.new ≡ frame_after self.old frame.old }
-        ensures memory { self.new ≡ memory_behind self.old frame.old }
+        ensures memory { self.new ≡ memory_after self.old frame.old }
         ensures readable { is_none (fault_in frame.new) ≡ true }
     {
         serve_frame(&mut self.memory, &mut self.spare, frame);

@@ -1,7 +1,7 @@
 //! A slave's memory: bytes read and written by register, and the alias that no datagram changes.
 
 ghost use Rattle.std.specs.Prelude.{◌≡◌, ◌+◌, ◌≤◌, length, set, slice_index, slice_range};
-ghost use Rattle.hc_machine.specs.Commands.{written};
+ghost use Rattle.hc_machine.specs.Commands.{register_written};
 ghost use Rattle.hc_machine.specs.Memory.{with_part};
 
 use crate::limits::MEMORY_BYTES;
@@ -47,7 +47,7 @@ pub(crate) fn put_part(bytes: &mut [u8], at: usize, part: &[u8])
 pub(crate) fn write_memory(memory: &mut [u8], register: usize, bytes: &[u8])
     requires memory { length memory.old ≡ MEMORY_BYTES }
     requires within { register + length bytes.now ≤ MEMORY_BYTES }
-    ensures { memory.new ≡ written memory.old register bytes.now }
+    ensures { memory.new ≡ register_written memory.old register bytes.now }
 {
     let alias = alias_of(memory);
     put_part(memory, register, bytes);

@@ -15,7 +15,7 @@ others_hold P views seat new mine others j i there = ⊎_elim
     (λ (else : (j ≢ seat) × (get_elem? views j ≡ some i)). others j i else.0 else.1)
     (at_set views seat j new i there)
 
--- what stands in a list with one more is of the list, or is the last
+-- what is in a list with one more is of the list, or is the last
 pub at_last : (views : List Insight) (last i : Insight) (j : ℕ) → get_elem? (views ++ last ∷ []) j ≡ some i → (get_elem? views j ≡ some i) ⊎ ((j ≡ length views) × (last ≡ i))
 at_last [] last i zero there = inr (refl, some-injective last i there)
 at_last [] last i (suc j) there = absurd (some-ne-none i (sym there))

@@ -1,4 +1,4 @@
--- Each step of the two ends keeps the rule of the table, and tells its end what it says.
+-- Each step of the two ends keeps the rule of the table, and gives its end what it says.
 use Rattle.std.proofs.Common.{◌≡◌, ◌≢◌, ℕ, ◌+◌, ◌%◌, List, [], ◌∷◌, ◌++◌, get_or, set, sym, refl, ap, ◌∙◌, subst, arith, Option, Some, None, length-set, get_or-set_same}
 use mathlib.Core.Option.{none, some}
 use native.Mathlib.Decide.{dec_le}
@@ -12,7 +12,7 @@ use Rattle.hc_mail.specs.declared.table.Role.{Role}
 use Rattle.hc_mail.specs.declared.table.Role.TheVariants.{Enters, Sends, Waits, Looks, Takes}
 use Rattle.hc_mail.specs.Images.{Image, Room, blank, newest, StartsWith}
 use Rattle.hc_mail.specs.Ends.{Place, seen, reported, posed}
-use Rattle.hc_mail.specs.Rule.{insight, Slots, Layout, entered, waited, sent, found, took, confirmed}
+use Rattle.hc_mail.specs.Rule.{insight, HomeSlots, Layout, entered, waited, image_sent, found, image_taken, confirmed}
 use Rattle.hc_mail.proofs.Lists.{others_hold, last_of_one_more, one_more_starts, same_starts}
 use Rattle.hc_mail.proofs.Roles.{plays_on}
 use Rattle.hc_mail.proofs.Seats.{Table, Rule, Fine, known_anew}
@@ -25,7 +25,7 @@ is_seated me role hand a b = λ t. (insight (a t) me.0.seen me.0.reported, b t)
 
 module _ (room : Room) where
   -- a load leaves the word
-  with_words : (s : Table room) (homes : Slots) (views : List Insight) → Rule room record { words = s.words; homes = homes; views = views }
+  with_words : (s : Table room) (homes : HomeSlots) (views : List Insight) → Rule room record { words = s.words; homes = homes; views = views }
       → Rule room record { words = set s.words 0 (get_or s.words 0 0); homes = homes; views = views }
   with_words s homes views r = subst (λ (ws : List ℕ). Rule room record { words = ws; homes = homes; views = views }) (sym (set-get_or s.words 0 0)) r
 
@@ -50,7 +50,7 @@ module _ (room : Room) where
       Allows (Rule room) slots id me 0 (λ n. n) (entered (step slots 0 0 0 none) me)
   enters_here slots id images named s r _ at _ =
       let p : Layout = r.layout in let mine = r.each_seat id (insight Enters images named) at in let plays = mine.0 in let new : Insight = insight (Sends 0) images named in
-      let homes' : Slots = set s.homes 0 none in let own = plays.2 in let apart = r.apart in let apart₀ = apart.0 in let apart₁ = apart.1 in (
+      let homes' : HomeSlots = set s.homes 0 none in let own = plays.2 in let apart = r.apart in let apart₀ = apart.0 in let apart₁ = apart.1 in (
         new,
         takes 0 None,
         plays.1,
@@ -69,7 +69,7 @@ module _ (room : Room) where
       Allows (Rule room) slots id me 0 (λ n. n) (waited (step slots 0 0 0 none) me)
   waits_here slots id images named s r _ at _ =
       let p : Layout = r.layout in let mine = r.each_seat id (insight Waits images named) at in let plays = mine.0 in let new : Insight = insight (Looks 2) images named in
-      let homes' : Slots = set s.homes 2 none in let shown = plays.2 in let apart = r.apart in let apart₁ = apart.1 in let apart₂ = apart.2 in (
+      let homes' : HomeSlots = set s.homes 2 none in let shown = plays.2 in let apart = r.apart in let apart₁ = apart.1 in let apart₂ = apart.2 in (
         new,
         takes 2 None,
         plays.1,
@@ -85,14 +85,14 @@ module _ (room : Room) where
       )
 
   sends_here : (slots id slot : ℕ) (images named : List Image) (image : Image) → image.room ≡ room → let me : Seated = (insight (Sends slot) images named, (slot, Some image) ∷ []) in
-      Allows (Rule room) slots id me 0 (λ _. slot + 4) (sent (step slots 0 (slot + 4) 0 none) me)
+      Allows (Rule room) slots id me 0 (λ _. slot + 4) (image_sent (step slots 0 (slot + 4) 0 none) me)
   sends_here slots id slot images named image roomy s r _ at _ =
       let p : Layout = r.layout in let mine = r.each_seat id (insight (Sends slot) images named) at in let plays = mine.0 in let own = plays.1 in
       let apart = r.apart in let apart₀ = apart.0 in let apart₁ = apart.1 in let apart₂ = apart.2 in
       let small = r.small in let three = r.three_slots in let one = r.one_word in let word = r.word_is in let small₀ = small.0 in let small₁ = small.1 in let small₃ = small.3 in
       let n : ℕ = get_or s.words 0 0 in let m : ℕ = n % 4 in let middle : m ≡ p.middle = omega arith in
       let p' : Layout = record p { all = p.all ++ image ∷ []; own = m; middle = slot; newer = 1; image = image } in
-      let given : Slots = set s.homes slot (some (Some image)) in let homes' : Slots = set given m none in let new : Insight = insight (Sends m) (images ++ image ∷ []) named in (
+      let given : HomeSlots = set s.homes slot (some (Some image)) in let homes' : HomeSlots = set given m none in let new : Insight = insight (Sends m) (images ++ image ∷ []) named in (
         new,
         chain gives (takes m (Some p.image)),
         (tt, ap (get_elem? given) middle ∙ (set_else s.homes slot p.middle (some (Some image)) (λ e. apart₀ (sym (e ∙ own))) ∙ r.at_middle)),
@@ -156,14 +156,14 @@ module _ (room : Room) where
   )
 
   takes_here : (slots id slot : ℕ) (images named : List Image) (image : Image) → image.room ≡ room → let me : Seated = (insight (Takes slot) images named, (slot, Some image) ∷ []) in
-      Allows (Rule room) slots id me 0 (λ _. slot) (took (step slots 0 slot 0 none) me)
+      Allows (Rule room) slots id me 0 (λ _. slot) (image_taken (step slots 0 slot 0 none) me)
   takes_here slots id slot images named image roomy s r _ at _ =
       let p : Layout = r.layout in let mine = r.each_seat id (insight (Takes slot) images named) at in let plays = mine.0 in let shown = plays.1 in let newer = plays.2 in
       let apart = r.apart in let apart₀ = apart.0 in let apart₁ = apart.1 in let apart₂ = apart.2 in
       let small = r.small in let three = r.three_slots in let one = r.one_word in let word = r.word_is in let small₁ = small.1 in let small₂ = small.2 in
       let n : ℕ = get_or s.words 0 0 in let m : ℕ = n % 4 in let middle : m ≡ p.middle = omega arith in
       let p' : Layout = record p { middle = slot; shown = m; newer = 0; image = image } in
-      let given : Slots = set s.homes slot (some (Some image)) in let homes' : Slots = set given m none in let new : Insight = insight (Looks m) p.all named in (
+      let given : HomeSlots = set s.homes slot (some (Some image)) in let homes' : HomeSlots = set given m none in let new : Insight = insight (Looks m) p.all named in (
         new,
         chain gives (takes m (Some p.image)),
         (tt, ap (get_elem? given) middle ∙ (set_else s.homes slot p.middle (some (Some image)) (λ e. apart₂ (e ∙ shown)) ∙ r.at_middle)),
@@ -197,8 +197,8 @@ module _ (room : Room) where
   waits slots id me a b = subst (λ (m : Seated). Allows (Rule room) slots id m 0 (λ n. n) (waited (step slots 0 0 0 none) m)) (sym (is_seated me Waits [] a b)) (waits_here slots id me.0.seen me.0.reported)
 
   pub sends : (slots id : ℕ) (me : Seated) (slot : ℕ) (image : Image) → me.0.role ≡ Sends slot → me.1 ≡ (slot, Some image) ∷ [] → image.room ≡ room
-      → Allows (Rule room) slots id me 0 (λ _. slot + 4) (sent (step slots 0 (slot + 4) 0 none) me)
-  sends slots id me slot image a b roomy = subst (λ (m : Seated). Allows (Rule room) slots id m 0 (λ _. slot + 4) (sent (step slots 0 (slot + 4) 0 none) m))
+      → Allows (Rule room) slots id me 0 (λ _. slot + 4) (image_sent (step slots 0 (slot + 4) 0 none) me)
+  sends slots id me slot image a b roomy = subst (λ (m : Seated). Allows (Rule room) slots id m 0 (λ _. slot + 4) (image_sent (step slots 0 (slot + 4) 0 none) m))
       (sym (is_seated me (Sends slot) ((slot, Some image) ∷ []) a b)) (sends_here slots id slot me.0.seen me.0.reported image roomy)
 
   pub finds : (slots id : ℕ) (me : Seated) (slot : ℕ) → me.0.role ≡ Looks slot → me.1 ≡ (slot, None) ∷ [] → Allows (Rule room) slots id me 0 (λ n. n) (found (step slots 0 0 0 none) me)
@@ -210,8 +210,8 @@ module _ (room : Room) where
       (confirms_here slots id slot me.0.seen me.0.reported me.1)
 
   pub takes_newer : (slots id : ℕ) (me : Seated) (slot : ℕ) (image : Image) → me.0.role ≡ Takes slot → me.1 ≡ (slot, Some image) ∷ [] → image.room ≡ room
-      → Allows (Rule room) slots id me 0 (λ _. slot) (took (step slots 0 slot 0 none) me)
-  takes_newer slots id me slot image a b roomy = subst (λ (m : Seated). Allows (Rule room) slots id m 0 (λ _. slot) (took (step slots 0 slot 0 none) m))
+      → Allows (Rule room) slots id me 0 (λ _. slot) (image_taken (step slots 0 slot 0 none) me)
+  takes_newer slots id me slot image a b roomy = subst (λ (m : Seated). Allows (Rule room) slots id m 0 (λ _. slot) (image_taken (step slots 0 slot 0 none) m))
       (sym (is_seated me (Takes slot) ((slot, Some image) ∷ []) a b)) (takes_here slots id slot me.0.seen me.0.reported image roomy)
 
 pub is_posed : (place : Place) (role : Role) (slot : ℕ) → place.me.0.role ≡ role → place.me.1 ≡ (slot, None) ∷ [] → place ≡ posed place role slot

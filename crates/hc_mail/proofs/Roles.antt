@@ -4,9 +4,9 @@ use lib.ListN.{get_elem?}
 use Rattle.hc_mail.specs.declared.table.Role.{Role}
 use Rattle.hc_mail.specs.declared.table.Role.TheVariants.{Rests, Opens, Enters, Sends, Waits, Looks, Takes}
 use Rattle.hc_mail.specs.Images.{Image}
-use Rattle.hc_mail.specs.Rule.{Slots, Layout, Plays}
+use Rattle.hc_mail.specs.Rule.{HomeSlots, Layout, Plays}
 
-module _ (p p' : Layout) (slots slots' : Slots) (seat : ℕ) where
+module _ (p p' : Layout) (slots slots' : HomeSlots) (seat : ℕ) where
   -- what the owner's end knows of the layout is as before
   abbrev pub OwnerKeeps : Type 0
   OwnerKeeps = seat ≡ p.sender → (p'.sender ≡ p.sender) × (p'.all ≡ p.all) × (p'.own ≡ p.own) × (get_elem? slots' p.own ≡ get_elem? slots p.own)

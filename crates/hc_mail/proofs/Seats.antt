@@ -8,7 +8,7 @@ use Rattle.hc_mail.specs.declared.table.Insight.{Insight}
 use Rattle.hc_mail.specs.declared.table.Role.{Role}
 use Rattle.hc_mail.specs.declared.table.Role.TheVariants.{Rests, Opens, Enters, Waits}
 use Rattle.hc_mail.specs.Images.{Image, Room, blank, StartsWith}
-use Rattle.hc_mail.specs.Rule.{insight, opener, Slots, Layout, Plays, IsMail}
+use Rattle.hc_mail.specs.Rule.{insight, opener, HomeSlots, Layout, Plays, IsMail}
 use Rattle.hc_mail.proofs.Lists.{others_hold, at_last}
 use Rattle.hc_mail.proofs.Roles.{plays_on}
 
@@ -20,10 +20,10 @@ module _ (room : Room) where
   Rule = IsMail room
 
   -- what the rule says of one seat
-  abbrev pub Fine : Layout → Slots → ℕ → Insight → Type 0
+  abbrev pub Fine : Layout → HomeSlots → ℕ → Insight → Type 0
   Fine p slots j i = Plays p slots j i.role i.seen × StartsWith p.all i.seen × StartsWith p.all i.reported
 
-  -- the rule of a table in which only what seats know is new
+  -- the rule of a table where only what seats know is new
   pub known_anew : (s : Table) (r : Rule s) (receiver : ℕ) (views : List Insight) → let p : Layout = record r.layout { receiver = receiver } in
       ((j : ℕ) (i : Insight) → get_elem? views j ≡ some i → Fine p s.homes j i) → Rule record s { views = views }
   known_anew s r receiver views fine = record {
@@ -42,7 +42,7 @@ module _ (room : Room) where
   abbrev first_layout : Layout
   first_layout = record { all = []; sender = 0; receiver = 0; own = 0; middle = 1; shown = 2; newer = 0; image = blank room }
 
-  abbrev first_slots : Slots
+  abbrev first_slots : HomeSlots
   first_slots = some None ∷ some (Some (blank room)) ∷ some None ∷ []
 
   first_seat : (j : ℕ) (i : Insight) → get_elem? (opener ∷ []) j ≡ some i → Fine first_layout first_slots j i

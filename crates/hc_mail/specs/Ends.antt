@@ -1,9 +1,9 @@
 -- What contracts see of the two ends and of a note.
-use Rattle.std.specs.Prelude.{ℕ, List, [], ◌∷◌, Option, None}
+use Rattle.std.specs.Prelude.{ℕ, List, [], ◌∷◌, Option, None, ◌≡◌}
 use Rattle.atomic_table.specs.declared.shared.Seat.{Seat}
 use Rattle.hc_mail.specs.declared.table.Insight.{Insight}
 use Rattle.hc_mail.specs.declared.table.Role.{Role}
-use Rattle.hc_mail.specs.Images.{Image}
+use Rattle.hc_mail.specs.Images.{Image, image_in}
 use Rattle.hc_mail.specs.Rule.{insight}
 
 -- an end's place at the table
@@ -17,6 +17,11 @@ seen place = place.me.0.seen
 -- the images that a note of the other end named
 abbrev pub reported : Place → List Image
 reported place = place.me.0.reported
+
+-- an end stays at its table, with what was reported to it, and the image at hand has the same room
+abbrev pub StaysAtTable : Place → Option Image → Place → Option Image → Type 0
+StaysAtTable place held place' held' =
+    (place'.table_id ≡ place.table_id) × ((image_in held').room ≡ (image_in held).room) × (reported place' ≡ reported place)
 
 -- the place in a role, with an empty slot in hand
 abbrev pub posed : Place → Role → ℕ → Place

@@ -1,4 +1,4 @@
--- The rule of the table, and what each step tells.
+-- The rule of the table, and what each step gives.
 use Rattle.std.specs.Prelude.{◌≡◌, ◌≢◌, ℕ, ◌+◌, ◌*◌, ◌%◌, ◌<◌, ◌≤◌, List, [], ◌∷◌, ◌++◌, length, slice_index, Option, Some, None, unwrap_or}
 use mathlib.Core.Option.{some}
 use mathlib.Core.Option as maybe
@@ -19,8 +19,8 @@ abbrev pub opener : Insight
 opener = insight Opens [] []
 
 -- the slots; those that are at home, with what they hold
-abbrev pub Slots : Type 0
-Slots = List (maybe.Option (Option Image))
+abbrev pub HomeSlots : Type 0
+HomeSlots = List (maybe.Option (Option Image))
 
 -- where everything is: all images that were sent, the seats of the two ends, the slots of the owner's end, of the middle and of the task's end, 1 where an image was sent since the last look, and the image in the middle
 pub record Layout : Type 0 where
@@ -33,7 +33,7 @@ pub record Layout : Type 0 where
   pub newer : ℕ
   pub image : Image
 
-module _ (p : Layout) (slots : Slots) (seat : ℕ) where
+module _ (p : Layout) (slots : HomeSlots) (seat : ℕ) where
   -- it sent all images
   abbrev pub SentAll : List Image → Type 0
   SentAll seen = (seat ≡ p.sender) × (seen ≡ p.all)
@@ -55,7 +55,7 @@ module _ (p : Layout) (slots : Slots) (seat : ℕ) where
   Plays (Looks slot) seen = SawAll seen × (slot ≡ p.shown)
   Plays (Takes slot) seen = SawAll seen × (slot ≡ p.shown) × (p.newer ≡ 1)
 
--- the three slots are apart, and the word tells the middle one; its image has the mailbox's room, and is the newest where it was sent since the last look; what each seat saw, or a note named to it, begins the list of all images
+-- the three slots are apart, and the word gives the middle one; its image has the mailbox's room, and is the newest where it was sent since the last look; what each seat saw, or a note named to it, begins the list of all images
 pub record IsMail (room : Room) (s : State (Option Image) Insight) : Type 0 where
   pub layout : Layout
   pub one_word : length s.words ≡ 1
@@ -99,16 +99,16 @@ abbrev pub waited : Stepped → Seated → ℕ → Seated → Type 0
 waited _ old _ new = new ≡ (insight (Looks 2) old.0.seen old.0.reported, (2, None) ∷ [])
 
 -- the image in hand was sent; the middle slot is now the owner's, with an image of the same room
-abbrev pub sent : Stepped → Seated → ℕ → Seated → Type 0
-sent _ old word new = (image : Image) × (image.room ≡ (in_hand old.1).room) × (new ≡ (insight (Sends (word % 4)) (old.0.seen ++ in_hand old.1 ∷ []) old.0.reported, (word % 4, Some image) ∷ []))
+abbrev pub image_sent : Stepped → Seated → ℕ → Seated → Type 0
+image_sent _ old word new = (image : Image) × (image.room ≡ (in_hand old.1).room) × (new ≡ (insight (Sends (word % 4)) (old.0.seen ++ in_hand old.1 ∷ []) old.0.reported, (word % 4, Some image) ∷ []))
 
 -- the middle image is no newer, and all that was sent was seen; or it is to be taken
 abbrev pub found : Stepped → Seated → ℕ → Seated → Type 0
 found _ old word new = (word < 4 → (new ≡ old) × StartsWith old.0.seen old.0.reported) × (4 ≤ word → new ≡ (insight (Takes (slot_in old.1)) old.0.seen old.0.reported, old.1))
 
 -- the newest image was taken; the middle slot is now the task's
-abbrev pub took : Stepped → Seated → ℕ → Seated → Type 0
-took _ old word new = (seen : List Image) × (image : Image) × StartsWith seen old.0.seen × StartsWith seen old.0.reported × (image ≡ newest (in_hand old.1).room seen) × (image.room ≡ (in_hand old.1).room)
+abbrev pub image_taken : Stepped → Seated → ℕ → Seated → Type 0
+image_taken _ old word new = (seen : List Image) × (image : Image) × StartsWith seen old.0.seen × StartsWith seen old.0.reported × (image ≡ newest (in_hand old.1).room seen) × (image.room ≡ (in_hand old.1).room)
     × (new ≡ (insight (Looks (word % 4)) seen old.0.reported, (word % 4, Some image) ∷ []))
 
 -- what a note named to the owner's end begins what it sent

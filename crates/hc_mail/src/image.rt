@@ -46,7 +46,7 @@ impl TaskImage {
         })
     }
 
-    /// The epoch in which the datagrams got their data.
+    /// The epoch where the datagrams got their data.
     pub fn epoch(&self) -> u32
         ensures { result ≡ self.now.epoch }
     {

@@ -16,7 +16,10 @@ use std::sync::Arc;
 
 /// The table with a blank image in the middle, and its first seat.
 fn lay(alloc: Global, bytes: usize, datagrams: usize) -> Result<(Arc<MailTable>, Place), AllocError>
-    ensures { IfOk result (λ made. (made.1.table_id ≡ (arc_value made.0).shared.table_id) × IsSized made.1.table_id × ((arc_value made.0).shared.key ≡ (bytes, datagrams)) × (made.1.me ≡ (opener, []))) }
+    ensures table { IfOk result (λ made. made.1.table_id ≡ (arc_value made.0).shared.table_id) }
+    ensures sized { IfOk result (λ made. IsSized made.1.table_id) }
+    ensures key { IfOk result (λ made. (arc_value made.0).shared.key ≡ (bytes, datagrams)) }
+    ensures me { IfOk result (λ made. made.1.me ≡ (opener, [])) }
 {
     let middle = ImageBox::blank(alloc, bytes, datagrams)?;
     let slots = vec![in alloc; None, Some(middle), None]?;

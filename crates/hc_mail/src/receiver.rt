@@ -4,7 +4,7 @@ ghost use Rattle.std.specs.Arc.{arc_value};
 ghost use Rattle.hc_mail.specs.declared.table.Role.TheVariants.{Looks};
 ghost use Rattle.hc_mail.specs.Images.{StartsWith, image_in, newest};
 ghost use Rattle.hc_mail.specs.Rule.{IsSized};
-ghost use Rattle.hc_mail.specs.Ends.{posed, reported, seen};
+ghost use Rattle.hc_mail.specs.Ends.{posed, reported, seen, StaysAtTable};
 
 use crate::image::{ImageBox, TaskImage};
 use crate::note::{Note, passed};
@@ -33,7 +33,7 @@ impl ImageReceiver {
     /// when it looked before, and with all that a note named.
     pub fn look(&mut self)
         ensures later { StartsWith (seen self.new.place) (seen self.old.place) × StartsWith (seen self.new.place) (reported self.old.place) }
-        ensures same { (self.new.place.table_id ≡ self.old.place.table_id) × ((image_in self.new.shown).room ≡ (image_in self.old.shown).room) × (reported self.new.place ≡ reported self.old.place) }
+        ensures same { StaysAtTable self.old.place self.old.shown self.new.place self.new.shown }
     {
         let shared = &self.mail.shared;
         if shared.load::<Find>(&mut self.place, 0) < 4 {

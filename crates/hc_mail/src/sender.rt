@@ -4,7 +4,7 @@ ghost use Rattle.std.specs.Arc.{arc_value};
 ghost use Rattle.hc_mail.specs.declared.table.Role.TheVariants.{Sends};
 ghost use Rattle.hc_mail.specs.Images.{StartsWith, begun, image_in, with_data, with_outputs, with_zeros};
 ghost use Rattle.hc_mail.specs.Rule.{IsSized};
-ghost use Rattle.hc_mail.specs.Ends.{posed, reported, seen};
+ghost use Rattle.hc_mail.specs.Ends.{posed, seen, StaysAtTable};
 ghost use Rattle.hc_mail.specs.Lending.{LendsHeld};
 ghost use Rattle.std.specs.Borrow.{sem};
 
@@ -84,7 +84,7 @@ impl ImageSender {
     /// older one, or blank: `begin` makes the next one.
     pub fn send(&mut self)
         ensures sent { seen self.new.place ≡ seen self.old.place ++ image_in self.old.own ∷ [] }
-        ensures same { (self.new.place.table_id ≡ self.old.place.table_id) × ((image_in self.new.own).room ≡ (image_in self.old.own).room) × (reported self.new.place ≡ reported self.old.place) }
+        ensures same { StaysAtTable self.old.place self.old.own self.new.place self.new.own }
     {
         let shared = &self.mail.shared;
         shared.exchange(&mut self.place, self.slot, self.own.take());

@@ -1,6 +1,6 @@
-//! What each step at the table tells the end that takes it. These types are for the proofs alone.
+//! What each step at the table gives the end that takes it. These types are for the proofs alone.
 ghost use Rattle.std.specs.Prelude.{[]};
-ghost use Rattle.hc_mail.specs.Rule.{confirmed, entered, found, insight, sent, took, waited};
+ghost use Rattle.hc_mail.specs.Rule.{confirmed, entered, found, insight, image_sent, image_taken, waited};
 ghost use Rattle.hc_mail.specs.declared.table.Role.TheVariants.{Enters, Rests, Waits};
 
 use crate::image::ImageBox;
@@ -25,7 +25,7 @@ impl Play<Option<ImageBox>, Insight> for Wait {
 pub(crate) struct Send;
 
 impl Play<Option<ImageBox>, Insight> for Send {
-    ghost then = { sent };
+    ghost then = { image_sent };
 }
 
 /// The task's end finds out whether the middle image is newer than its own.
@@ -39,7 +39,7 @@ impl Play<Option<ImageBox>, Insight> for Find {
 pub(crate) struct Take;
 
 impl Play<Option<ImageBox>, Insight> for Take {
-    ghost then = { took };
+    ghost then = { image_taken };
 }
 
 /// The owner's end sees that what a note named was sent here.

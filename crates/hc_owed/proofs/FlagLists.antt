@@ -1,13 +1,15 @@
 -- Flags in words.
 use Rattle.std.proofs.Common.{◌≡◌, ℕ, zero, suc, inl, inr, ◌+◌, ◌-◌, ◌*◌, ◌^◌, ◌<◌, ◌≤◌, ◌==◌, Bool, true, false, cond, List, [], ◌∷◌, ◌++◌, length, take, drop, ◌⊎◌, refl, sym, ap, ◌∙◌, arith, rules}
 use Rattle.std.proofs.lemmas.Bool.{cases_lt}
-use Rattle.std.proofs.lemmas.List.{drop_all, get_or_append_left, take-append-le}
+use Rattle.std.proofs.lemmas.List.{append-nil, drop_all, get_or_append_left, take-append-le}
 use Rattle.std.proofs.lemmas.Iterator.Adapters.{position_from-zero}
 use Rattle.std.proofs.lemmas.Nat.{pow-add}
 use Rattle.std.proofs.lemmas.Nat.Bits.{bit_at-zero, bit_at_above}
-use Rattle.std.proofs.Math.Nat.{div-div-eq-div-mul}
+use Rattle.std.proofs.Math.Nat.{div-div-eq-div-mul, pow-suc}
 use Rattle.std.proofs.Math.Seq.{take-length}
 use Rattle.std.specs.Int.{bit_at}
+use Rattle.std.specs.Int.Count.{ones_step}
+use Rattle.std.specs.Int.RustNames.{count_ones}
 use Rattle.std.specs.Prelude.{slice_get, slice_index, ◌/◌, ◌%◌, position, Some, None, Option}
 use Rattle.std.specs.List.{position_from}
 use Rattle.hc_records.specs.Lists.{changed_at}
@@ -20,7 +22,7 @@ pub length-flags : (words : List ℕ) (first count : ℕ) → length (flags_from
 length-flags words first zero = refl
 length-flags words first (suc count) = ap suc (length-flags words (first + 1) count)
 
--- a bit in front of these, or behind them, changes none of them
+-- a bit before these, or after them, changes none of them
 flags-same : (old new : List ℕ) (first count : ℕ) → ((i : ℕ) → first ≤ i → i < first + count → flag new i ≡ flag old i) → flags_from new count first ≡ flags_from old count first
 flags-same old new first zero same = refl
 flags-same old new first (suc count) same = search (rules, flags-same old new (first + 1) count (λ i low high. same i (omega arith) (omega arith)))
@@ -64,7 +66,7 @@ flags-get-from words first (suc count) (suc n) low = flags-get-from words (first
 pub flags-get : (words : List ℕ) (count n : ℕ) → n < count → slice_get (flags_from words count 0) n ≡ Some (flag words n)
 flags-get words count n low = flags-get-from words 0 count n low ∙ ap (λ (i : ℕ). Some (flag words i)) (omega arith)
 
--- words behind those that hold the flags change none of them
+-- words after those that hold the flags change none of them
 
 longer-flag : (words more : List ℕ) (n : ℕ) → n < 64 * length words → flag (words ++ more) n ≡ flag words n
 longer-flag words more n low = ap (λ (word : ℕ). bit_at word (n % 64) == 1) (get_or_append_left words more 0 (n / 64) (omega arith))
@@ -163,7 +165,7 @@ pub count-le : (flags : List Bool) → set_count flags ≤ length flags
 count-le [] = omega arith
 count-le (f ∷ flags) = search (rules, one-le, count-le flags)
 
--- the set flag with an index, of flags of which the first ones are passed
+-- the set flag with an index, once the first flags are passed
 
 add_one : (n : ℕ) → n + 1 ≡ suc n
 add_one n = omega arith
@@ -275,3 +277,125 @@ lowest-shifted word first shifted place is fits lowest =
     inside : (first + place < 64) ⊎ (64 ≤ first + place) → bit_at word (first + place) ≡ 1 → first + place < 64
     inside (inl low) set = low
     inside (inr high) set = let none = bit_at_above word 64 (first + place) fits high in absurd (omega (arith, none, set))
+
+-- the set flags of a word, counted
+
+flag-in : (words : List ℕ) (at j : ℕ) → j < 64 → flag words (64 * at + j) ≡ (bit_at (slice_index words at) j == 1)
+flag-in words at j low =
+    let word : (64 * at + j) / 64 ≡ at = omega (arith, low) in
+    let bit : (64 * at + j) % 64 ≡ j = omega (arith, low) in
+    ap (λ (k : ℕ). bit_at (slice_index words k) ((64 * at + j) % 64) == 1) word ∙ ap (λ (k : ℕ). bit_at (slice_index words at) k == 1) bit
+
+one-bit : (n : ℕ) → one (n % 2 == 1) ≡ n % 2
+one-bit n = by (n % 2) (omega arith)
+  where
+    by : (bit : ℕ) → bit < 2 → one (bit == 1) ≡ bit
+    by zero low = refl
+    by (suc zero) low = refl
+    by (suc (suc bit)) low = absurd (omega (arith, low))
+
+-- of the places from one on, so many: no more than the word has from there on, and as many where they are all
+ones-from : (words : List ℕ) (at count j : ℕ) → j + count ≤ 64 → set_count (flags_from words count (64 * at + j)) ≤ count_ones (slice_index words at / 2 ^ j)
+ones-from words at zero j low = omega arith
+ones-from words at (suc count) j low =
+    let word = slice_index words at in
+    let here = ap one (flag-in words at j (omega (arith, low))) ∙ one-bit (word / 2 ^ j) in
+    let rest = ones-from words at count (j + 1) (omega (arith, low)) in
+    let next : 64 * at + (j + 1) ≡ 64 * at + j + 1 = omega arith in
+    let more = ap (λ (k : ℕ). set_count (flags_from words count k)) next in
+    let half = ap count_ones (div-div-eq-div-mul word (2 ^ j) 2 ∙ ap (λ (n : ℕ). word / n) (sym (pow-suc 2 j)) ∙ ap (λ (k : ℕ). word / 2 ^ k) (sym (add_one j))) in
+    let step = ones_step (word / 2 ^ j) in
+    omega (arith, here, rest, more, half, step)
+
+ones-whole : (words : List ℕ) (at count j : ℕ) → j + count ≡ 64 → slice_index words at < 2 ^ 64 → set_count (flags_from words count (64 * at + j)) ≡ count_ones (slice_index words at / 2 ^ j)
+unfolding count_ones
+ones-whole words at zero j all word =
+    let end : j ≡ 64 = omega (arith, all) in
+    let none : slice_index words at / 2 ^ 64 ≡ 0 = omega (arith, word) in
+    sym (ap (λ (k : ℕ). count_ones (slice_index words at / 2 ^ k)) end ∙ ap count_ones none)
+ones-whole words at (suc count) j all word =
+    let own = slice_index words at in
+    let here = ap one (flag-in words at j (omega (arith, all))) ∙ one-bit (own / 2 ^ j) in
+    let rest = ones-whole words at count (j + 1) (omega (arith, all)) word in
+    let next : 64 * at + (j + 1) ≡ 64 * at + j + 1 = omega arith in
+    let more = ap (λ (k : ℕ). set_count (flags_from words count k)) next in
+    let half = ap count_ones (div-div-eq-div-mul own (2 ^ j) 2 ∙ ap (λ (n : ℕ). own / n) (sym (pow-suc 2 j)) ∙ ap (λ (k : ℕ). own / 2 ^ k) (sym (add_one j))) in
+    let step = ones_step (own / 2 ^ j) in
+    omega (arith, here, rest, more, half, step)
+
+-- flags that are skipped
+
+flags-split : (words : List ℕ) (a b first : ℕ) → flags_from words (a + b) first ≡ flags_from words a first ++ flags_from words b (first + a)
+flags-split words zero b first =
+    let count : 0 + b ≡ b = omega arith in
+    let from : first ≡ first + 0 = omega arith in
+    ap (λ (k : ℕ). flags_from words k first) count ∙ ap (flags_from words b) from
+flags-split words (suc a) b first =
+    let count : suc a + b ≡ suc (a + b) = omega arith in
+    let from : first + 1 + a ≡ first + suc a = omega arith in
+    ap (λ (k : ℕ). flags_from words k first) count
+    ∙ ap (λ (rest : List Bool). flag words first ∷ rest) (flags-split words a b (first + 1) ∙ ap (λ (k : ℕ). flags_from words a (first + 1) ++ flags_from words b k) from)
+
+all-skipped : (flags rest : List Bool) (left at : ℕ) → set_count flags ≤ left → nth_set left at (flags ++ rest) ≡ nth_set (left - set_count flags) (at + length flags) rest
+all-skipped [] rest left at few =
+    let same : left ≡ left - 0 = omega arith in
+    let here : at ≡ at + 0 = omega arith in
+    ap (λ (k : ℕ). nth_set k at rest) same ∙ ap (λ (k : ℕ). nth_set (left - 0) k rest) here
+all-skipped (false ∷ flags) rest left at few =
+    let same : left - set_count flags ≡ left - (0 + set_count flags) = omega arith in
+    let here : at + 1 + length flags ≡ at + suc (length flags) = omega arith in
+    all-skipped flags rest left (at + 1) (omega (arith, few))
+    ∙ ap (λ (k : ℕ). nth_set k (at + 1 + length flags) rest) same ∙ ap (λ (k : ℕ). nth_set (left - (0 + set_count flags)) k rest) here
+all-skipped (true ∷ flags) rest zero at few = absurd (omega (arith, few))
+all-skipped (true ∷ flags) rest (suc left) at few =
+    let same : left - set_count flags ≡ suc left - (1 + set_count flags) = omega arith in
+    let here : at + 1 + length flags ≡ at + suc (length flags) = omega arith in
+    all-skipped flags rest left (at + 1) (omega (arith, few))
+    ∙ ap (λ (k : ℕ). nth_set k (at + 1 + length flags) rest) same ∙ ap (λ (k : ℕ). nth_set (suc left - (1 + set_count flags)) k rest) here
+
+pub word-skipped : (words : List ℕ) (len at left word : ℕ) → word ≡ slice_index words at → word < 2 ^ 64 → count_ones word ≤ left
+    → nth_set left (64 * at) (drop (64 * at) (flags_from words len 0)) ≡ nth_set (left - count_ones word) (64 * (at + 1)) (drop (64 * (at + 1)) (flags_from words len 0))
+word-skipped words len at left word is low few = by (cases_lt (len - 64 * at) 64)
+  where
+    list : List Bool
+    list = flags_from words len 0
+
+    m : ℕ
+    m = len - 64 * at
+
+    cut : drop (64 * at) list ≡ flags_from words m (64 * at)
+    cut = let from : 0 + 64 * at ≡ 64 * at = omega arith in flags-dropped words 0 len (64 * at) ∙ ap (flags_from words m) from
+
+    start : 64 * at + 0 ≡ 64 * at
+    start = omega arith
+
+    whole-word : slice_index words at / 2 ^ 0 ≡ word
+    whole-word = omega (arith, is)
+
+    by : (m < 64) ⊎ (64 ≤ m) → nth_set left (64 * at) (drop (64 * at) list) ≡ nth_set (left - count_ones word) (64 * (at + 1)) (drop (64 * (at + 1)) list)
+    by (inl short) =
+        let seg = flags_from words m (64 * at) in
+        let count = ones-from words at m 0 (omega (arith, short)) in
+        let from = ap (λ (k : ℕ). set_count (flags_from words m k)) start in
+        let all = ap count_ones whole-word in
+        let size = length-flags words 0 len in
+        let over : drop (64 * (at + 1)) list ≡ [] = drop_all (64 * (at + 1)) list (omega (arith, size, short)) in
+        ap (nth_set left (64 * at)) (cut ∙ sym (append-nil seg)) ∙ all-skipped seg [] left (64 * at) (omega (arith, count, from, all, few))
+        ∙ sym (ap (nth_set (left - count_ones word) (64 * (at + 1))) over)
+    by (inr long) =
+        let more = m - 64 in
+        let seg = flags_from words 64 (64 * at) in
+        let parts : m ≡ 64 + more = omega (arith, long) in
+        let count : set_count seg ≡ count_ones word = ap (λ (k : ℕ). set_count (flags_from words 64 k)) (sym start) ∙ ones-whole words at 64 0 (omega arith) (omega (arith, is, low)) ∙ ap count_ones whole-word in
+        let next : 64 * at + 64 ≡ 64 * (at + 1) = omega arith in
+        let size = length-flags words (64 * at) 64 in
+        let step : 64 * at + length seg ≡ 64 * (at + 1) = omega (arith, size) in
+        let left-over : len - 64 * (at + 1) ≡ more = omega arith in
+        let from : 0 + 64 * (at + 1) ≡ 64 * (at + 1) = omega arith in
+        let later : drop (64 * (at + 1)) list ≡ flags_from words more (64 * at + 64) =
+        flags-dropped words 0 len (64 * (at + 1)) ∙ ap (flags_from words (len - 64 * (at + 1))) (from ∙ sym next) ∙ ap (λ (k : ℕ). flags_from words k (64 * at + 64)) left-over in
+        ap (nth_set left (64 * at)) (cut ∙ ap (λ (k : ℕ). flags_from words k (64 * at)) parts ∙ flags-split words 64 more (64 * at))
+        ∙ all-skipped seg (flags_from words more (64 * at + 64)) left (64 * at) (omega (arith, count, few))
+        ∙ ap (λ (k : ℕ). nth_set (left - k) (64 * at + length seg) (flags_from words more (64 * at + 64))) count
+        ∙ ap (λ (k : ℕ). nth_set (left - count_ones word) k (flags_from words more (64 * at + 64))) step
+        ∙ ap (nth_set (left - count_ones word) (64 * (at + 1))) (sym later)

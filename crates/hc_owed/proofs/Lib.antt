@@ -4,5 +4,5 @@ mod FlagLists
 mod Forgetting
 mod Lists
 mod Opened
-mod Telling
+mod Saying
 mod Writing

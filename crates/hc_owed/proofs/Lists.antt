@@ -4,7 +4,7 @@ use Rattle.std.specs.Prelude.{◌≢◌, Some, slice_get, slice_set}
 use Rattle.std.proofs.lemmas.Bool.{cases_lt, cases_order}
 use Rattle.std.proofs.lemmas.Option.{same_Some}
 use Rattle.hc_records.specs.Lists.{changed_at}
-use Rattle.hc_owed.specs.Steps.{filled}
+use Rattle.hc_owed.specs.Steps.{replaced_from}
 
 -- a list that has at each index what a function makes of another's element there
 pub is-map : {X Y : Type 0} (xs : List Y) (f : X → Y) (zs : List X) → length xs ≡ length zs → ((n : ℕ) (z : X) → slice_get zs n ≡ Some z → slice_get xs n ≡ Some (f z)) → xs ≡ map f zs
@@ -23,6 +23,11 @@ pub map-set : {X Y : Type 0} (f : X → Y) (n : ℕ) (x : X) (xs : List X) → m
 map-set f n x [] = refl
 map-set f zero x (y ∷ xs) = refl
 map-set f (suc n) x (y ∷ xs) = ap (λ rest. f y ∷ rest) (map-set f n x xs)
+
+pub set-changed : {X : Type 0} (n : ℕ) (x : X) (xs : List X) → slice_set xs n x ≡ changed_at n (λ _. x) xs
+set-changed n x [] = refl
+set-changed zero x (y ∷ xs) = refl
+set-changed (suc n) x (y ∷ xs) = ap (λ rest. y ∷ rest) (set-changed n x xs)
 
 pub get-changed : {X : Type 0} (n : ℕ) (x : X) (xs : List X) → n < length xs → slice_get (changed_at n (λ _. x) xs) n ≡ Some x
 get-changed n x [] low = absurd (omega (arith, low))
@@ -43,22 +48,22 @@ changed-same (suc n) x (y ∷ xs) is = ap (λ rest. y ∷ rest) (changed-same n 
 
 -- elements in a row that are replaced
 
-pub length-filled : {X : Type 0} (from count : ℕ) (x : X) (xs : List X) → length (filled from count x xs) ≡ length xs
+pub length-filled : {X : Type 0} (from count : ℕ) (x : X) (xs : List X) → length (replaced_from from count x xs) ≡ length xs
 length-filled from zero x xs = refl
-length-filled from (suc count) x xs = length-changed (from + count) (λ _. x) (filled from count x xs) ∙ length-filled from count x xs
+length-filled from (suc count) x xs = length-changed (from + count) (λ _. x) (replaced_from from count x xs) ∙ length-filled from count x xs
 
-pub get-filled : {X : Type 0} (from count : ℕ) (x : X) (xs : List X) (n : ℕ) → from ≤ n → n < from + count → n < length xs → slice_get (filled from count x xs) n ≡ Some x
+pub get-filled : {X : Type 0} (from count : ℕ) (x : X) (xs : List X) (n : ℕ) → from ≤ n → n < from + count → n < length xs → slice_get (replaced_from from count x xs) n ≡ Some x
 get-filled from zero x xs n low high within = absurd (omega (arith, low, high))
 get-filled from (suc count) x xs n low high within = elim (cases_order n (from + count)) [
   | inl same ↦
       let size = length-filled from count x xs in
-      ap (slice_get (filled from (suc count) x xs)) same ∙ get-changed (from + count) x (filled from count x xs) (omega (arith, same, within, size))
+      ap (slice_get (replaced_from from (suc count) x xs)) same ∙ get-changed (from + count) x (replaced_from from count x xs) (omega (arith, same, within, size))
   | inr (inl less) ↦
-      get-other (from + count) n x (filled from count x xs) (λ same. absurd (omega (arith, less, same))) ∙ get-filled from count x xs n low less within
+      get-other (from + count) n x (replaced_from from count x xs) (λ same. absurd (omega (arith, less, same))) ∙ get-filled from count x xs n low less within
   | inr (inr more) ↦ absurd (omega (arith, more, high))
 ]
 
-pub get-unfilled : {X : Type 0} (from count : ℕ) (x : X) (xs : List X) (n : ℕ) → ((from ≤ n) × (n < from + count) → ⊥) → slice_get (filled from count x xs) n ≡ slice_get xs n
+pub get-unfilled : {X : Type 0} (from count : ℕ) (x : X) (xs : List X) (n : ℕ) → ((from ≤ n) × (n < from + count) → ⊥) → slice_get (replaced_from from count x xs) n ≡ slice_get xs n
 get-unfilled from zero x xs n out = refl
 get-unfilled from (suc count) x xs n out =
     search (rules, get-other, get-unfilled from count x xs n (λ inside. out (inside.0, let high = inside.1 in omega (arith, high))))

@@ -1,4 +1,4 @@
-pub mod Board
+pub mod RegisterState
 pub mod Laws
 pub mod Flags
 pub mod Steps

@@ -6,17 +6,17 @@ use Rattle.hc_records.specs.declared.records.Slave.{Slave}
 use Rattle.hc_registers.specs.RankPlaces.{numbers}
 
 -- a slave, present or not, has a block with a number
-abbrev pub has_block : Bool → Slave → ℕ → Bool
-has_block present slave number = present && nat_lt (number / 2) (length slave.areas)
+abbrev pub slave_has_block : Bool → Slave → ℕ → Bool
+slave_has_block present slave number = present && nat_lt (number / 2) (length slave.areas)
 
--- at which of its places
+-- where of its places
 abbrev pub slave_flags : Bool → Slave → List Bool
-slave_flags present slave = map (has_block present slave) numbers
+slave_flags present slave = map (slave_has_block present slave) numbers
 
--- at which places of slaves that are all present or all absent
+-- where places of slaves that are all present or all absent
 abbrev pub slaves_flags : Bool → List Slave → List Bool
 slaves_flags present slaves = flat_map (slave_flags present) slaves
 
--- at which places of the slaves of declared groups
+-- where places of the slaves of declared groups
 abbrev pub declared_flags : List Declared → List Bool
 declared_flags groups = flat_map (λ declared. slaves_flags declared.present declared.group.slaves) groups

@@ -6,36 +6,39 @@ use Rattle.hc_records.specs.Edits.{absent}
 use Rattle.hc_records.specs.Line.{State, groups_of}
 use Rattle.hc_records.specs.Project.{lowest_fault}
 use Rattle.hc_registers.specs.RankPlaces.{stations}
-use Rattle.hc_owed.specs.Board.{Board, Knowledge, kept_of}
+use Rattle.hc_owed.specs.RegisterState.{RegisterState, Knowledge, register_state_of}
 
--- for how many places there is memory, for how many words of 64 flags, and for how many station addresses; and the station addresses of the slaves that
+-- for how many places' blocks and known bytes there is memory, for how many words of 64 flags, and for how many station addresses; and the station addresses of the slaves that
 -- are added
 pub record OwedRoom : Type 0 where
+  pub blocks : ℕ
   pub known : ℕ
   pub owed : ℕ
   pub stations : ℕ
   pub added : List ℕ
 
--- there is room for sixteen places of each of these slaves, and for their station addresses, behind those of so many others
-pub record IsRoomFor (count : ℕ) (slaves : List Slave) (room : OwedRoom) : Type 0 where
+-- there is room for sixteen places of each of these slaves, and for their station addresses, after those of so many others
+pub record IsOwedRoomFor (count : ℕ) (slaves : List Slave) (room : OwedRoom) : Type 0 where
+  pub blocks : 16 * (count + length slaves) ≤ room.blocks
   pub known : 16 * (count + length slaves) ≤ room.known
   pub owed : 16 * (count + length slaves) ≤ 64 * room.owed
   pub stations : count + length slaves ≤ room.stations
   pub added : room.added ≡ map (λ slave. slave.station) slaves
 
--- what is kept, with empty places of slaves with these station addresses behind the others
-abbrev pub widened : List ℕ → Board → Board
-widened added board = record {
-  known = board.known ++ replicate (16 * length added) None;
-  owed = board.owed ++ replicate (16 * length added) false;
-  stations = board.stations ++ added;
+-- what is kept, with empty places of slaves with these station addresses after the others
+abbrev pub registers_widened : List ℕ → RegisterState → RegisterState
+registers_widened added register_state = record {
+  blocks = register_state.blocks ++ replicate (16 * length added) None;
+  known = register_state.known ++ replicate (16 * length added) None;
+  owed = register_state.owed ++ replicate (16 * length added) false;
+  stations = register_state.stations ++ added;
 }
 
--- what is kept is right for a project's state, in which a group can be declared, and there is room for its slaves
-pub record CanAdmit (board : Board) (room : OwedRoom) : Type 0 where
+-- what is kept is right for a project's state, where a group can be declared, and there is room for its slaves
+pub record RegistersCanAdmit (register_state : RegisterState) (room : OwedRoom) : Type 0 where
   pub known : Knowledge
   pub old : State
   pub group : Group
-  pub right : board ≡ kept_of known old
+  pub right : register_state ≡ register_state_of known old
   pub project : lowest_fault (groups_of (old.groups ++ absent group ∷ [])) ≡ None
-  pub fits : IsRoomFor (length (stations old)) group.slaves room
+  pub fits : IsOwedRoomFor (length (stations old)) group.slaves room

@@ -1,59 +1,73 @@
 -- The steps of what is kept, place by place.
-use Rattle.std.specs.Prelude.{ℕ, zero, suc, ◌+◌, ◌*◌, ◌/◌, ◌==◌, ◌||◌, is_some, Bool, false, if◌then◌else◌, List, [], ◌∷◌, slice_get, unwrap_or, Option, None}
+use Rattle.std.specs.Prelude.{ℕ, zero, suc, ◌+◌, ◌*◌, ◌/◌, ◌==◌, ◌||◌, is_some, Bool, false, if◌then◌else◌, List, [], ◌∷◌, slice_get, unwrap_or, Option, None, Some}
 use Rattle.std.specs.Option.{option_map_or}
 use Rattle.hc_records.specs.Lists.{changed_at}
+use Rattle.hc_registers.specs.Blocks.{RegisterBlock}
 use Rattle.hc_registers.specs.declared.ranked.Gone.{Gone}
 use Rattle.hc_registers.specs.Ranked.{RankedBlock}
 use Rattle.hc_registers.specs.RankDifferences.{block_place, first_gone}
-use Rattle.hc_owed.specs.Board.{Board, differs}
+use Rattle.hc_owed.specs.RegisterState.{RegisterState, differs}
+
+-- the line's block at a place
+abbrev pub block_put : ℕ → Option RegisterBlock → RegisterState → RegisterState
+block_put n block register_state = record register_state { blocks = changed_at n (λ _. block) register_state.blocks }
 
 -- what is known at a place, and whether it's owed there
-abbrev pub learnt : ℕ → Option (List ℕ) → Board → Board
-learnt n known board = record board { known = changed_at n (λ _. known) board.known }
+abbrev pub learnt : ℕ → Option (List ℕ) → RegisterState → RegisterState
+learnt n known register_state = record register_state { known = changed_at n (λ _. known) register_state.known }
 
--- a place that is owed or not as told
-abbrev pub judged : ℕ → Bool → Board → Board
-judged n owed board = record board { owed = changed_at n (λ _. owed) board.owed }
+-- a place that is owed or not as given
+abbrev pub place_judged : ℕ → Bool → RegisterState → RegisterState
+place_judged n owed register_state = record register_state { owed = changed_at n (λ _. owed) register_state.owed }
 
 -- so many elements from an index on are replaced
-abbrev pub filled : {X : Type 0} → ℕ → ℕ → X → List X → List X
-filled from zero x xs = xs
-filled from (suc count) x xs = changed_at (from + count) (λ _. x) (filled from count x xs)
+abbrev pub replaced_from : {X : Type 0} → ℕ → ℕ → X → List X → List X
+replaced_from from zero x xs = xs
+replaced_from from (suc count) x xs = changed_at (from + count) (λ _. x) (replaced_from from count x xs)
 
 -- so many places from one on are emptied
-abbrev pub emptied : ℕ → ℕ → Board → Board
-emptied from count board = record board { known = filled from count None board.known; owed = filled from count false board.owed }
+abbrev pub places_emptied : ℕ → ℕ → RegisterState → RegisterState
+places_emptied from count register_state = record register_state {
+  blocks = replaced_from from count None register_state.blocks;
+  known = replaced_from from count None register_state.known;
+  owed = replaced_from from count false register_state.owed;
+}
 
 -- a place has a block where that is owed or known
-abbrev pub has_block : Board → ℕ → Bool
-has_block board n = unwrap_or (slice_get board.owed n) false || is_some (unwrap_or (slice_get board.known n) None)
+abbrev pub has_block : RegisterState → ℕ → Bool
+has_block register_state n = unwrap_or (slice_get register_state.owed n) false || is_some (unwrap_or (slice_get register_state.known n) None)
 
 -- nothing is known any more at a place, and its block, if it has one, is owed
-abbrev pub forgotten_at : ℕ → Board → Board
-forgotten_at n board = judged n (has_block board n) (learnt n None board)
+abbrev pub forgotten_at : ℕ → RegisterState → RegisterState
+forgotten_at n register_state = place_judged n (has_block register_state n) (learnt n None register_state)
 
 -- a place is of the slave with a station address
-abbrev pub is_of : ℕ → List ℕ → ℕ → Bool
-is_of station stations n = option_map_or (λ other. other == station) (slice_get stations (n / 16)) false
+abbrev pub place_is_of : ℕ → List ℕ → ℕ → Bool
+place_is_of station stations n = option_map_or (λ other. other == station) (slice_get stations (n / 16)) false
 
 -- where it is, it is forgotten
-abbrev pub forgotten_of : ℕ → ℕ → Board → Board
-forgotten_of station n board = if is_of station board.stations n then forgotten_at n board else board
+abbrev pub forgotten_of : ℕ → ℕ → RegisterState → RegisterState
+forgotten_of station n register_state = if place_is_of station register_state.stations n then forgotten_at n register_state else register_state
 
 -- so it is at so many places from the first one on
-abbrev pub forgotten_below : ℕ → ℕ → Board → Board
-forgotten_below station zero board = board
-forgotten_below station (suc n) board = forgotten_of station n (forgotten_below station n board)
+abbrev pub forgotten_below : ℕ → ℕ → RegisterState → RegisterState
+forgotten_below station zero register_state = register_state
+forgotten_below station (suc n) register_state = forgotten_of station n (forgotten_below station n register_state)
 
 -- the places of the slaves that leave are emptied
-abbrev pub cleared : Gone → Board → Board
-cleared gone board = emptied (first_gone gone) (16 * gone.slaves) board
+abbrev pub cleared : Gone → RegisterState → RegisterState
+cleared gone register_state = places_emptied (first_gone gone) (16 * gone.slaves) register_state
 
--- a moved block is compared with what is known at its place
-abbrev pub compared : RankedBlock → Board → Board
-compared moved board = judged (block_place moved) (differs moved.found.block.bytes (unwrap_or (slice_get board.known (block_place moved)) None)) board
+-- a moved block is owed where other bytes are known at its place, or none
+abbrev pub owed_where_moved : RankedBlock → RegisterState → Bool
+owed_where_moved moved register_state = differs moved.found.block.bytes (unwrap_or (slice_get register_state.known (block_place moved)) None)
+
+-- a moved block comes in place of the old one, and is compared with what is known at its place
+abbrev pub compared : RankedBlock → RegisterState → RegisterState
+compared moved register_state =
+    place_judged (block_place moved) (owed_where_moved moved register_state) (block_put (block_place moved) (Some moved.found.block) register_state)
 
 -- moved blocks, one after another
-abbrev pub compared_all : List RankedBlock → Board → Board
-compared_all [] board = board
-compared_all (moved ∷ rest) board = compared_all rest (compared moved board)
+abbrev pub compared_all : List RankedBlock → RegisterState → RegisterState
+compared_all [] register_state = register_state
+compared_all (moved ∷ rest) register_state = compared_all rest (compared moved register_state)

@@ -1,6 +1,7 @@
 //! A list of bits in words of 64, whose first set one is found by words, and which are counted.
 ghost use Rattle.std.specs.Prelude.{◌≡◌, ℕ, ◌+◌, ◌-◌, ◌*◌, ◌/◌, ◌^◌, ◌<◌, ◌≤◌, ◌==◌, ◌≢◌, ◌++◌, length, replicate, MatchOption};
 ghost use Rattle.std.specs.Int.{bit_at};
+ghost use Rattle.std.specs.Int.RustNames.{count_ones};
 ghost use Rattle.hc_owed.specs.Flags.{IsClearFrom, IsLowestFrom, IsLowestIn, SetsFlag, one};
 
 use hc_records::room::Room;
@@ -55,6 +56,14 @@ fn lowest_from(word: u64, first: usize) -> Option<usize>
         Some(place) => Some(first + place),
         None => None,
     }
+}
+
+/// How many bits are set in a word.
+fn ones_in(word: u64) -> usize
+    ensures count { result ≡ count_ones word }
+    ensures word { word < 2 ^ 64 }
+{
+    word.count_ones() as usize
 }
 
 /// Makes a list of words so long, where it is shorter, with the help of memory that was taken before: the words
@@ -162,7 +171,7 @@ impl Flags {
         self.count
     }
 
-    /// Adds a flag behind the others.
+    /// Adds a flag after the others.
     pub(crate) fn push(&mut self, flag: bool)
         requires { length self.old.list < self.old.room }
         ensures { self.new ≡ record self.old { list = self.old.list ++ flag ∷ [] } }
@@ -191,14 +200,31 @@ impl Flags {
         word >> (n % WORD_BITS) & 1 == 1
     }
 
-    /// The index of the flag that is set after so many others that are; none where fewer are set. It looks at each flag
-    /// up to it.
+    /// Where the flag that is set after so many others can be found: no word before its own is looked at flag by flag, but
+    /// counted. It is the flag from which on it is sought, and how many set flags from there on are before it.
+    fn words_skipped(&self, index: usize) -> (usize, usize)
+        ensures { nth_set result.1 result.0 (drop result.0 self.now.list) ≡ nth_set index 0 self.now.list }
+    {
+        let mut left = index;
+        for i in 0..self.words.len() {
+            let ones = ones_in(self.words[i]);
+            if left < ones {
+                return (WORD_BITS * i, left);
+            }
+            left -= ones;
+        }
+        (WORD_BITS * self.words.len(), left)
+    }
+
+    /// The index of the flag that is set after so many others that are; none where fewer are set. It counts the words before
+    /// the flag's own, and looks at each flag of that one.
     pub(crate) fn nth(&self, index: usize) -> Option<usize>
         ensures value { result ≡ nth_set index 0 self.now.list }
         ensures low { IfSome result (λ n. n < length self.now.list) }
     {
-        let mut left = index;
-        for n in 0..self.len {
+        let (from, skipped) = self.words_skipped(index);
+        let mut left = skipped;
+        for n in from..self.len {
             if self.get(n) {
                 if left == 0 {
                     return Some(n);

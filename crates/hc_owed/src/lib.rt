@@ -1,7 +1,7 @@
-//! What the slaves' registers are known to hold, and which register blocks they still lack: an entry and a bit
-//! at each place of a declared slave's blocks, by rank, and the count of the bits. The core asks for the first
-//! owed block, and tells of writes, of their good answers, and of edits. An edit costs what it changes, and a
-//! group that is declared what it brings.
+//! What the slaves' registers are known to hold, and which register blocks they still lack: the line's block, the
+//! known bytes and a bit at each place of a declared slave's blocks, by rank, and the count of the bits. The core
+//! asks for the next owed block, and says of writes, of their good answers, and of edits. An edit costs what it
+//! changes, and a group that is declared what it brings.
 #![tactic(auto)]
 
 mod flags;

@@ -1,24 +1,22 @@
 //! Which register blocks the slaves of the present line still lack.
 ghost use Rattle.std.specs.Prelude.{◌≡◌, option_map};
-ghost use Rattle.hc_owed.specs.Board.{differs};
+ghost use Rattle.hc_owed.specs.RegisterState.{differs};
 
 use crate::flags::Flags;
-use crate::opening::{declared_flags, declared_stations, nothing_known};
+use crate::opening::{declared_flags, declared_stations, nothing_known, own_blocks};
 use hc_plan::plan::Plan;
-use hc_registers::blocks::Block;
+use hc_registers::blocks::{Block, LineBlock};
 use hc_registers::ranked::{Gone, RankedBlock};
 use std::alloc::{AllocError, Global};
 use std::marker::Model;
 
 /// A block that its slave lacks.
-#[derive(Clone, Copy, Debug, PartialEq, Eq)]
+#[derive(Debug, Drop)]
 pub struct OwedBlock {
     /// Its place: sixteen for each declared slave by rank, present or not, one for each block number.
     pub place: u32,
-    /// The station address of its slave.
-    pub station: u16,
-    /// Its number in the slave's order, from 0.
-    pub number: u8,
+    /// The block, as the line configures it.
+    pub block: LineBlock,
 }
 
 /// Whether the known bytes of a block aren't those that the line configures, or there are none.
@@ -31,10 +29,11 @@ fn differs(known: &Option<Block>, block: &Block) -> bool
     }
 }
 
-/// At each place of a declared slave's blocks, present or not: the bytes that the slave is known to have, and
-/// whether the line's block is owed. Contracts see it as a `Board`, which also has the station addresses.
+/// At each place of a declared slave's blocks, present or not: the line's block, the bytes that the slave is known to have,
+/// and whether the block is owed. Contracts see it as a `RegisterState`, which also has the station addresses.
 #[derive(Debug, Drop)]
 pub struct Owed {
+    pub(crate) blocks: Vec<Option<Block>>,
     pub(crate) known: Vec<Option<Block>>,
     pub(crate) owed: Flags,
     // the station addresses of the declared slaves, by rank
@@ -43,13 +42,13 @@ pub struct Owed {
 
 impl Model for Owed {
     ghost use Rattle.std.specs.Prelude.{◌≡◌, ◌*◌, ◌<◌, length, map, option_map};
-    ghost use Rattle.hc_owed.specs.Board.{Board};
+    ghost use Rattle.hc_owed.specs.RegisterState.{RegisterState};
 
-    ghost Value = { Board };
+    ghost Value = { RegisterState };
 
-    ghost view = { λ o. record { known = map (λ known. option_map (λ block. block.bytes) known) o.known.items; owed = o.owed.list; stations = o.stations.items } };
+    ghost view = { λ o. record { blocks = o.blocks.items; known = map (λ known. option_map (λ block. block.bytes) known) o.known.items; owed = o.owed.list; stations = o.stations.items } };
 
-    ghost invariant = { λ o. (length o.known.items ≡ 16 * length o.stations.items) × (length o.owed.list ≡ 16 * length o.stations.items) × (length o.stations.items < 65536) };
+    ghost invariant = { λ o. (length o.known.items ≡ 16 * length o.stations.items) × (length o.owed.list ≡ 16 * length o.stations.items) × (length o.stations.items < 65536) × (length o.blocks.items ≡ 16 * length o.stations.items) };
 }
 
 impl Owed {
@@ -58,21 +57,22 @@ impl Owed {
     ghost use Rattle.hc_records.specs.Project.{lowest_fault};
     ghost use Rattle.hc_registers.specs.Blocks.{LineBlock};
     ghost use Rattle.hc_registers.specs.RankDifferences.{block_place, first_gone};
-    ghost use Rattle.hc_plan.specs.Reports.{name_of};
-    ghost use Rattle.hc_owed.specs.Board.{Knowledge, kept_of, lacks, nothing_known};
-    ghost use Rattle.hc_owed.specs.Laws.{IsEdited, IsFirstOwed, IsKeptAt, IsNextOwed, IsOwedAt, known_over, known_with, known_without, owed_blocks, owed_from};
-    ghost use Rattle.hc_owed.specs.Steps.{cleared, compared, compared_all, emptied, forgotten_at, forgotten_of, has_block, judged, learnt};
+    ghost use Rattle.hc_owed.specs.RegisterState.{Knowledge, register_state_of, nothing_known};
+    ghost use Rattle.hc_owed.specs.Laws.{as_written, GivesOwedAt, IsFirstOwed, IsLackingAt, IsNextOwed, IsRightAt, IsRightFor, RegistersAreEdited, known_over, known_without, lacking_blocks, owed_from, with_known};
+    ghost use Rattle.hc_owed.specs.Steps.{block_put, cleared, compared, compared_all, places_emptied, forgotten_at, forgotten_of, has_block, place_judged, learnt};
 
     /// What is kept of a line whose slaves were just connected: nothing is known of any block, and every block is
     /// owed. `AllocError` where a growth was refused; of the later calls `room_for` alone takes memory.
     pub fn new(alloc: Global, plan: &Plan) -> Result<Owed, AllocError>
-        ensures { IfOk result (λ owed. owed ≡ kept_of nothing_known plan.now) }
+        ensures { IfOk result (λ owed. owed ≡ register_state_of nothing_known plan.now) }
     {
         let stations = declared_stations(alloc, plan.groups())?;
         let places = 16 * stations.len();
+        let blocks = own_blocks(alloc, plan, places)?;
         let known = nothing_known(alloc, places)?;
         let owed = declared_flags(alloc, plan.groups(), places)?;
         Ok(Owed {
+            blocks,
             known,
             owed,
             stations,
@@ -81,55 +81,74 @@ impl Owed {
 
     /// How many blocks of the line are owed. It takes no time.
     pub fn count(&self) -> u32
-        ensures { (known : Knowledge) (state : State) → lowest_fault (groups_of state.groups) ≡ None → self.now ≡ kept_of known state → result ≡ length (owed_blocks known state) }
+        ensures { (known : Knowledge) (state : State) → IsRightFor known state self.now → result ≡ length (lacking_blocks known state) }
     {
         self.owed.count() as u32
     }
 
-    /// The first owed block in line and block order; none where nothing is owed. It looks at 64 places at a time.
-    pub fn first(&self) -> Option<OwedBlock>
-        ensures { (known : Knowledge) (state : State) → lowest_fault (groups_of state.groups) ≡ None → self.now ≡ kept_of known state → MatchOption result (owed_blocks known state ≡ []) (IsFirstOwed known state) }
+    /// The line's block at a place; none where the place is empty.
+    fn block_at(&self, place: usize) -> Option<Block>
+        requires { place < length self.now.known }
+        ensures { slice_get self.now.blocks place ≡ Some result }
     {
-        let place = self.owed.first()?;
+        match &self.blocks[place] {
+            Some(block) => Some(block.copied()),
+            None => None,
+        }
+    }
+
+    /// The line's block at a place, with its slave's station address and its number; none where the place is empty.
+    fn found_at(&self, place: usize) -> Option<OwedBlock>
+        requires { place < length self.now.known }
+        ensures { (known : Knowledge) (state : State) (block : LineBlock) → IsRightAt self.now place known state block → result ≡ Some (record { place = place; block = block }) }
+    {
+        let block = self.block_at(place)?;
+        let station = self.stations[place / 16];
+        let number = (place % 16) as u8;
         Some(OwedBlock {
             place: place as u32,
-            station: self.stations[place / 16],
-            number: (place % 16) as u8,
+            block: LineBlock {
+                station,
+                number,
+                block,
+            },
         })
+    }
+
+    /// The first owed block in line and block order; none where nothing is owed. It looks at 64 places at a time.
+    pub fn first(&self) -> Option<OwedBlock>
+        ensures { (known : Knowledge) (state : State) → IsRightFor known state self.now → MatchOption result (lacking_blocks known state ≡ []) (IsFirstOwed known state) }
+    {
+        let place = self.owed.first()?;
+        self.found_at(place)
     }
 
     /// The owed block with an index, from 0, in line and block order; none where fewer are owed. It looks at each place up
     /// to it.
     pub fn nth(&self, index: u32) -> Option<OwedBlock>
-        ensures { (known : Knowledge) (state : State) → lowest_fault (groups_of state.groups) ≡ None → self.now ≡ kept_of known state → MatchOption result (slice_get (owed_blocks known state) index ≡ None) (IsOwedAt known state index) }
+        ensures { (known : Knowledge) (state : State) → IsRightFor known state self.now → GivesOwedAt known state index result }
     {
         let place = self.owed.nth(index as usize)?;
-        let station = self.stations[place / 16];
-        let number = (place % 16) as u8;
-        let place = place as u32;
-        Some(OwedBlock {
-            place,
-            station,
-            number,
-        })
+        self.found_at(place)
     }
 
     /// The first owed block at a place or after it, in line and block order; none where nothing is owed from there on. So
     /// place 0 gives the first owed block, and the place after an owed block the next one. It looks at 64 places at a
     /// time.
     pub fn next_from(&self, place: u32) -> Option<OwedBlock>
-        ensures next { (known : Knowledge) (state : State) → lowest_fault (groups_of state.groups) ≡ None → self.now ≡ kept_of known state → MatchOption result (owed_from known state place ≡ []) (IsNextOwed known state place) }
-        ensures all { (known : Knowledge) (state : State) → lowest_fault (groups_of state.groups) ≡ None → owed_from known state 0 ≡ owed_blocks known state }
+        ensures next { (known : Knowledge) (state : State) → IsRightFor known state self.now → MatchOption result (owed_from known state place ≡ []) (IsNextOwed known state place) }
+        ensures all { (known : Knowledge) (state : State) → lowest_fault (groups_of state.groups) ≡ None → owed_from known state 0 ≡ lacking_blocks known state }
     {
         let place = self.owed.next_from(place as usize)?;
-        let station = self.stations[place / 16];
-        let number = (place % 16) as u8;
-        let place = place as u32;
-        Some(OwedBlock {
-            place,
-            station,
-            number,
-        })
+        self.found_at(place)
+    }
+
+    /// Sets the line's block at a place.
+    fn put_block(&mut self, place: usize, block: Option<Block>)
+        requires { place < length self.old.known }
+        ensures { self.new ≡ block_put place block self.old }
+    {
+        self.blocks[place] = block;
     }
 
     /// Sets what is known of the block at a place.
@@ -143,7 +162,7 @@ impl Owed {
     /// Sets whether the block at a place is owed.
     fn judge(&mut self, place: usize, owed: bool)
         requires { place < length self.old.known }
-        ensures { self.new ≡ judged place owed self.old }
+        ensures { self.new ≡ place_judged place owed self.old }
     {
         self.owed.set(place, owed);
     }
@@ -152,18 +171,19 @@ impl Owed {
     /// and it is owed as before.
     pub fn sent(&mut self, place: u32)
         requires { place < length self.old.known }
-        ensures { (known : Knowledge) (state : State) (block : LineBlock) → IsKeptAt self.old place known state block → lacks known block ≡ true → self.new ≡ kept_of (known_with (name_of block) None known) state }
+        ensures { (known : Knowledge) (state : State) (block : LineBlock) → IsLackingAt self.old place known state block → self.new ≡ with_known known state block None }
     {
         self.learn(place as usize, None);
     }
 
     /// The write of the block at a place was answered well, with the bytes that the present line configures: its
     /// slave has them, and the block isn't owed.
-    pub fn confirmed(&mut self, place: u32, block: Block)
+    pub fn confirmed(&mut self, place: u32)
         requires { place < length self.old.known }
-        ensures { (known : Knowledge) (state : State) (found : LineBlock) → IsKeptAt self.old place known state found → block.bytes ≡ found.block.bytes → self.new ≡ kept_of (known_with (name_of found) (Some block.bytes) known) state }
+        ensures { (known : Knowledge) (state : State) (found : LineBlock) → IsRightAt self.old place known state found → self.new ≡ as_written known state found }
     {
-        self.learn(place as usize, Some(block));
+        let block = self.block_at(place as usize);
+        self.learn(place as usize, block);
         self.judge(place as usize, false);
     }
 
@@ -202,7 +222,7 @@ impl Owed {
     /// each of them is owed. Nothing changes where the line has no such slave. It takes the time of the places of
     /// all declared slaves, and no memory.
     pub fn forget(&mut self, station: u16)
-        ensures { (known : Knowledge) (state : State) → self.old ≡ kept_of known state → self.new ≡ kept_of (known_without station known) state }
+        ensures { (known : Knowledge) (state : State) → self.old ≡ register_state_of known state → self.new ≡ register_state_of (known_without station known) state }
     {
         for place in 0..self.known.len() {
             self.forget_of(place, station);
@@ -217,12 +237,13 @@ impl Owed {
     {
         let from = gone.first_place();
         for i in 0..16 * usize::from(gone.slaves) {
+            self.put_block(from + i, None);
             self.learn(from + i, None);
             self.judge(from + i, false);
         }
     }
 
-    /// Compares a moved block with what is known of it.
+    /// Puts a moved block in place of the old one, and compares it with what is known of it.
     fn compare(&mut self, moved: &RankedBlock)
         requires rank { 1 ≤ moved.now.rank }
         requires inside { block_place moved.now < length self.old.known }
@@ -230,10 +251,11 @@ impl Owed {
     {
         let place = moved.place();
         let owed = differs(&self.known[place], &moved.found.block);
+        self.put_block(place, Some(moved.found.block.copied()));
         self.judge(place, owed);
     }
 
-    /// Compares moved blocks with what is known of them.
+    /// Puts moved blocks in place of the old ones, and compares them with what is known of them.
     fn compare_all(&mut self, moved: &[RankedBlock])
         requires ranks { All (λ block. 1 ≤ block.rank) moved.now }
         requires inside { All (λ block. block_place block < length self.old.known) moved.now }
@@ -249,8 +271,8 @@ impl Owed {
     /// owed; of the others the known bytes stay, and the moved ones are compared with them. It takes the time of
     /// the blocks that left and moved.
     pub fn change(&mut self, gone: Gone, moved: &[RankedBlock])
-        requires edited { IsEdited self.old gone moved.now }
-        ensures { (is : IsEdited self.old gone moved.now) → self.new ≡ kept_of (known_over is.old is.known) is.new }
+        requires edited { RegistersAreEdited self.old gone moved.now }
+        ensures { (is : RegistersAreEdited self.old gone moved.now) → self.new ≡ register_state_of (known_over is.old is.known) is.new }
     {
         self.clear(gone);
         self.compare_all(moved);

@@ -12,6 +12,7 @@ use std::marker::Model;
 /// The memory that a declared group's slaves need, and their station addresses.
 #[derive(Drop)]
 pub struct OwedRoom {
+    blocks: Room<Option<Block>>,
     known: Room<Option<Block>>,
     owed: Room<u64>,
     stations: Room<u16>,
@@ -23,7 +24,7 @@ impl Model for OwedRoom {
 
     ghost Value = { OwedRoom };
 
-    ghost view = { λ room. record { known = room.known; owed = room.owed; stations = room.stations; added = room.added.items } };
+    ghost view = { λ room. record { blocks = room.blocks; known = room.known; owed = room.owed; stations = room.stations; added = room.added.items } };
 }
 
 /// The station addresses of slaves.
@@ -35,14 +36,14 @@ fn own_stations(alloc: Global, slaves: &[Slave]) -> Result<Vec<u16>, AllocError>
     Ok(stations)
 }
 
-/// Adds so many places of which nothing is known, with the help of memory that was taken before.
-fn add_nothing(known: &mut Vec<Option<Block>>, room: Room<Option<Block>>, places: usize)
-    requires { length known.old.items + places ≤ room }
-    ensures { known.new.items ≡ known.old.items ++ replicate places None }
+/// Adds so many places where there is nothing, with the help of memory that was taken before.
+fn add_nothing(list: &mut Vec<Option<Block>>, room: Room<Option<Block>>, places: usize)
+    requires { length list.old.items + places ≤ room }
+    ensures { list.new.items ≡ list.old.items ++ replicate places None }
 {
-    room.widen(known, places);
+    room.widen(list, places);
     for _ in 0..places {
-        known.push_reserved(None);
+        list.push_reserved(None);
     }
 }
 
@@ -60,18 +61,19 @@ impl Owed {
     ghost use Rattle.std.specs.Prelude.{◌≡◌, ◌+◌, ◌*◌, ◌<◌, ◌≤◌, IfOk, length};
     ghost use Rattle.hc_records.specs.declared.edit.Edit.TheVariants.{Declare};
     ghost use Rattle.hc_records.specs.Edits.{changed};
-    ghost use Rattle.hc_owed.specs.Board.{kept_of};
+    ghost use Rattle.hc_owed.specs.RegisterState.{register_state_of};
     ghost use Rattle.hc_owed.specs.Laws.{known_over};
-    ghost use Rattle.hc_owed.specs.Room.{CanAdmit, IsRoomFor, widened};
+    ghost use Rattle.hc_owed.specs.Room.{RegistersCanAdmit, IsOwedRoomFor, registers_widened};
 
-    /// The memory that it needs to take in the slaves of a group that is declared behind the others. `AllocError`
+    /// The memory that it needs to take in the slaves of a group that is declared after the others. `AllocError`
     /// where a growth was refused. It looks at the group alone.
     pub fn room_for(&self, alloc: Global, slaves: &[Slave]) -> Result<OwedRoom, AllocError>
         requires { length self.now.stations + length slaves.now < 65536 }
-        ensures { IfOk result (IsRoomFor (length self.now.stations) slaves.now) }
+        ensures { IfOk result (IsOwedRoomFor (length self.now.stations) slaves.now) }
     {
         let places = 16 * slaves.len();
         Ok(OwedRoom {
+            blocks: Room::for_more(alloc, &self.blocks, places)?,
             known: Room::for_more(alloc, &self.known, places)?,
             owed: self.owed.room_for(alloc, places)?,
             stations: Room::for_more(alloc, &self.stations, slaves.len())?,
@@ -79,25 +81,27 @@ impl Owed {
         })
     }
 
-    /// Adds empty places of slaves behind the others.
+    /// Adds empty places of slaves after the others.
     fn widen(&mut self, room: OwedRoom)
         requires few { length self.old.stations + length room.added < 65536 }
+        requires blocks { 16 * (length self.old.stations + length room.added) ≤ room.blocks }
         requires known { 16 * (length self.old.stations + length room.added) ≤ room.known }
         requires owed { 16 * (length self.old.stations + length room.added) ≤ 64 * room.owed }
         requires stations { length self.old.stations + length room.added ≤ room.stations }
-        ensures { self.new ≡ widened room.added self.old }
+        ensures { self.new ≡ registers_widened room.added self.old }
     {
         let places = 16 * room.added.len();
+        add_nothing(&mut self.blocks, room.blocks, places);
         add_nothing(&mut self.known, room.known, places);
         self.owed.add_cleared(room.owed, places);
         add_stations(&mut self.stations, room.stations, room.added);
     }
 
-    /// A group is declared behind the others, absent: its slaves get empty places, in memory that was taken before,
+    /// A group is declared after the others, absent: its slaves get empty places, in memory that was taken before,
     /// and nothing can be refused. Of the blocks of the line what is known and what is owed stays as it was.
     pub fn admit(&mut self, room: OwedRoom)
-        requires { CanAdmit self.old room }
-        ensures { (can : CanAdmit self.old room) → self.new ≡ kept_of (known_over can.old can.known) (changed can.old (Declare can.group)) }
+        requires { RegistersCanAdmit self.old room }
+        ensures { (can : RegistersCanAdmit self.old room) → self.new ≡ register_state_of (known_over can.old can.known) (changed can.old (Declare can.group)) }
     {
         self.widen(room);
     }

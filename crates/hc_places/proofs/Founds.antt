@@ -8,7 +8,7 @@ use Rattle.hc_records.specs.declared.records.Area.{Area}
 use Rattle.hc_records.specs.declared.records.Declared.{Declared}
 use Rattle.hc_records.specs.Area.{width}
 use Rattle.hc_records.specs.declared.limits.TheConstants.{MOST_AREA_BITS, MOST_DATAGRAMS}
-use Rattle.hc_records.specs.Edits.{crowded_task}
+use Rattle.hc_records.specs.Edits.{over_limit_task}
 use Rattle.hc_records.specs.Line.{groups_of, line_from}
 use Rattle.hc_records.specs.Project.{lowest_fault}
 use Rattle.hc_records.specs.TaskList.{Keyed, Listed, keyed, task_areas, task_list}
@@ -18,16 +18,16 @@ use Rattle.hc_records.proofs.lemmas.Greatest.{greatest-all}
 use Rattle.hc_records.proofs.lemmas.Addresses.{uncrowded-few}
 use Rattle.hc_records.proofs.lemmas.Packed.{area_of, packed-areas}
 use Rattle.hc_places.specs.Found.{IsFoundSuiting, found_variables}
-use Rattle.hc_places.specs.Loads.{table_at}
+use Rattle.hc_places.specs.DatagramUses.{table_at}
 use Rattle.hc_places.specs.inner.Parts.{AreSendable}
 use Rattle.hc_places.specs.Ranges.{OffersBits}
-use Rattle.hc_places.specs.Table.{Row, task_table}
+use Rattle.hc_places.specs.Table.{VariableRow, task_table}
 use Rattle.hc_places.proofs.Configurable.{project-configurable}
 use Rattle.hc_places.proofs.Tables.{places-sendable, table-same}
 use Rattle.hc_places.proofs.Widths.{areas-offer}
 use Rattle.hc_cuts.specs.Areas.{area_in, areas_by_rank, list_by}
 use Rattle.hc_cuts.proofs.lemmas.Named.{keys-name, NamesIn}
-use Rattle.hc_cuts.proofs.lemmas.Told.{task-listed}
+use Rattle.hc_cuts.proofs.lemmas.AnswerGiven.{task-listed}
 
 head-same : {X : Type 0} (x y : X) (xs ys : List X) → x ∷ xs ≡ y ∷ ys → x ≡ y
 head-same x y xs ys same = cc
@@ -44,7 +44,7 @@ own-variables : (task : ℕ) (slaves : List (List Area)) (listed : Listed) (plac
 own-variables task slaves listed placed same names =
     ap (λ (found : Option Area). option_map_or (λ area. area_variables task (record { key = placed.key; area = area }, placed)) found []) (own-found slaves listed placed same names)
 
--- so the variables that are found are those of the areas
+-- so the variables that are found are the areas'
 pub found-all : (task : ℕ) (slaves : List (List Area)) (areas : List Listed) (places : List Placed) → map area_of places ≡ map keyed areas → All (NamesIn slaves) areas
     → flat_map (found_variables task slaves) places ≡ flat_map (area_variables task) (zip areas places)
 found-all task slaves [] [] same names = refl
@@ -53,8 +53,8 @@ found-all task slaves (listed ∷ areas) [] same names = cc
 found-all task slaves (listed ∷ areas) (placed ∷ places) same names =
     let first = head-same (area_of placed) (keyed listed) (map area_of places) (map keyed areas) same in
     let rest = tail-same (area_of placed) (keyed listed) (map area_of places) (map keyed areas) same in
-    ap (λ (rows : List Row). rows ++ flat_map (found_variables task slaves) places) (own-variables task slaves listed placed first (All-head (NamesIn slaves) listed areas names))
-    ∙ ap (λ (rows : List Row). area_variables task (listed, placed) ++ rows) (found-all task slaves areas places rest (All-tail (NamesIn slaves) listed areas names))
+    ap (λ (rows : List VariableRow). rows ++ flat_map (found_variables task slaves) places) (own-variables task slaves listed placed first (All-head (NamesIn slaves) listed areas names))
+    ∙ ap (λ (rows : List VariableRow). area_variables task (listed, placed) ++ rows) (found-all task slaves areas places rest (All-tail (NamesIn slaves) listed areas names))
 
 -- and they suit their places
 
@@ -82,38 +82,38 @@ pub record MeetsPlace (listed : Listed) (placed : Placed) : Type 0 where
 -- an area that is found under the key of a place lies in one of the datagrams
 pub found-meets : (slaves : List (List Area)) (places : List Placed) (i : ℕ) (placed : Placed) (area : Area) → AreSendable places → All (IsFoundSuiting slaves) places
     → i < length places → placed ≡ get_or places i placed → area_in slaves placed.key ≡ Some area → MeetsPlace (record { key = placed.key; area = area }) placed
-found-meets slaves places i placed area sendable suit within stands found =
+found-meets slaves places i placed area sendable suit within is_placed found =
     let number : (get_or places i placed).datagram + 1 ≤ datagram_count places = greatest-all (λ p. p.datagram + 1) 0 places i placed within in
     let lies = sendable.inside i placed within in
     let few = sendable.few in
-    let suits = suit i placed within area (ap (λ (p : Placed). area_in slaves p.key) (sym stands) ∙ found) in
+    let suits = suit i placed within area (ap (λ (p : Placed). area_in slaves p.key) (sym is_placed) ∙ found) in
     let wide = suits.bits in
-    let number' : placed.datagram ≡ (get_or places i placed).datagram = ap (λ (p : Placed). p.datagram) stands in
-    let bit' : placed.bit ≡ (get_or places i placed).bit = ap (λ (p : Placed). p.bit) stands in
+    let number' : placed.datagram ≡ (get_or places i placed).datagram = ap (λ (p : Placed). p.datagram) is_placed in
+    let bit' : placed.bit ≡ (get_or places i placed).bit = ap (λ (p : Placed). p.bit) is_placed in
     record { few = omega arith; inside = omega (arith, lies, wide); offers = suits.offers }
 
 -- what is known of a task that is placed from its tree
 pub record IsTask (groups : List Declared) (task : ℕ) (places : List Placed) : Type 0 where
-  pub stands : places ≡ task_places task (line_from 1 groups)
+  pub is_placed : places ≡ task_places task (line_from 1 groups)
   pub sendable : AreSendable places
   pub suit : All (IsFoundSuiting (areas_by_rank groups)) places
   pub rows : flat_map (found_variables task (areas_by_rank groups)) places ≡ task_variables (line_from 1 groups) task
   pub table : table_at task places ≡ task_table (line_from 1 groups) task
 
-pub kept-task : (groups : List Declared) (task : ℕ) (places : List Placed) → task < 8 → lowest_fault (groups_of groups) ≡ None → crowded_task (line_from 1 groups) ≡ None
+pub unchanged-task : (groups : List Declared) (task : ℕ) (places : List Placed) → task < 8 → lowest_fault (groups_of groups) ≡ None → over_limit_task (line_from 1 groups) ≡ None
     → places ≡ packed opening (list_by task (areas_by_rank groups)) → IsTask groups task places
-kept-task groups task places low none fits is =
+unchanged-task groups task places low none fits is =
     let line = line_from 1 groups in
     let slaves = areas_by_rank groups in
     let configurable = project-configurable groups none in
-    let stands : places ≡ task_places task line = is ∙ ap (packed opening) (sym (task-listed task groups)) in
+    let is_placed : places ≡ task_places task line = is ∙ ap (packed opening) (sym (task-listed task groups)) in
     let few = uncrowded-few line task fits low in
     let keys = packed-areas opening (task_list task line) in
     let names = keys-name groups task in
     record {
-      stands = stands;
-      sendable = rw stands (places-sendable task line configurable few);
-      suit = rw stands (suit-all slaves (task_areas task line) (task_places task line) keys names (areas-offer task line configurable.offers));
-      rows = rw stands (found-all task slaves (task_areas task line) (task_places task line) keys names);
-      table = rw stands (table-same task line configurable);
+      is_placed = is_placed;
+      sendable = rw is_placed (places-sendable task line configurable few);
+      suit = rw is_placed (suit-all slaves (task_areas task line) (task_places task line) keys names (areas-offer task line configurable.offers));
+      rows = rw is_placed (found-all task slaves (task_areas task line) (task_places task line) keys names);
+      table = rw is_placed (table-same task line configurable);
     }

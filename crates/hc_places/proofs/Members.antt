@@ -10,25 +10,25 @@ use Rattle.hc_records.proofs.lemmas.Choices.{member-by}
 abbrev pub among : ℕ → List ℕ → Bool
 among variable xs = list_any (λ x. x == variable) xs
 
-kept-among : (keeps : Bool) (variable x : ℕ) (kept : List ℕ) → among variable (cond keeps (x ∷ kept) kept) ≡ cond keeps ((x == variable) || among variable kept) (among variable kept)
-kept-among keeps variable x kept = grind arith
+unchanged-among : (stays : Bool) (variable x : ℕ) (unchanged : List ℕ) → among variable (cond stays (x ∷ unchanged) unchanged) ≡ cond stays ((x == variable) || among variable unchanged) (among variable unchanged)
+unchanged-among stays variable x unchanged = grind arith
 
-kept-tests : (keeps is rest passes : Bool) → (is ≡ true → keeps ≡ passes) → cond keeps (is || (rest && passes)) (rest && passes) ≡ ((is || rest) && passes)
-kept-tests keeps is rest passes same = grind arith
+unchanged-tests : (stays is rest passes : Bool) → (is ≡ true → stays ≡ passes) → cond stays (is || (rest && passes)) (rest && passes) ≡ ((is || rest) && passes)
+unchanged-tests stays is rest passes same = grind arith
 
 pub among-filter : (p : ℕ → Bool) (variable : ℕ) (xs : List ℕ) → among variable (filter p xs) ≡ (among variable xs && p variable)
 among-filter p variable [] = refl
 among-filter p variable (x ∷ xs) =
-    grind (arith, kept-among, kept-tests, eqb-true, among-filter p variable xs)
+    grind (arith, unchanged-among, unchanged-tests, eqb-true, among-filter p variable xs)
 
 -- the others of a member are one fewer
 
 abbrev others : ℕ → List ℕ → List ℕ
 others x ys = filter (λ y. not (y == x)) ys
 
-fewer-by : (here : Bool) (y : ℕ) (kept ys : List ℕ) → length kept ≤ length ys → (here ≡ false → suc (length kept) ≤ length ys)
-    → suc (length (cond (not here) (y ∷ kept) kept)) ≤ suc (length ys)
-fewer-by here y kept ys few rest = grind arith
+fewer-by : (here : Bool) (y : ℕ) (unchanged ys : List ℕ) → length unchanged ≤ length ys → (here ≡ false → suc (length unchanged) ≤ length ys)
+    → suc (length (cond (not here) (y ∷ unchanged) unchanged)) ≤ suc (length ys)
+fewer-by here y unchanged ys few rest = grind arith
 
 others-fewer : (x : ℕ) (ys : List ℕ) → among x ys ≡ true → suc (length (others x ys)) ≤ length ys
 others-fewer x [] is = cc

@@ -4,44 +4,44 @@ use Rattle.std.specs.Prelude.{map}
 use Rattle.std.specs.List.{flat_map, range_with_len}
 use Rattle.hc_records.specs.declared.records.Area.{Area}
 use Rattle.hc_records.specs.declared.records.Declared.{Declared}
-use Rattle.hc_records.specs.Edits.{crowded_task}
+use Rattle.hc_records.specs.Edits.{over_limit_task}
 use Rattle.hc_records.specs.Image.{task_variables, tasks}
 use Rattle.hc_records.specs.Line.{Member, groups_of, line_from}
 use Rattle.hc_records.specs.Packing.{Placed, opening, packed}
 use Rattle.hc_records.specs.Project.{lowest_fault}
-use Rattle.hc_cuts.specs.Starts.{Kept}
+use Rattle.hc_cuts.specs.Starts.{TaskCuts}
 use Rattle.hc_cuts.specs.Areas.{areas_by_rank, list_by}
-use Rattle.hc_cuts.specs.Kept.{IsLine, crowded_from, line_kept}
-use Rattle.hc_cuts.proofs.lemmas.Projects.{line-crowded, project-line}
+use Rattle.hc_cuts.specs.TaskCuts.{IsProjectLine, over_limit_from, line_cuts}
+use Rattle.hc_cuts.proofs.lemmas.Projects.{line-over_limit, project-line}
 use Rattle.hc_places.specs.Opened.{AreOpened}
-use Rattle.hc_places.specs.Table.{Row, TaskTable, by_number, table_of, task_table}
-use Rattle.hc_places.proofs.Founds.{IsTask, kept-task}
+use Rattle.hc_places.specs.Table.{VariableRow, TaskTable, by_number, table_of, task_table}
+use Rattle.hc_places.proofs.Founds.{IsTask, unchanged-task}
 
-pub is-line : (groups : List Declared) (slaves : List (List Area)) → slaves ≡ areas_by_rank groups → lowest_fault (groups_of groups) ≡ None → IsLine slaves
-is-line groups slaves is none = subst (λ (s : List (List Area)). IsLine s) (sym is) (project-line groups none)
+pub is-line : (groups : List Declared) (slaves : List (List Area)) → slaves ≡ areas_by_rank groups → lowest_fault (groups_of groups) ≡ None → IsProjectLine slaves
+is-line groups slaves is none = subst (λ (s : List (List Area)). IsProjectLine s) (sym is) (project-line groups none)
 
--- what is crowded, by the line and by the areas of its slaves
-pub same-crowded : (groups : List Declared) (slaves : List (List Area)) → slaves ≡ areas_by_rank groups → crowded_task (line_from 1 groups) ≡ crowded_from 8 0 slaves
-same-crowded groups slaves is = line-crowded groups ∙ ap (λ (s : List (List Area)). crowded_from 8 0 s) (sym is)
+-- what is over its limit, by the line and by the areas of its slaves
+pub same-over_limit : (groups : List Declared) (slaves : List (List Area)) → slaves ≡ areas_by_rank groups → over_limit_task (line_from 1 groups) ≡ over_limit_from 8 0 slaves
+same-over_limit groups slaves is = line-over_limit groups ∙ ap (λ (s : List (List Area)). over_limit_from 8 0 s) (sym is)
 
 -- the areas by rank, taken out a second time
-abbrev pub are-opened : (groups : List Declared) (slaves again : List (List Area)) (cuts : List Kept) → lowest_fault (groups_of groups) ≡ None
-    → slaves ≡ areas_by_rank groups → again ≡ areas_by_rank groups → crowded_from 8 0 slaves ≡ None → cuts ≡ line_kept slaves → AreOpened again cuts
-are-opened groups slaves again cuts none is same accepted kept = record {
+abbrev pub are-opened : (groups : List Declared) (slaves again : List (List Area)) (cuts : List TaskCuts) → lowest_fault (groups_of groups) ≡ None
+    → slaves ≡ areas_by_rank groups → again ≡ areas_by_rank groups → over_limit_from 8 0 slaves ≡ None → cuts ≡ line_cuts slaves → AreOpened again cuts
+are-opened groups slaves again cuts none is same accepted unchanged = record {
   groups = groups;
   project = none;
   areas = same;
-  accepted = ap (λ (s : List (List Area)). crowded_from 8 0 s) (same ∙ sym is) ∙ accepted;
-  kept = kept ∙ ap (λ (s : List (List Area)). line_kept s) (is ∙ sym same);
+  accepted = ap (λ (s : List (List Area)). over_limit_from 8 0 s) (same ∙ sym is) ∙ accepted;
+  unchanged = unchanged ∙ ap (λ (s : List (List Area)). line_cuts s) (is ∙ sym same);
 }
 
-pub opened-task : (slaves : List (List Area)) (kept : List Kept) (opened : AreOpened slaves kept) (task : ℕ) (places : List Placed) → task < 8
-    → ((line : List (List Area)) → kept ≡ line_kept line → places ≡ packed opening (list_by task line)) → IsTask opened.groups task places
-opened-task slaves kept opened task places low told =
-    kept-task opened.groups task places low opened.project (same-crowded opened.groups slaves opened.areas ∙ opened.accepted)
-    (told (areas_by_rank opened.groups) (opened.kept ∙ ap (λ (s : List (List Area)). line_kept s) opened.areas))
+pub opened-task : (slaves : List (List Area)) (unchanged : List TaskCuts) (opened : AreOpened slaves unchanged) (task : ℕ) (places : List Placed) → task < 8
+    → ((line : List (List Area)) → unchanged ≡ line_cuts line → places ≡ packed opening (list_by task line)) → IsTask opened.groups task places
+opened-task slaves unchanged opened task places low answer_given =
+    unchanged-task opened.groups task places low opened.project (same-over_limit opened.groups slaves opened.areas ∙ opened.accepted)
+    (answer_given (areas_by_rank opened.groups) (opened.unchanged ∙ ap (λ (s : List (List Area)). line_cuts s) opened.areas))
 
-pub table-made : (line : List Member) (tables : List TaskTable) (rows : List Row) → tables ≡ map (task_table line) tasks → rows ≡ flat_map (task_variables line) tasks
+pub table-made : (line : List Member) (tables : List TaskTable) (rows : List VariableRow) → tables ≡ map (task_table line) tasks → rows ≡ flat_map (task_variables line) tasks
     → record { tasks = tables; variables = by_number rows } ≡ table_of line
 table-made line tables rows first second = rw (first, second) refl
 

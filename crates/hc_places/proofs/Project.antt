@@ -6,7 +6,7 @@ use Rattle.hc_records.specs.Line.{Member}
 use Rattle.hc_records.specs.TaskList.{task_list}
 use Rattle.hc_records.specs.Image.{expected_counter, task_places}
 use Rattle.hc_records.specs.Laws.{Ascends, IsPackable}
-use Rattle.hc_places.specs.Loads.{counted_inside}
+use Rattle.hc_places.specs.DatagramUses.{counted_inside}
 use Rattle.hc_places.specs.Ranges.{OffersBits}
 
 -- every area of a slave offers entries of 1 to 64 bits

@@ -9,7 +9,7 @@ use Rattle.std.proofs.lemmas.List.Kept.{AllPairs-cons}
 use Rattle.hc_records.proofs.lemmas.Lists.{AllPairs-nil}
 use Rattle.hc_records.proofs.lemmas.Choices.{own-swap}
 use Rattle.hc_places.specs.Swap.{ChangesAscend}
-use Rattle.hc_places.specs.Table.{Row, RowsAscend, by_number, put}
+use Rattle.hc_places.specs.Table.{VariableRow, RowsAscend, by_number, row_put}
 use Rattle.hc_places.proofs.lemmas.Once.{of_row}
 use Rattle.hc_places.proofs.lemmas.Totals.{total}
 use Rattle.hc_places.proofs.lemmas.Sorted.{filter-by_number}
@@ -28,28 +28,28 @@ Rises (row ∷ rows) = AreAtLeast row.0 rows × Rises rows
 
 -- rows that are put in their place rise
 
-put-least : (number : ℕ) (past : Bool) (row other : Row) (rest others : List Row) → number ≤ row.0 → AreAtLeast number (other ∷ others) → AreAtLeast number rest
-    → AreAtLeast number (if past then other ∷ rest else row ∷ other ∷ others)
-put-least number past row other rest others low all put = grind arith
+put-least : (number : ℕ) (history : Bool) (row other : VariableRow) (rest others : List VariableRow) → number ≤ row.0 → AreAtLeast number (other ∷ others) → AreAtLeast number rest
+    → AreAtLeast number (if history then other ∷ rest else row ∷ other ∷ others)
+put-least number history row other rest others low all row_put = grind arith
 
-least-put : (number : ℕ) (row : Row) (rows : List Row) → number ≤ row.0 → AreAtLeast number rows → AreAtLeast number (put row rows)
+least-put : (number : ℕ) (row : VariableRow) (rows : List VariableRow) → number ≤ row.0 → AreAtLeast number rows → AreAtLeast number (row_put row rows)
 least-put number row [] low all = All-cons (λ row. number ≤ row.0) row [] low all
 least-put number row (other ∷ others) low all =
     grind (arith, put-least, All-tail, least-put number row others low (All-tail (λ row. number ≤ row.0) other others all))
 
-past-less : (a b : ℕ) → nat_lt a b ≡ true → a ≤ b
-past-less a b test = grind (arith, nat_tests)
+history-less : (a b : ℕ) → nat_lt a b ≡ true → a ≤ b
+history-less a b test = grind (arith, nat_tests)
 
-rises-put-by : (past : Bool) (row other : Row) (others : List Row) → nat_lt other.0 row.0 ≡ past → AreAtLeast other.0 others → Rises others → Rises (put row others)
-    → Rises (if past then other ∷ put row others else row ∷ other ∷ others)
-rises-put-by true row other others test least rises put-rises = (least-put other.0 row others (past-less other.0 row.0 test) least, put-rises)
+rises-put-by : (history : Bool) (row other : VariableRow) (others : List VariableRow) → nat_lt other.0 row.0 ≡ history → AreAtLeast other.0 others → Rises others → Rises (row_put row others)
+    → Rises (if history then other ∷ row_put row others else row ∷ other ∷ others)
+rises-put-by true row other others test least rises put-rises = (least-put other.0 row others (history-less other.0 row.0 test) least, put-rises)
 rises-put-by false row other others test least rises put-rises = grind arith
 
-rises-put : (row : Row) (rows : List Row) → Rises rows → Rises (put row rows)
+rises-put : (row : VariableRow) (rows : List VariableRow) → Rises rows → Rises (row_put row rows)
 rises-put row [] rises = (All-nil (λ later. row.0 ≤ later.0), tt)
 rises-put row (other ∷ others) rises = rises-put-by (nat_lt other.0 row.0) row other others refl rises.0 rises.1 (rises-put row others rises.1)
 
-rises-by_number : (rows : List Row) → Rises (by_number rows)
+rises-by_number : (rows : List VariableRow) → Rises (by_number rows)
 rises-by_number [] = tt
 rises-by_number (row ∷ rows) = rises-put row (by_number rows) (rises-by_number rows)
 
@@ -66,25 +66,25 @@ filter-own : {X : Type 0} (row : ℕ × X) (rows : List (ℕ × X)) → filter (
 filter-own row rows = cond-true _ _ _ (eq-eqb row.0 row.0 refl)
 
 -- a number that is among them is no lower
-least-found-by : (passes : Bool) (number least : ℕ) (row : Row) (rows kept : List Row) → (row.0 == number) ≡ passes → least ≤ row.0 → (filter (numbered number) rows ≡ kept → least ≤ number)
-    → cond passes (row ∷ filter (numbered number) rows) (filter (numbered number) rows) ≡ kept → least ≤ number
-least-found-by passes number least row rows kept test low later is = grind arith
+least-found-by : (passes : Bool) (number least : ℕ) (row : VariableRow) (rows unchanged : List VariableRow) → (row.0 == number) ≡ passes → least ≤ row.0 → (filter (numbered number) rows ≡ unchanged → least ≤ number)
+    → cond passes (row ∷ filter (numbered number) rows) (filter (numbered number) rows) ≡ unchanged → least ≤ number
+least-found-by passes number least row rows unchanged test low later is = grind arith
 
-least-found : (number least : ℕ) (rows : List Row) (one : Row) (more : List Row) → AreAtLeast least rows → filter (numbered number) rows ≡ one ∷ more → least ≤ number
+least-found : (number least : ℕ) (rows : List VariableRow) (one : VariableRow) (more : List VariableRow) → AreAtLeast least rows → filter (numbered number) rows ≡ one ∷ more → least ≤ number
 least-found number least [] one more all is = cc
 least-found number least (row ∷ rows) one more all is =
     grind (arith, least-found-by, All-head, All-tail, least-found number least rows one more (All-tail (λ row. least ≤ row.0) row rows all))
 
-tails-by : (passes : Bool) (one two : Row) (ones twos : List Row) → one ≡ two → cond passes (one ∷ ones) ones ≡ cond passes (two ∷ twos) twos → ones ≡ twos
+tails-by : (passes : Bool) (one two : VariableRow) (ones twos : List VariableRow) → one ≡ two → cond passes (one ∷ ones) ones ≡ cond passes (two ∷ twos) twos → ones ≡ twos
 tails-by passes one two ones twos head is = grind arith
 
-tails : (one two : Row) (ones twos : List Row) → one ≡ two → ((number : ℕ) → filter (numbered number) (one ∷ ones) ≡ filter (numbered number) (two ∷ twos))
+tails : (one two : VariableRow) (ones twos : List VariableRow) → one ≡ two → ((number : ℕ) → filter (numbered number) (one ∷ ones) ≡ filter (numbered number) (two ∷ twos))
     → (number : ℕ) → filter (numbered number) ones ≡ filter (numbered number) twos
 tails one two ones twos head same number =
     tails-by (one.0 == number) one two (filter (numbered number) ones) (filter (numbered number) twos) head
     (same number ∙ ap (λ row. cond (row.0 == number) (two ∷ filter (numbered number) twos) (filter (numbered number) twos)) (sym head))
 
-same-rows : (ones twos : List Row) → Rises ones → Rises twos → ((number : ℕ) → filter (numbered number) ones ≡ filter (numbered number) twos) → ones ≡ twos
+same-rows : (ones twos : List VariableRow) → Rises ones → Rises twos → ((number : ℕ) → filter (numbered number) ones ≡ filter (numbered number) twos) → ones ≡ twos
 same-rows [] [] first second same = refl
 same-rows [] (two ∷ twos) first second same = let clash = same two.0 ∙ filter-own two twos in cc
 same-rows (one ∷ ones) [] first second same = let clash = sym (same one.0) ∙ filter-own one ones in cc
@@ -105,9 +105,9 @@ abbrev tied_with : {X : Type 0} → ℕ × X → ℕ × X → Bool
 tied_with {X} row = ties (λ (a b : ℕ × X). is_lt (nat_cmp a.0 b.0)) row
 
 -- so it keeps the rows of each number, in their order
-pub stable-kept : {X : Type 0} (x : X) (rows sorted : List (ℕ × X)) → IsStableByKey (λ (row : ℕ × X). row.0) nat_cmp rows sorted
+pub stable-unchanged : {X : Type 0} (x : X) (rows sorted : List (ℕ × X)) → IsStableByKey (λ (row : ℕ × X). row.0) nat_cmp rows sorted
     → (number : ℕ) → filter (numbered number) sorted ≡ filter (numbered number) rows
-stable-kept {X} x rows sorted stable number =
+stable-unchanged {X} x rows sorted stable number =
     let tied : (row : ℕ × X) → tied_with (number, x) row ≡ numbered number row = λ row. ties-numbered number row.0 in
     sym (filter_agree (tied_with (number, x)) (numbered number) tied sorted)
     ∙ stable (number, x)
@@ -115,44 +115,44 @@ stable-kept {X} x rows sorted stable number =
 
 -- a place, whatever its bits
 
-pub sorted-by_number : (rows sorted : List Row) → IsNonDecreasingBy (λ row. row.0) sorted → IsStableByKey (λ (row : Row). row.0) nat_cmp rows sorted → sorted ≡ by_number rows
+pub sorted-by_number : (rows sorted : List VariableRow) → IsNonDecreasingBy (λ row. row.0) sorted → IsStableByKey (λ (row : VariableRow). row.0) nat_cmp rows sorted → sorted ≡ by_number rows
 sorted-by_number rows sorted rises stable =
-    grind (arith, same-rows, rises-sorted, rises-by_number, stable-kept, filter-by_number)
+    grind (arith, same-rows, rises-sorted, rises-by_number, stable-unchanged, filter-by_number)
 
--- rows that rise, of which no two have one number, ascend
+-- rows that rise, and never have one number twice, ascend
 
-none-kept-by : {X : Type 0} (passes : Bool) (row : X) (kept : List X) → length (cond passes (row ∷ kept) kept) ≤ 0 → (passes ≡ false) × (length kept ≤ 0)
-none-kept-by passes row kept few = grind arith
+none-unchanged-by : {X : Type 0} (passes : Bool) (row : X) (unchanged : List X) → length (cond passes (row ∷ unchanged) unchanged) ≤ 0 → (passes ≡ false) × (length unchanged ≤ 0)
+none-unchanged-by passes row unchanged few = grind arith
 
-none-kept : {X : Type 0} (number : ℕ) (rows : List (ℕ × X)) → length (filter (numbered number) rows) ≤ 0 → All (λ row. (row.0 == number) ≡ false) rows
-none-kept number [] few = All-nil (λ row. (row.0 == number) ≡ false)
-none-kept number (row ∷ rows) few =
-    let both = none-kept-by (row.0 == number) row (filter (numbered number) rows) few in
-    All-cons (λ row. (row.0 == number) ≡ false) row rows both.0 (none-kept number rows both.1)
+none-unchanged : {X : Type 0} (number : ℕ) (rows : List (ℕ × X)) → length (filter (numbered number) rows) ≤ 0 → All (λ row. (row.0 == number) ≡ false) rows
+none-unchanged number [] few = All-nil (λ row. (row.0 == number) ≡ false)
+none-unchanged number (row ∷ rows) few =
+    let both = none-unchanged-by (row.0 == number) row (filter (numbered number) rows) few in
+    All-cons (λ row. (row.0 == number) ≡ false) row rows both.0 (none-unchanged number rows both.1)
 
 strictly : (a b : ℕ) → a ≤ b → (b == a) ≡ false → a < b
 strictly a b low other = grind (arith, nat_tests)
 
-kept-fewer : {X : Type 0} (passes : Bool) (row : X) (kept : List X) → length (cond passes (row ∷ kept) kept) ≤ 1 → length kept ≤ 1
-kept-fewer passes row kept few = grind arith
+unchanged-fewer : {X : Type 0} (passes : Bool) (row : X) (unchanged : List X) → length (cond passes (row ∷ unchanged) unchanged) ≤ 1 → length unchanged ≤ 1
+unchanged-fewer passes row unchanged few = grind arith
 
 pub rising-ascends : {X : Type 0} (rows : List (ℕ × X)) → Rises rows → ((number : ℕ) → length (filter (numbered number) rows) ≤ 1) → ChangesAscend rows
 rising-ascends [] rises few = AllPairs-nil (λ a b. a.0 < b.0)
 rising-ascends (row ∷ rows) rises few =
     let own : length (filter (numbered row.0) (row ∷ rows)) ≡ suc (length (filter (numbered row.0) rows)) = ap length (filter-own row rows) in
     let one = few row.0 in
-    let others = none-kept row.0 rows (omega arith) in
+    let others = none-unchanged row.0 rows (omega arith) in
     AllPairs-cons (λ a b. a.0 < b.0) row rows (λ k d within. strictly _ _ (rises.0 k d within) (others k d within))
-    (rising-ascends rows rises.1 (λ number. kept-fewer (row.0 == number) row (filter (numbered number) rows) (few number)))
+    (rising-ascends rows rises.1 (λ number. unchanged-fewer (row.0 == number) row (filter (numbered number) rows) (few number)))
 
-pub ascends-by_number : (rows : List Row) → ((number : ℕ) → length (filter (numbered number) rows) ≤ 1) → RowsAscend (by_number rows)
+pub ascends-by_number : (rows : List VariableRow) → ((number : ℕ) → length (filter (numbered number) rows) ≤ 1) → RowsAscend (by_number rows)
 ascends-by_number rows few =
     rising-ascends (by_number rows) (rises-by_number rows) (λ number. rw (filter-by_number number rows) (few number))
 
-kept-length-by : (passes : Bool) (row : Row) (kept : List Row) → length (cond passes (row ∷ kept) kept) ≡ cond passes 1 0 + length kept
-kept-length-by passes row kept = grind arith
+unchanged-length-by : (passes : Bool) (row : VariableRow) (unchanged : List VariableRow) → length (cond passes (row ∷ unchanged) unchanged) ≡ cond passes 1 0 + length unchanged
+unchanged-length-by passes row unchanged = grind arith
 
 -- how many rows a number has
-pub kept-length : (number : ℕ) (rows : List Row) → length (filter (numbered number) rows) ≡ total (of_row number) rows
-kept-length number [] = refl
-kept-length number (row ∷ rows) = grind (arith, kept-length-by, own-swap, kept-length number rows)
+pub unchanged-length : (number : ℕ) (rows : List VariableRow) → length (filter (numbered number) rows) ≡ total (of_row number) rows
+unchanged-length number [] = refl
+unchanged-length number (row ∷ rows) = grind (arith, unchanged-length-by, own-swap, unchanged-length number rows)

@@ -9,10 +9,10 @@ use Rattle.hc_records.proofs.lemmas.Inside.{packed-inside}
 use Rattle.hc_records.proofs.lemmas.Lengths.{length-sendable}
 use Rattle.hc_places.specs.declared.table.Datagram.{Datagram}
 use Rattle.hc_places.specs.Table.{TaskTable, task_table}
-use Rattle.hc_places.specs.Loads.{table_at}
+use Rattle.hc_places.specs.DatagramUses.{table_at}
 use Rattle.hc_places.specs.inner.Parts.{AreSendable}
 use Rattle.hc_places.proofs.Project.{IsConfigurable}
-use Rattle.hc_places.proofs.lemmas.Loads.{datagram-same, datagram_at, is-loaded, map-agree}
+use Rattle.hc_places.proofs.lemmas.DatagramUses.{datagram-same, datagram_at, is-loaded, map-agree}
 use Rattle.hc_records.proofs.lemmas.Tiles.{outputs-inside}
 use Rattle.hc_places.proofs.lemmas.Ranks.{expected-low}
 

@@ -12,11 +12,11 @@ of-firsts : {A B : Type 0} (P : List A → List B → Type 0) → P [] [] → ((
 of-firsts P none first [] = none
 of-firsts P none first (x ∷ xs) = first x xs (of-firsts P none first xs)
 
-past : {A B : Type 0} (P : List A → List B → Type 0) (y : B) (ys : List B) → P [] (y ∷ ys)
+history : {A B : Type 0} (P : List A → List B → Type 0) (y : B) (ys : List B) → P [] (y ∷ ys)
     → ((x : A) (xs : List A) → P xs (y ∷ ys) → P (x ∷ xs) ys → P xs ys → P (x ∷ xs) (y ∷ ys))
     → ((xs : List A) → P xs ys) → (xs : List A) → P xs (y ∷ ys)
-past P y ys none both rest [] = none
-past P y ys none both rest (x ∷ xs) = both x xs (past P y ys none both rest xs) (rest (x ∷ xs)) (rest xs)
+history P y ys none both rest [] = none
+history P y ys none both rest (x ∷ xs) = both x xs (history P y ys none both rest xs) (rest (x ∷ xs)) (rest xs)
 
 pub of-heads : {A B : Type 0} (P : List A → List B → Type 0) → P [] []
     → ((x : A) (xs : List A) → P xs [] → P (x ∷ xs) [])
@@ -25,7 +25,7 @@ pub of-heads : {A B : Type 0} (P : List A → List B → Type 0) → P [] []
     → (ys : List B) (xs : List A) → P xs ys
 of-heads P none first second both [] xs = of-firsts P none first xs
 of-heads P none first second both (y ∷ ys) xs =
-    past P y ys (second y ys (of-heads P none first second both ys [])) (λ x xs. both x xs y ys) (λ xs. of-heads P none first second both ys xs) xs
+    history P y ys (second y ys (of-heads P none first second both ys [])) (λ x xs. both x xs y ys) (λ xs. of-heads P none first second both ys xs) xs
 
 -- which of two numbers is lower
 order-by : {P : Type 0} (low high : Bool) (a b : ℕ) → nat_lt a b ≡ low → nat_lt b a ≡ high
@@ -63,7 +63,7 @@ pub record AreOf {X : Type 0} (number : ℕ) (piece : List (ℕ × X)) : Type 0 
   pub ascends : Ascends piece
 
 -- what a walk adds has the numbers of what it meets
-pub record Keeps {X Y Z : Type 0} (gives : Gives X Y (ℕ × Z)) : Type 0 where
+pub record StaysInPart {X Y Z : Type 0} (gives : Gives X Y (ℕ × Z)) : Type 0 where
   pub first : (x : ℕ × X) → AreOf x.0 (gives.first x)
   pub second : (y : ℕ × Y) → AreOf y.0 (gives.second y)
   pub both : (x : ℕ × X) (y : ℕ × Y) → x.0 ≡ y.0 → AreOf y.0 (gives.both x y)
@@ -95,24 +95,24 @@ ascends-rest {X} x xs ascends = AllPairs-tail (λ (a b : ℕ × X). a.0 < b.0) x
 abbrev pub WalksAbove : {X Y Z : Type 0} → Gives X Y (ℕ × Z) → ℕ → List (ℕ × X) → List (ℕ × Y) → Type 0
 WalksAbove gives low xs ys = AreAbove low xs → AreAbove low ys → AreAbove low (walked gives ys xs)
 
-above-both : {X Y Z : Type 0} (gives : Gives X Y (ℕ × Z)) → Keeps gives → (low : ℕ) (x : ℕ × X) (xs : List (ℕ × X)) (y : ℕ × Y) (ys : List (ℕ × Y))
+above-both : {X Y Z : Type 0} (gives : Gives X Y (ℕ × Z)) → StaysInPart gives → (low : ℕ) (x : ℕ × X) (xs : List (ℕ × X)) (y : ℕ × Y) (ys : List (ℕ × Y))
     → WalksAbove gives low xs (y ∷ ys) → WalksAbove gives low (x ∷ xs) ys → WalksAbove gives low xs ys → WalksAbove gives low (x ∷ xs) (y ∷ ys)
-above-both {X} {Y} {Z} gives keeps low x xs y ys first second both firsts seconds =
+above-both {X} {Y} {Z} gives stays low x xs y ys first second both firsts seconds =
     let x-above = All-head (λ (x : ℕ × X). low < x.0) x xs firsts in
     let xs-above = All-tail (λ (x : ℕ × X). low < x.0) x xs firsts in
     let y-above = All-head (λ (y : ℕ × Y). low < y.0) y ys seconds in
     let ys-above = All-tail (λ (y : ℕ × Y). low < y.0) y ys seconds in
     by-order x.0 y.0
-    (λ below less. rw (walked-first gives x xs y ys below) (piece-above low x.0 (gives.first x) _ (keeps.first x) x-above (first xs-above seconds)))
-    (λ not_less above less. rw (walked-second gives x xs y ys not_less above) (piece-above low y.0 (gives.second y) _ (keeps.second y) y-above (second firsts ys-above)))
-    (λ not_less neither same. rw (walked-both gives x xs y ys not_less neither) (piece-above low y.0 (gives.both x y) _ (keeps.both x y same) y-above (both xs-above ys-above)))
+    (λ below less. rw (walked-first gives x xs y ys below) (piece-above low x.0 (gives.first x) _ (stays.first x) x-above (first xs-above seconds)))
+    (λ not_less above less. rw (walked-second gives x xs y ys not_less above) (piece-above low y.0 (gives.second y) _ (stays.second y) y-above (second firsts ys-above)))
+    (λ not_less neither same. rw (walked-both gives x xs y ys not_less neither) (piece-above low y.0 (gives.both x y) _ (stays.both x y same) y-above (both xs-above ys-above)))
 
-pub walked-above : {X Y Z : Type 0} (gives : Gives X Y (ℕ × Z)) → Keeps gives → (low : ℕ) (ys : List (ℕ × Y)) (xs : List (ℕ × X)) → WalksAbove gives low xs ys
-walked-above {X} {Y} {Z} gives keeps low =
+pub walked-above : {X Y Z : Type 0} (gives : Gives X Y (ℕ × Z)) → StaysInPart gives → (low : ℕ) (ys : List (ℕ × Y)) (xs : List (ℕ × X)) → WalksAbove gives low xs ys
+walked-above {X} {Y} {Z} gives stays low =
     of-heads (WalksAbove gives low)
     (λ firsts seconds. All-nil (λ (z : ℕ × Z). low < z.0))
     (λ x xs rest firsts seconds.
-    piece-above low x.0 (gives.first x) _ (keeps.first x) (All-head (λ (x : ℕ × X). low < x.0) x xs firsts) (rest (All-tail (λ (x : ℕ × X). low < x.0) x xs firsts) seconds))
+    piece-above low x.0 (gives.first x) _ (stays.first x) (All-head (λ (x : ℕ × X). low < x.0) x xs firsts) (rest (All-tail (λ (x : ℕ × X). low < x.0) x xs firsts) seconds))
     (λ y ys rest firsts seconds.
-    piece-above low y.0 (gives.second y) _ (keeps.second y) (All-head (λ (y : ℕ × Y). low < y.0) y ys seconds) (rest firsts (All-tail (λ (y : ℕ × Y). low < y.0) y ys seconds)))
-    (above-both gives keeps low)
+    piece-above low y.0 (gives.second y) _ (stays.second y) (All-head (λ (y : ℕ × Y). low < y.0) y ys seconds) (rest firsts (All-tail (λ (y : ℕ × Y). low < y.0) y ys seconds)))
+    (above-both gives stays low)

@@ -25,7 +25,7 @@ pdo-offers pdo inside = inside.entries
 
 slave-offers : (slave : Slave) → IsSlaveInside slave → HasOffers slave
 slave-offers slave inside =
-    All-weaker IsAreaInside OffersBits (λ area kept. All-weaker IsPdoInside (λ pdo. All IsEntryInside pdo.entries) pdo-offers area.offered kept.pdos) slave.areas inside.areas
+    All-weaker IsAreaInside OffersBits (λ area unchanged. All-weaker IsPdoInside (λ pdo. All IsEntryInside pdo.entries) pdo-offers area.offered unchanged.pdos) slave.areas inside.areas
 
 -- those of every slave of the line of a project's groups do
 pub line-offers : (groups : List Declared) → lowest_fault (map (λ declared. declared.group) groups) ≡ None → All (λ member. HasOffers member.slave) (line_from 1 groups)

@@ -3,7 +3,7 @@ pub mod Ascends
 pub mod Found
 pub mod Layouts
 pub mod Lines
-pub mod Loads
+pub mod DatagramUses
 pub mod Once
 pub mod Ranks
 pub mod Rows

@@ -6,15 +6,15 @@ use Rattle.hc_records.specs.Area.{width}
 use Rattle.hc_records.specs.Packing.{Placed}
 use Rattle.hc_records.specs.Image.{area_variables}
 use Rattle.hc_places.specs.Ranges.{OffersBits}
-use Rattle.hc_places.specs.Table.{Row}
+use Rattle.hc_places.specs.Table.{VariableRow}
 use Rattle.hc_cuts.specs.Areas.{area_in}
 
--- the variables of an area that stands at a place in a task, with their places
-abbrev pub area_rows : ℕ → Area → Placed → List Row
+-- the variables of an area that is at a place in a task, with their places
+abbrev pub area_rows : ℕ → Area → Placed → List VariableRow
 area_rows task area placed = area_variables task (record { key = placed.key; area = area }, placed)
 
--- those of the area that stands at a place
-abbrev pub found_variables : ℕ → List (List Area) → Placed → List Row
+-- those of the area that is at a place
+abbrev pub found_variables : ℕ → List (List Area) → Placed → List VariableRow
 found_variables task slaves placed = option_map_or (λ area. area_rows task area placed) (area_in slaves placed.key) []
 
 -- the area that is found under a place's key has the place's bits, and its entries have 1 to 64

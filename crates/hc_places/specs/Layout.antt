@@ -1,4 +1,4 @@
--- Where the areas of a line stand.
+-- Where the areas of a line are.
 use Rattle.std.specs.Prelude.{ℕ, List, map, find, slice_get, option_and_then, option_map, Option, Some, ◌≡◌, ◌≢◌}
 use Rattle.hc_records.specs.declared.keys.Key.{Key}
 use Rattle.hc_records.specs.declared.faults.EditFault.{EditFault}
@@ -7,7 +7,7 @@ use Rattle.hc_records.specs.Keys.{same_key}
 use Rattle.hc_records.specs.Line.{Member}
 use Rattle.hc_records.specs.Packing.{Placed}
 use Rattle.hc_records.specs.Image.{task_places, tasks}
-use Rattle.hc_records.specs.Edits.{crowded_task}
+use Rattle.hc_records.specs.Edits.{over_limit_task}
 
 -- the areas of each task with their places
 abbrev pub layout_of : List Member → List (List Placed)
@@ -17,6 +17,6 @@ layout_of line = map (λ task. task_places task line) tasks
 abbrev pub placed_in : List (List Placed) → ℕ → Key → Option Placed
 placed_in layout task key = option_and_then (find (λ placed. same_key placed.key key)) (slice_get layout task)
 
--- a fault other than want of memory names the lowest task that needs more than 16 datagrams
-abbrev pub NamesCrowded : List Member → EditFault → Type 0
-NamesCrowded line fault = fault ≢ Memory → option_map TooManyDatagrams (crowded_task line) ≡ Some fault
+-- a fault other than `Memory` names the lowest task that needs more than 16 datagrams
+abbrev pub NamesOverLimit : List Member → EditFault → Type 0
+NamesOverLimit line fault = fault ≢ Memory → option_map TooManyDatagrams (over_limit_task line) ≡ Some fault

@@ -1,6 +1,6 @@
 pub mod Found
 pub mod Layout
-pub mod Loads
+pub mod DatagramUses
 pub mod Opened
 pub mod Ranges
 pub mod Room

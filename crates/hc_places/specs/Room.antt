@@ -4,6 +4,6 @@ use Rattle.hc_places.specs.Swap.{Change, KeepRows, swapped}
 use Rattle.hc_places.specs.Table.{Table}
 
 -- none where no variable appears or goes; else memory for as many rows as the table will have, or more
-abbrev pub IsRoomFor : Change → Table → Option ℕ → Type 0
-IsRoomFor change table None = KeepRows table.variables change.rows
-IsRoomFor change table (Some rows) = length (swapped change table).variables ≤ rows
+abbrev pub IsRowRoomFor : Change → Table → Option ℕ → Type 0
+IsRowRoomFor change table None = KeepRows table.variables change.rows
+IsRowRoomFor change table (Some rows) = length (swapped change table).variables ≤ rows

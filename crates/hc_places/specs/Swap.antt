@@ -1,13 +1,13 @@
--- What turns the table of one epoch into that of the next.
+-- What turns the table of one epoch into the next one's.
 use Rattle.std.specs.Prelude.{ℕ, ◌==◌, ◌&&◌, not, nat_lt, Bool, true, false, if◌then◌else◌, List, [], ◌∷◌, ◌++◌, All, AllPairs, IsTrue, ◌<◌, ◌≤◌, ◌≡◌, ◌≢◌, ◌↔◌, filter, length, map, set, slice_get, Option, Some, None, is_some, option_map, unwrap_or, find}
 use Rattle.std.specs.Option.{option_map_or}
 use Rattle.std.specs.List.{list_any}
 use Rattle.hc_records.specs.declared.edit.Edit.{Edit}
 use Rattle.hc_records.specs.Keys.{same_dir}
 use Rattle.hc_records.specs.Image.{VariablePlace}
-use Rattle.hc_places.specs.Table.{IsTable, Row, RowsAscend, Table, TaskTable, place_in}
+use Rattle.hc_places.specs.Table.{IsTable, VariableRow, RowsAscend, Table, TaskTable, place_in}
 
--- a variable that stands elsewhere, appears or goes: its number, and its new place or none
+-- a variable that is elsewhere, appears or goes: its number, and its new place or none
 abbrev pub ChangedRow : Type 0
 ChangedRow = ℕ × Option VariablePlace
 
@@ -20,7 +20,7 @@ pub record Change : Type 0 where
   pub tasks : List ChangedTask
   pub rows : List ChangedRow
 
--- they stand in the order of their numbers, each once
+-- they are in the order of their numbers, each once
 abbrev pub ChangesAscend : {X : Type 0} → List (ℕ × X) → Type 0
 ChangesAscend changed = AllPairs (λ a b. a.0 < b.0) changed
 
@@ -35,37 +35,37 @@ pub record Swap : Type 0 where
   pub change : Change
 
 -- the row that a changed variable has from now on, if any
-abbrev pub new_row : ChangedRow → List Row
+abbrev pub new_row : ChangedRow → List VariableRow
 new_row changed = option_map_or (λ place. (changed.0, place) ∷ []) changed.1 []
 
--- rows with one variable changed: rows of lower numbers stay in front of its new row, and its old row goes
-abbrev pub with_changed : ChangedRow → List Row → List Row
+-- rows with one variable changed: rows of lower numbers stay before its new row, and its old row goes
+abbrev pub with_changed : ChangedRow → List VariableRow → List VariableRow
 with_changed changed [] = new_row changed
 with_changed changed (row ∷ rows) =
     if nat_lt row.0 changed.0 then row ∷ with_changed changed rows
     else new_row changed ++ (if row.0 == changed.0 then rows else row ∷ rows)
 
 -- rows with each of these variables changed
-abbrev pub merged : List ChangedRow → List Row → List Row
+abbrev pub merged : List ChangedRow → List VariableRow → List VariableRow
 merged [] rows = rows
 merged (changed ∷ others) rows = with_changed changed (merged others rows)
 
 -- a changed variable keeps its row: it has one, and a new place
-abbrev pub keeps_row : List Row → ChangedRow → Bool
+abbrev pub keeps_row : List VariableRow → ChangedRow → Bool
 keeps_row rows changed = is_some (find (λ row. row.0 == changed.0) rows) && is_some changed.1
 
 -- so each changed variable does: none appears or goes
-abbrev pub KeepRows : List Row → List ChangedRow → Type 0
+abbrev pub KeepRows : List VariableRow → List ChangedRow → Type 0
 KeepRows rows changed = All (λ change. IsTrue (keeps_row rows change)) changed
 
 -- tasks with some of them changed; none comes or goes
-abbrev pub replaced : List ChangedTask → List TaskTable → List TaskTable
-replaced [] tasks = tasks
-replaced (changed ∷ others) tasks = replaced others (set tasks changed.0 changed.1)
+abbrev pub tasks_replaced : List ChangedTask → List TaskTable → List TaskTable
+tasks_replaced [] tasks = tasks
+tasks_replaced (changed ∷ others) tasks = tasks_replaced others (set tasks changed.0 changed.1)
 
 -- the table that a change leads to
 abbrev pub swapped : Change → Table → Table
-swapped change table = record { tasks = replaced change.tasks table.tasks; variables = merged change.rows table.variables }
+swapped change table = record { tasks = tasks_replaced change.tasks table.tasks; variables = merged change.rows table.variables }
 
 -- two places are the same
 abbrev pub same_place : VariablePlace → VariablePlace → Bool
@@ -79,9 +79,9 @@ same_found None (Some b) = false
 same_found (Some a) None = false
 same_found (Some a) (Some b) = same_place a b
 
--- a variable stands in a table
-abbrev pub stands_in : Table → ℕ → Bool
-stands_in table variable = option_map_or (λ place. true) (place_in table variable) false
+-- a variable is in a table
+abbrev pub is_placed_in : Table → ℕ → Bool
+is_placed_in table variable = option_map_or (λ place. true) (place_in table variable) false
 
 -- the numbers of a table's rows
 abbrev pub numbers_of : Table → List ℕ
@@ -89,7 +89,7 @@ numbers_of table = map (λ row. row.0) table.variables
 
 -- the variables of either table
 abbrev pub variables_of_both : Table → Table → List ℕ
-variables_of_both old new = numbers_of old ++ filter (λ variable. not (stands_in old variable)) (numbers_of new)
+variables_of_both old new = numbers_of old ++ filter (λ variable. not (is_placed_in old variable)) (numbers_of new)
 
 -- the variables whose place differs, one that appears or goes included
 abbrev pub changed_variables : Table → Table → List ℕ
@@ -104,18 +104,26 @@ new_place old new = if same_found old new then None else Some new
 abbrev pub said_of : Change → ℕ → Option (Option VariablePlace)
 said_of change variable = option_map (λ changed. changed.1) (find (λ changed. changed.0 == variable) change.rows)
 
--- what it says of a task: its new table, and nothing where it isn't among the change's tasks
-abbrev pub table_said_of : Change → ℕ → Option TaskTable
-table_said_of change task = option_map (λ changed. changed.1) (find (λ changed. changed.0 == task) change.tasks)
+-- the new table of a task among these, if it has one
+abbrev pub table_among : List ChangedTask → ℕ → Option TaskTable
+table_among changed task = option_map (λ found. found.1) (find (λ found. found.0 == task) changed)
 
--- a task of which nothing is said is as it was; one of which a table is said has that table, and hadn't
+-- what a change says of a task: its new table, and nothing where it isn't among the change's tasks
+abbrev pub table_said_of : Change → ℕ → Option TaskTable
+table_said_of change task = table_among change.tasks task
+
+-- a task that isn't mentioned is as it was; one with a new table has that table, and hadn't
 abbrev pub IsNewTask : Option TaskTable → Option TaskTable → Option TaskTable → Type 0
 IsNewTask old new None = old ≡ new
 IsNewTask old new (Some said) = (new ≡ Some said) × (old ≢ new)
 
+-- these are the tasks whose tables differ between old and new ones, each with its new table
+abbrev pub AreNewTasks : List TaskTable → List TaskTable → List ChangedTask → Type 0
+AreNewTasks old new changed = (task : ℕ) → IsNewTask (slice_get old task) (slice_get new task) (table_among changed task)
+
 -- between two tables a change says of each task whose table differs its new table, of each variable whose place differs its new place or none, and nothing of any other
 pub record SaysWhatDiffers (old new : Table) (change : Change) : Type 0 where
-  pub tasks : (task : ℕ) → IsNewTask (slice_get old.tasks task) (slice_get new.tasks task) (table_said_of change task)
+  pub tasks : AreNewTasks old.tasks new.tasks change.tasks
   pub places : (variable : ℕ) → said_of change variable ≡ new_place (place_in old variable) (place_in new variable)
 
 -- no variable has two rows
@@ -142,12 +150,12 @@ ChangedVariablesDiffer =
     (old new : Table) (variable : ℕ)
     → (list_any (λ changed. changed == variable) (changed_variables old new) ≡ true) ↔ (place_in old variable ≢ place_in new variable)
 
--- and each stands there once
-abbrev pub ChangedVariablesStandOnce : Type 0
-ChangedVariablesStandOnce =
+-- and each is there once
+abbrev pub ChangedVariablesOccurOnce : Type 0
+ChangedVariablesOccurOnce =
     (old new : Table) → RowsAscend old.variables → RowsAscend new.variables → AllPairs (λ a b. a ≢ b) (changed_variables old new)
 
--- in the table that a change leads to, a variable stands where the change says, and where it stood if the change says nothing
+-- in the table that a change leads to, a variable is where the change says, and where it was if the change says nothing
 abbrev pub SwapsMoveTheirVariables : Type 0
 SwapsMoveTheirVariables =
     (change : Change) (table : Table) → RowsAscend table.variables → (variable : ℕ)
@@ -163,7 +171,7 @@ SwapsReplaceTheirTasks =
     (change : Change) (table : Table) → ChangesAscend change.tasks → (task : ℕ)
     → slice_get (swapped change table).tasks task ≡ option_map (λ old. unwrap_or (table_said_of change task) old) (slice_get table.tasks task)
 
--- tables whose rows ascend are told apart by their tasks and by what they answer for variables
-abbrev pub PlacesTellTables : Type 0
-PlacesTellTables =
+-- tables whose rows ascend are distinguished by their tasks and by what they answer for variables
+abbrev pub PlacesSayTables : Type 0
+PlacesSayTables =
     (a b : Table) → RowsAscend a.variables → RowsAscend b.variables → a.tasks ≡ b.tasks → ((variable : ℕ) → place_in a variable ≡ place_in b variable) → a ≡ b

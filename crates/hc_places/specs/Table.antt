@@ -31,34 +31,34 @@ task_table line task = record {
 }
 
 -- a variable's number and its place
-abbrev pub Row : Type 0
-Row = ℕ × VariablePlace
+abbrev pub VariableRow : Type 0
+VariableRow = ℕ × VariablePlace
 
 -- rows in the order of their numbers; of two with one number the earlier stays before the other
-abbrev pub put : Row → List Row → List Row
-put row [] = row ∷ []
-put row (other ∷ others) = if nat_lt other.0 row.0 then other ∷ put row others else row ∷ other ∷ others
+abbrev pub row_put : VariableRow → List VariableRow → List VariableRow
+row_put row [] = row ∷ []
+row_put row (other ∷ others) = if nat_lt other.0 row.0 then other ∷ row_put row others else row ∷ other ∷ others
 
 -- all of some rows in the order of their numbers
-abbrev pub by_number : List Row → List Row
+abbrev pub by_number : List VariableRow → List VariableRow
 by_number [] = []
-by_number (row ∷ rows) = put row (by_number rows)
+by_number (row ∷ rows) = row_put row (by_number rows)
 
 -- each variable once, in the order of their numbers
-abbrev pub RowsAscend : List Row → Type 0
+abbrev pub RowsAscend : List VariableRow → Type 0
 RowsAscend rows = AllPairs (λ a b. a.0 < b.0) rows
 
 -- the eight tasks, and the variables in the order of their numbers
 pub record Table : Type 0 where
   pub tasks : List TaskTable
-  pub variables : List Row
+  pub variables : List VariableRow
 
 -- what holds of each table that is kept
 pub record IsTable (table : Table) : Type 0 where
   pub eight : length table.tasks ≡ TASKS
   pub ascends : RowsAscend table.variables
 
--- the table of a line: its eight tasks, and where each variable of it stands
+-- the table of a line: its eight tasks, and where each variable of it is
 abbrev pub table_of : List Member → Table
 table_of line = record {
   tasks = map (task_table line) tasks;
@@ -67,11 +67,11 @@ table_of line = record {
 
 -- what a table answers
 
--- where a variable stands; none where it has no row
+-- where a variable is; none where it has no row
 abbrev pub place_in : Table → ℕ → Option VariablePlace
 place_in table variable = option_map (λ row. row.1) (find (λ row. row.0 == variable) table.variables)
 
--- the datagram of a task with a number, from 0; none behind the last one
+-- the datagram of a task with a number, from 0; none after the last one
 abbrev pub datagram_in : Table → ℕ → ℕ → Option Datagram
 datagram_in table task d = option_and_then (λ found. slice_get found.datagrams d) (slice_get table.tasks task)
 
@@ -80,8 +80,8 @@ abbrev pub datagrams_in : Table → ℕ → List Datagram
 datagrams_in table task = option_map_or (λ found. found.datagrams) (slice_get table.tasks task) []
 
 -- a place lies in a datagram of a task
-abbrev pub stands_in_datagram : ℕ → ℕ → VariablePlace → Bool
-stands_in_datagram task d place = (place.task == task) && (place.datagram == d)
+abbrev pub is_placed_in_datagram : ℕ → ℕ → VariablePlace → Bool
+is_placed_in_datagram task d place = (place.task == task) && (place.datagram == d)
 
 -- the bytes of the outputs, and of the inputs, of a task's image
 abbrev pub part_in : Table → ℕ → ℕ × ℕ

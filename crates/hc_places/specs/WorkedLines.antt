@@ -6,7 +6,7 @@ use Rattle.hc_records.specs.declared.records.Area.{Area}
 use Rattle.hc_records.specs.Area.{Entry}
 use Rattle.hc_records.specs.Image.{VariablePlace}
 use Rattle.hc_records.specs.Line.{Member}
-use Rattle.hc_places.specs.Table.{Row, Table, TaskTable, table_of}
+use Rattle.hc_places.specs.Table.{VariableRow, Table, TaskTable, table_of}
 use Rattle.hc_places.specs.Swap.{changed_variables, merged}
 
 -- an area of a task with one PDO of these entries, which is assigned
@@ -20,9 +20,9 @@ area_of task dir entries = record {
   task = task;
 }
 
--- Two slaves. In task 0 they have three output areas of 3 bits, the second of which is a gap of 2 bits
--- and a variable, and an input of 1 bit, which begins a byte; in task 1 the second one has an input of
--- 2 bytes. Variables are numbered out of line order.
+-- Two slaves. In task 0 they have three output areas of 3 bits, the second a gap of 2 bits and a
+-- variable, and an input of 1 bit, which begins a byte; in task 1 the second one has an input of 2
+-- bytes. Variables are numbered out of line order.
 abbrev two_slaves : List Member
 two_slaves =
     record {
@@ -55,7 +55,7 @@ two_slaves_table : table_of two_slaves ≡ record {
 }
 two_slaves_table = refl
 
--- An output area of a whole datagram, and one of a byte behind it, which begins the second datagram.
+-- An output area of a whole datagram, and one of a byte after it, which begins the second datagram.
 abbrev two_datagrams : List Member
 two_datagrams =
     record { rank = 1; slave = record { station = 1001; areas = area_of 0 Out ((None, 11888) ∷ []) ∷ [] } }
@@ -77,14 +77,14 @@ two_datagrams_table : table_of two_datagrams ≡ record {
 }
 two_datagrams_table = refl
 
--- A variable that goes, one that stands elsewhere, one that stays and one that appears.
-abbrev table_with : List Row → Table
+-- A variable that goes, one that is elsewhere, one that stays and one that appears.
+abbrev table_with : List VariableRow → Table
 table_with rows = record { tasks = []; variables = rows }
 
-abbrev old_rows : List Row
+abbrev old_rows : List VariableRow
 old_rows = (5, at 0 3 1 Out) ∷ (6, at 0 4 3 Out) ∷ (7, at 0 0 3 Out) ∷ []
 
-abbrev new_rows : List Row
+abbrev new_rows : List VariableRow
 new_rows = (6, at 0 3 3 Out) ∷ (7, at 0 0 3 Out) ∷ (8, at 0 6 2 Out) ∷ []
 
 rows_merged : merged ((5, None) ∷ (6, Some (at 0 3 3 Out)) ∷ (8, Some (at 0 6 2 Out)) ∷ []) old_rows ≡ new_rows

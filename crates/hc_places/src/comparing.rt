@@ -6,9 +6,9 @@ use hc_records::task::Task;
 use std::alloc::{AllocError, Global};
 
 impl Places {
-    ghost use Rattle.std.specs.Prelude.{◌≡◌, ◌==◌, ℕ, IfOk, find, length, option_map, slice_get};
+    ghost use Rattle.std.specs.Prelude.{◌≡◌, IfOk, length};
     ghost use Rattle.hc_records.specs.declared.limits.TheConstants.{TASKS};
-    ghost use Rattle.hc_places.specs.Swap.{ChangesAscend, IsNewTask};
+    ghost use Rattle.hc_places.specs.Swap.{ChangesAscend, AreNewTasks};
 
     /// The tasks whose tables differ from these eight new ones, with their new ones, in the order of their
     /// numbers. `AllocError` where a growth was refused.
@@ -18,7 +18,7 @@ impl Places {
         new: &[TaskTable],
     ) -> Result<Vec<ChangedTask>, AllocError>
         requires { length new.now ≡ TASKS }
-        ensures says { IfOk result (λ tasks. (task : ℕ) → IsNewTask (slice_get self.now.tasks task) (slice_get new.now task) (option_map (λ changed. changed.1) (find (λ changed. changed.0 == task) tasks.items))) }
+        ensures says { IfOk result (λ tasks. AreNewTasks self.now.tasks new.now tasks.items) }
         ensures ascends { IfOk result (λ tasks. ChangesAscend tasks.items) }
     {
         let old = self.tasks.as_slice();

@@ -1,13 +1,13 @@
 //! A line opened: its tasks are cut from nothing, and its table is made from them.
 ghost use Rattle.std.specs.Prelude.{◌≡◌, IfErr, IfOk, None, OnOk};
-ghost use Rattle.hc_records.specs.Edits.{crowded_task};
+ghost use Rattle.hc_records.specs.Edits.{over_limit_task};
 ghost use Rattle.hc_records.specs.Line.{groups_of, line_from};
 ghost use Rattle.hc_records.specs.Project.{lowest_fault};
-ghost use Rattle.hc_places.specs.Layout.{NamesCrowded};
+ghost use Rattle.hc_places.specs.Layout.{NamesOverLimit};
 ghost use Rattle.hc_places.specs.Opened.{AreOpened};
 ghost use Rattle.hc_places.specs.Table.{table_of};
 ghost use Rattle.hc_cuts.specs.Areas.{areas_by_rank};
-ghost use Rattle.hc_cuts.specs.Kept.{line_kept};
+ghost use Rattle.hc_cuts.specs.TaskCuts.{line_cuts};
 
 use crate::datagrams::task_table;
 use crate::table::Places;
@@ -22,7 +22,7 @@ use hc_records::task::Task;
 use std::alloc::{AllocError, Global};
 use std::sync::ledger::{Blank, Ledger};
 
-/// A line at its opening: the trees of its tasks, and where its datagrams and its variables stand.
+/// A line at its opening: the trees of its tasks, and where its datagrams and its variables are.
 #[derive(Drop)]
 pub struct OpenedLine {
     /// The tasks as they are kept.
@@ -52,9 +52,8 @@ fn opened_places(
 }
 
 /// Configures the line of declared groups from nothing: the areas of each datagram are gone over from a
-/// boundary of its task to the next. The groups are those of a project: no fault's condition holds.
-/// Otherwise `TooManyDatagrams` with the lowest task that needs more than 16, or `Memory` where a growth was
-/// refused.
+/// boundary of its task to the next. The groups are a project's: no fault's condition holds. Otherwise
+/// `TooManyDatagrams` with the lowest task that needs more than 16, or `Memory` where a growth was refused.
 pub fn open_line<L: Ledger>(
     alloc: Global,
     groups: &[Declared],
@@ -64,10 +63,10 @@ pub fn open_line<L: Ledger>(
     requires parts { blank.parts ≡ L.parts }
     requires one { L.parts ≡ 1 }
     requires project { lowest_fault (groups_of groups.now) ≡ None }
-    ensures kept { IfOk result (λ line. line.cuts ≡ line_kept (areas_by_rank groups.now)) }
+    ensures unchanged { IfOk result (λ line. line.cuts ≡ line_cuts (areas_by_rank groups.now)) }
     ensures places { IfOk result (λ line. line.places ≡ table_of (line_from 1 groups.now)) }
-    ensures accepted { OnOk result (crowded_task (line_from 1 groups.now) ≡ None) }
-    ensures refused { IfErr result (NamesCrowded (line_from 1 groups.now)) }
+    ensures accepted { OnOk result (over_limit_task (line_from 1 groups.now) ≡ None) }
+    ensures refused { IfErr result (NamesOverLimit (line_from 1 groups.now)) }
 {
     let mut steps: Steps<L> = Steps::start(blank);
     let slaves = areas_by_rank(alloc, groups)?;

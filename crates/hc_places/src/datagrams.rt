@@ -1,10 +1,10 @@
 //! The datagrams of a task, from the places of its areas.
 ghost use Rattle.std.specs.Prelude.{◌≡◌};
 ghost use Rattle.hc_records.specs.Image.{datagram_count};
-ghost use Rattle.hc_places.specs.Loads.{table_at};
+ghost use Rattle.hc_places.specs.DatagramUses.{table_at};
 ghost use Rattle.hc_places.specs.inner.Parts.{AreSendable};
 
-use crate::loads::Load;
+use crate::datagram_uses::DatagramUse;
 use crate::table::TaskTable;
 use hc_cuts::packing::Placed;
 use hc_records::task::Task;
@@ -27,7 +27,7 @@ pub(crate) fn task_table(task: Task, areas: &[Placed]) -> TaskTable
 {
     let mut table = TaskTable::empty();
     for number in 0..datagram_count(areas) as u16 {
-        table.add(task, Load::of(areas, number));
+        table.add(task, DatagramUse::of(areas, number));
     }
     table
 }

@@ -1,13 +1,13 @@
-//! Where everything of a line stands: the areas in their datagrams, the datagrams in the image of a
+//! Where everything of a line is: the areas in their datagrams, the datagrams in the image of a
 //! task, and the variables in both. The plan configures a line by it; the core and the views look
 //! places up.
 #![tactic(auto)]
 
 mod comparing;
 pub mod configure;
+pub mod datagram_uses;
 mod datagrams;
 pub mod laws;
-pub mod loads;
 mod merging;
 mod middle;
 mod near;

@@ -1,18 +1,18 @@
 //! Rows and changes, both in the order of their numbers: merged into memory that has the room, and rows
-//! counted and overwritten where they stand.
+//! counted and overwritten where they are.
 ghost use Rattle.std.specs.Prelude.{◌≡◌, ◌+◌, ◌≤◌, ◌<◌, ◌++◌, ◌↔◌, [], IsTrue, false, length, map, option_to_list, true, vec_capacity};
 ghost use Rattle.std.specs.List.{AllWithin};
-ghost use Rattle.hc_places.specs.inner.Overwritten.{AreBelow, EndsLower, GoesOn, overwritten, row_with};
+ghost use Rattle.hc_places.specs.inner.Overwritten.{AreBelow, EndsLower, NextIsNotLower, rows_overwritten, row_with};
 ghost use Rattle.hc_places.specs.Swap.{ChangesAscend, KeepRows, keeps_row, new_row};
 ghost use Rattle.hc_places.specs.Table.{RowsAscend};
 ghost use Rattle.hc_places.specs.inner.Walk.{merges, walked};
 
 use crate::swap::ChangedRow;
-use crate::table::{Row, count_below};
+use crate::table::{VariableRow, count_below};
 use hc_records::records::VarId;
 
 /// The new row of a changed variable, if any.
-fn new_row(changed: &ChangedRow) -> Option<Row>
+fn new_row(changed: &ChangedRow) -> Option<VariableRow>
     ensures { option_to_list result ≡ new_row changed.now }
 {
     let place = changed.place()?;
@@ -23,8 +23,8 @@ fn new_row(changed: &ChangedRow) -> Option<Row>
 /// changes and of the rows.
 fn next_row<'a>(
     changed: &'a [ChangedRow],
-    old: &'a [Row],
-) -> (Option<Row>, &'a [ChangedRow], &'a [Row])
+    old: &'a [VariableRow],
+) -> (Option<VariableRow>, &'a [ChangedRow], &'a [VariableRow])
     ensures rows { option_to_list result.0 ++ walked merges result.2.now result.1.now ≡ walked merges old.now changed.now }
     ensures fewer { 0 < length changed.now + length old.now → length result.1.now + length result.2.now < length changed.now + length old.now }
 {
@@ -45,7 +45,11 @@ fn next_row<'a>(
 }
 
 /// Puts a table's rows with changes into memory that has the room.
-pub(crate) fn merge(into: Vec<Row>, changed: &[ChangedRow], old: &[Row]) -> Vec<Row>
+pub(crate) fn merge(
+    into: Vec<VariableRow>,
+    changed: &[ChangedRow],
+    old: &[VariableRow],
+) -> Vec<VariableRow>
     requires empty { into.items ≡ [] }
     requires room { length (walked merges old.now changed.now) ≤ vec_capacity into }
     ensures items { result.items ≡ walked merges old.now changed.now }
@@ -65,9 +69,9 @@ pub(crate) fn merge(into: Vec<Row>, changed: &[ChangedRow], old: &[Row]) -> Vec<
     rows
 }
 
-/// How many rows have a lower number than a variable, of which there are mostly few: as many rows are
-/// looked at as reach it, doubled until they do.
-pub(crate) fn count_near(rows: &[Row], variable: VarId) -> usize
+/// How many rows have a lower number than a variable; mostly there are few: as many rows are looked
+/// at as reach it, doubled until they do.
+pub(crate) fn count_near(rows: &[VariableRow], variable: VarId) -> usize
     requires { RowsAscend rows.now }
     ensures bound { result ≤ length rows.now }
     ensures below { AreBelow rows.now variable result }
@@ -83,7 +87,7 @@ pub(crate) fn count_near(rows: &[Row], variable: VarId) -> usize
 }
 
 /// The same where so many rows are known to have a lower number.
-pub(crate) fn count_from(rows: &[Row], front: usize, variable: VarId) -> usize
+pub(crate) fn count_from(rows: &[VariableRow], front: usize, variable: VarId) -> usize
     requires ascends { RowsAscend rows.now }
     requires front { front ≤ length rows.now }
     requires lower { AllWithin (λ row. row.0 < variable) rows.now 0 front }
@@ -94,7 +98,7 @@ pub(crate) fn count_from(rows: &[Row], front: usize, variable: VarId) -> usize
 }
 
 /// Whether the last of so many rows has a lower number than a variable, if there is one.
-fn ends_lower(rows: &[Row], count: usize, variable: VarId) -> bool
+fn ends_lower(rows: &[VariableRow], count: usize, variable: VarId) -> bool
     requires { count ≤ length rows.now }
     ensures { result ≡ true → EndsLower rows.now variable count }
 {
@@ -105,8 +109,8 @@ fn ends_lower(rows: &[Row], count: usize, variable: VarId) -> bool
 }
 
 /// Whether the row after so many has a lower number than a variable.
-fn goes_on_lower(rows: &[Row], count: usize, variable: VarId) -> bool
-    ensures { result ≡ false → GoesOn rows.now variable count }
+fn goes_on_lower(rows: &[VariableRow], count: usize, variable: VarId) -> bool
+    ensures { result ≡ false → NextIsNotLower rows.now variable count }
 {
     match rows.get(count) {
         Some(row) => row.0.number() < variable.number(),
@@ -115,7 +119,7 @@ fn goes_on_lower(rows: &[Row], count: usize, variable: VarId) -> bool
 }
 
 /// Whether so many rows have a lower number than a variable, and no others.
-fn is_count_below(rows: &[Row], count: usize, variable: VarId) -> bool
+fn is_count_below(rows: &[VariableRow], count: usize, variable: VarId) -> bool
     requires { RowsAscend rows.now }
     ensures { result ≡ true → (count ≤ length rows.now) × AreBelow rows.now variable count }
 {
@@ -129,7 +133,7 @@ fn is_count_below(rows: &[Row], count: usize, variable: VarId) -> bool
 }
 
 /// Whether the row with an index is a variable's.
-fn is_row_of(rows: &[Row], index: usize, variable: VarId) -> bool
+fn is_row_of(rows: &[VariableRow], index: usize, variable: VarId) -> bool
     requires { RowsAscend rows.now }
     ensures { result ≡ true → (index ≤ length rows.now) × AreBelow rows.now variable index }
 {
@@ -139,27 +143,27 @@ fn is_row_of(rows: &[Row], index: usize, variable: VarId) -> bool
     }
 }
 
-/// How many rows have a lower number than a changed variable, where so many are known to have: as the change tells,
+/// How many rows have a lower number than a changed variable, where so many are known to have: as the change gives,
 /// or else by a search.
 #[inline(always)]
-pub(crate) fn find_row(rows: &[Row], front: usize, changed: &ChangedRow) -> usize
+pub(crate) fn find_row(rows: &[VariableRow], front: usize, changed: &ChangedRow) -> usize
     requires ascends { RowsAscend rows.now }
     requires front { front ≤ length rows.now }
     requires lower { AllWithin (λ row. row.0 < changed.now.0) rows.now 0 front }
     ensures bound { result ≤ length rows.now }
     ensures below { AreBelow rows.now changed.now.0 result }
 {
-    let told = changed.row();
+    let answer_given = changed.row();
     let variable = changed.variable();
-    if is_row_of(rows, told, variable) || is_count_below(rows, told, variable) {
-        told
+    if is_row_of(rows, answer_given, variable) || is_count_below(rows, answer_given, variable) {
+        answer_given
     } else {
         count_from(rows, front, variable)
     }
 }
 
 /// How many rows have no higher number than a variable, where so many have a lower one.
-pub(crate) fn count_with(rows: &[Row], below: usize, variable: VarId) -> usize
+pub(crate) fn count_with(rows: &[VariableRow], below: usize, variable: VarId) -> usize
     requires ascends { RowsAscend rows.now }
     requires bound { below ≤ length rows.now }
     requires below { AreBelow rows.now variable below }
@@ -174,8 +178,8 @@ pub(crate) fn count_with(rows: &[Row], below: usize, variable: VarId) -> usize
     }
 }
 
-/// Whether a changed variable keeps its row, which stands behind those of lower numbers.
-pub(crate) fn keeps_row(rows: &[Row], at: usize, changed: &ChangedRow) -> bool
+/// Whether a changed variable keeps its row, which is after those of lower numbers.
+pub(crate) fn keeps_row(rows: &[VariableRow], at: usize, changed: &ChangedRow) -> bool
     requires ascends { RowsAscend rows.now }
     requires below { AreBelow rows.now changed.now.0 at }
     ensures { result ≡ keeps_row rows.now changed.now }
@@ -188,7 +192,7 @@ pub(crate) fn keeps_row(rows: &[Row], at: usize, changed: &ChangedRow) -> bool
 
 /// Whether each changed variable keeps its row.
 #[inline(always)]
-pub(crate) fn keep_rows(rows: &[Row], changed: &[ChangedRow]) -> bool
+pub(crate) fn keep_rows(rows: &[VariableRow], changed: &[ChangedRow]) -> bool
     requires ascends { RowsAscend rows.now }
     requires changes { ChangesAscend changed.now }
     ensures { IsTrue result ↔ KeepRows rows.now changed.now }
@@ -204,9 +208,9 @@ pub(crate) fn keep_rows(rows: &[Row], changed: &[ChangedRow]) -> bool
     true
 }
 
-/// Puts a changed variable's new place, if any, into its row, if any, which stands behind those of lower
+/// Puts a changed variable's new place, if any, into its row, if any, which is after those of lower
 /// numbers.
-fn overwrite_row(rows: &mut Vec<Row>, at: usize, changed: &ChangedRow)
+fn overwrite_row(rows: &mut Vec<VariableRow>, at: usize, changed: &ChangedRow)
     requires ascends { RowsAscend rows.old.items }
     requires below { AreBelow rows.old.items changed.now.0 at }
     ensures { rows.new.items ≡ map (row_with changed.now) rows.old.items }
@@ -221,10 +225,10 @@ fn overwrite_row(rows: &mut Vec<Row>, at: usize, changed: &ChangedRow)
 
 /// Puts the new places of changed variables into their rows; no row comes or goes.
 #[inline(always)]
-pub(crate) fn overwrite(rows: &mut Vec<Row>, changed: &[ChangedRow])
+pub(crate) fn overwrite(rows: &mut Vec<VariableRow>, changed: &[ChangedRow])
     requires ascends { RowsAscend rows.old.items }
     requires changes { ChangesAscend changed.now }
-    ensures { rows.new.items ≡ overwritten changed.now rows.old.items }
+    ensures { rows.new.items ≡ rows_overwritten changed.now rows.old.items }
 {
     let mut front = 0;
     for change in changed {

@@ -1,5 +1,5 @@
-//! A table's rows with changes of which some bring or take rows: what lies from the first of these to the
-//! last is merged aside and put back, and the rest is overwritten where it stands.
+//! A table's rows with changes, where some bring or take rows: what lies from the first of these to the
+//! last is merged aside and put back, and the rest is overwritten where it is.
 ghost use Rattle.std.specs.Prelude.{◌≡◌, ◌+◌, ◌-◌, ◌≤◌, ◌++◌, [], IsTrue, drop, length, slice_range, take, vec_capacity};
 ghost use Rattle.std.specs.List.{AllWithin};
 ghost use Rattle.hc_places.specs.Swap.{ChangesAscend, keeps_row, merged};
@@ -7,17 +7,17 @@ ghost use Rattle.hc_places.specs.Table.{RowsAscend};
 
 use crate::merging::{count_near, count_with, find_row, keeps_row, merge, overwrite};
 use crate::swap::ChangedRow;
-use crate::table::Row;
+use crate::table::VariableRow;
 
-/// How many changes stand in front of the first that brings or takes a row, and how many up to the last,
-/// which is among them; 0 and 0 where none does.
-fn find_middle(rows: &[Row], changed: &[ChangedRow]) -> (usize, usize)
+/// How many changes are before the first that brings or takes a row, and how many up to the last, which
+/// is among them; 0 and 0 where none does.
+fn find_middle(rows: &[VariableRow], changed: &[ChangedRow]) -> (usize, usize)
     requires ascends { RowsAscend rows.now }
     requires changes { ChangesAscend changed.now }
     ensures order { result.0 ≤ result.1 }
     ensures bound { result.1 ≤ length changed.now }
     ensures front { AllWithin (λ change. IsTrue (keeps_row rows.now change)) changed.now 0 result.0 }
-    ensures behind { AllWithin (λ change. IsTrue (keeps_row rows.now change)) changed.now result.1 (length changed.now) }
+    ensures after_it { AllWithin (λ change. IsTrue (keeps_row rows.now change)) changed.now result.1 (length changed.now) }
 {
     let mut lower = 0;
     let mut first = 0;
@@ -35,7 +35,7 @@ fn find_middle(rows: &[Row], changed: &[ChangedRow]) -> (usize, usize)
 }
 
 /// How many rows have lower numbers than all changes, and how many no higher number than the last.
-fn find_rows(rows: &[Row], changed: &[ChangedRow]) -> (usize, usize)
+fn find_rows(rows: &[VariableRow], changed: &[ChangedRow]) -> (usize, usize)
     requires ascends { RowsAscend rows.now }
     requires changes { ChangesAscend changed.now }
     ensures order { result.0 ≤ result.1 }
@@ -46,29 +46,29 @@ fn find_rows(rows: &[Row], changed: &[ChangedRow]) -> (usize, usize)
         return (0, 0);
     };
     let low = count_near(rows, first.variable());
-    let behind = &rows[low..];
+    let after_it = &rows[low..];
     let last = last.variable();
     (
         low,
-        low + count_with(behind, count_near(behind, last), last),
+        low + count_with(after_it, count_near(after_it, last), last),
     )
 }
 
-/// Shifts the rows behind the first `high` up by as many as `more` are, into room that there is.
-fn widen(rows: &mut Vec<Row>, high: usize, more: &[Row])
+/// Shifts the rows after the first `high` up by as many as `more` are, into room that there is.
+fn widen(rows: &mut Vec<VariableRow>, high: usize, more: &[VariableRow])
     requires bound { high ≤ length rows.old.items }
     requires room { length rows.old.items + length more.now ≤ vec_capacity rows.old }
     ensures size { length rows.new.items ≡ length rows.old.items + length more.now }
     ensures front { take high rows.new.items ≡ take high rows.old.items }
-    ensures behind { drop (high + length more.now) rows.new.items ≡ drop high rows.old.items }
+    ensures after_it { drop (high + length more.now) rows.new.items ≡ drop high rows.old.items }
 {
     let count = rows.len();
     append(rows, more);
     rows.copy_within(high..count, high + more.len());
 }
 
-/// Puts rows behind others, into room that there is.
-fn append(rows: &mut Vec<Row>, more: &[Row])
+/// Puts rows after others, into room that there is.
+fn append(rows: &mut Vec<VariableRow>, more: &[VariableRow])
     requires room { length rows.old.items + length more.now ≤ vec_capacity rows.old }
     ensures { rows.new.items ≡ rows.old.items ++ more.now }
 {
@@ -77,8 +77,8 @@ fn append(rows: &mut Vec<Row>, more: &[Row])
     }
 }
 
-/// Takes the rows behind the first `low` out, up to the first `high`.
-fn narrow(rows: &mut Vec<Row>, low: usize, high: usize)
+/// Takes the rows after the first `low` out, up to the first `high`.
+fn narrow(rows: &mut Vec<VariableRow>, low: usize, high: usize)
     requires order { low ≤ high }
     requires bound { high ≤ length rows.old.items }
     ensures { rows.new.items ≡ take low rows.old.items ++ drop high rows.old.items }
@@ -88,15 +88,15 @@ fn narrow(rows: &mut Vec<Row>, low: usize, high: usize)
     rows.truncate(count - (high - low));
 }
 
-/// Shifts the rows behind the first `high`, so that as many as `new` are lie between these and the first
+/// Shifts the rows after the first `high`, so that as many as `new` are lie between these and the first
 /// `low`.
-fn make_place(rows: &mut Vec<Row>, low: usize, high: usize, new: &[Row])
+fn make_place(rows: &mut Vec<VariableRow>, low: usize, high: usize, new: &[VariableRow])
     requires order { low ≤ high }
     requires bound { high ≤ length rows.old.items }
     requires room { length rows.old.items + length new.now ≤ vec_capacity rows.old + (high - low) }
     ensures size { low + length new.now ≤ length rows.new.items }
     ensures front { take low rows.new.items ≡ take low rows.old.items }
-    ensures behind { drop (low + length new.now) rows.new.items ≡ drop high rows.old.items }
+    ensures after_it { drop (low + length new.now) rows.new.items ≡ drop high rows.old.items }
 {
     let old = high - low;
     if old < new.len() {
@@ -106,17 +106,17 @@ fn make_place(rows: &mut Vec<Row>, low: usize, high: usize, new: &[Row])
     }
 }
 
-/// Writes rows over those behind the first `low`.
-fn lay(rows: &mut [Row], low: usize, new: &[Row])
+/// Writes rows over those after the first `low`.
+fn lay(rows: &mut [VariableRow], low: usize, new: &[VariableRow])
     requires { low + length new.now ≤ length rows.old }
     ensures { rows.new ≡ take low rows.old ++ (new.now ++ drop (low + length new.now) rows.old) }
 {
     rows[low..low + new.len()].copy_from_slice(new);
 }
 
-/// Puts new rows in the place of those behind the first `low`, up to the first `high`, into room that there
+/// Puts new rows in the place of those after the first `low`, up to the first `high`, into room that there
 /// is.
-fn replace_rows(rows: &mut Vec<Row>, low: usize, high: usize, new: &[Row])
+fn replace_rows(rows: &mut Vec<VariableRow>, low: usize, high: usize, new: &[VariableRow])
     requires order { low ≤ high }
     requires bound { high ≤ length rows.old.items }
     requires room { length rows.old.items + length new.now ≤ vec_capacity rows.old + (high - low) }
@@ -129,7 +129,7 @@ fn replace_rows(rows: &mut Vec<Row>, low: usize, high: usize, new: &[Row])
 /// Makes rows those with changes, with the help of memory that has room for all: those from the first
 /// change to the last are merged there and put back, or where the rows' own memory may have no room for as
 /// many more as there are changes, all are merged there and stay.
-fn merge_rows(rows: &mut Vec<Row>, changed: &[ChangedRow], into: Vec<Row>)
+fn merge_rows(rows: &mut Vec<VariableRow>, changed: &[ChangedRow], into: Vec<VariableRow>)
     requires ascends { RowsAscend rows.old.items }
     requires changes { ChangesAscend changed.now }
     requires empty { into.items ≡ [] }
@@ -145,9 +145,13 @@ fn merge_rows(rows: &mut Vec<Row>, changed: &[ChangedRow], into: Vec<Row>)
     }
 }
 
-/// The same, but changes in front of the first that brings or takes a row, and behind the last, are
-/// overwritten where they stand.
-pub(crate) fn change_middle(rows: &mut Vec<Row>, changed: &[ChangedRow], into: Vec<Row>)
+/// The same, but changes before the first that brings or takes a row, and after the last, are
+/// overwritten where they are.
+pub(crate) fn change_middle(
+    rows: &mut Vec<VariableRow>,
+    changed: &[ChangedRow],
+    into: Vec<VariableRow>,
+)
     requires ascends { RowsAscend rows.old.items }
     requires changes { ChangesAscend changed.now }
     requires empty { into.items ≡ [] }

@@ -3,22 +3,22 @@
 ghost use Rattle.std.specs.Prelude.{◌≡◌, ◌+◌, ◌≤◌, [], IfSome, length, vec_capacity};
 ghost use Rattle.hc_records.specs.declared.limits.TheConstants.{TASKS};
 ghost use Rattle.std.specs.Option.{MatchOption};
-ghost use Rattle.hc_places.specs.Swap.{ChangesAscend, KeepRows, merged, replaced};
+ghost use Rattle.hc_places.specs.Swap.{ChangesAscend, KeepRows, merged, tasks_replaced};
 ghost use Rattle.hc_places.specs.Table.{RowsAscend};
 
 use crate::merging::{keep_rows, overwrite};
 use crate::middle::change_middle;
 use crate::swap::{ChangedRow, ChangedTask, Swap};
-use crate::table::{Places, Row, TaskTable};
+use crate::table::{Places, TaskTable, VariableRow};
 use hc_records::items::Items;
 use std::alloc::{AllocError, Global};
 use std::marker::Model;
 
 /// The memory that carrying a swap out on a table needs: none where no variable appears or goes, else
-/// that of as many rows as the table will have, or more.
+/// memory for as many rows as the table will have, or more.
 #[derive(Drop)]
 pub struct Room {
-    rows: Option<Vec<Row>>,
+    rows: Option<Vec<VariableRow>>,
 }
 
 impl Model for Room {
@@ -34,17 +34,17 @@ impl Model for Room {
 /// Puts changed tasks in the place of those with their numbers.
 fn replace_tasks(tasks: &mut Items<TaskTable>, changed: &[ChangedTask])
     requires { length tasks.old ≡ TASKS }
-    ensures { tasks.new ≡ replaced changed.now tasks.old }
+    ensures { tasks.new ≡ tasks_replaced changed.now tasks.old }
 {
     for change in changed {
         *tasks.item_mut(change.0.as_index()) = change.1.duplicate();
     }
 }
 
-/// Makes a table's rows those with changes: where they stand, if no memory is given, else with the help of
+/// Makes a table's rows those with changes: where they are, if no memory is given, else with the help of
 /// memory that has room for all.
 #[inline(always)]
-fn change_rows(rows: &mut Vec<Row>, changed: &[ChangedRow], room: Option<Vec<Row>>)
+fn change_rows(rows: &mut Vec<VariableRow>, changed: &[ChangedRow], room: Option<Vec<VariableRow>>)
     requires ascends { RowsAscend rows.old.items }
     requires changes { ChangesAscend changed.now }
     requires empty { IfSome room (λ into. into.items ≡ []) }
@@ -60,7 +60,7 @@ fn change_rows(rows: &mut Vec<Row>, changed: &[ChangedRow], room: Option<Vec<Row
 /// How many rows the memory for a table's change is taken for: all that there may be, and as many again
 /// where the table's own memory may have no room for them, so that this memory, its own from then on, has
 /// room for more.
-fn room_size(rows: &Vec<Row>, changed: &[ChangedRow]) -> usize
+fn room_size(rows: &Vec<VariableRow>, changed: &[ChangedRow]) -> usize
     ensures { length rows.now.items + length changed.now ≤ result }
 {
     let count = rows.len() + changed.len();
@@ -73,14 +73,15 @@ fn room_size(rows: &Vec<Row>, changed: &[ChangedRow]) -> usize
 
 impl Places {
     ghost use Rattle.std.specs.Prelude.{◌≡◌, IfOk, None, Ok, OnErr, OnOk};
-    ghost use Rattle.hc_places.specs.Room.{IsRoomFor};
+    ghost use Rattle.hc_places.specs.Room.{IsRowRoomFor};
     ghost use Rattle.hc_places.specs.Swap.{KeepRows, swapped};
 
     /// The memory that `carry_out` needs for a swap of this table: none where no variable appears or goes,
-    /// else that of as many rows as the table will have, or more. `AllocError` where a growth was refused.
+    /// else memory for as many rows as the table will have, or more. `AllocError` where a growth was
+    /// refused.
     #[inline(always)]
     pub fn room_for(&self, alloc: Global, swap: &Swap) -> Result<Room, AllocError>
-        ensures room { IfOk result (IsRoomFor swap.now.change self.now) }
+        ensures room { IfOk result (IsRowRoomFor swap.now.change self.now) }
         ensures without { KeepRows self.now.variables swap.now.change.rows → result ≡ Ok None }
     {
         let changed = swap.changes();
@@ -91,14 +92,14 @@ impl Places {
         Ok(Room { rows: Some(room) })
     }
 
-    /// Becomes the table that a swap leads to, in memory that was taken before: nothing can be refused.
-    /// The rows of changed variables are looked up. In front of the first variable that appears or goes,
-    /// and behind the last, they are overwritten where they stand; those between are merged in the room and
-    /// put back, and the rows behind are shifted once. Where the table's memory may have no room for them, all
-    /// rows are merged in the room, which is the table's from then on. Either way no row is merged twice.
+    /// Becomes the table that a swap leads to, in memory that was taken before: nothing can be refused. The
+    /// rows of changed variables are looked up. Before the first variable that appears or goes, and after the
+    /// last, they are overwritten where they are; those between are merged in the room and put back, and the
+    /// rows after are shifted once. Where the table's memory may have no room for them, all rows are merged in
+    /// the room, which is the table's from then on. Either way no row is merged twice.
     #[inline(always)]
     pub fn carry_out(&mut self, swap: &Swap, room: Room)
-        requires { IsRoomFor swap.now.change self.old room }
+        requires { IsRowRoomFor swap.now.change self.old room }
         ensures { self.new ≡ swapped swap.now.change self.old }
     {
         let Room { rows } = room;

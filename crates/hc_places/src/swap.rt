@@ -1,4 +1,4 @@
-//! What turns the table of one epoch into that of the next.
+//! What turns the table of one epoch into the next one's.
 ghost use Rattle.std.specs.Prelude.{◌≡◌, ◌==◌, ℕ, OnOk, find};
 ghost use Rattle.hc_places.specs.Swap.{AreOnce, ChangesAscend};
 
@@ -13,7 +13,7 @@ use std::marker::Model;
 /// A task whose table differs, and its new table.
 pub type ChangedTask = (Task, TaskTable);
 
-/// A variable that stands elsewhere, appears or goes. Contracts see its number, and its new place or none.
+/// A variable that is elsewhere, appears or goes. Contracts see its number, and its new place or none.
 #[derive(Debug, Drop)]
 pub struct ChangedRow {
     variable: VarId,
@@ -33,9 +33,9 @@ impl Model for ChangedRow {
 impl ChangedRow {
     ghost use Rattle.std.specs.Prelude.{◌≡◌};
 
-    /// That of a variable and its new place, none where it goes. `row` tells how many rows of the table that changes
-    /// have lower numbers, so that the variable's old row is found there without a search. With any other number it is
-    /// searched for, and nothing else changes.
+    /// The change of a variable with its new place, none where it goes. `row` says how many rows of the table that
+    /// changes have lower numbers, so that the variable's old row is found there without a search. With any other
+    /// number it is searched for, and nothing else changes.
     pub fn of(variable: VarId, place: Option<Place>, row: usize) -> ChangedRow
         ensures { result ≡ (variable, place) }
     {
@@ -67,7 +67,7 @@ impl ChangedRow {
 }
 
 /// What an edit changes in the table of a line: the tasks whose tables differ, at most 8, and the
-/// places of the variables that stand elsewhere, appear or go.
+/// places of the variables that are elsewhere, appear or go.
 #[derive(Debug)]
 pub struct Swap {
     edit: Edit,
@@ -148,7 +148,7 @@ impl Swap {
         self.tasks.as_slice()
     }
 
-    /// The variables that stand elsewhere, appear or go, each once, in the order of their numbers, with
+    /// The variables that are elsewhere, appear or go, each once, in the order of their numbers, with
     /// their new places; none for one that goes.
     pub fn changes(&self) -> &[ChangedRow]
         ensures rows { result.now ≡ self.now.change.rows }
@@ -157,7 +157,7 @@ impl Swap {
         self.rows.as_slice()
     }
 
-    /// How many variables stand elsewhere, appear or go: each once, so there are no more of them than
+    /// How many variables are elsewhere, appear or go: each once, so there are no more of them than
     /// numbers of variables, 4,294,967,295.
     pub fn places(&self) -> u32
         ensures { result ≡ changed_places self.now }

@@ -1,4 +1,4 @@
-//! The table of a line, in which tasks look up their datagrams and their variables.
+//! The table of a line, where tasks look up their datagrams and their variables.
 ghost use Rattle.std.specs.Prelude.{◌≡◌, ◌≤◌, ◌==◌, ◌↔◌, IsTrue, false, find, length, nat_lt, OnOk, option_map, true};
 ghost use Rattle.std.specs.List.Sorted.{IsNonDecreasingBy, IsPartitionPoint};
 ghost use Rattle.hc_places.specs.Table.{by_number};
@@ -11,7 +11,7 @@ use hc_records::task::Task;
 use std::alloc::{AllocError, Global};
 use std::marker::Model;
 
-/// Where a variable stands.
+/// Where a variable is.
 #[derive(Clone, Copy, Debug, PartialEq, Eq)]
 pub struct Place {
     /// The task whose datagrams carry it, 0 to 7.
@@ -50,7 +50,7 @@ pub struct Datagram {
     pub length: u16,
     /// The working counter that it comes back with when every slave of the line has processed it.
     pub expected: u16,
-    /// The bytes of the task's earlier datagrams: where its data stand in the task's image.
+    /// The bytes of the task's earlier datagrams: where its data are in the task's image.
     pub offset: u16,
 }
 
@@ -75,13 +75,13 @@ impl Model for TaskTable {
 }
 
 /// A variable and its place.
-pub(crate) type Row = (VarId, Place);
+pub(crate) type VariableRow = (VarId, Place);
 
 /// The datagrams and the parts of the tasks, and the place of each variable of a line.
 #[derive(Debug)]
 pub struct Places {
     pub(crate) tasks: Items<TaskTable>,
-    pub(crate) variables: Vec<Row>,
+    pub(crate) variables: Vec<VariableRow>,
 }
 
 impl Drop for Places {
@@ -172,7 +172,7 @@ impl Copied for TaskTable {
 
 /// Puts rows in the order of their numbers; those of one number stay in their order. `AllocError`
 /// where the sort's memory was refused.
-fn sort_rows(rows: &mut Vec<Row>) -> Result<(), AllocError>
+fn sort_rows(rows: &mut Vec<VariableRow>) -> Result<(), AllocError>
     ensures sorted { OnOk result (rows.new.items ≡ by_number rows.old.items) }
     ensures order { OnOk result (IsNonDecreasingBy (λ row. row.0) rows.new.items) }
 {
@@ -180,7 +180,7 @@ fn sort_rows(rows: &mut Vec<Row>) -> Result<(), AllocError>
 }
 
 /// How many rows have a lower number than a variable.
-pub(crate) fn count_below(rows: &[Row], variable: VarId) -> usize
+pub(crate) fn count_below(rows: &[VariableRow], variable: VarId) -> usize
     requires { IsNonDecreasingBy (λ row. row.0) rows.now }
     ensures bound { result ≤ length rows.now }
     ensures below { IsPartitionPoint (λ row. nat_lt row.0 variable ≡ true) (λ row. nat_lt row.0 variable ≡ false) rows.now result }
@@ -188,8 +188,8 @@ pub(crate) fn count_below(rows: &[Row], variable: VarId) -> usize
     rows.partition_point(|row| row.0.number() < variable.number())
 }
 
-/// The place of a variable among rows in the order of their numbers, so many of which have a lower one.
-pub(crate) fn place_at(rows: &[Row], below: usize, variable: VarId) -> Option<Place>
+/// The place of a variable among rows in the order of their numbers, where so many have a lower one.
+pub(crate) fn place_at(rows: &[VariableRow], below: usize, variable: VarId) -> Option<Place>
     requires ascends { IsNonDecreasingBy (λ row. row.0) rows.now }
     requires below { IsPartitionPoint (λ row. nat_lt row.0 variable ≡ true) (λ row. nat_lt row.0 variable ≡ false) rows.now below }
     ensures { result ≡ option_map (λ row. row.1) (find (λ row. row.0 == variable) rows.now) }
@@ -199,7 +199,7 @@ pub(crate) fn place_at(rows: &[Row], below: usize, variable: VarId) -> Option<Pl
 }
 
 /// The place of a variable among rows in the order of their numbers.
-fn find_place(rows: &[Row], variable: VarId) -> Option<Place>
+fn find_place(rows: &[VariableRow], variable: VarId) -> Option<Place>
     requires { IsNonDecreasingBy (λ row. row.0) rows.now }
     ensures { result ≡ option_map (λ row. row.1) (find (λ row. row.0 == variable) rows.now) }
 {
@@ -214,7 +214,7 @@ impl Places {
 
     /// The table of tasks and of rows in any order, which are sorted; no variable has two. `AllocError` where the sort's
     /// memory was refused.
-    pub(crate) fn of(tasks: Vec<TaskTable>, rows: Vec<Row>) -> Result<Places, AllocError>
+    pub(crate) fn of(tasks: Vec<TaskTable>, rows: Vec<VariableRow>) -> Result<Places, AllocError>
         requires eight { length tasks.items ≡ TASKS }
         requires ascends { RowsAscend (by_number rows.items) }
         ensures { IfOk result (λ places. places ≡ record { tasks = tasks.items; variables = by_number rows.items }) }
@@ -228,14 +228,14 @@ impl Places {
     }
 
     /// Every table has eight tasks, and each variable once, in the order of their numbers. The call does
-    /// nothing: its contract tells so.
+    /// nothing: its contract says so.
     pub fn is_table(&self)
         ensures { IsTable self.now }
     {
         let _ = &self.variables;
     }
 
-    /// Where a variable stands; none where the table has no row of it.
+    /// Where a variable is; none where the table has no row of it.
     pub fn place(&self, variable: VarId) -> Option<Place>
         ensures { result ≡ place_in self.now variable }
     {

@@ -1,7 +1,7 @@
 //! The places of a task's variables.
 ghost use Rattle.std.specs.Prelude.{◌≡◌, ◌+◌, ◌<◌, ◌≤◌, ◌++◌, All, IfOk, OnOk, map};
 ghost use Rattle.std.specs.List.{flat_map};
-ghost use Rattle.hc_records.specs.Area.{bits_of, width};
+ghost use Rattle.hc_records.specs.Area.{entry_bits, width};
 ghost use Rattle.hc_records.specs.Image.{variables_from};
 ghost use Rattle.hc_records.specs.declared.limits.TheConstants.{MOST_AREA_BITS, MOST_DATAGRAMS};
 ghost use Rattle.hc_places.specs.Found.{IsFoundSuiting, area_rows, found_variables};
@@ -25,7 +25,7 @@ struct Carrier {
     dir: Dir,
 }
 
-/// Adds the variables of entries, the first of which begins at a bit. Gives the first bit behind them.
+/// Adds the variables of entries, from a bit on. Gives the first bit after them.
 fn add_entries(
     rows: &mut Vec<(VarId, Place)>,
     carrier: &Carrier,
@@ -33,10 +33,10 @@ fn add_entries(
     entries: &[Entry],
 ) -> Result<u16, AllocError>
     requires datagram { carrier.now.datagram < MOST_DATAGRAMS }
-    requires inside { first + bits_of entries.now ≤ MOST_AREA_BITS }
+    requires inside { first + entry_bits entries.now ≤ MOST_AREA_BITS }
     requires widths { All IsEntryInside entries.now }
     ensures rows { OnOk result (rows.new.items ≡ rows.old.items ++ map (row_at carrier.now.task carrier.now.datagram carrier.now.dir) (variables_from first entries.now)) }
-    ensures behind { IfOk result (λ behind. behind ≡ first + bits_of entries.now) }
+    ensures after_it { IfOk result (λ after_it. after_it ≡ first + entry_bits entries.now) }
 {
     let mut bit = first;
     for entry in entries {
@@ -56,9 +56,9 @@ fn add_entries(
     Ok(bit)
 }
 
-/// Adds the variables of an area that stands at a place in a task, with their places, in the order in
-/// which its entries are assigned. The place is that of the area's bits in one of 16 datagrams. `AllocError`
-/// where a growth was refused.
+/// Adds the variables of an area that is at a place in a task, with their places, in the order in which its
+/// entries are assigned. The place of the area's bits in one of 16 datagrams. `AllocError` where a growth
+/// was refused.
 pub fn add_area(
     rows: &mut Vec<(VarId, Place)>,
     task: Task,

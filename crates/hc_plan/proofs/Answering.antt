@@ -11,7 +11,7 @@ use Rattle.hc_records.specs.declared.faults.EditFault.TheVariants.{Memory}
 use Rattle.hc_records.specs.Edits.{edited, state_after, state_after_all}
 use Rattle.hc_records.specs.Line.{State}
 use Rattle.hc_groups.specs.Edits.{own_fault}
-use Rattle.hc_plan.specs.Reports.{Answer, AreAnswers, IsAnswer, Tells, carried_out, wants_memory}
+use Rattle.hc_plan.specs.Reports.{Answer, AreAnswers, IsAnswer, ReportsEdit, carried_out, wants_memory}
 
 -- what is left of the edits, answered from the present state on, makes all of them answered
 abbrev pub Goes : State → List Edit → ℕ → List Answer → State → Type 0
@@ -56,17 +56,17 @@ taken pair pairs true is =
 taken pair pairs false is =
     ap (λ (b : Bool). map (λ (p : Edit × Answer). p.0) (if not b then pair ∷ filter (λ p. not (wants_memory p.1)) pairs else filter (λ p. not (wants_memory p.1)) pairs)) is
 
-behind : (pair : Edit × Answer) (pairs : List (Edit × Answer)) (old next new : State) (wants : Bool) → wants_memory pair.1 ≡ wants
+after_it : (pair : Edit × Answer) (pairs : List (Edit × Answer)) (old next new : State) (wants : Bool) → wants_memory pair.1 ≡ wants
     → next ≡ after_one old pair.0 wants → new ≡ state_after_all next (carried_out pairs) → new ≡ state_after_all old (carried_out (pair ∷ pairs))
-behind pair pairs old next new true is one rest =
+after_it pair pairs old next new true is one rest =
     rest ∙ ap (λ (s : State). state_after_all s (carried_out pairs)) one ∙ ap (state_after_all old) (sym (taken pair pairs true is))
-behind pair pairs old next new false is one rest =
+after_it pair pairs old next new false is one rest =
     rest ∙ ap (λ (s : State). state_after_all s (carried_out pairs)) one ∙ ap (state_after_all old) (sym (taken pair pairs false is))
 
 pub follows : (pairs : List (Edit × Answer)) (old new : State) → AreAnswers old pairs new → new ≡ state_after_all old (carried_out pairs)
 follows [] old new is = is
 follows (pair ∷ pairs) old new is =
-    behind pair pairs old is.0 new (wants_memory pair.1) refl (left-by old is.0 pair.0 pair.1 is.1) (follows pairs is.0 new is.2)
+    after_it pair pairs old is.0 new (wants_memory pair.1) refl (left-by old is.0 pair.0 pair.1 is.1) (follows pairs is.0 new is.2)
 
 abbrev err-of : EditFault → Answer
 err-of fault = Err fault
@@ -77,15 +77,15 @@ named (Some found) fault is = cc
 
 -- the clauses of one edit, as one fact
 pub answer-of : (old new : State) (edit : Edit) (answer : Answer)
-    → OnOk answer (edited old edit ≡ Ok new) → IfOk answer (Tells old edit new) → IfErr answer (λ fault. fault ≢ Memory → edited old edit ≡ Err fault)
+    → OnOk answer (edited old edit ≡ Ok new) → IfOk answer (ReportsEdit old edit new) → IfErr answer (λ fault. fault ≢ Memory → edited old edit ≡ Err fault)
     → IfSome (own_fault old.groups edit) (λ fault. answer ≡ Err fault) → OnErr answer (new ≡ old) → IsAnswer old edit answer new
-answer-of old new edit (Ok report) makes tells says own same = (makes, tells)
-answer-of old new edit (Err fault) makes tells says own same = (says, named (own_fault old.groups edit) fault own, same)
+answer-of old new edit (Ok report) makes shows says own same = (makes, shows)
+answer-of old new edit (Err fault) makes shows says own same = (says, named (own_fault old.groups edit) fault own, same)
 
 -- all edits are answered
 pub goes-all : (old new : State) (edits : List Edit) (index : ℕ) (answers : List Answer) → length edits ≤ index
     → Goes old edits index answers new → AreAnswers old (zip edits answers) new
-goes-all old new edits index answers past goes =
-    let none : drop index edits ≡ [] = drop_of_length-le edits past in
+goes-all old new edits index answers history goes =
+    let none : drop index edits ≡ [] = drop_of_length-le edits history in
     subst (λ (list : List Answer). AreAnswers old (zip edits list) new) (append-nil answers)
     (goes [] new (subst (λ (list : List Edit). AreAnswers new (zip list []) new) (sym none) refl))

@@ -21,7 +21,7 @@ use Rattle.hc_groups.specs.declared.changes.PresenceChange.{PresenceChange}
 use Rattle.hc_groups.specs.declared.prepared.Prepared.{Prepared}
 use Rattle.hc_groups.specs.declared.prepared.Prepared.TheVariants.{Presence, Areas}
 use Rattle.hc_groups.specs.Changes.{changed_groups, with_areas, with_slave}
-use Rattle.hc_groups.specs.Rows.{ChangesRow, Ranked, by_rank, count_of, first_of, ranked, row}
+use Rattle.hc_groups.specs.Rows.{ChangesRow, Ranked, by_rank, prepared_count, first_rank_of, present_ranked, row}
 use Rattle.hc_groups.proofs.lemmas.Concerned.{presence-row}
 
 -- the blocks that a declared slave with a rank has in a line
@@ -44,11 +44,11 @@ all-append : (line : List Member) (rank : ℕ) (xs ys : List Ranked) → all_pla
 all-append line rank [] ys = ap (λ (n : ℕ). all_places line n ys) (omega arith)
 all-append line rank (x ∷ xs) ys = search (rules, append_assoc, all-append line (rank + 1) xs ys)
 
-slaves-all : (line : List Member) (present : Bool) (rank : ℕ) (slaves : List Slave) → flat_map (slave_places line present) (members_from rank slaves) ≡ all_places line rank (ranked present slaves)
+slaves-all : (line : List Member) (present : Bool) (rank : ℕ) (slaves : List Slave) → flat_map (slave_places line present) (members_from rank slaves) ≡ all_places line rank (present_ranked present slaves)
 slaves-all line present rank [] = refl
 slaves-all line present rank (slave ∷ slaves) = search (rules, slaves-all line present (rank + 1) slaves)
 
-length-ranked : (present : Bool) (slaves : List Slave) → length (ranked present slaves) ≡ length slaves
+length-ranked : (present : Bool) (slaves : List Slave) → length (present_ranked present slaves) ≡ length slaves
 length-ranked present slaves = length-map slaves (λ slave. let one : Ranked = record { present = present; slave = slave } in one)
 
 groups-all : (line : List Member) (rank : ℕ) (groups : List Declared) → places_from line rank groups ≡ all_places line rank (by_rank groups)
@@ -74,7 +74,7 @@ at-index line rank (s ∷ slaves) (suc i) number slave at low =
     let size = length-slave line s.present (member_at rank s) in
     search (rules, get-back, at-index line (rank + 1) slaves i number slave at low)
 
--- what stands at a place is the block of the slave with that rank
+-- what is at a place is the block of the slave with that rank
 pub at-rank : (line : List Member) (groups : List Declared) (i number : ℕ) (slave : Ranked) → slice_get (by_rank groups) i ≡ Some slave → number < 16
     → slice_get (places_from line 1 groups) (16 * i + number) ≡ Some (slice_get (own_blocks line (1 + i) slave) number)
 at-rank line groups i number slave at low = ap (λ (all : List (Option LineBlock)). slice_get all (16 * i + number)) (groups-all line 1 groups) ∙ at-index line 1 (by_rank groups) i number slave at low
@@ -83,7 +83,7 @@ at-rank line groups i number slave at low = ap (λ (all : List (Option LineBlock
 abbrev pub slaves_by_rank : List Ranked → List Slave
 slaves_by_rank slaves = map (λ one. one.slave) slaves
 
-one-group : (present : Bool) (slaves : List Slave) → slaves_by_rank (ranked present slaves) ≡ slaves
+one-group : (present : Bool) (slaves : List Slave) → slaves_by_rank (present_ranked present slaves) ≡ slaves
 one-group present [] = refl
 one-group present (slave ∷ slaves) = ap (λ (rest : List Slave). slave ∷ rest) (one-group present slaves)
 
@@ -94,30 +94,30 @@ all-slaves (d ∷ groups) = search (rules, map-append, one-group, all-slaves gro
 -- outside the row of a change each declared slave stays as it was
 
 abbrev pub InRow : Prepared → ℕ → Type 0
-InRow change i = (first_of change ≤ i + 1) × (i + 1 < first_of change + count_of change)
+InRow change i = (first_rank_of change ≤ i + 1) × (i + 1 < first_rank_of change + prepared_count change)
 
 abbrev pub BesideRow : Prepared → ℕ → Type 0
-BesideRow change i = (i + 1 < first_of change) ⊎ (first_of change + count_of change ≤ i + 1)
+BesideRow change i = (i + 1 < first_rank_of change) ⊎ (first_rank_of change + prepared_count change ≤ i + 1)
 
-around-before : {X : Type 0} (front own behind : List X) (i : ℕ) → i < length front → slice_get (front ++ (own ++ behind)) i ≡ slice_get front i
-around-before front own behind i low = get-front front (own ++ behind) i low
+around-before : {X : Type 0} (front own after_it : List X) (i : ℕ) → i < length front → slice_get (front ++ (own ++ after_it)) i ≡ slice_get front i
+around-before front own after_it i low = get-front front (own ++ after_it) i low
 
-around-within : {X : Type 0} (front own behind : List X) (i : ℕ) → length front ≤ i → i < length front + length own → slice_get (front ++ (own ++ behind)) i ≡ slice_get own (i - length front)
-around-within front own behind i from low = get-back front (own ++ behind) i from ∙ get-front own behind (i - length front) (omega (arith, from, low))
+around-within : {X : Type 0} (front own after_it : List X) (i : ℕ) → length front ≤ i → i < length front + length own → slice_get (front ++ (own ++ after_it)) i ≡ slice_get own (i - length front)
+around-within front own after_it i from low = get-back front (own ++ after_it) i from ∙ get-front own after_it (i - length front) (omega (arith, from, low))
 
-around-behind : {X : Type 0} (front own behind : List X) (i : ℕ) → length front + length own ≤ i → slice_get (front ++ (own ++ behind)) i ≡ slice_get behind (i - length front - length own)
-around-behind front own behind i from = search (rules, get-back)
+around-after_it : {X : Type 0} (front own after_it : List X) (i : ℕ) → length front + length own ≤ i → slice_get (front ++ (own ++ after_it)) i ≡ slice_get after_it (i - length front - length own)
+around-after_it front own after_it i from = search (rules, get-back)
 
 pub beside-same : (change : Prepared) (groups : List Declared) (i : ℕ) → ChangesRow change groups → BesideRow change i → slice_get (by_rank (changed_groups change groups)) i ≡ slice_get (by_rank groups) i
-beside-same change groups i changes beside = search (rules, around-before, around-behind)
+beside-same change groups i changes beside = search (rules, around-before, around-after_it)
 
 -- a group that comes or goes is present or not
 
-all-present : (present : Bool) (slaves : List Slave) → All (λ one. one.present ≡ present) (ranked present slaves)
+all-present : (present : Bool) (slaves : List Slave) → All (λ one. one.present ≡ present) (present_ranked present slaves)
 all-present present [] = All-nil (λ one. one.present ≡ present)
-all-present present (slave ∷ slaves) = All-cons (λ one. one.present ≡ present) (record { present = present; slave = slave }) (ranked present slaves) refl (all-present present slaves)
+all-present present (slave ∷ slaves) = All-cons (λ one. one.present ≡ present) (record { present = present; slave = slave }) (present_ranked present slaves) refl (all-present present slaves)
 
-row-present : (present : Bool) (found : Option Declared) → All (λ one. one.present ≡ present) (option_map_or (λ (d : Declared). ranked present d.group.slaves) found [])
+row-present : (present : Bool) (found : Option Declared) → All (λ one. one.present ≡ present) (option_map_or (λ (d : Declared). present_ranked present d.group.slaves) found [])
 row-present present found = search (rules, All-nil, all-present)
 
 pub presence-in-row : (change : PresenceChange) (groups : List Declared) (i : ℕ) (slave : Ranked) → ChangesRow (Presence change) groups → InRow (Presence change) i
@@ -134,7 +134,7 @@ presence-in-row change groups i slave changes inside at =
 abbrev presents : List Ranked → List Bool
 presents slaves = map (λ one. one.present) slaves
 
-given-presents : (present : Bool) (n : ℕ) (areas : List Area) (slaves : List Slave) → presents (ranked present (changed_at n (with_areas areas) slaves)) ≡ presents (ranked present slaves)
+given-presents : (present : Bool) (n : ℕ) (areas : List Area) (slaves : List Slave) → presents (present_ranked present (changed_at n (with_areas areas) slaves)) ≡ presents (present_ranked present slaves)
 given-presents present n areas [] = refl
 given-presents present zero areas (slave ∷ slaves) = refl
 given-presents present (suc n) areas (slave ∷ slaves) = ap (λ (rest : List Bool). present ∷ rest) (given-presents present n areas slaves)

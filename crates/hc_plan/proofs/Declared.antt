@@ -1,4 +1,4 @@
--- A group that is declared leaves the line as it was, so nothing is told of it.
+-- A group that is declared leaves the line as it was, so nothing is said of it.
 use Rattle.std.proofs.Common.{◌≡◌, ◌∙◌, ◌||◌, ℕ, ◌+◌, ◌≤◌, arith, length-append, Bool, true, false, Contains, List, [], ◌∷◌, None, Some, Option, length, map, refl, sym, ap, subst}
 use Rattle.std.specs.Prelude.{if◌then◌else◌, is_some, not, position}
 use Rattle.std.specs.List.{list_any, position_from}
@@ -18,9 +18,9 @@ use Rattle.hc_records.specs.Lists.{lowest}
 use Rattle.hc_records.specs.Project.{area_names, entry_names, lowest_fault, pdo_names, slave_names, slaves_of}
 use Rattle.hc_records.proofs.lemmas.Lists.{none-holds}
 use Rattle.std.proofs.lemmas.List.{length-map}
-use Rattle.hc_cuts.specs.Starts.{Kept}
+use Rattle.hc_cuts.specs.Starts.{TaskCuts}
 use Rattle.hc_cuts.specs.Areas.{areas_by_rank, present_areas}
-use Rattle.hc_cuts.specs.Kept.{line_kept}
+use Rattle.hc_cuts.specs.TaskCuts.{line_cuts}
 use Rattle.hc_records.specs.Area.{Entry}
 use Rattle.hc_records.specs.declared.records.Area.{Area}
 use Rattle.hc_records.specs.declared.records.Pdo.{Pdo}
@@ -36,9 +36,9 @@ use Rattle.hc_places.specs.Table.{Table, place_in, table_of}
 use Rattle.hc_places.proofs.lemmas.Same.{found-same}
 use Rattle.hc_changes.proofs.lemmas.Moved.{had}
 use Rattle.hc_plan.specs.declared.report.Report.{Report}
-use Rattle.hc_plan.specs.inner.Declaring.{AreTrees, TellsNothing}
-use Rattle.hc_plan.specs.Reports.{name_of}
-use Rattle.hc_plan.proofs.Telling.{is-table}
+use Rattle.hc_plan.specs.inner.Declaring.{AreTrees, ShowsNothing}
+use Rattle.hc_plan.specs.Reports.{found_name}
+use Rattle.hc_plan.proofs.Saying.{is-table}
 
 -- no block of a line moves to the same line
 none-moved : (line : List Member) → moved_blocks line line ≡ []
@@ -59,20 +59,20 @@ says-nothing table = record {
     nothing place = rw (found-same place place refl) refl
 
 -- what a report of the same line says
-pub tells-nothing : (old : State) (edit : Edit) (report : Report) → lowest_fault (groups_of old.groups) ≡ None → report.epoch ≡ old.epoch + 1 → report.recut ≡ 0 → report.moved ≡ 0 → report.blocks ≡ []
-    → report.swap.edit ≡ edit → LeadsAsSaid (record { tasks = []; rows = [] }) report.swap → TellsNothing old edit report
-tells-nothing old edit report project epoch recut_none moved_none blocks_none named said new same later =
+pub shows-nothing : (old : State) (edit : Edit) (report : Report) → lowest_fault (groups_of old.groups) ≡ None → report.epoch ≡ old.epoch + 1 → report.recut ≡ 0 → report.moved ≡ 0 → report.blocks ≡ []
+    → report.swap.edit ≡ edit → LeadsAsSaid (record { tasks = []; rows = [] }) report.swap → ShowsNothing old edit report
+shows-nothing old edit report project epoch recut_none moved_none blocks_none named said new same later =
     let table = table_of (line old) in
     let leads = said table table (is-table old.groups project) (is-table old.groups project) (says-nothing table) in
     record {
       epoch = epoch ∙ sym later;
       recut = recut_none ∙ sym (ap (recut (line old)) same ∙ same-recut (line old));
-      moved = moved_none ∙ sym (ap (λ (behind : List Member). length (moved_blocks (line old) behind)) same ∙ ap length (none-moved (line old)));
-      blocks = blocks_none ∙ sym (ap (λ (behind : List Member). map name_of (moved_blocks (line old) behind)) same ∙ ap (map name_of) (none-moved (line old)));
+      moved = moved_none ∙ sym (ap (λ (after_it : List Member). length (moved_blocks (line old) after_it)) same ∙ ap length (none-moved (line old)));
+      blocks = blocks_none ∙ sym (ap (λ (after_it : List Member). map found_name (moved_blocks (line old) after_it)) same ∙ ap (map found_name) (none-moved (line old)));
       named = named;
       leads = leads.leads ∙ ap table_of (sym same);
-      says = subst (λ (behind : List Member). SaysWhatDiffers table (table_of behind) report.swap.change) (sym same) leads.says;
-      places = leads.count ∙ ap (λ (behind : List Member). length (changed_variables table (table_of behind))) (sym same);
+      says = subst (λ (after_it : List Member). SaysWhatDiffers table (table_of after_it) report.swap.change) (sym same) leads.says;
+      places = leads.count ∙ ap (λ (after_it : List Member). length (changed_variables table (table_of after_it))) (sym same);
     }
 
 unmapped : {X Y : Type 0} (f : X → Y) (xs : List X) → map f xs ≡ [] → xs ≡ []
@@ -141,5 +141,5 @@ free-few groups group none =
     let count = ranks-length groups in
     omega (arith, most, count)
 
-pub own-trees : (tasks : List Kept) (groups : List Declared) (slaves : ℕ) (wider : Option (List Kept)) → tasks ≡ line_kept (areas_by_rank groups) → AreTrees tasks slaves wider → AreTrees (line_kept (areas_by_rank groups)) slaves wider
-own-trees tasks groups slaves wider is trees = subst (λ (t : List Kept). AreTrees t slaves wider) is trees
+pub own-trees : (tasks : List TaskCuts) (groups : List Declared) (slaves : ℕ) (wider : Option (List TaskCuts)) → tasks ≡ line_cuts (areas_by_rank groups) → AreTrees tasks slaves wider → AreTrees (line_cuts (areas_by_rank groups)) slaves wider
+own-trees tasks groups slaves wider is trees = subst (λ (t : List TaskCuts). AreTrees t slaves wider) is trees

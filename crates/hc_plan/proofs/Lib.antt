@@ -9,7 +9,7 @@ pub mod Opening
 pub mod Preparing
 pub mod Registers
 pub mod Sharing
-pub mod Telling
-pub mod Turned
+pub mod Saying
+pub mod WidthsApplied
 pub mod Widths
 pub mod lemmas

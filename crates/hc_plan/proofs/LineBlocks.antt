@@ -29,7 +29,7 @@ use Rattle.hc_plan.proofs.Numbered.{get-numbered-from-0, numbered-get}
 layout-slaves : (groups : List Declared) (layout : List (List Placed)) → IsLayoutOf groups layout → All (IsMappedSlave layout) (line_from 1 groups)
 layout-slaves groups layout known j d inside =
     let member = slice_index_or (line_from 1 groups) j d in
-    subst (λ (l : List (List Placed)). IsMappedSlave l member) (sym known.stands)
+    subst (λ (l : List (List Placed)). IsMappedSlave l member) (sym known.is_placed)
     (slave-mapped groups j member known.project known.uncrowded (slice_get-get_or (line_from 1 groups) j d inside))
 
 pub found-mapped : (groups : List Declared) (layout : List (List Placed)) (test : Member → Bool) (member : Member) → IsLayoutOf groups layout
@@ -49,21 +49,21 @@ slave_blocks-line groups layout member known mapped =
     let mapping : mapping_in layout member.rank e.0 e.1 ≡ mapping_of members e.1.task key = search rules in
     ap (λ (m : Option Mapping). sync_manager_block e.1 ∷ fmmu_block e.0 e.1 m ∷ []) mapping)
 
-abbrev told : LineBlock → ℕ × RegisterBlock
-told found = at_station found.station found.block
+abbrev answer_given : LineBlock → ℕ × RegisterBlock
+answer_given found = at_station found.station found.block
 
-told-numbered : (station n : ℕ) (o : Option RegisterBlock)
-    → option_map told (option_map (λ (e : ℕ × RegisterBlock). record { station = station; number = e.0; block = e.1 }) (option_map (λ b. (n, b)) o)) ≡ option_map (at_station station) o
-told-numbered station n o = search rules
+answer_given-numbered : (station n : ℕ) (o : Option RegisterBlock)
+    → option_map answer_given (option_map (λ (e : ℕ × RegisterBlock). record { station = station; number = e.0; block = e.1 }) (option_map (λ b. (n, b)) o)) ≡ option_map (at_station station) o
+answer_given-numbered station n o = search rules
 
 -- a block of the first slave of a part of the line
 block-here : (whole rest : List Member) (member : Member) (n : ℕ) → n < 2 * length member.slave.areas
-    → option_map told (slice_get (flat_map (member_blocks whole) (member ∷ rest)) n) ≡ option_map (at_station member.slave.station) (slice_get (slave_blocks whole member) n)
-block-here whole rest member n inside = search (rules, length-member, get-front, slice_get-map, get-numbered-from-0, told-numbered)
+    → option_map answer_given (slice_get (flat_map (member_blocks whole) (member ∷ rest)) n) ≡ option_map (at_station member.slave.station) (slice_get (slave_blocks whole member) n)
+block-here whole rest member n inside = search (rules, length-member, get-front, slice_get-map, get-numbered-from-0, answer_given-numbered)
 
-block-behind : (whole rest : List Member) (member : Member) (n : ℕ) → 2 * length member.slave.areas ≤ n
+block-after_it : (whole rest : List Member) (member : Member) (n : ℕ) → 2 * length member.slave.areas ≤ n
     → slice_get (flat_map (member_blocks whole) (member ∷ rest)) n ≡ slice_get (flat_map (member_blocks whole) rest) (n - 2 * length member.slave.areas)
-block-behind whole rest member n past = search (rules, length-member, get-back)
+block-after_it whole rest member n history = search (rules, length-member, get-back)
 
 blocks-met : (whole rest : List Member) (member : Member)
     → length (flat_map (member_blocks whole) (member ∷ rest)) ≡ 2 * length member.slave.areas + length (flat_map (member_blocks whole) rest)
@@ -76,15 +76,15 @@ blocks-owned whole (member ∷ members) = search (rules, blocks-met, sum_by-cons
 
 -- the block with a number is one of the slave that owns it
 
-abbrev tells : List Member → Member × ℕ → Option (ℕ × RegisterBlock)
-tells whole owner = option_map (at_station owner.0.slave.station) (slice_get (slave_blocks whole owner.0) owner.1)
+abbrev shows : List Member → Member × ℕ → Option (ℕ × RegisterBlock)
+shows whole owner = option_map (at_station owner.0.slave.station) (slice_get (slave_blocks whole owner.0) owner.1)
 
 owned-by : (whole rest : List Member) (member : Member) (n : ℕ) (here : Bool) → nat_lt n (own_blocks member) ≡ here
-    → option_map told (slice_get (flat_map (member_blocks whole) rest) (n - own_blocks member)) ≡ option_and_then (tells whole) (owned_by rest (n - own_blocks member))
-    → option_map told (slice_get (flat_map (member_blocks whole) (member ∷ rest)) n) ≡ option_and_then (tells whole) (if here then Some (member, n) else owned_by rest (n - own_blocks member))
-owned-by whole rest member n here is behind = search (rules, block-here, ltb-true, block-behind, ltb-false)
+    → option_map answer_given (slice_get (flat_map (member_blocks whole) rest) (n - own_blocks member)) ≡ option_and_then (shows whole) (owned_by rest (n - own_blocks member))
+    → option_map answer_given (slice_get (flat_map (member_blocks whole) (member ∷ rest)) n) ≡ option_and_then (shows whole) (if here then Some (member, n) else owned_by rest (n - own_blocks member))
+owned-by whole rest member n here is after_it = search (rules, block-here, ltb-true, block-after_it, ltb-false)
 
-owned-block : (whole members : List Member) (n : ℕ) → option_map told (slice_get (flat_map (member_blocks whole) members) n) ≡ option_and_then (tells whole) (owned_by members n)
+owned-block : (whole members : List Member) (n : ℕ) → option_map answer_given (slice_get (flat_map (member_blocks whole) members) n) ≡ option_and_then (shows whole) (owned_by members n)
 owned-block whole [] n = refl
 owned-block whole (member ∷ members) n = owned-by whole members member n (nat_lt n (own_blocks member)) refl (owned-block whole members (n - own_blocks member))
 
@@ -94,7 +94,7 @@ owned-none groups n none = search (rules, owned-block)
 -- what all slaves have the owner has
 owner-all : (P : Member → Type 0) (member : Member) (n : ℕ) (rest : Option (Member × ℕ)) (owner : Member × ℕ) (here : Bool) → P member → (rest ≡ Some owner → P owner.0)
     → (if here then Some (member, n) else rest) ≡ Some owner → P owner.0
-owner-all P member n rest owner here own behind is = search rules
+owner-all P member n rest owner here own after_it is = search rules
 
 owner-has : (P : Member → Type 0) (members : List Member) (n : ℕ) (owner : Member × ℕ) → All P members → owned_by members n ≡ Some owner → P owner.0
 owner-has P [] n owner all is = cc
@@ -106,9 +106,9 @@ pub owner-mapped : (groups : List Declared) (layout : List (List Placed)) (n num
     → IsMappedSlave layout member
 owner-mapped groups layout n number member known is = owner-has (IsMappedSlave layout) (line_from 1 groups) n (member, number) (layout-slaves groups layout known) is
 
-pub owner-tells : (groups : List Declared) (layout : List (List Placed)) (n number : ℕ) (member : Member) → IsLayoutOf groups layout → owned_by (line_from 1 groups) n ≡ Some (member, number)
+pub owner-shows : (groups : List Declared) (layout : List (List Placed)) (n number : ℕ) (member : Member) → IsLayoutOf groups layout → owned_by (line_from 1 groups) n ≡ Some (member, number)
     → line_block_at (line_from 1 groups) n ≡ option_map (at_station member.slave.station) (slice_get (slave_blocks_in layout member) number)
-owner-tells groups layout n number member known is = search (rules, owned-block, slave_blocks-line, owner-mapped)
+owner-shows groups layout n number member known is = search (rules, owned-block, slave_blocks-line, owner-mapped)
 
 -- a slave of the line by its rank and its record
 pub same-member : (rank : ℕ) (slave : Slave) (member : Member) → rank ≡ member.rank → slave ≡ member.slave → member ≡ record { rank = rank; slave = slave }

@@ -48,7 +48,7 @@ numbered-get xs i d inside = search (rules, numbered-parts, get-numbered-from-0,
 pub map-twice : {X Y Z : Type 0} (f : Y → Z) (g : X → Y) (o : Option X) → option_map f (option_map g o) ≡ option_map (λ x. f (g x)) o
 map-twice f g o = search rules
 
--- the parity of a number tells which of the two it is
+-- the parity of a number says which of the two it is
 block-by-parity : (layout : List (List Placed)) (member : Member) (n : ℕ) (even : Bool) → (n % 2 == 0) ≡ even
     → slice_get (slave_blocks_in layout member) n
     ≡ option_map (λ e. if even then sync_manager_block e.1 else fmmu_block_in layout member.rank e) (slice_get (enumerate_from 0 member.slave.areas) (n / 2))
@@ -93,4 +93,4 @@ met-block layout member areas n index rank area block met made =
 
 pub met-none : (layout : List (List Placed)) (member : Member) (areas : List Area) (n index : ℕ) → areas ≡ member.slave.areas → index ≡ n / 2 → length areas ≤ index
     → None ≡ slice_get (slave_blocks_in layout member) n
-met-none layout member areas n index is half past = search (rules, get-slave_blocks, slice_get_past)
+met-none layout member areas n index is half history = search (rules, get-slave_blocks, slice_get_past)

@@ -5,7 +5,7 @@ use Rattle.hc_records.specs.declared.edit.Edit.{Edit}
 use Rattle.hc_records.specs.declared.records.Declared.{Declared}
 use Rattle.hc_records.specs.declared.edit.Edit.TheVariants.{Declare}
 use Rattle.hc_records.specs.declared.limits.TheConstants.{LAST_EPOCH}
-use Rattle.hc_records.specs.Edits.{absent, changed, crowded_task, declares, declaring_faults, edited, groups_after}
+use Rattle.hc_records.specs.Edits.{absent, changed, over_limit_task, declares, declaring_faults, edited, groups_after}
 use Rattle.hc_records.specs.Lists.{lowest}
 use Rattle.hc_records.proofs.lemmas.Declaring.{declared-keep, line-absent}
 use Rattle.hc_records.specs.Line.{State, groups_of, line, line_from}
@@ -15,12 +15,12 @@ use Rattle.hc_registers.specs.RankDifferences.{Differ}
 use Rattle.hc_registers.specs.RankPlaces.{places}
 use Rattle.hc_registers.proofs.lemmas.RanksDeclared.{declared-differ}
 use Rattle.hc_cuts.specs.Areas.{areas_by_rank}
-use Rattle.hc_cuts.specs.Turn.{AreStartsOf}
+use Rattle.hc_cuts.specs.ApplyWidths.{AreStartsOf}
 use Rattle.hc_groups.specs.declared.prepared.Prepared.{Prepared}
 use Rattle.hc_groups.specs.Changes.{change_by, changed_groups}
 use Rattle.hc_groups.specs.Edits.{own_fault}
 use Rattle.hc_groups.specs.Rows.{ChangesRow}
-use Rattle.hc_places.specs.Room.{IsRoomFor}
+use Rattle.hc_places.specs.Room.{IsRowRoomFor}
 use Rattle.hc_places.specs.Table.{Table, table_of}
 use Rattle.hc_changes.specs.EditedLine.{EditedLine, IsEditedLine, edited_line_of}
 use Rattle.hc_plan.specs.declared.report.Report.{Report}
@@ -29,40 +29,40 @@ use Rattle.hc_plan.specs.inner.Applied.{Makes}
 use Rattle.hc_plan.specs.declared.declaring.Declaration.{Declaration}
 use Rattle.hc_plan.specs.declared.work.LineWork.{LineWork}
 use Rattle.hc_plan.specs.declared.work.Work.TheVariants.{NewGroup, NewLine}
-use Rattle.hc_plan.specs.inner.Declaring.{CanDeclare, TellsNothing}
-use Rattle.hc_plan.specs.inner.Prepared.{IsReady, prepared_of}
+use Rattle.hc_plan.specs.inner.Declaring.{CanDeclare, ShowsNothing}
+use Rattle.hc_plan.specs.inner.Prepared.{IsWorkReady, prepared_of}
 use Rattle.hc_plan.specs.Prepared.{IsPrepared}
 use Rattle.hc_plan.proofs.Declared.{none-ranked}
 use Rattle.hc_plan.proofs.Editing.{declared-accepted}
-use Rattle.hc_plan.specs.Reports.{Tells}
+use Rattle.hc_plan.specs.Reports.{ReportsEdit}
 use Rattle.hc_plan.proofs.lemmas.Differing.{edits-differ}
 
 -- a change makes this of a plan's line
 pub makes : (it : EditedLine) (change : Prepared) (edit : Edit) (table : Table) (groups : List Declared) → declares edit ≡ false → IsEditedLine it → it ≡ edited_line_of change groups
-    → own_fault groups edit ≡ None → changed_groups change groups ≡ groups_after groups edit → crowded_task (line_from 1 groups) ≡ None → table ≡ table_of (line_from 1 groups)
+    → own_fault groups edit ≡ None → changed_groups change groups ≡ groups_after groups edit → over_limit_task (line_from 1 groups) ≡ None → table ≡ table_of (line_from 1 groups)
     → Makes edit table it
-makes it change edit table groups changes is same own leads fits stands = search rules
+makes it change edit table groups changes is same own leads fits is_placed = search rules
 
--- what is told of it, by the states
+-- what is said of it, by the states
 pub is-prepared : (old : State) (work : LineWork) (it : EditedLine) (edit : Edit) (report : Report) (blocks : List RankedBlock)
-    → lowest_fault (groups_of old.groups) ≡ None → crowded_task (line old) ≡ None → change_by old.groups edit ≡ Some work.change → it ≡ edited_line_of work.change old.groups
-    → Tells (record { groups = it.old; epoch = old.epoch }) edit (record { groups = it.new; epoch = old.epoch + 1 }) report
+    → lowest_fault (groups_of old.groups) ≡ None → over_limit_task (line old) ≡ None → change_by old.groups edit ≡ Some work.change → it ≡ edited_line_of work.change old.groups
+    → ReportsEdit (record { groups = it.old; epoch = old.epoch }) edit (record { groups = it.new; epoch = old.epoch + 1 }) report
     → edited (record { groups = it.old; epoch = old.epoch }) edit ≡ Ok (record { groups = it.new; epoch = old.epoch + 1 })
-    → crowded_task (line_from 1 it.new) ≡ None → blocks ≡ moved_ranked (line_from 1 it.old) (line_from 1 it.new)
+    → over_limit_task (line_from 1 it.new) ≡ None → blocks ≡ moved_ranked (line_from 1 it.old) (line_from 1 it.new)
     → IsPrepared (prepared_of old (NewLine work) report blocks)
 is-prepared old work it edit report blocks project fits changes same =
     let change = work.change in
     let new : State = record { groups = changed_groups change old.groups; epoch = old.epoch + 1 } in
     subst
     (λ (o : EditedLine).
-    Tells (record { groups = o.old; epoch = old.epoch }) edit (record { groups = o.new; epoch = old.epoch + 1 }) report
+    ReportsEdit (record { groups = o.old; epoch = old.epoch }) edit (record { groups = o.new; epoch = old.epoch + 1 }) report
     → edited (record { groups = o.old; epoch = old.epoch }) edit ≡ Ok (record { groups = o.new; epoch = old.epoch + 1 })
-    → crowded_task (line_from 1 o.new) ≡ None → blocks ≡ moved_ranked (line_from 1 o.old) (line_from 1 o.new)
+    → over_limit_task (line_from 1 o.new) ≡ None → blocks ≡ moved_ranked (line_from 1 o.old) (line_from 1 o.new)
     → IsPrepared (prepared_of old (NewLine work) report blocks)) (sym same)
-    (λ told accepted uncrowded moved. record {
+    (λ answer_given accepted uncrowded moved. record {
       project = project;
-      accepted = subst (λ (e : Edit). edited old e ≡ Ok new) (sym told.named) accepted;
-      told = subst (λ (e : Edit). Tells old e new report) (sym told.named) told;
+      accepted = subst (λ (e : Edit). edited old e ≡ Ok new) (sym answer_given.named) accepted;
+      answer_given = subst (λ (e : Edit). ReportsEdit old e new report) (sym answer_given.named) answer_given;
       crowds = (fits, uncrowded);
       blocks = moved;
       differ = subst (Differ (places old) (places new) (gone_of change)) (sym moved) (edits-differ old new edit change project accepted changes);
@@ -73,13 +73,13 @@ pub is-ready : (old : State) (work : LineWork) (it : EditedLine) (edit : Edit) (
     → report.swap.edit ≡ edit → declares edit ≡ false → change_by old.groups edit ≡ Some work.change → changed_groups work.change old.groups ≡ groups_after old.groups edit → lowest_fault (groups_of (changed_groups work.change old.groups)) ≡ None
     → ChangesRow work.change old.groups
     → it ≡ edited_line_of work.change old.groups → AreStartsOf (areas_by_rank it.new) work.starts
-    → table ≡ table_of (line old) → IsRoomFor report.swap.change table work.rows
-    → IsReady old report (NewLine work)
-is-ready old work it edit report table named changes made leads project row same known stands space = search rules
+    → table ≡ table_of (line old) → IsRowRoomFor report.swap.change table work.rows
+    → IsWorkReady old report (NewLine work)
+is-ready old work it edit report table named changes made leads project row same known is_placed space = search rules
 
 -- a declared group changes no block of the line
-pub declared-prepared : (old : State) (edit : Edit) (declaration : Declaration) (report : Report) → lowest_fault (groups_of old.groups) ≡ None → crowded_task (line old) ≡ None
-    → (old.epoch == LAST_EPOCH) ≡ false → edit ≡ Declare declaration.group → report.swap.edit ≡ edit → lowest (declaring_faults old.groups declaration.group) ≡ None → TellsNothing old edit report
+pub declared-prepared : (old : State) (edit : Edit) (declaration : Declaration) (report : Report) → lowest_fault (groups_of old.groups) ≡ None → over_limit_task (line old) ≡ None
+    → (old.epoch == LAST_EPOCH) ≡ false → edit ≡ Declare declaration.group → report.swap.edit ≡ edit → lowest (declaring_faults old.groups declaration.group) ≡ None → ShowsNothing old edit report
     → IsPrepared (prepared_of old (NewGroup declaration) report [])
 declared-prepared old edit declaration report project fits more is named free nothing =
     let group = declaration.group in
@@ -89,28 +89,28 @@ declared-prepared old edit declaration report project fits more is named free no
     record {
       project = project;
       accepted = ap (edited old) asked ∙ declared-accepted old group fits more free;
-      told = subst (λ (e : Edit). Tells old e new report) (sym named) (nothing new same refl);
-      crowds = (fits, ap crowded_task same ∙ fits);
+      answer_given = subst (λ (e : Edit). ReportsEdit old e new report) (sym named) (nothing new same refl);
+      crowds = (fits, ap over_limit_task same ∙ fits);
       blocks = sym (ap (moved_ranked (line old)) same ∙ none-ranked (line old));
       differ = declared-differ old group;
     }
 
--- what a report of the same line tells, it tells of the edit
-pub nothing-named : (old : State) (edit : Edit) (report : Report) → TellsNothing old edit report → report.swap.edit ≡ edit
+-- what a report of the same line gives, it says of the edit
+pub nothing-named : (old : State) (edit : Edit) (report : Report) → ShowsNothing old edit report → report.swap.edit ≡ edit
 nothing-named old edit report nothing = (nothing (record { groups = old.groups; epoch = old.epoch + 1 }) refl refl).named
 
 -- the groups with the declared one, and their line
 pub record IsDeclared (groups : List Declared) (table : Table) : Type 0 where
   pub project : lowest_fault (groups_of groups) ≡ None
-  pub fits : crowded_task (line_from 1 groups) ≡ None
-  pub stands : table ≡ table_of (line_from 1 groups)
+  pub fits : over_limit_task (line_from 1 groups) ≡ None
+  pub is_placed : table ≡ table_of (line_from 1 groups)
 
 pub declared-line : (groups new : List Declared) (declaration : Declaration) → CanDeclare groups declaration → new ≡ groups ++ absent declaration.group ∷ [] → (table : Table)
-    → crowded_task (line_from 1 groups) ≡ None → table ≡ table_of (line_from 1 groups) → IsDeclared new table
-declared-line groups new declaration can is table fits stands =
+    → over_limit_task (line_from 1 groups) ≡ None → table ≡ table_of (line_from 1 groups) → IsDeclared new table
+declared-line groups new declaration can is table fits is_placed =
     let same : line_from 1 new ≡ line_from 1 groups = ap (line_from 1) is ∙ line-absent 1 groups declaration.group in
     record {
       project = ap (λ (g : List Declared). lowest_fault (groups_of g)) is ∙ declared-keep groups declaration.group can.project can.free;
-      fits = ap crowded_task same ∙ fits;
-      stands = stands ∙ ap table_of (sym same);
+      fits = ap over_limit_task same ∙ fits;
+      is_placed = is_placed ∙ ap table_of (sym same);
     }

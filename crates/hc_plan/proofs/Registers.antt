@@ -1,4 +1,4 @@
--- In a project's line each block of a slave stands at a register of its own.
+-- In a project's line each block of a slave is at a register of its own.
 use Rattle.std.proofs.Common.{◌≡◌, ℕ, ◌+◌, ◌*◌, ◌/◌, ◌%◌, ◌<◌, ◌==◌, Bool, true, false, List, Contains, refl, sym, ap, ◌∙◌, arith, rules}
 use Rattle.std.specs.Prelude.{◌≢◌, AllPairs, Option, Some, None, find, option_and_then, option_map, slice_get}
 use Rattle.std.specs.List.{enumerate_from}

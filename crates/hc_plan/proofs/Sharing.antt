@@ -11,7 +11,7 @@ use Rattle.hc_records.specs.declared.limits.TheConstants.{TASKS}
 use Rattle.hc_records.specs.declared.records.Declared.{Declared}
 use Rattle.hc_records.specs.declared.records.Dir.{Dir}
 use Rattle.hc_records.specs.declared.records.Dir.TheVariants.{Out, In}
-use Rattle.hc_records.specs.Image.{counter_share, inside, is_of, task_places}
+use Rattle.hc_records.specs.Image.{counter_share, inside, area_is_of, task_places}
 use Rattle.hc_records.specs.Keys.{is_before, same_dir, same_key}
 use Rattle.hc_records.specs.Line.{Member, State, is_at, line, line_from}
 use Rattle.hc_records.specs.Packing.{Placed}
@@ -27,11 +27,11 @@ use Rattle.hc_places.specs.Layout.{layout_of, placed_in}
 use Rattle.hc_places.proofs.lemmas.Found.{find-holds}
 use Rattle.hc_places.proofs.lemmas.Layouts.{placed-in-line}
 use Rattle.hc_plan.specs.inner.Blocks.{IsLayoutOf}
-use Rattle.hc_plan.specs.inner.Shares.{is_carried, lies_in, share_in}
+use Rattle.hc_plan.specs.inner.Shares.{is_area_in, area_lies_in, share_in}
 use Rattle.hc_plan.specs.Shares.{SharesAddUp, datagram_keys, share_at, share_of}
 use Rattle.hc_plan.proofs.lemmas.AreaKeys.{HasArea, keys-apart, not-before, one-rank, placed-areas}
 use Rattle.hc_plan.proofs.lemmas.TableRows.{row-is}
-use Rattle.hc_plan.proofs.lemmas.Elements.{contains-kept, contains-mapped, contains-numbered, contains-unkept, contains-unmapped, some-passes, which-passes}
+use Rattle.hc_plan.proofs.lemmas.Elements.{contains-unchanged, contains-mapped, contains-numbered, contains-unkept, contains-unmapped, some-passes, which-passes}
 
 same-by : (a b : Bool) → (a ≡ true → b ≡ true) → (b ≡ true → a ≡ true) → a ≡ b
 same-by true b to from = sym (to refl)
@@ -42,27 +42,27 @@ passed : {X : Type 0} (test : X → Bool) (found : Option X) → option_map_or t
 passed test None is = cc
 passed test (Some x) is = (x, refl, is)
 
-own-key : (dir : Dir) (rank index : ℕ) → is_of rank dir (key dir rank index) ≡ true
+own-key : (dir : Dir) (rank index : ℕ) → area_is_of rank dir (key dir rank index) ≡ true
 own-key dir rank index = and_from (rank == rank) (same_dir dir dir) (eq-eqb rank rank refl) (same_dir-refl dir)
 
 -- an area that lies in the datagram by its place has a key there
 carried-listed : (state : State) (task datagram : ℕ) (member : Member) (dir : Dir) → task < TASKS
-    → list_any (is_carried (layout_of (line state)) (task, datagram) dir member.rank) (enumerate_from 0 member.slave.areas) ≡ true
-    → list_any (is_of member.rank dir) (datagram_keys (line state) task datagram) ≡ true
+    → list_any (is_area_in (layout_of (line state)) (task, datagram) dir member.rank) (enumerate_from 0 member.slave.areas) ≡ true
+    → list_any (area_is_of member.rank dir) (datagram_keys (line state) task datagram) ≡ true
 carried-listed state task datagram member dir low some =
     let members = line state in
     let places = task_places task members in
-    let e = which-passes (is_carried (layout_of members) (task, datagram) dir member.rank) (enumerate_from 0 member.slave.areas) some in
+    let e = which-passes (is_area_in (layout_of members) (task, datagram) dir member.rank) (enumerate_from 0 member.slave.areas) some in
     let own : Key = key dir member.rank e.0.0 in
-    let tests = and_parts ((e.0.1.task == task) && same_dir e.0.1.dir dir) (lies_in (layout_of members) (task, datagram) own) e.2 in
+    let tests = and_parts ((e.0.1.task == task) && same_dir e.0.1.dir dir) (area_lies_in (layout_of members) (task, datagram) own) e.2 in
     let place = passed (λ (p : Placed). p.datagram == datagram) (placed_in (layout_of members) task own) tests.1 in
     let holds =
     find-holds (Contains places) (λ (p : Placed). same_key p.key own) places place.0 (sym (placed-in-line members task own low) ∙ place.1) (All-contains_itself places) in
     let same : place.0.key ≡ own = same_key-same place.0.key own holds.1 in
-    let here = contains-kept (λ (p : Placed). p.datagram == datagram) places place.0 holds.0 place.2 in
-    some-passes (is_of member.rank dir) (datagram_keys members task datagram) place.0.key
+    let here = contains-unchanged (λ (p : Placed). p.datagram == datagram) places place.0 holds.0 place.2 in
+    some-passes (area_is_of member.rank dir) (datagram_keys members task datagram) place.0.key
     (contains-mapped (λ (p : Placed). p.key) (inside datagram places) place.0 here)
-    (ap (is_of member.rank dir) same ∙ own-key dir member.rank e.0.0)
+    (ap (area_is_of member.rank dir) same ∙ own-key dir member.rank e.0.0)
 
 -- a place of a task is found by its key
 place-found : (state : State) (task : ℕ) (p : Placed) (own : Key) → Contains (task_places task (line state)) p → p.key ≡ own
@@ -74,15 +74,15 @@ place-found state task p own has same =
     (task_places task (line state)) (keys-apart state task))
     has (ap (λ (k : Key). same_key k own) same ∙ same_key-refl own)
 
--- and a key of the slave there is that of an area, whose place lies in the datagram
+-- and an area has a key of the slave there; its place lies in the datagram
 listed-carried : (state : State) (task datagram : ℕ) (member : Member) (dir : Dir) → task < TASKS → Contains (line state) member
-    → list_any (is_of member.rank dir) (datagram_keys (line state) task datagram) ≡ true
-    → list_any (is_carried (layout_of (line state)) (task, datagram) dir member.rank) (enumerate_from 0 member.slave.areas) ≡ true
+    → list_any (area_is_of member.rank dir) (datagram_keys (line state) task datagram) ≡ true
+    → list_any (is_area_in (layout_of (line state)) (task, datagram) dir member.rank) (enumerate_from 0 member.slave.areas) ≡ true
 listed-carried state task datagram member dir low has some =
     let members = line state in
     let places = task_places task members in
     let areas = member.slave.areas in
-    let listed = which-passes (is_of member.rank dir) (datagram_keys members task datagram) some in
+    let listed = which-passes (area_is_of member.rank dir) (datagram_keys members task datagram) some in
     let tests = and_parts (listed.0.rank == member.rank) (same_dir listed.0.dir dir) listed.2 in
     let placed = contains-unmapped (λ (p : Placed). p.key) (inside datagram places) listed.0 listed.1 in
     let p = placed.0 in
@@ -99,19 +99,19 @@ listed-carried state task datagram member dir low has some =
     let mine : Key = key dir member.rank source.index in
     let same : p.key ≡ mine = source.key ∙ ap₂ (λ (d : Dir) (r : ℕ). key d r source.index) way rank in
     let at : placed_in (layout_of members) task mine ≡ Some p = placed-in-line members task mine low ∙ place-found state task p mine here.0 same in
-    let lies : lies_in (layout_of members) (task, datagram) mine ≡ true = ap (λ (o : Option Placed). option_map_or (λ (q : Placed). q.datagram == datagram) o false) at ∙ here.1 in
+    let lies : area_lies_in (layout_of members) (task, datagram) mine ≡ true = ap (λ (o : Option Placed). option_map_or (λ (q : Placed). q.datagram == datagram) o false) at ∙ here.1 in
     let task_is : (source.area.task == task) ≡ true = eq-eqb source.area.task task source.task_is in
     let dir_is : same_dir source.area.dir dir ≡ true = ap (λ (d : Dir). same_dir d dir) way ∙ same_dir-refl dir in
-    some-passes (is_carried (layout_of members) (task, datagram) dir member.rank) (enumerate_from 0 areas) (source.index, source.area) numbered
-    (and_from ((source.area.task == task) && same_dir source.area.dir dir) (lies_in (layout_of members) (task, datagram) mine)
+    some-passes (is_area_in (layout_of members) (task, datagram) dir member.rank) (enumerate_from 0 areas) (source.index, source.area) numbered
+    (and_from ((source.area.task == task) && same_dir source.area.dir dir) (area_lies_in (layout_of members) (task, datagram) mine)
     (and_from (source.area.task == task) (same_dir source.area.dir dir) task_is dir_is) lies)
 
 share-listed : (state : State) (task datagram : ℕ) (member : Member) → task < TASKS → Contains (line state) member
     → share_in (layout_of (line state)) (task, datagram) member.rank member.slave.areas ≡ counter_share (datagram_keys (line state) task datagram) member.rank
 share-listed state task datagram member low has =
     let carried = λ (dir : Dir).
-    same-by (list_any (is_carried (layout_of (line state)) (task, datagram) dir member.rank) (enumerate_from 0 member.slave.areas))
-    (list_any (is_of member.rank dir) (datagram_keys (line state) task datagram))
+    same-by (list_any (is_area_in (layout_of (line state)) (task, datagram) dir member.rank) (enumerate_from 0 member.slave.areas))
+    (list_any (area_is_of member.rank dir) (datagram_keys (line state) task datagram))
     (carried-listed state task datagram member dir low) (listed-carried state task datagram member dir low has) in
     ap₂ (λ (writes reads : Bool). (if writes then 2 else 0) + (if reads then 1 else 0)) (carried Out) (carried In)
 
@@ -124,7 +124,7 @@ found-share groups layout task datagram station member known low found =
     let state : State = record { groups = groups; epoch = 0 } in
     let has = (find-holds (Contains members) (is_at station) members member found (All-contains_itself members)).0 in
     ap (option_map (λ (m : Member). counter_share (datagram_keys members task datagram) m.rank)) found
-    ∙ sym (ap Some (ap (λ (l : List (List Placed)). share_in l (task, datagram) member.rank member.slave.areas) known.stands ∙ share-listed state task datagram member low has))
+    ∙ sym (ap Some (ap (λ (l : List (List Placed)). share_in l (task, datagram) member.rank member.slave.areas) known.is_placed ∙ share-listed state task datagram member low has))
 
 -- the law
 

@@ -8,7 +8,7 @@ use Rattle.hc_records.specs.declared.records.Declared.{Declared}
 use Rattle.hc_records.specs.declared.keys.Key.{Key}
 use Rattle.hc_records.specs.Area.{width}
 use Rattle.hc_records.specs.Line.{Member, line_from}
-use Rattle.hc_changes.specs.Moved.{bits_of}
+use Rattle.hc_changes.specs.Moved.{placed_bits}
 use Rattle.hc_changes.proofs.lemmas.PlacedWidths.{placed-width}
 use Rattle.hc_places.specs.Layout.{layout_of}
 use Rattle.hc_places.proofs.lemmas.Layouts.{placed-in-line}
@@ -23,7 +23,7 @@ area-bits groups j member index area below at found =
     let line = line_from 1 groups in
     let key : Key = record { dir = area.dir; rank = member.rank; area = index } in
     let numbered = get-numbered-from-0 member.slave.areas index ∙ ap (option_map (λ a. (index, a))) found in
-    ap bits_of (placed-in-line line area.task key below)
+    ap placed_bits (placed-in-line line area.task key below)
     ∙ placed-width groups (record { member = member; index = index; area = area }) (record {
       member = at-contained line j member at;
       own = at-contained (enumerate_from 0 member.slave.areas) index (index, area) numbered;

@@ -13,15 +13,15 @@ use Rattle.hc_places.specs.Table.{table_of}
 use Rattle.hc_plan.specs.declared.report.Report.{Report}
 
 -- a block of the line by its slave's station address and its number in the slave's order
-abbrev pub name_of : LineBlock → ℕ × ℕ
-name_of found = (found.station, found.number)
+abbrev pub found_name : LineBlock → ℕ × ℕ
+found_name found = (found.station, found.number)
 
--- a report tells the differences between the lines of two states, the second of which an edit made
-pub record Tells (old : State) (edit : Edit) (new : State) (report : Report) : Type 0 where
+-- a report says how the lines of two states differ; an edit made the second from the first
+pub record ReportsEdit (old : State) (edit : Edit) (new : State) (report : Report) : Type 0 where
   pub epoch : report.epoch ≡ new.epoch
   pub recut : report.recut ≡ recut (line old) (line new)
   pub moved : report.moved ≡ moved (line old) (line new)
-  pub blocks : report.blocks ≡ map name_of (moved_blocks (line old) (line new))
+  pub blocks : report.blocks ≡ map found_name (moved_blocks (line old) (line new))
   pub named : report.swap.edit ≡ edit
   pub leads : swapped report.swap.change (table_of (line old)) ≡ table_of (line new)
   pub says : SaysWhatDiffers (table_of (line old)) (table_of (line new)) report.swap.change
@@ -31,9 +31,9 @@ pub record Tells (old : State) (edit : Edit) (new : State) (report : Report) : T
 abbrev pub Answer : Type 0
 Answer = Result Report EditFault
 
--- an accepted edit makes the new state and tells of it; a refused one changes nothing and names its fault, or that a growth was refused, which no fault that the edit has by itself waits for
+-- an accepted edit makes the new state and says of it; a refused one changes nothing and names its fault, or that a growth was refused, which no fault that the edit has by itself waits for
 abbrev pub IsAnswer : State → Edit → Answer → State → Type 0
-IsAnswer old edit (Ok report) new = (edited old edit ≡ Ok new) × Tells old edit new report
+IsAnswer old edit (Ok report) new = (edited old edit ≡ Ok new) × ReportsEdit old edit new report
 IsAnswer old edit (Err fault) new =
     (fault ≢ Memory → edited old edit ≡ Err fault) × IfSome (own_fault old.groups edit) (λ own. fault ≡ own) × (new ≡ old)
 
@@ -47,6 +47,6 @@ abbrev pub wants_memory : Answer → Bool
 wants_memory (Err Memory) = true
 wants_memory _ = false
 
--- the edits that weren't refused for want of memory
+-- the edits without those refused with `Memory`
 abbrev pub carried_out : List (Edit × Answer) → List Edit
 carried_out pairs = map (λ pair. pair.0) (filter (λ pair. not (wants_memory pair.1)) pairs)

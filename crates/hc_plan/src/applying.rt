@@ -2,26 +2,26 @@
 //! the trees, which are put back.
 ghost use Rattle.std.specs.Prelude.{◌≡◌, ◌≢◌, ◌+◌, Err, IfErr, IfOk, None, Ok, OnOk, map};
 ghost use Rattle.hc_records.specs.declared.faults.EditFault.TheVariants.{Memory};
-ghost use Rattle.hc_records.specs.Edits.{crowded_task, edited};
+ghost use Rattle.hc_records.specs.Edits.{over_limit_task, edited};
 ghost use Rattle.hc_records.specs.Line.{line_from};
 ghost use Rattle.hc_registers.specs.Ranked.{moved_ranked};
-ghost use Rattle.hc_places.specs.Room.{IsRoomFor};
+ghost use Rattle.hc_places.specs.Room.{IsRowRoomFor};
 ghost use Rattle.hc_places.specs.Swap.{Leads};
 ghost use Rattle.hc_places.specs.Table.{table_of};
 ghost use Rattle.hc_cuts.specs.Areas.{areas_by_rank};
-ghost use Rattle.hc_cuts.specs.LineKeeping.{StandsBefore};
-ghost use Rattle.hc_cuts.specs.Kept.{line_kept};
-ghost use Rattle.hc_cuts.specs.Turn.{AreStartsOf};
+ghost use Rattle.hc_cuts.specs.LineKeeping.{IsKnownBefore};
+ghost use Rattle.hc_cuts.specs.TaskCuts.{line_cuts};
+ghost use Rattle.hc_cuts.specs.ApplyWidths.{AreStartsOf};
 ghost use Rattle.hc_changes.specs.EditedLine.{IsEditedLine};
-ghost use Rattle.hc_plan.specs.inner.Applied.{AreSeen, Makes};
-ghost use Rattle.hc_plan.specs.Reports.{Tells, name_of};
+ghost use Rattle.hc_plan.specs.inner.Applied.{AreSeen, Makes, state_before, state_after};
+ghost use Rattle.hc_plan.specs.Reports.{ReportsEdit, found_name};
 
+use crate::line_widths::{apply_line_widths, restore_line_widths};
 use crate::report::Report;
-use crate::turning::{turn_back, turn_line};
 use hc_bitsum::steps::Steps;
-use hc_changes::candidates::Candidate;
 use hc_changes::edited_line::EditedLine;
-use hc_changes::finding::candidates;
+use hc_changes::finding::maybe_moved_areas;
+use hc_changes::maybe_moved_areas::MaybeMoved;
 use hc_changes::moved::moved_blocks;
 use hc_changes::moved_areas::moved_areas;
 use hc_changes::rows::changed_rows;
@@ -40,7 +40,7 @@ use hc_registers::ranked::RankedBlock;
 use std::alloc::{AllocError, Global};
 use std::sync::ledger::{Blank, Ledger};
 
-/// What an accepted edit makes of a line: what is told of it, the boundaries of the new line's tasks, and the
+/// What an accepted edit makes of a line: what is said of it, the boundaries of the new line's tasks, and the
 /// memory for the new table.
 #[derive(Drop)]
 pub(crate) struct WorkedOut {
@@ -50,16 +50,16 @@ pub(crate) struct WorkedOut {
     pub(crate) room: Room,
 }
 
-/// What is seen of the new line, where its trees stand.
+/// What is seen of the new line, where its trees are.
 #[derive(Drop)]
 struct Seen<'a> {
-    candidates: Vec<Candidate<'a>>,
+    maybe_moved_areas: Vec<MaybeMoved<'a>>,
     tasks: Vec<ChangedTask>,
 }
 
 /// What leads from the old line to the new one, and the memory for it.
 #[derive(Drop)]
-struct Told {
+struct Leading {
     blocks: Vec<RankedBlock>,
     names: Vec<(u16, u8)>,
     swap: Swap,
@@ -76,20 +76,20 @@ fn see_new_line<'a>(
     places: &Places,
 ) -> Result<Seen<'a>, AllocError>
     requires edited_line { IsEditedLine edited_line.now }
-    requires known { StandsBefore (areas_by_rank edited_line.now.old) (areas_by_rank edited_line.now.new) known.now }
-    requires trees { cuts.now ≡ line_kept (areas_by_rank edited_line.now.new) }
+    requires known { IsKnownBefore (areas_by_rank edited_line.now.old) (areas_by_rank edited_line.now.new) known.now }
+    requires trees { cuts.now ≡ line_cuts (areas_by_rank edited_line.now.new) }
     requires table { places.now ≡ table_of (line_from 1 edited_line.now.old) }
-    ensures { IfOk result (λ seen. AreSeen edited_line.now seen.candidates.items seen.tasks.items) }
+    ensures { IfOk result (λ seen. AreSeen edited_line.now seen.maybe_moved_areas.items seen.tasks.items) }
 {
     Ok(Seen {
-        candidates: candidates(alloc, edited_line, known, cuts)?,
+        maybe_moved_areas: maybe_moved_areas(alloc, edited_line, known, cuts)?,
         tasks: changed_tasks(alloc, cuts, places, known)?,
     })
 }
 
 /// The names of blocks, in their order: each by its slave's station address and its number in the slave's order.
 fn names_of(alloc: Global, blocks: &[RankedBlock]) -> Result<Vec<(u16, u8)>, AllocError>
-    ensures { IfOk result (λ names. names.items ≡ map (λ block. name_of block.found) blocks.now) }
+    ensures { IfOk result (λ names. names.items ≡ map (λ block. found_name block.found) blocks.now) }
 {
     let mut names = Vec::with_capacity(alloc, blocks.len())?;
     for block in blocks {
@@ -98,35 +98,38 @@ fn names_of(alloc: Global, blocks: &[RankedBlock]) -> Result<Vec<(u16, u8)>, All
     Ok(names)
 }
 
-/// What leads from a line, whose trees are those given, to the one that an edit makes of it and of which this
-/// was seen. The memory for it is the last that is taken. `AllocError` where a growth was refused.
-fn tell(
+/// What leads from a line, whose trees are those given, to the one that an edit makes of it, by what was seen
+/// of that. The memory for it is the last that is taken. `AllocError` where a growth was refused.
+fn say(
     alloc: Global,
     edit: &Edit,
     edited_line: &EditedLine<'_>,
     cuts: &LineCuts,
     places: &Places,
     seen: Seen<'_>,
-) -> Result<Told, AllocError>
+) -> Result<Leading, AllocError>
     requires edit { Makes edit.now places.now edited_line.now }
-    requires accepted { crowded_task (line_from 1 edited_line.now.new) ≡ None }
-    requires trees { cuts.now ≡ line_kept (areas_by_rank edited_line.now.old) }
-    requires seen { AreSeen edited_line.now seen.candidates.items seen.tasks.items }
-    ensures blocks { IfOk result (λ told. told.blocks.items ≡ moved_ranked (line_from 1 edited_line.now.old) (line_from 1 edited_line.now.new)) }
-    ensures names { IfOk result (λ told. told.names.items ≡ map (λ block. name_of block.found) told.blocks.items) }
-    ensures edit { IfOk result (λ told. told.swap.edit ≡ edit.now) }
-    ensures leads { IfOk result (λ told. Leads (table_of (line_from 1 edited_line.now.old)) (table_of (line_from 1 edited_line.now.new)) told.swap) }
-    ensures room { IfOk result (λ told. IsRoomFor told.swap.change places.now told.room) }
+    requires accepted { over_limit_task (line_from 1 edited_line.now.new) ≡ None }
+    requires trees { cuts.now ≡ line_cuts (areas_by_rank edited_line.now.old) }
+    requires seen { AreSeen edited_line.now seen.maybe_moved_areas.items seen.tasks.items }
+    ensures blocks { IfOk result (λ answer_given. answer_given.blocks.items ≡ moved_ranked (line_from 1 edited_line.now.old) (line_from 1 edited_line.now.new)) }
+    ensures names { IfOk result (λ answer_given. answer_given.names.items ≡ map (λ block. found_name block.found) answer_given.blocks.items) }
+    ensures edit { IfOk result (λ answer_given. answer_given.swap.edit ≡ edit.now) }
+    ensures leads { IfOk result (λ answer_given. Leads (table_of (line_from 1 edited_line.now.old)) (table_of (line_from 1 edited_line.now.new)) answer_given.swap) }
+    ensures room { IfOk result (λ answer_given. IsRowRoomFor answer_given.swap.change places.now answer_given.room) }
 {
-    let Seen { candidates, tasks } = seen;
-    let moved_areas = moved_areas(alloc, edited_line, cuts, candidates.as_slice())?;
+    let Seen {
+        maybe_moved_areas,
+        tasks,
+    } = seen;
+    let moved_areas = moved_areas(alloc, edited_line, cuts, maybe_moved_areas.as_slice())?;
     let moving = moved_areas.as_slice();
     let blocks = moved_blocks(alloc, edited_line, moving)?;
     let names = names_of(alloc, blocks.as_slice())?;
     let rows = changed_rows(alloc, places, moving, edited_line.change())?;
     let swap = Swap::of(alloc, edit, tasks, rows)?;
     let room = places.room_for(alloc, &swap)?;
-    Ok(Told {
+    Ok(Leading {
         blocks,
         names,
         swap,
@@ -149,34 +152,34 @@ pub(crate) fn work_out<L: Ledger>(
     requires parts { blank.parts ≡ L.parts }
     requires one { L.parts ≡ 1 }
     requires edit { Makes edit.now places.now edited_line.now }
-    requires trees { cuts.old ≡ line_kept (areas_by_rank edited_line.now.old) }
-    ensures fits { OnOk result (crowded_task (line_from 1 edited_line.now.new) ≡ None) }
+    requires trees { cuts.old ≡ line_cuts (areas_by_rank edited_line.now.old) }
+    ensures fits { OnOk result (over_limit_task (line_from 1 edited_line.now.new) ≡ None) }
     ensures starts { IfOk result (λ worked. AreStartsOf (areas_by_rank edited_line.now.new) worked.starts) }
-    ensures report { IfOk result (λ worked. Tells (record { groups = edited_line.now.old; epoch = epoch }) edit.now (record { groups = edited_line.now.new; epoch = epoch + 1 }) worked.report) }
+    ensures report { IfOk result (λ worked. ReportsEdit (state_before epoch edited_line.now) edit.now (state_after epoch edited_line.now) worked.report) }
     ensures blocks { IfOk result (λ worked. worked.blocks.items ≡ moved_ranked (line_from 1 edited_line.now.old) (line_from 1 edited_line.now.new)) }
-    ensures room { IfOk result (λ worked. IsRoomFor worked.report.swap.change places.now worked.room) }
-    ensures accepted { OnOk result (edited (record { groups = edited_line.now.old; epoch = epoch }) edit.now ≡ Ok (record { groups = edited_line.now.new; epoch = epoch + 1 })) }
-    ensures refused { IfErr result (λ fault. fault ≢ Memory → edited (record { groups = edited_line.now.old; epoch = epoch }) edit.now ≡ Err fault) }
+    ensures room { IfOk result (λ worked. IsRowRoomFor worked.report.swap.change places.now worked.room) }
+    ensures accepted { OnOk result (edited (state_before epoch edited_line.now) edit.now ≡ Ok (state_after epoch edited_line.now)) }
+    ensures refused { IfErr result (λ fault. fault ≢ Memory → edited (state_before epoch edited_line.now) edit.now ≡ Err fault) }
     ensures unchanged { cuts.new ≡ cuts.old }
 {
     let mut steps: Steps<L> = Steps::start(blank);
     let known = Before::of(cuts, edited_line.change());
-    let unsettled = match turn_line(cuts, edited_line, &mut steps) {
+    let unsettled = match apply_line_widths(cuts, edited_line, &mut steps) {
         Ok(unsettled) => unsettled,
         Err(task) => return Err(EditFault::TooManyDatagrams(task)),
     };
     let seen = see_new_line(alloc, edited_line, &known, cuts, places);
     let starts = cuts.copied_starts();
-    turn_back(cuts, edited_line, &known);
+    restore_line_widths(cuts, edited_line, &known);
     if epoch == LAST_EPOCH {
         return Err(EditFault::EpochsSpent);
     }
-    let Told {
+    let Leading {
         blocks,
         names,
         swap,
         room,
-    } = tell(alloc, edit, edited_line, cuts, places, seen?)?;
+    } = say(alloc, edit, edited_line, cuts, places, seen?)?;
     let report = Report {
         epoch: epoch + 1,
         recut: unsettled,

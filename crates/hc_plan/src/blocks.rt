@@ -15,7 +15,7 @@ use hc_registers::blocks::Block;
 pub use hc_registers::blocks::LineBlock;
 
 /// One of the two blocks of the area at an index of a slave with a rank: the sync manager block for an
-/// even number, the FMMU block for an odd one. The layout tells the area's width, so no PDO is read.
+/// even number, the FMMU block for an odd one. The layout gives the area's width, so no PDO is read.
 fn area_block(layout: &PlacedLine, rank: u16, index: u8, area: &Area, number: u8) -> Block
     requires index { index < MOST_AREAS }
     requires area { IsMappedArea layout.now rank index area.now }

@@ -1,5 +1,5 @@
-//! A group that is declared behind those of a plan: whether it may be, and the memory for it, which is taken
-//! before anything changes.
+//! A group that is declared after the groups of a plan: whether it may be, and the memory for it, which is
+//! taken before anything changes.
 ghost use Rattle.std.specs.Prelude.{◌≡◌, ◌≢◌, ◌+◌, ◌<◌, ◌≤◌, ◌==◌, ℕ, IfErr, IfOk, List, None, OnOk, Some, length};
 ghost use Rattle.std.specs.List.{list_any};
 ghost use Rattle.hc_records.specs.declared.faults.EditFault.TheVariants.{Memory};
@@ -9,9 +9,9 @@ ghost use Rattle.hc_records.specs.declared.records.Area.{Area};
 ghost use Rattle.hc_records.specs.Line.{groups_of};
 ghost use Rattle.hc_records.specs.Lists.{lowest};
 ghost use Rattle.hc_records.specs.Project.{lowest_fault, slave_names};
-ghost use Rattle.hc_cuts.specs.Kept.{line_kept};
+ghost use Rattle.hc_cuts.specs.TaskCuts.{line_cuts};
 ghost use Rattle.hc_cuts.specs.Room.{AreOfFewer, with_absent};
-ghost use Rattle.hc_plan.specs.inner.Declaring.{AreTrees, TellsNothing, areas_take, limit_faults, names_taken, pdos_take, taken_faults};
+ghost use Rattle.hc_plan.specs.inner.Declaring.{AreTrees, ShowsNothing, areas_take, limit_faults, names_taken, pdos_take, taken_faults};
 
 use crate::report::Report;
 use hc_cuts::tasks::LineCuts;
@@ -26,8 +26,8 @@ use hc_records::records::{Area, Declared, Entry, Group, Pdo, Slave};
 use hc_records::room::Room;
 use std::alloc::{AllocError, Global};
 
-/// A group that may be declared behind those of a plan, and memory for it in what the plan keeps. Its drop is
-/// written out, so that those who own a prepared edit don't open it wherever they let it go.
+/// A group that may be declared after the groups of a plan, and memory for it in what the plan keeps. Its
+/// drop is written out, so that those who own a prepared edit don't open it wherever they let it go.
 pub(crate) struct Declaration {
     pub(crate) group: Group,
     // how many slaves are declared with it
@@ -118,7 +118,7 @@ fn stations_taken(groups: &Indexed<'_>, slaves: &[Slave]) -> bool
         .any(|slave| groups.is_declared_station(slave.station))
 }
 
-/// The lowest fault of a group that is declared behind others by what these have already, none where it has
+/// The lowest fault of a group that is declared after others by what these have already, none where it has
 /// none. It takes no memory.
 fn taken_fault(groups: &Indexed<'_>, group: &Group) -> Option<EditFault>
     ensures { result ≡ lowest (taken_faults groups.now group.now) }
@@ -149,7 +149,7 @@ fn limit_fault(groups: usize, slaves: usize, group: &Group) -> Option<EditFault>
     None
 }
 
-/// A copy of a group that may be declared behind others. Otherwise the lowest of its faults, 30 to 35, or
+/// A copy of a group that may be declared after others. Otherwise the lowest of its faults, 30 to 35, or
 /// `Memory` where a growth was refused.
 fn free_group(
     alloc: Global,
@@ -197,11 +197,11 @@ impl Declaration {
     ghost use Rattle.hc_records.specs.Lists.{lowest};
     ghost use Rattle.hc_records.specs.Project.{lowest_fault};
     ghost use Rattle.hc_cuts.specs.Areas.{areas_by_rank};
-    ghost use Rattle.hc_cuts.specs.Kept.{line_kept};
+    ghost use Rattle.hc_cuts.specs.TaskCuts.{line_cuts};
     ghost use Rattle.hc_groups.specs.Index.{IsIndexOf};
     ghost use Rattle.hc_plan.specs.inner.Declaring.{CanDeclare};
 
-    /// What declaring a group behind those of a project takes, all of it beside them. Otherwise the lowest of the
+    /// What declaring a group after those of a project takes, all of it beside them. Otherwise the lowest of the
     /// group's faults, 30 to 35, or `Memory` where a growth was refused.
     pub(crate) fn of(
         alloc: Global,
@@ -211,7 +211,7 @@ impl Declaration {
         group: &Group,
     ) -> Result<Declaration, EditFault>
         requires index { IsIndexOf groups.now index.now }
-        requires cuts { cuts.now ≡ line_kept (areas_by_rank groups.now) }
+        requires cuts { cuts.now ≡ line_cuts (areas_by_rank groups.now) }
         ensures group { IfOk result (λ declaration. declaration.group ≡ group.now) }
         ensures ready { IfOk result (CanDeclare groups.now) }
         ensures refused { IfErr result (λ fault. fault ≢ Memory → lowest (declaring_faults groups.now group.now) ≡ Some fault) }
@@ -228,7 +228,7 @@ impl Declaration {
         })
     }
 
-    /// Declares the group behind those that it was made for: it is absent. Nothing can be refused.
+    /// Declares the group after those that it was made for: it is absent. Nothing can be refused.
     pub(crate) fn carry_out(
         self,
         groups: &mut Items<Declared>,
@@ -237,10 +237,10 @@ impl Declaration {
     )
         requires ready { CanDeclare groups.old self }
         requires index { IsIndexOf groups.old index.old }
-        requires cuts { cuts.old ≡ line_kept (areas_by_rank groups.old) }
+        requires cuts { cuts.old ≡ line_cuts (areas_by_rank groups.old) }
         ensures groups { groups.new ≡ groups.old ++ absent self.group ∷ [] }
         ensures index { IsIndexOf groups.new index.new }
-        ensures cuts { cuts.new ≡ line_kept (areas_by_rank groups.new) }
+        ensures cuts { cuts.new ≡ line_cuts (areas_by_rank groups.new) }
     {
         let Declaration {
             group,
@@ -265,7 +265,7 @@ impl Declaration {
 fn put_trees(cuts: &mut LineCuts, slaves: u16, wider: Option<LineCuts>)
     requires fewer { AreOfFewer cuts.old slaves }
     requires trees { AreTrees cuts.old slaves wider }
-    ensures { (line : List (List Area)) (count : ℕ) → cuts.old ≡ line_kept line → slaves ≡ length line + count → cuts.new ≡ line_kept (with_absent count line) }
+    ensures { (line : List (List Area)) (count : ℕ) → cuts.old ≡ line_cuts line → slaves ≡ length line + count → cuts.new ≡ line_cuts (with_absent count line) }
 {
     match wider {
         Some(trees) => *cuts = trees,
@@ -273,7 +273,7 @@ fn put_trees(cuts: &mut LineCuts, slaves: u16, wider: Option<LineCuts>)
     }
 }
 
-/// What is told of a declared group: the epoch that begins with it, and nothing that becomes different. `AllocError`
+/// What is said of a declared group: the epoch that begins with it, and nothing that becomes different. `AllocError`
 /// where a growth was refused.
 pub(crate) fn declared_report(
     alloc: Global,
@@ -283,7 +283,7 @@ pub(crate) fn declared_report(
 ) -> Result<Report, AllocError>
     requires project { lowest_fault (groups_of groups.now) ≡ None }
     requires epoch { epoch < LAST_EPOCH }
-    ensures { IfOk result (TellsNothing (record { groups = groups.now; epoch = epoch }) edit.now) }
+    ensures { IfOk result (ShowsNothing (record { groups = groups.now; epoch = epoch }) edit.now) }
 {
     let swap = Swap::of(alloc, edit, Vec::new(alloc), Vec::new(alloc))?;
     Ok(Report {

@@ -3,7 +3,7 @@
 ghost use Rattle.hc_plan.specs.Laws.{BlocksAreConfigured, UnmovedBlocksStay};
 
 /// In a line whose slaves have distinct station addresses, as those of a project have, a block is the
-/// one with a number of the slave with a station address exactly where it stands, with that station
+/// one with a number of the slave with a station address exactly where it is, with that station
 /// address and number, among the blocks of the line.
 pub fn blocks_are_configured()
     ensures { BlocksAreConfigured }

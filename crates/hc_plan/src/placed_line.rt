@@ -1,4 +1,4 @@
-//! Where the areas of a line stand and how wide they are: read from the trees of its tasks, for the register blocks.
+//! Where the areas of a line are and how wide they are: read from the trees of its tasks, for the register blocks.
 use hc_cuts::packing::Placed;
 use hc_cuts::tasks::LineCuts;
 use hc_records::keys::Key;
@@ -20,13 +20,13 @@ impl<'a> Model for PlacedLine<'a> {
     ghost use Rattle.hc_records.specs.Packing.{Placed};
     ghost use Rattle.hc_places.specs.Layout.{layout_of};
     ghost use Rattle.hc_cuts.specs.Areas.{areas_by_rank};
-    ghost use Rattle.hc_cuts.specs.Kept.{line_kept};
+    ghost use Rattle.hc_cuts.specs.TaskCuts.{line_cuts};
 
     ghost Value = { List (List Placed) };
 
     ghost view = { λ placed_line. layout_of (line_from 1 placed_line.groups.now) };
 
-    ghost invariant = { λ placed_line. placed_line.cuts.now ≡ line_kept (areas_by_rank placed_line.groups.now) };
+    ghost invariant = { λ placed_line. placed_line.cuts.now ≡ line_cuts (areas_by_rank placed_line.groups.now) };
 }
 
 impl<'a> PlacedLine<'a> {
@@ -34,18 +34,18 @@ impl<'a> PlacedLine<'a> {
     ghost use Rattle.hc_records.specs.Line.{line_from};
     ghost use Rattle.hc_places.specs.Layout.{layout_of, placed_in};
     ghost use Rattle.hc_cuts.specs.Areas.{areas_by_rank};
-    ghost use Rattle.hc_cuts.specs.Kept.{line_kept};
+    ghost use Rattle.hc_cuts.specs.TaskCuts.{line_cuts};
     ghost use Rattle.hc_plan.specs.inner.Blocks.{bits_in};
 
     /// Those of the line of these groups, whose tasks are kept in these trees.
     pub(crate) fn of(groups: &'a [Declared], cuts: &'a LineCuts) -> PlacedLine<'a>
-        requires { cuts.now ≡ line_kept (areas_by_rank groups.now) }
+        requires { cuts.now ≡ line_cuts (areas_by_rank groups.now) }
         ensures { result ≡ layout_of (line_from 1 groups.now) }
     {
         PlacedLine { groups, cuts }
     }
 
-    /// Where the area with a key stands in a task; none where the task has no such area, or the area has 0 bits. It takes no memory.
+    /// Where the area with a key is in a task; none where the task has no such area, or the area has 0 bits. It takes no memory.
     pub(crate) fn placed(&self, task: Task, key: Key) -> Option<Placed>
         ensures { result ≡ placed_in self.now task key }
     {

@@ -7,11 +7,11 @@ ghost use Rattle.hc_records.specs.Line.{opened_group};
 use crate::applying::work_out;
 use crate::blocks::{LineBlock, block_at, block_of_rank, nth_block};
 use crate::declaring::{Declaration, declared_report};
+use crate::line_widths::apply_known_widths;
 use crate::placed_line::PlacedLine;
 use crate::prepared::PreparedEdit;
 use crate::report::Report;
 use crate::shares::share_of;
-use crate::turning::turn_on;
 use crate::work::{LineWork, Work};
 use hc_changes::edited_line::EditedLine;
 use hc_cuts::tasks::LineCuts;
@@ -83,19 +83,19 @@ impl Drop for Plan {
 
 impl Model for Plan {
     ghost use Rattle.std.specs.Prelude.{◌≡◌, None};
-    ghost use Rattle.hc_records.specs.Edits.{crowded_task};
+    ghost use Rattle.hc_records.specs.Edits.{over_limit_task};
     ghost use Rattle.hc_records.specs.Line.{State, groups_of, line_from};
     ghost use Rattle.hc_records.specs.Project.{lowest_fault};
     ghost use Rattle.hc_places.specs.Table.{table_of};
     ghost use Rattle.hc_cuts.specs.Areas.{areas_by_rank};
-    ghost use Rattle.hc_cuts.specs.Kept.{line_kept};
+    ghost use Rattle.hc_cuts.specs.TaskCuts.{line_cuts};
     ghost use Rattle.hc_groups.specs.Index.{IsIndexOf};
 
     ghost Value = { State };
 
     ghost view = { λ plan. record { groups = plan.groups; epoch = plan.epoch } };
 
-    ghost invariant = { λ plan. (lowest_fault (groups_of plan.groups) ≡ None) × (crowded_task (line_from 1 plan.groups) ≡ None) × (plan.places ≡ table_of (line_from 1 plan.groups)) × (plan.cuts ≡ line_kept (areas_by_rank plan.groups)) × IsIndexOf plan.groups plan.index };
+    ghost invariant = { λ plan. (lowest_fault (groups_of plan.groups) ≡ None) × (over_limit_task (line_from 1 plan.groups) ≡ None) × (plan.places ≡ table_of (line_from 1 plan.groups)) × (plan.cuts ≡ line_cuts (areas_by_rank plan.groups)) × IsIndexOf plan.groups plan.index };
 }
 
 impl Plan {
@@ -107,18 +107,18 @@ impl Plan {
     ghost use Rattle.hc_records.specs.TaskList.{task_list};
     ghost use Rattle.std.specs.List.{zip};
     ghost use Rattle.hc_records.specs.declared.edit.Edit.TheVariants.{Declare, Remap};
-    ghost use Rattle.hc_records.specs.Edits.{crowded_task, declares, edited, state_after_all};
+    ghost use Rattle.hc_records.specs.Edits.{over_limit_task, declares, edited, state_after_all};
     ghost use Rattle.hc_records.specs.Line.{groups_of, line, opened};
     ghost use Rattle.hc_records.specs.Project.{lowest_fault};
     ghost use Rattle.hc_groups.specs.Edits.{own_fault};
-    ghost use Rattle.hc_places.specs.Layout.{NamesCrowded};
+    ghost use Rattle.hc_places.specs.Layout.{NamesOverLimit};
     ghost use Rattle.hc_groups.specs.Changes.{changed_groups};
     ghost use Rattle.hc_plan.specs.declared.work.Work.TheVariants.{NewLine};
     ghost use Rattle.hc_plan.specs.inner.Blocks.{IsLayoutOf};
-    ghost use Rattle.hc_plan.specs.inner.Prepared.{CanCarry, left_by};
+    ghost use Rattle.hc_plan.specs.inner.Prepared.{CanCarry, groups_left_by};
     ghost use Rattle.hc_plan.specs.Prepared.{IsPrepared};
     ghost use Rattle.hc_plan.specs.Configuration.{block_at, block_of_rank, config, line_block_at, position_of, station_at};
-    ghost use Rattle.hc_plan.specs.Reports.{AreAnswers, Tells, carried_out};
+    ghost use Rattle.hc_plan.specs.Reports.{AreAnswers, ReportsEdit, carried_out};
     ghost use Rattle.hc_plan.specs.Shares.{share_at};
 
     /// The plan of a project at its opening: the mandatory group alone is present and the epoch is 0.
@@ -126,8 +126,8 @@ impl Plan {
     /// growth was refused; the project is then dropped.
     pub fn new(alloc: Global, project: Project) -> Result<Plan, EditFault>
         ensures state { IfOk result (λ plan. plan ≡ opened project) }
-        ensures accepted { OnOk result (crowded_task (line (opened project)) ≡ None) }
-        ensures refused { IfErr result (NamesCrowded (line (opened project))) }
+        ensures accepted { OnOk result (over_limit_task (line (opened project)) ≡ None) }
+        ensures refused { IfErr result (NamesOverLimit (line (opened project))) }
     {
         let groups = opened_groups(alloc, project.into_groups().into_vec())?;
         let index = Index::new(alloc, groups.as_slice())?;
@@ -153,8 +153,8 @@ impl Plan {
     /// condition holds of them, and no task of the line needs more than 16 datagrams. It takes no memory.
     pub fn groups(&self) -> &[Declared]
         ensures value { result.now ≡ self.now.groups }
-        ensures kept { lowest_fault (groups_of self.now.groups) ≡ None }
-        ensures uncrowded { crowded_task (line self.now) ≡ None }
+        ensures unchanged { lowest_fault (groups_of self.now.groups) ≡ None }
+        ensures uncrowded { over_limit_task (line self.now) ≡ None }
     {
         self.groups.as_slice()
     }
@@ -163,8 +163,8 @@ impl Plan {
     /// holds of the declared groups, and no task of the line needs more than 16 datagrams.
     pub fn places(&self) -> &Places
         ensures table { result.now ≡ (config (line self.now)).table }
-        ensures kept { lowest_fault (groups_of self.now.groups) ≡ None }
-        ensures uncrowded { crowded_task (line self.now) ≡ None }
+        ensures unchanged { lowest_fault (groups_of self.now.groups) ≡ None }
+        ensures uncrowded { over_limit_task (line self.now) ≡ None }
     {
         &self.places
     }
@@ -179,7 +179,7 @@ impl Plan {
     }
 
     /// The block with a number, from 0, in the order of the slave with a rank, counted from 1 over all declared slaves,
-    /// present or not: the block that `block` tells by the slave's station address. None where the slave isn't present
+    /// present or not: the block that `block` gives by the slave's station address. None where the slave isn't present
     /// or has fewer blocks. It takes no memory.
     pub fn block_of_rank(&self, rank: u16, number: u8) -> Option<LineBlock>
         ensures { result ≡ block_of_rank (line self.now) rank number }
@@ -210,8 +210,8 @@ impl Plan {
         nth_block(&self.indexed(), &self.placed_line(), n)
     }
 
-    /// The keys at which the datagrams of a task, 0 to 7, begin in the present line: `Key::START`, with which the
-    /// first one begins if there is one, and a key for each later one. With `Key::END` behind them they are the
+    /// The keys where the datagrams of a task, 0 to 7, begin in the present line: `Key::START`, with which the
+    /// first one begins if there is one, and a key for each later one. With `Key::END` after them they are the
     /// task's boundaries. It takes no memory.
     pub fn starts(&self, task: u8) -> &[Key]
         requires { task < TASKS }
@@ -226,8 +226,7 @@ impl Plan {
     pub fn station(&self, n: u32) -> Option<u16>
         ensures { result ≡ station_at (line self.now) n }
     {
-        let slave = self.indexed().nth(n as usize)?;
-        Some(slave.slave().station)
+        self.indexed().station(n as usize)
     }
 
     /// The position in the line, from 0, of the slave with a station address: `UnknownStation` where no
@@ -270,7 +269,7 @@ impl Plan {
         self.index.of(self.groups.as_slice())
     }
 
-    /// Where the areas of the line stand.
+    /// Where the areas of the line are.
     fn placed_line(&self) -> PlacedLine<'_>
         ensures { IsLayoutOf self.now.groups result }
     {
@@ -361,8 +360,8 @@ impl Plan {
         })
     }
 
-    /// Carries a prepared edit out in the plan that it was worked out on, as it was then: the plan is that of the new
-    /// line, and the report tells what became different. It takes no memory, and nothing can be refused.
+    /// Carries a prepared edit out in the plan that it was worked out on, as it was then: the plan has the new line,
+    /// and the report says what became different. It takes no memory, and nothing can be refused.
     pub fn carry_out(&mut self, prepared: PreparedEdit) -> Report
         requires { prepared.old ≡ self.old }
         ensures plan { self.new ≡ prepared.new }
@@ -382,7 +381,7 @@ impl Plan {
     /// Carries out what was worked out of an edit; the epoch stays.
     fn carry_work(&mut self, work: Work, report: &Report)
         requires { CanCarry self.old report.now work }
-        ensures { self.new ≡ record self.old { groups = left_by work self.old.groups } }
+        ensures { self.new ≡ record self.old { groups = groups_left_by work self.old.groups } }
     {
         match work {
             Work::NewLine(line) => self.change_line(line, report),
@@ -404,7 +403,7 @@ impl Plan {
         } = work;
         let groups = self.index.of(self.groups.as_slice());
         let edited_line = EditedLine::of(&groups, &change);
-        turn_on(&mut self.cuts, &edited_line, &starts);
+        apply_known_widths(&mut self.cuts, &edited_line, &starts);
         drop(edited_line);
         drop(groups);
         self.index.follow(self.groups.as_slice(), &change);
@@ -412,13 +411,13 @@ impl Plan {
         self.places.carry_out(&report.swap, rows);
     }
 
-    /// Carries an edit out: the plan is then that of the new line, and the report tells what became
-    /// different. Otherwise the lowest fault whose condition holds, or `Memory` where a growth was
-    /// refused; the plan is then as it was. A fault that the edit has by itself, of the faults 1 to 11,
-    /// is judged before the first growth.
+    /// Carries an edit out: the plan then has the new line, and the report says what became different.
+    /// Otherwise the lowest fault whose condition holds, or `Memory` where a growth was refused; the
+    /// plan is then as it was. A fault that the edit has by itself, of the faults 1 to 11, is judged
+    /// before the first growth.
     pub fn apply(&mut self, alloc: Global, edit: &Edit) -> Result<Report, EditFault>
         ensures accepted { OnOk result (edited self.old edit.now ≡ Ok self.new) }
-        ensures report { IfOk result (Tells self.old edit.now self.new) }
+        ensures report { IfOk result (ReportsEdit self.old edit.now self.new) }
         ensures refused { IfErr result (λ fault. fault ≢ Memory → edited self.old edit.now ≡ Err fault) }
         ensures own { IfSome (own_fault self.old.groups edit.now) (λ fault. result ≡ Err fault) }
         ensures unchanged { OnErr result (self.new ≡ self.old) }

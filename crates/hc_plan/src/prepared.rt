@@ -25,13 +25,13 @@ pub struct PreparedEdit {
 
 impl Model for PreparedEdit {
     ghost use Rattle.hc_plan.specs.Prepared.{IsPrepared, PreparedEdit};
-    ghost use Rattle.hc_plan.specs.inner.Prepared.{IsReady, prepared_of};
+    ghost use Rattle.hc_plan.specs.inner.Prepared.{IsWorkReady, prepared_of};
 
     ghost Value = { PreparedEdit };
 
     ghost view = { λ it. prepared_of it.was.value it.work it.report it.blocks.items };
 
-    ghost invariant = { λ it. IsPrepared (prepared_of it.was.value it.work it.report it.blocks.items) × IsReady it.was.value it.report it.work };
+    ghost invariant = { λ it. IsPrepared (prepared_of it.was.value it.work it.report it.blocks.items) × IsWorkReady it.was.value it.report it.work };
 }
 
 /// No slave leaves.

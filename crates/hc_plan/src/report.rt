@@ -12,7 +12,7 @@ pub struct Report {
     /// How many blocks of the new line weren't blocks with the same bytes at the same register of the
     /// same slave in the old line.
     pub moved: u32,
-    /// What turns the table of the old line into that of the new one.
+    /// What turns the table of the old line into the new line's.
     pub swap: Swap,
     /// The moved blocks, in line order and block order: each by its slave's station address and its
     /// number in the slave's order, from 0.

@@ -6,7 +6,7 @@ ghost use Rattle.hc_records.specs.declared.limits.TheConstants.{MOST_AREAS};
 ghost use Rattle.hc_records.specs.Line.{line_from};
 ghost use Rattle.hc_plan.specs.Shares.{SharesAddUp, share_of};
 ghost use Rattle.hc_plan.specs.inner.Blocks.{IsLayoutOf};
-ghost use Rattle.hc_plan.specs.inner.Shares.{is_carried, share_in};
+ghost use Rattle.hc_plan.specs.inner.Shares.{is_area_in, share_in};
 
 use crate::placed_line::PlacedLine;
 use hc_groups::index::Indexed;
@@ -24,7 +24,7 @@ fn is_carried(
     index: u8,
     area: &Area,
 ) -> bool
-    ensures { result ≡ is_carried layout.now (task, datagram) dir rank (index, area.now) }
+    ensures { result ≡ is_area_in layout.now (task, datagram) dir rank (index, area.now) }
 {
     if area.task != task.number() || area.dir != dir {
         return false;
@@ -40,8 +40,8 @@ fn is_carried(
     }
 }
 
-/// Whether one of the areas of a slave with a rank, the first of which has an index, has a direction and lies in the
-/// datagram. A slave has 8 areas at most, so deep is this recursion.
+/// Whether one of the areas of a slave with a rank, from an index on, has a direction and lies in the datagram. A
+/// slave has 8 areas at most, so deep is this recursion.
 fn has_area(
     layout: &PlacedLine,
     task: Task,
@@ -52,7 +52,7 @@ fn has_area(
     areas: &[Area],
 ) -> bool
     requires { index + length areas.now ≤ MOST_AREAS }
-    ensures { result ≡ list_any (is_carried layout.now (task, datagram) dir rank) (enumerate_from index areas.now) }
+    ensures { result ≡ list_any (is_area_in layout.now (task, datagram) dir rank) (enumerate_from index areas.now) }
 {
     match areas {
         [] => false,

@@ -1,4 +1,4 @@
--- An input that isn't read is told nothing of.
+-- Nothing is said of an input that isn't read.
 use Rattle.std.proofs.Common.{ℕ, Bool, List, inl, refl, Some, None}
 use Rattle.std.specs.Prelude.{IfSome, Option}
 use Rattle.hc_text.specs.declared.input.Unread.{Unread}

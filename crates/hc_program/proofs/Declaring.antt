@@ -1,4 +1,4 @@
--- The first turn of command lines, and the turns behind it.
+-- The first turn of command lines, and the turns after it.
 use Rattle.std.proofs.Common.{◌≡◌, ℕ, ◌+◌, Bool, true, false, not, cond, List, [], ◌∷◌, refl, ap, ◌∙◌}
 use Rattle.std.specs.Prelude.{Option, Some}
 use Rattle.hc_text.specs.Cutting.{CutsLine, lines_after}
@@ -10,7 +10,7 @@ inside_step : (b : Bool) (lines : List Line) → turns_from true lines ≡ turns
 inside_step true lines known = refl
 inside_step false lines known = known
 
--- the turns behind a document are those of the lines behind its last
+-- the turns after a document are those of the lines after its last
 inside_document : (lines : List Line) → turns_from true lines ≡ turns_from false (command_lines lines)
 inside_document [] = refl
 inside_document (line ∷ lines) = inside_step (is_mark line) lines (inside_document lines)

@@ -12,56 +12,56 @@ use Rattle.hc_events.specs.declared.answer.Answer.TheVariants as answer
 use Rattle.hc_events.specs.declared.faults.CoreFault.{CoreFault}
 use Rattle.hc_events.specs.declared.faults.CoreFault.TheVariants.{Memory}
 use Rattle.hc_events.specs.declared.answer.Outcome.{Outcome}
-use Rattle.hc_events.specs.Answering.{Judged, Sending, Verdict, Good, Wrong, Stale, answered_by, is_news, judge, judged, judged_by}
+use Rattle.hc_events.specs.Answering.{Judged, Sending, Verdict, Good, Wrong, Stale, answered_by, is_current, judge, judged, judged_by}
 use Rattle.hc_events.specs.Arrivals.{Arrival, arrival_in}
 use Rattle.hc_events.specs.Calls.{IsAnswered, MayAnswer}
-use Rattle.hc_events.specs.Entries.{Record, Edited}
+use Rattle.hc_events.specs.Entries.{History, Edited}
 use Rattle.hc_events.specs.Heads.{is_block}
 use Rattle.hc_events.specs.Points.{next_serial, state_of}
-use Rattle.hc_events.specs.Steps.{Step, Arrives, Edits, answer_to, edit_refused, entries_after, kept_if, outcome_for, told_of, told_of_arrival, told_of_block, told_of_blocks, told_of_edit, unless, with_arrival}
+use Rattle.hc_events.specs.Steps.{Step, Arrives, Edits, answer_to, edit_refused, entries_after, unless_fault, outcome_for, judged_answer, arrival_answer, write_answer, judged_blocks_answer, edit_answer, unless, with_arrival}
 use Rattle.hc_records.specs.Edits.{state_after}
 use Rattle.hc_records.specs.Line.{State}
-use Rattle.hc_segment.specs.Machines.{machines_behind_edit}
-use Rattle.hc_program.specs.Answers.{answer_text, told}
-use Rattle.hc_program.specs.Standings.{Standing, edited, edited_unless, with_machines, with_past}
+use Rattle.hc_segment.specs.Machines.{machines_after_edit}
+use Rattle.hc_program.specs.Answers.{answer_text, answer_given}
+use Rattle.hc_program.specs.Standings.{SessionState, session_edited, edited_unless, with_machines, session_with_history}
 
--- an answer that isn't want of memory is the event's
-answered : (past next : Record) (step : Step) (given : Answer) → MayAnswer past step given next → given ≢ answer.Refused Memory → IsAnswered past step given next
-answered past next step given (inl is) other = is
-answered past next step given (inr wanting) other = absurd (other wanting.answer)
+-- an answer other than `Memory` is the event's
+answered : (history next : History) (step : Step) (given : Answer) → MayAnswer history step given next → given ≢ answer.Refused Memory → IsAnswered history step given next
+answered history next step given (inl is) other = is
+answered history next step given (inr wanting) other = absurd (other wanting.answer)
 
 pub other_fault : (fault : CoreFault) → fault ≢ Memory → answer.Refused fault ≢ answer.Refused Memory
 other_fault fault other e = let same : fault ≡ Memory = cc in other same
 
 -- so it is printed, and so the record is left
-pub printed_as : (past next : Record) (step : Step) (given : Answer) → MayAnswer past step given next → given ≢ answer.Refused Memory → told past step ≡ answer_text (next_serial past) given
-unfolding told
-printed_as past next step given may other = sym (ap (answer_text (next_serial past)) (answered past next step given may other).answer)
+pub printed_as : (history next : History) (step : Step) (given : Answer) → MayAnswer history step given next → given ≢ answer.Refused Memory → answer_given history step ≡ answer_text (next_serial history) given
+unfolding answer_given
+printed_as history next step given may other = sym (ap (answer_text (next_serial history)) (answered history next step given may other).answer)
 
-left_as : (past next : Record) (step : Step) (given : Answer) → MayAnswer past step given next → given ≢ answer.Refused Memory → next ≡ entries_after past step
-left_as past next step given may other = (answered past next step given may other).entries
+left_as : (history next : History) (step : Step) (given : Answer) → MayAnswer history step given next → given ≢ answer.Refused Memory → next ≡ entries_after history step
+left_as history next step given may other = (answered history next step given may other).entries
 
--- a refused event leaves the record, whether its own fault refuses it or want of memory
-pub refused_stays : (past next : Record) (step : Step) (fault : CoreFault) → (answer_to past step ≡ answer.Refused fault → entries_after past step ≡ past) → MayAnswer past step (answer.Refused fault) next → next ≡ past
-refused_stays past next step fault stays (inl is) = is.entries ∙ stays (sym is.answer)
-refused_stays past next step fault stays (inr wanting) = wanting.entries
+-- a refused event leaves the history, whether its own fault refuses it or `Memory`
+pub refused_stays : (history next : History) (step : Step) (fault : CoreFault) → (answer_to history step ≡ answer.Refused fault → entries_after history step ≡ history) → MayAnswer history step (answer.Refused fault) next → next ≡ history
+refused_stays history next step fault stays (inl is) = is.entries ∙ stays (sym is.answer)
+refused_stays history next step fault stays (inr wanting) = wanting.entries
 
 abbrev is_refusal : Answer → Bool
 is_refusal (answer.Refused fault) = true
 is_refusal _ = false
 
-unless_stays : (found : Option CoreFault) (given : Answer) (fault : CoreFault) (past next : Record) → is_refusal given ≡ false → unless found given ≡ answer.Refused fault → kept_if found past next ≡ past
-unless_stays None given fault past next plain e = let is : is_refusal given ≡ true = ap is_refusal e in cc
-unless_stays (Some other) given fault past next plain e = refl
+unless_stays : (found : Option CoreFault) (given : Answer) (fault : CoreFault) (history next : History) → is_refusal given ≡ false → unless found given ≡ answer.Refused fault → unless_fault found history next ≡ history
+unless_stays None given fault history next plain e = let is : is_refusal given ≡ true = ap is_refusal e in cc
+unless_stays (Some other) given fault history next plain e = refl
 
 -- a refused edit
-pub edit_stays : (past : Record) (edit : Edit) (fault : CoreFault) → answer_to past (Edits edit) ≡ answer.Refused fault → entries_after past (Edits edit) ≡ past
-edit_stays past edit fault e =
-    unless_stays (edit_refused past edit) (told_of_edit (state_of past) (state_after (state_of past) edit)) fault past (Edited edit ∷ past) refl e
+pub edit_stays : (history : History) (edit : Edit) (fault : CoreFault) → answer_to history (Edits edit) ≡ answer.Refused fault → entries_after history (Edits edit) ≡ history
+edit_stays history edit fault e =
+    unless_stays (edit_refused history edit) (edit_answer (state_of history) (state_after (state_of history) edit)) fault history (Edited edit ∷ history) refl e
 
 -- where nothing but the record may have changed, and it hasn't
-pub stays_put : (s next : Standing) → next ≡ with_past s next.past → next.past ≡ s.past → next ≡ s
-stays_put s next rest went = rest ∙ ap (with_past s) went
+pub stays_put : (s next : SessionState) → next ≡ session_with_history s next.history → next.history ≡ s.history → next ≡ s
+stays_put s next rest went = rest ∙ ap (session_with_history s) went
 
 -- where an edit leaves the run
 
@@ -69,63 +69,63 @@ accepted : (found : Option CoreFault) (given : Answer) (epoch recut moved : ℕ)
 accepted None given epoch recut moved e = refl
 accepted (Some fault) given epoch recut moved e = cc
 
-edit_accepted : (past next : Record) (edit : Edit) (epoch recut moved : ℕ) → MayAnswer past (Edits edit) (answer.Edited epoch recut moved) next → edit_refused past edit ≡ None
-edit_accepted past next edit epoch recut moved may =
-    accepted (edit_refused past edit) (told_of_edit (state_of past) (state_after (state_of past) edit)) epoch recut moved
-    (sym (answered past next (Edits edit) (answer.Edited epoch recut moved) may (λ e. cc)).answer)
+edit_accepted : (history next : History) (edit : Edit) (epoch recut moved : ℕ) → MayAnswer history (Edits edit) (answer.Edited epoch recut moved) next → edit_refused history edit ≡ None
+edit_accepted history next edit epoch recut moved may =
+    accepted (edit_refused history edit) (edit_answer (state_of history) (state_after (state_of history) edit)) epoch recut moved
+    (sym (answered history next (Edits edit) (answer.Edited epoch recut moved) may (λ e. cc)).answer)
 
-pub edited_to : (s mid next : Standing) (edit : Edit) (epoch recut moved : ℕ) → MayAnswer s.past (Edits edit) (answer.Edited epoch recut moved) mid.past → mid ≡ with_past s mid.past
-    → next ≡ with_machines mid (machines_behind_edit (state_of s.past).groups edit mid.machines) → next ≡ edited s edit
+pub edited_to : (s mid next : SessionState) (edit : Edit) (epoch recut moved : ℕ) → MayAnswer s.history (Edits edit) (answer.Edited epoch recut moved) mid.history → mid ≡ session_with_history s mid.history
+    → next ≡ with_machines mid (machines_after_edit (state_of s.history).groups edit mid.machines) → next ≡ session_edited s edit
 edited_to s mid next edit epoch recut moved may rest are =
-    let none = edit_accepted s.past mid.past edit epoch recut moved may in
-    let went : mid.past ≡ Edited edit ∷ s.past = left_as s.past mid.past (Edits edit) (answer.Edited epoch recut moved) may (λ e. cc) ∙ ap (λ (found : Option CoreFault). kept_if found s.past (Edited edit ∷ s.past)) none in
+    let none = edit_accepted s.history mid.history edit epoch recut moved may in
+    let went : mid.history ≡ Edited edit ∷ s.history = left_as s.history mid.history (Edits edit) (answer.Edited epoch recut moved) may (λ e. cc) ∙ ap (λ (found : Option CoreFault). unless_fault found s.history (Edited edit ∷ s.history)) none in
     are
-    ∙ ap (λ (t : Standing). with_machines t (machines_behind_edit (state_of s.past).groups edit t.machines)) (rest ∙ ap (with_past s) went)
+    ∙ ap (λ (t : SessionState). with_machines t (machines_after_edit (state_of s.history).groups edit t.machines)) (rest ∙ ap (session_with_history s) went)
     ∙ ap (λ (found : Option CoreFault). edited_unless found s edit) (sym none)
 
-refused_by : (found : Option CoreFault) (given : Answer) (fault : CoreFault) (s : Standing) (edit : Edit) → is_refusal given ≡ false → unless found given ≡ answer.Refused fault → edited_unless found s edit ≡ s
+refused_by : (found : Option CoreFault) (given : Answer) (fault : CoreFault) (s : SessionState) (edit : Edit) → is_refusal given ≡ false → unless found given ≡ answer.Refused fault → edited_unless found s edit ≡ s
 refused_by None given fault s edit plain e = let is : is_refusal given ≡ true = ap is_refusal e in cc
 refused_by (Some other) given fault s edit plain e = refl
 
-pub edited_same : (s next : Standing) (edit : Edit) (fault : CoreFault) → fault ≢ Memory → MayAnswer s.past (Edits edit) (answer.Refused fault) next.past → next ≡ with_past s next.past → next ≡ edited s edit
+pub edited_same : (s next : SessionState) (edit : Edit) (fault : CoreFault) → fault ≢ Memory → MayAnswer s.history (Edits edit) (answer.Refused fault) next.history → next ≡ session_with_history s next.history → next ≡ session_edited s edit
 edited_same s next edit fault other may rest =
-    let is = answered s.past next.past (Edits edit) (answer.Refused fault) may (other_fault fault other) in
-    let went : next.past ≡ s.past = refused_stays s.past next.past (Edits edit) fault (edit_stays s.past edit fault) may in
-    stays_put s next rest went ∙ sym (refused_by (edit_refused s.past edit) (told_of_edit (state_of s.past) (state_after (state_of s.past) edit)) fault s edit refl (sym is.answer))
+    let is = answered s.history next.history (Edits edit) (answer.Refused fault) may (other_fault fault other) in
+    let went : next.history ≡ s.history = refused_stays s.history next.history (Edits edit) fault (edit_stays s.history edit fault) may in
+    stays_put s next rest went ∙ sym (refused_by (edit_refused s.history edit) (edit_answer (state_of s.history) (state_after (state_of s.history) edit)) fault s edit refl (sym is.answer))
 
 -- an arrival that can be read is never refused
 
-block_told : (verdict : Verdict) → is_refusal (told_of_block verdict) ≡ false
-block_told Good = refl
-block_told Wrong = refl
-block_told Stale = refl
+block_answered : (verdict : Verdict) → is_refusal (write_answer verdict) ≡ false
+block_answered Good = refl
+block_answered Wrong = refl
+block_answered Stale = refl
 
 either : (b : Bool) (one other : Answer) → is_refusal one ≡ false → is_refusal other ≡ false → is_refusal (cond b one other) ≡ false
 either true one other a b = a
 either false one other a b = b
 
-blocks_told : (all : List Judged) → is_refusal (told_of_blocks all) ≡ false
-blocks_told [] = refl
-blocks_told (d ∷ []) = block_told d.verdict
-blocks_told (d ∷ e ∷ ds) = either (list_any is_news (d ∷ e ∷ ds)) (answer.Written (map outcome_for (d ∷ e ∷ ds))) answer.Stale refl refl
+blocks_answered : (all : List Judged) → is_refusal (judged_blocks_answer all) ≡ false
+blocks_answered [] = refl
+blocks_answered (d ∷ []) = block_answered d.verdict
+blocks_answered (d ∷ e ∷ ds) = either (list_any is_current (d ∷ e ∷ ds)) (answer.Written (map outcome_for (d ∷ e ∷ ds))) answer.Stale refl refl
 
-told_plainly : (all : List Judged) → is_refusal (told_of all) ≡ false
-told_plainly [] = refl
-told_plainly (d ∷ ds) =
-    let news = answer.Answered (map outcome_for (d ∷ ds)) in
-    either (is_block d.head.item) (told_of_blocks (d ∷ ds)) (cond (list_any is_news (d ∷ ds)) news answer.Stale) (blocks_told (d ∷ ds))
-    (either (list_any is_news (d ∷ ds)) news answer.Stale refl refl)
+answered_plainly : (all : List Judged) → is_refusal (judged_answer all) ≡ false
+answered_plainly [] = refl
+answered_plainly (d ∷ ds) =
+    let updates = answer.Answered (map outcome_for (d ∷ ds)) in
+    either (is_block d.head.item) (judged_blocks_answer (d ∷ ds)) (cond (list_any is_current (d ∷ ds)) updates answer.Stale) (blocks_answered (d ∷ ds))
+    (either (list_any is_current (d ∷ ds)) updates answer.Stale refl refl)
 
-arrival_stays : (past : Record) (found : Result Arrival FrameFault) (fault : CoreFault) → told_of_arrival past found ≡ answer.Refused fault → with_arrival past found ≡ past
-arrival_stays past (Err found) fault e = refl
-arrival_stays past (Ok arrival) fault e =
-    let is : is_refusal (told_of (judged_by past arrival)) ≡ true = ap is_refusal e in
-    let never : is_refusal (told_of (judged_by past arrival)) ≡ false = told_plainly (judged_by past arrival) in
+arrival_stays : (history : History) (found : Result Arrival FrameFault) (fault : CoreFault) → arrival_answer history found ≡ answer.Refused fault → with_arrival history found ≡ history
+arrival_stays history (Err found) fault e = refl
+arrival_stays history (Ok arrival) fault e =
+    let is : is_refusal (judged_answer (judged_by history arrival)) ≡ true = ap is_refusal e in
+    let never : is_refusal (judged_answer (judged_by history arrival)) ≡ false = answered_plainly (judged_by history arrival) in
     cc
 
 -- a refused arrival
-pub bytes_stay : (past : Record) (bytes : List ℕ) (fault : CoreFault) → answer_to past (Arrives bytes) ≡ answer.Refused fault → entries_after past (Arrives bytes) ≡ past
-bytes_stay past bytes fault e = arrival_stays past (arrival_in bytes) fault e
+pub bytes_stay : (history : History) (bytes : List ℕ) (fault : CoreFault) → answer_to history (Arrives bytes) ≡ answer.Refused fault → entries_after history (Arrives bytes) ≡ history
+bytes_stay history bytes fault e = arrival_stays history (arrival_in bytes) fault e
 
 -- the answers to an edit, and to an arrival
 abbrev pub IsOfEdit : Answer → Type 0
@@ -133,31 +133,31 @@ IsOfEdit (answer.Edited epoch recut moved) = Unit {0}
 IsOfEdit (answer.Refused fault) = Unit {0}
 IsOfEdit _ = ⊥
 
-edit_given : (found : Option CoreFault) (old new : State) → IsOfEdit (unless found (told_of_edit old new))
+edit_given : (found : Option CoreFault) (old new : State) → IsOfEdit (unless found (edit_answer old new))
 edit_given None old new = tt
 edit_given (Some fault) old new = tt
 
-pub of_edit : (past next : Record) (edit : Edit) (given : Answer) → MayAnswer past (Edits edit) given next → IsOfEdit given
-of_edit past next edit given (inl is) = subst IsOfEdit (sym is.answer) (edit_given (edit_refused past edit) (state_of past) (state_after (state_of past) edit))
-of_edit past next edit given (inr wanting) = subst IsOfEdit (sym wanting.answer) tt
+pub of_edit : (history next : History) (edit : Edit) (given : Answer) → MayAnswer history (Edits edit) given next → IsOfEdit given
+of_edit history next edit given (inl is) = subst IsOfEdit (sym is.answer) (edit_given (edit_refused history edit) (state_of history) (state_after (state_of history) edit))
+of_edit history next edit given (inr wanting) = subst IsOfEdit (sym wanting.answer) tt
 
 -- it is one of these
 pub one_of_edit : (given : Answer) → IsOfEdit given → ((epoch recut moved : ℕ) → given ≡ answer.Edited epoch recut moved → ⊥) → ((fault : CoreFault) → given ≡ answer.Refused fault → ⊥) → ⊥
-one_of_edit (answer.Edited epoch recut moved) is edited refused = edited epoch recut moved refl
-one_of_edit (answer.Refused fault) is edited refused = refused fault refl
-one_of_edit answer.Posted is edited refused = is
-one_of_edit (answer.Sent frames) is edited refused = is
-one_of_edit (answer.WriteSent frame) is edited refused = is
-one_of_edit (answer.WritesSent frame) is edited refused = is
-one_of_edit (answer.Answered outcomes) is edited refused = is
-one_of_edit answer.WriteDone is edited refused = is
-one_of_edit answer.WriteMissed is edited refused = is
-one_of_edit (answer.Written outcomes) is edited refused = is
-one_of_edit answer.Stale is edited refused = is
-one_of_edit (answer.Image epoch slots) is edited refused = is
-one_of_edit answer.Forgotten is edited refused = is
+one_of_edit (answer.Edited epoch recut moved) is session_edited refused = session_edited epoch recut moved refl
+one_of_edit (answer.Refused fault) is session_edited refused = refused fault refl
+one_of_edit answer.Posted is session_edited refused = is
+one_of_edit (answer.Sent frames) is session_edited refused = is
+one_of_edit (answer.WriteSent frame) is session_edited refused = is
+one_of_edit (answer.WritesSent frame) is session_edited refused = is
+one_of_edit (answer.Answered outcomes) is session_edited refused = is
+one_of_edit answer.WriteDone is session_edited refused = is
+one_of_edit answer.WriteMissed is session_edited refused = is
+one_of_edit (answer.Written outcomes) is session_edited refused = is
+one_of_edit answer.Stale is session_edited refused = is
+one_of_edit (answer.Image epoch slots) is session_edited refused = is
+one_of_edit answer.Forgotten is session_edited refused = is
 
--- the answers to an arrival that can be read: refused only in want of memory
+-- the answers to an arrival that can be read: refused only with `Memory`
 abbrev pub IsOfArrival : Answer → Type 0
 IsOfArrival (answer.Answered outcomes) = Unit {0}
 IsOfArrival answer.WriteDone = Unit {0}
@@ -167,7 +167,7 @@ IsOfArrival (answer.Written outcomes) = Unit {0}
 IsOfArrival (answer.Refused fault) = fault ≡ Memory
 IsOfArrival _ = ⊥
 
-block_given : (verdict : Verdict) → IsOfArrival (told_of_block verdict)
+block_given : (verdict : Verdict) → IsOfArrival (write_answer verdict)
 block_given Good = tt
 block_given Wrong = tt
 block_given Stale = tt
@@ -176,21 +176,21 @@ either_given : (b : Bool) (one other : Answer) → IsOfArrival one → IsOfArriv
 either_given true one other a b = a
 either_given false one other a b = b
 
-blocks_given : (all : List Judged) → IsOfArrival (told_of_blocks all)
+blocks_given : (all : List Judged) → IsOfArrival (judged_blocks_answer all)
 blocks_given [] = tt
 blocks_given (d ∷ []) = block_given d.verdict
-blocks_given (d ∷ e ∷ ds) = either_given (list_any is_news (d ∷ e ∷ ds)) (answer.Written (map outcome_for (d ∷ e ∷ ds))) answer.Stale tt tt
+blocks_given (d ∷ e ∷ ds) = either_given (list_any is_current (d ∷ e ∷ ds)) (answer.Written (map outcome_for (d ∷ e ∷ ds))) answer.Stale tt tt
 
-told_given : (all : List Judged) → IsOfArrival (told_of all)
-told_given [] = tt
-told_given (d ∷ ds) =
-    let news = answer.Answered (map outcome_for (d ∷ ds)) in
-    either_given (is_block d.head.item) (told_of_blocks (d ∷ ds)) (cond (list_any is_news (d ∷ ds)) news answer.Stale) (blocks_given (d ∷ ds))
-    (either_given (list_any is_news (d ∷ ds)) news answer.Stale tt tt)
+answered_given : (all : List Judged) → IsOfArrival (judged_answer all)
+answered_given [] = tt
+answered_given (d ∷ ds) =
+    let updates = answer.Answered (map outcome_for (d ∷ ds)) in
+    either_given (is_block d.head.item) (judged_blocks_answer (d ∷ ds)) (cond (list_any is_current (d ∷ ds)) updates answer.Stale) (blocks_given (d ∷ ds))
+    (either_given (list_any is_current (d ∷ ds)) updates answer.Stale tt tt)
 
-pub of_arrival : (past next : Record) (bytes : List ℕ) (arrival : Arrival) (given : Answer) → arrival_in bytes ≡ Ok arrival → MayAnswer past (Arrives bytes) given next → IsOfArrival given
-of_arrival past next bytes arrival given reads (inl is) = subst IsOfArrival (sym (is.answer ∙ ap (told_of_arrival past) reads)) (told_given (judged_by past arrival))
-of_arrival past next bytes arrival given reads (inr wanting) = subst IsOfArrival (sym wanting.answer) refl
+pub of_arrival : (history next : History) (bytes : List ℕ) (arrival : Arrival) (given : Answer) → arrival_in bytes ≡ Ok arrival → MayAnswer history (Arrives bytes) given next → IsOfArrival given
+of_arrival history next bytes arrival given reads (inl is) = subst IsOfArrival (sym (is.answer ∙ ap (arrival_answer history) reads)) (answered_given (judged_by history arrival))
+of_arrival history next bytes arrival given reads (inr wanting) = subst IsOfArrival (sym wanting.answer) refl
 
 -- it is one of these
 pub one_of_arrival : (given : Answer) → IsOfArrival given → ((outcomes : List Outcome) → given ≡ answer.Answered outcomes → ⊥) → (given ≡ answer.WriteDone → ⊥) → (given ≡ answer.WriteMissed → ⊥)
@@ -218,34 +218,34 @@ judged_few arrival (Some sending) =
     let zipped = length-zip sending.heads arrival.parts in
     omega (arith, pairs, zipped)
 
-block_plain : (verdict : Verdict) (outcomes : List Outcome) → told_of_block verdict ≢ answer.Answered outcomes
+block_plain : (verdict : Verdict) (outcomes : List Outcome) → write_answer verdict ≢ answer.Answered outcomes
 block_plain Good outcomes e = cc
 block_plain Wrong outcomes e = cc
 block_plain Stale outcomes e = cc
 
-written_plain : (news : Bool) (told outcomes : List Outcome) → cond news (answer.Written told) answer.Stale ≢ answer.Answered outcomes
-written_plain true told outcomes e = cc
-written_plain false told outcomes e = cc
+written_plain : (updates : Bool) (answer_given outcomes : List Outcome) → cond updates (answer.Written answer_given) answer.Stale ≢ answer.Answered outcomes
+written_plain true answer_given outcomes e = cc
+written_plain false answer_given outcomes e = cc
 
-blocks_plain : (all : List Judged) (outcomes : List Outcome) → told_of_blocks all ≢ answer.Answered outcomes
+blocks_plain : (all : List Judged) (outcomes : List Outcome) → judged_blocks_answer all ≢ answer.Answered outcomes
 blocks_plain [] outcomes e = cc
 blocks_plain (d ∷ []) outcomes e = block_plain d.verdict outcomes e
-blocks_plain (d ∷ f ∷ ds) outcomes e = written_plain (list_any is_news (d ∷ f ∷ ds)) (map outcome_for (d ∷ f ∷ ds)) outcomes e
+blocks_plain (d ∷ f ∷ ds) outcomes e = written_plain (list_any is_current (d ∷ f ∷ ds)) (map outcome_for (d ∷ f ∷ ds)) outcomes e
 
-as_many : (block news : Bool) (all : List Judged) (outcomes : List Outcome)
-    → cond block (told_of_blocks all) (cond news (answer.Answered (map outcome_for all)) answer.Stale) ≡ answer.Answered outcomes → length outcomes ≡ length all
-as_many true news all outcomes e = absurd (blocks_plain all outcomes e)
+as_many : (block updates : Bool) (all : List Judged) (outcomes : List Outcome)
+    → cond block (judged_blocks_answer all) (cond updates (answer.Answered (map outcome_for all)) answer.Stale) ≡ answer.Answered outcomes → length outcomes ≡ length all
+as_many true updates all outcomes e = absurd (blocks_plain all outcomes e)
 as_many false true all outcomes e = let same : map outcome_for all ≡ outcomes = cc in ap length (sym same) ∙ length-map all outcome_for
 as_many false false all outcomes e = cc
 
-told_many : (all : List Judged) (outcomes : List Outcome) → told_of all ≡ answer.Answered outcomes → length outcomes ≡ length all
-told_many [] outcomes e = cc
-told_many (d ∷ ds) outcomes e = as_many (is_block d.head.item) (list_any is_news (d ∷ ds)) (d ∷ ds) outcomes e
+answered_many : (all : List Judged) (outcomes : List Outcome) → judged_answer all ≡ answer.Answered outcomes → length outcomes ≡ length all
+answered_many [] outcomes e = cc
+answered_many (d ∷ ds) outcomes e = as_many (is_block d.head.item) (list_any is_current (d ∷ ds)) (d ∷ ds) outcomes e
 
-pub outcomes_few : (past next : Record) (bytes : List ℕ) (arrival : Arrival) (outcomes : List Outcome) → arrival_in bytes ≡ Ok arrival → MayAnswer past (Arrives bytes) (answer.Answered outcomes) next
+pub outcomes_few : (history next : History) (bytes : List ℕ) (arrival : Arrival) (outcomes : List Outcome) → arrival_in bytes ≡ Ok arrival → MayAnswer history (Arrives bytes) (answer.Answered outcomes) next
     → length outcomes ≤ length arrival.parts
-outcomes_few past next bytes arrival outcomes reads may =
-    let is = (answered past next (Arrives bytes) (answer.Answered outcomes) may (λ e. cc)).answer ∙ ap (told_of_arrival past) reads in
-    let many = told_many (judged_by past arrival) outcomes (sym is) in
-    let few = judged_few arrival (answered_by past arrival) in
+outcomes_few history next bytes arrival outcomes reads may =
+    let is = (answered history next (Arrives bytes) (answer.Answered outcomes) may (λ e. cc)).answer ∙ ap (arrival_answer history) reads in
+    let many = answered_many (judged_by history arrival) outcomes (sym is) in
+    let few = judged_few arrival (answered_by history arrival) in
     omega (arith, many, few)

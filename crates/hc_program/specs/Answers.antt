@@ -7,7 +7,7 @@ use Rattle.hc_events.specs.declared.answer.Answer.{Answer}
 use Rattle.hc_events.specs.declared.answer.Answer.TheVariants as answer
 use Rattle.hc_events.specs.declared.answer.Outcome.{Outcome}
 use Rattle.hc_events.specs.declared.answer.Outcome.TheVariants as outcome
-use Rattle.hc_events.specs.Entries.{Record}
+use Rattle.hc_events.specs.Entries.{History}
 use Rattle.hc_events.specs.Points.{next_serial}
 use Rattle.hc_events.specs.Steps.{Step, answer_to}
 use Rattle.hc_program.specs.Frames.{sent_line}
@@ -24,7 +24,7 @@ report_text epoch recut moved =
     ++ decimal moved
     ++ codes "\n"
 
--- the lines of frames that are sent, the first of which has this serial and each later one the next
+-- the lines of frames that are sent: the first has this serial and each later one the next
 abbrev pub sent_lines : ℕ → List (List ℕ) → List ℕ
 sent_lines serial [] = []
 sent_lines serial (frame ∷ frames) = sent_line serial frame ++ sent_lines (serial + 1) frames
@@ -55,7 +55,7 @@ data_text (Some bytes) = hex_bytes bytes
 unfoldable pub slot_text : ℕ → Option (List ℕ) → List ℕ
 slot_text number slot = codes "slot " ++ decimal number ++ codes " " ++ data_text slot ++ codes "\n"
 
--- those of a task's datagrams, the first of which has this number
+-- those of a task's datagrams, from this number on
 abbrev pub slots_text : ℕ → List (Option (List ℕ)) → List ℕ
 slots_text number [] = []
 slots_text number (slot ∷ slots) = slot_text number slot ++ slots_text (number + 1) slots
@@ -81,5 +81,5 @@ answer_text serial answer.Forgotten = []
 answer_text serial (answer.Refused fault) = refusal_text fault
 
 -- what an event prints: the answer to it, its frames having the next serials
-unfoldable pub told : Record → Step → List ℕ
-told past step = answer_text (next_serial past) (answer_to past step)
+unfoldable pub answer_given : History → Step → List ℕ
+answer_given history step = answer_text (next_serial history) (answer_to history step)

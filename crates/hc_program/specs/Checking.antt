@@ -3,11 +3,11 @@ use Rattle.std.specs.Prelude.{◌≡◌, ◌≤◌, ◌⊎◌, ℕ, List, ◌++�
 use Rattle.std.specs.Fmt.{decimal}
 use Rattle.hc_project.specs.declared.located.Found.{Found}
 use Rattle.hc_project.specs.declared.located.Found.TheVariants.{InText, InProject}
-use Rattle.hc_project.specs.Located.{Tells}
+use Rattle.hc_project.specs.Located.{LocatesFault}
 use Rattle.hc_records.specs.declared.faults.ProjectFault.TheVariants as project
 use Rattle.hc_text.specs.declared.input.TheConstants.{MOST_INPUT}
 use Rattle.hc_program.specs.declared.opening.Unopened.TheVariants.{Project}
-use Rattle.hc_program.specs.Places.{spot_text}
+use Rattle.hc_program.specs.Places.{location_text}
 use Rattle.hc_program.specs.Refusals.{project_fault_text}
 use Rattle.hc_program.specs.Runs.{Outcome}
 use Rattle.hc_program.specs.Text.{unopened, unread}
@@ -17,23 +17,23 @@ abbrev pub position_text : ℕ → ℕ → List ℕ
 position_text line column = codes "at line " ++ decimal line ++ codes " column " ++ decimal column ++ codes "\n"
 
 -- what is printed: `ok` for a project, else the fault's line and the line of its place
-abbrev pub told_text : Option Found → List ℕ
-told_text None = codes "ok\n"
-told_text (Some (InText line column)) = project_fault_text project.NotToml ++ position_text line column
-told_text (Some (InProject lowest spot)) = project_fault_text lowest ++ spot_text spot
+abbrev pub answered_text : Option Found → List ℕ
+answered_text None = codes "ok\n"
+answered_text (Some (InText line column)) = project_fault_text project.NotToml ++ position_text line column
+answered_text (Some (InProject lowest location)) = project_fault_text lowest ++ location_text location
 
 -- the exit status: 0 for a project, 3 for a fault
-abbrev pub told_status : Option Found → ℕ
-told_status None = 0
-told_status (Some found) = 3
+abbrev pub answered_status : Option Found → ℕ
+answered_status None = 0
+answered_status (Some found) = 3
 
--- the text and the status are those of something that is told of the project text
-abbrev pub IsTold : List ℕ → List ℕ → ℕ → Type 0
-IsTold input text status = (found : Option Found) × Tells input found × (text ≡ told_text found) × (status ≡ told_status found)
+-- the text and the status are those of something that is said of the project text
+abbrev pub IsCheckedText : List ℕ → List ℕ → ℕ → Type 0
+IsCheckedText input text status = (found : Option Found) × LocatesFault input found × (text ≡ answered_text found) × (status ≡ answered_status found)
 
--- a run prints nothing, or what is told of an input that isn't too long
+-- a run prints nothing, or what is said of an input that isn't too long
 abbrev pub CheckOutcome : List ℕ → Outcome → Type 0
-CheckOutcome input outcome = (outcome ≡ unread) ⊎ (length input ≤ MOST_INPUT) × IsTold input outcome.text outcome.status
+CheckOutcome input outcome = (outcome ≡ unread) ⊎ (length input ≤ MOST_INPUT) × IsCheckedText input outcome.text outcome.status
 
 -- where memory was refused a run prints nothing, or that it was
 abbrev pub StarvedCheck : Outcome → Type 0

@@ -4,31 +4,31 @@ use Rattle.hc_events.specs.Points.{state_of}
 use Rattle.hc_events.specs.Steps.{Arrives, Edits, Reads, SendsTasks, SendsWrite}
 use Rattle.hc_text.specs.declared.commands.Command.{Command}
 use Rattle.hc_text.specs.declared.commands.Command.TheVariants as command
-use Rattle.hc_program.specs.Answers.{told}
+use Rattle.hc_program.specs.Answers.{answer_given}
 use Rattle.hc_program.specs.Cycles.{cycle_text, cycled}
 use Rattle.hc_program.specs.Layout.{layout_text}
-use Rattle.hc_program.specs.Memories.{peek_text, poke_text, poked_standing}
+use Rattle.hc_program.specs.Memories.{peek_text, poke_text, poked_session_state}
 use Rattle.hc_program.specs.Place.{place_text}
-use Rattle.hc_program.specs.Posts.{post_text, posted}
+use Rattle.hc_program.specs.Posts.{post_text, session_posted}
 use Rattle.hc_program.specs.Programs.{program_text, programmed}
 use Rattle.hc_program.specs.Regs.{regs_text}
 use Rattle.hc_program.specs.Setups.{name_text, named, scan_text, scanned}
 use Rattle.hc_program.specs.Show.{show_text}
-use Rattle.hc_program.specs.Standings.{Standing, edited, stepped}
-use Rattle.hc_program.specs.Takings.{take_text, took}
+use Rattle.hc_program.specs.Standings.{SessionState, session_edited, stepped}
+use Rattle.hc_program.specs.Takings.{take_text, session_taken}
 use Rattle.hc_program.specs.Views.{view_text}
 
 -- what a command prints
-abbrev pub printed : Standing → Command → List ℕ
-printed s command.Layout = layout_text (state_of s.past)
-printed s (command.Regs station) = regs_text (state_of s.past) station
-printed s (command.Show task datagram) = show_text s.past task datagram
-printed s (command.Place variable) = place_text (state_of s.past) variable
-printed s (command.Edit edit) = told s.past (Edits edit)
-printed s (command.Send tasks) = told s.past (SendsTasks tasks)
-printed s command.Write = told s.past SendsWrite
-printed s (command.Arrive bytes) = told s.past (Arrives bytes)
-printed s (command.Read task) = told s.past (Reads task)
+abbrev pub printed : SessionState → Command → List ℕ
+printed s command.Layout = layout_text (state_of s.history)
+printed s (command.Regs station) = regs_text (state_of s.history) station
+printed s (command.Show task datagram) = show_text s.history task datagram
+printed s (command.Place variable) = place_text (state_of s.history) variable
+printed s (command.Edit edit) = answer_given s.history (Edits edit)
+printed s (command.Send tasks) = answer_given s.history (SendsTasks tasks)
+printed s command.Write = answer_given s.history SendsWrite
+printed s (command.Arrive bytes) = answer_given s.history (Arrives bytes)
+printed s (command.Read task) = answer_given s.history (Reads task)
 printed s (command.Post posting) = post_text s posting
 printed s command.Take = take_text s
 printed s (command.View task variable) = view_text s.seen task variable
@@ -39,23 +39,23 @@ printed s (command.Cycle tasks) = cycle_text s tasks
 printed s (command.Poke poke) = poke_text s poke
 printed s (command.Peek peek) = peek_text s peek
 
--- where it leaves the run, before that is published: the record with what the core accepted, the machines behind what met them, and the posts that wait
-abbrev pub left_by : Standing → Command → Standing
-left_by s command.Layout = s
-left_by s (command.Regs station) = s
-left_by s (command.Show task datagram) = s
-left_by s (command.Place variable) = s
-left_by s (command.Edit edit) = edited s edit
-left_by s (command.Send tasks) = stepped s (SendsTasks tasks)
-left_by s command.Write = stepped s SendsWrite
-left_by s (command.Arrive bytes) = stepped s (Arrives bytes)
-left_by s (command.Read task) = s
-left_by s (command.Post posting) = posted s posting
-left_by s command.Take = took s
-left_by s (command.View task variable) = s
-left_by s command.Scan = scanned s
-left_by s command.Name = named s
-left_by s command.Program = (programmed s).standing
-left_by s (command.Cycle tasks) = cycled s tasks
-left_by s (command.Poke poke) = poked_standing s poke
-left_by s (command.Peek peek) = s
+-- where it leaves the run, before that is published: the record with what the core accepted, the machines after what met them, and the posts that wait
+abbrev pub session_left_by : SessionState → Command → SessionState
+session_left_by s command.Layout = s
+session_left_by s (command.Regs station) = s
+session_left_by s (command.Show task datagram) = s
+session_left_by s (command.Place variable) = s
+session_left_by s (command.Edit edit) = session_edited s edit
+session_left_by s (command.Send tasks) = stepped s (SendsTasks tasks)
+session_left_by s command.Write = stepped s SendsWrite
+session_left_by s (command.Arrive bytes) = stepped s (Arrives bytes)
+session_left_by s (command.Read task) = s
+session_left_by s (command.Post posting) = session_posted s posting
+session_left_by s command.Take = session_taken s
+session_left_by s (command.View task variable) = s
+session_left_by s command.Scan = scanned s
+session_left_by s command.Name = named s
+session_left_by s command.Program = (programmed s).session_state
+session_left_by s (command.Cycle tasks) = cycled s tasks
+session_left_by s (command.Poke poke) = poked_session_state s poke
+session_left_by s (command.Peek peek) = s

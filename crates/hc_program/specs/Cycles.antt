@@ -2,62 +2,62 @@
 use Rattle.std.specs.Prelude.{ℕ, List, [], ◌∷◌, ◌++◌, map, Option, Some, None, codes}
 use Rattle.hc_records.specs.Lists.{lowest}
 use Rattle.hc_events.specs.declared.faults.CoreFault.{CoreFault}
-use Rattle.hc_events.specs.Entries.{Record}
+use Rattle.hc_events.specs.Entries.{History}
 use Rattle.hc_events.specs.Steps.{SendsTasks, Arrives, entries_after, proposal, sent_text, task_faults}
 use Rattle.hc_segment.specs.Line.{frames_through}
-use Rattle.hc_program.specs.Answers.{told}
+use Rattle.hc_program.specs.Answers.{answer_given}
 use Rattle.hc_program.specs.Refusals.{refusal_text}
-use Rattle.hc_program.specs.Standings.{Standing, passed, stepped, with_past}
+use Rattle.hc_program.specs.Standings.{SessionState, passed, stepped, session_with_history}
 
--- the frames in which tasks are sent
-unfoldable pub cycle_frames : Record → List ℕ → List (List ℕ)
-cycle_frames past tasks = map (sent_text past) (proposal past tasks)
+-- the frames where tasks are sent
+unfoldable pub cycle_frames : History → List ℕ → List (List ℕ)
+cycle_frames history tasks = map (sent_text history) (proposal history tasks)
 
 -- the run once they are sent
-abbrev pub cycle_sent : Standing → List ℕ → Standing
+abbrev pub cycle_sent : SessionState → List ℕ → SessionState
 cycle_sent s tasks = stepped s (SendsTasks tasks)
 
 -- and once they went along the line
-abbrev pub cycle_passed : Standing → List ℕ → Standing
-cycle_passed s tasks = passed (cycle_sent s tasks) (cycle_frames s.past tasks)
+abbrev pub cycle_passed : SessionState → List ℕ → SessionState
+cycle_passed s tasks = passed (cycle_sent s tasks) (cycle_frames s.history tasks)
 
 -- the frames as they come back
-unfoldable pub cycle_back : Standing → List ℕ → List (List ℕ)
-cycle_back s tasks = frames_through s.machines (cycle_frames s.past tasks)
+unfoldable pub cycle_back : SessionState → List ℕ → List (List ℕ)
+cycle_back s tasks = frames_through s.machines (cycle_frames s.history tasks)
 
 -- what frames that arrive one after another print
-abbrev pub arrivals_text : Record → List (List ℕ) → List ℕ
-arrivals_text past [] = []
-arrivals_text past (frame ∷ frames) = told past (Arrives frame) ++ arrivals_text (entries_after past (Arrives frame)) frames
+abbrev pub arrivals_text : History → List (List ℕ) → List ℕ
+arrivals_text history [] = []
+arrivals_text history (frame ∷ frames) = answer_given history (Arrives frame) ++ arrivals_text (entries_after history (Arrives frame)) frames
 
 -- the record that they leave
-abbrev pub arrived : Record → List (List ℕ) → Record
-arrived past [] = past
-arrived past (frame ∷ frames) = arrived (entries_after past (Arrives frame)) frames
+abbrev pub arrived : History → List (List ℕ) → History
+arrived history [] = history
+arrived history (frame ∷ frames) = arrived (entries_after history (Arrives frame)) frames
 
 -- the run once they were taken in
-abbrev pub cycle_arrived : Standing → List (List ℕ) → Standing
-cycle_arrived s frames = with_past s (arrived s.past frames)
+abbrev pub cycle_arrived : SessionState → List (List ℕ) → SessionState
+cycle_arrived s frames = session_with_history s (arrived s.history frames)
 
 -- what they print, or the line `no frame` where none was sent
-abbrev pub back_text : Record → List (List ℕ) → List ℕ
-back_text past [] = codes "no frame\n"
-back_text past (frame ∷ frames) = arrivals_text past (frame ∷ frames)
+abbrev pub back_text : History → List (List ℕ) → List ℕ
+back_text history [] = codes "no frame\n"
+back_text history (frame ∷ frames) = arrivals_text history (frame ∷ frames)
 
 -- the refusal of a sending with this fault; else what comes back
-abbrev pub cycle_text_unless : Option CoreFault → Standing → List ℕ → List ℕ
-cycle_text_unless None s tasks = back_text (cycle_sent s tasks).past (cycle_back s tasks)
+abbrev pub cycle_text_unless : Option CoreFault → SessionState → List ℕ → List ℕ
+cycle_text_unless None s tasks = back_text (cycle_sent s tasks).history (cycle_back s tasks)
 cycle_text_unless (Some fault) s tasks = refusal_text fault
 
 -- the run once that is done; a refused sending leaves it as it was
-abbrev pub cycled_unless : Option CoreFault → Standing → List ℕ → Standing
+abbrev pub cycled_unless : Option CoreFault → SessionState → List ℕ → SessionState
 cycled_unless None s tasks = cycle_arrived (cycle_passed s tasks) (cycle_back s tasks)
 cycled_unless (Some fault) s tasks = s
 
 -- what a cycle of tasks prints
-unfoldable pub cycle_text : Standing → List ℕ → List ℕ
-cycle_text s tasks = cycle_text_unless (lowest (task_faults s.past tasks)) s tasks
+unfoldable pub cycle_text : SessionState → List ℕ → List ℕ
+cycle_text s tasks = cycle_text_unless (lowest (task_faults s.history tasks)) s tasks
 
 -- where a cycle leaves the run
-unfoldable pub cycled : Standing → List ℕ → Standing
-cycled s tasks = cycled_unless (lowest (task_faults s.past tasks)) s tasks
+unfoldable pub cycled : SessionState → List ℕ → SessionState
+cycled s tasks = cycled_unless (lowest (task_faults s.history tasks)) s tasks

@@ -3,7 +3,7 @@ use Rattle.std.specs.Prelude.{ℕ, List, [], ◌∷◌, ◌++◌, codes}
 use Rattle.std.specs.List.{flat_map}
 use Rattle.std.specs.Fmt.{decimal}
 use Rattle.hc_text.specs.Printing.{hex_bytes}
-use Rattle.hc_events.specs.Entries.{Record}
+use Rattle.hc_events.specs.Entries.{History}
 use Rattle.hc_events.specs.Sendings.{Frame}
 use Rattle.hc_events.specs.Steps.{sent_text}
 
@@ -20,10 +20,10 @@ abbrev pub sent_line : ℕ → List ℕ → List ℕ
 sent_line serial frame = frame_line (codes "sent ") serial frame
 
 -- frames that are proposed, each with its own serial
-abbrev pub proposed_line : Record → Frame → List ℕ
-proposed_line past frame = sent_line frame.serial (sent_text past frame)
+abbrev pub proposed_line : History → Frame → List ℕ
+proposed_line history frame = sent_line frame.serial (sent_text history frame)
 
 -- these lines one after another, or the line `no frame` where there is no frame
-abbrev pub proposed_text : Record → List Frame → List ℕ
-proposed_text past [] = codes "no frame\n"
-proposed_text past (frame ∷ frames) = flat_map (proposed_line past) (frame ∷ frames)
+abbrev pub proposed_text : History → List Frame → List ℕ
+proposed_text history [] = codes "no frame\n"
+proposed_text history (frame ∷ frames) = flat_map (proposed_line history) (frame ∷ frames)

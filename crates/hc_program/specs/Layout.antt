@@ -33,14 +33,14 @@ unfoldable pub datagrams_text : Table → ℕ → List ℕ
 datagrams_text table task = flat_map (numbered_text table task) (range_with_len 0 MOST_DATAGRAMS)
 
 -- the line of a task: the bytes of its outputs and of its inputs
-abbrev pub part_text : ℕ → ℕ × ℕ → List ℕ
-part_text task part =
+abbrev pub task_part_text : ℕ → ℕ × ℕ → List ℕ
+task_part_text task part =
     codes "task " ++ decimal task ++ codes " parts " ++ decimal part.0 ++ codes " " ++ decimal part.1 ++ codes "\n"
 
 -- the lines of a task, if it has a datagram
 unfoldable pub task_text : Table → ℕ → List ℕ
 task_text table task =
-    if is_some (datagram_in table task 0) then part_text task (part_in table task) ++ datagrams_text table task else []
+    if is_some (datagram_in table task 0) then task_part_text task (part_in table task) ++ datagrams_text table task else []
 
 -- the lines of the tasks 0 to 7, in order (`task_text`)
 unfoldable pub table_text : Table → List ℕ

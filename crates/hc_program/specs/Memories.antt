@@ -10,7 +10,7 @@ use Rattle.hc_text.specs.Printing.{hex_register, spaced_bytes}
 use Rattle.hc_segment.specs.Machines.{poked}
 use Rattle.hc_text.specs.MemoryRanges.{Peeking, Poking}
 use Rattle.hc_program.specs.Refusals.{refusal_text}
-use Rattle.hc_program.specs.Standings.{Standing, with_machines}
+use Rattle.hc_program.specs.Standings.{SessionState, with_machines}
 
 -- the position of the slave's machine, where the line has one there
 abbrev pub machine_within : ℕ → Result ℕ EditFault → Result ℕ CoreFault
@@ -18,36 +18,36 @@ machine_within count (Ok position) = if nat_lt position count then Ok position e
 machine_within count (Err fault) = Err (edit_refusal fault)
 
 -- the position of the machine of the slave with a station address, or why there is none
-unfoldable pub machine_at : Standing → ℕ → Result ℕ CoreFault
-machine_at s station = machine_within (length s.machines) (position_of (state_of s.past) station)
+unfoldable pub machine_at : SessionState → ℕ → Result ℕ CoreFault
+machine_at s station = machine_within (length s.machines) (position_of (state_of s.history) station)
 
 -- what a poke prints
-abbrev pub poke_told : Result ℕ CoreFault → List ℕ
-poke_told (Ok position) = codes "poked\n"
-poke_told (Err fault) = refusal_text fault
+abbrev pub poke_answered : Result ℕ CoreFault → List ℕ
+poke_answered (Ok position) = codes "poked\n"
+poke_answered (Err fault) = refusal_text fault
 
--- the machines behind it
+-- the machines after it
 abbrev pub poked_at : Result ℕ CoreFault → Poking → List (List ℕ) → List (List ℕ)
 poked_at (Ok position) p machines = poked position p.at p.part machines
 poked_at (Err fault) p machines = machines
 
 -- the line `poked`, or the refusal
-abbrev pub poke_text : Standing → Poking → List ℕ
-poke_text s p = poke_told (machine_at s p.station)
+abbrev pub poke_text : SessionState → Poking → List ℕ
+poke_text s p = poke_answered (machine_at s p.station)
 
 -- where a poke leaves the run
-abbrev pub poked_standing : Standing → Poking → Standing
-poked_standing s p = with_machines s (poked_at (machine_at s p.station) p s.machines)
+abbrev pub poked_session_state : SessionState → Poking → SessionState
+poked_session_state s p = with_machines s (poked_at (machine_at s p.station) p s.machines)
 
 -- the line `mem A: bytes`
 unfoldable pub memory_text : ℕ → List ℕ → List ℕ
 memory_text at bytes = codes "mem " ++ hex_register at ++ codes ":" ++ spaced_bytes bytes ++ codes "\n"
 
 -- what a peek prints
-abbrev pub peek_told : Result ℕ CoreFault → Peeking → List (List ℕ) → List ℕ
-peek_told (Ok position) p machines = memory_text p.at (slice_range (slice_index_or machines position []) p.at (p.at + p.count))
-peek_told (Err fault) p machines = refusal_text fault
+abbrev pub peek_answered : Result ℕ CoreFault → Peeking → List (List ℕ) → List ℕ
+peek_answered (Ok position) p machines = memory_text p.at (slice_range (slice_index_or machines position []) p.at (p.at + p.count))
+peek_answered (Err fault) p machines = refusal_text fault
 
 -- the line of the bytes, or the refusal
-abbrev pub peek_text : Standing → Peeking → List ℕ
-peek_text s p = peek_told (machine_at s p.station) p s.machines
+abbrev pub peek_text : SessionState → Peeking → List ℕ
+peek_text s p = peek_answered (machine_at s p.station) p s.machines

@@ -1,4 +1,4 @@
--- The command `place`: where a variable stands.
+-- The command `place`: where a variable is.
 use Rattle.std.specs.Prelude.{ℕ, List, ◌++◌, Option, Some, None, option_and_then, codes}
 use Rattle.std.specs.Fmt.{decimal}
 use Rattle.hc_records.specs.declared.records.Dir.{Dir}
@@ -43,6 +43,6 @@ variable_or_none number (Some place) = variable_text number place
 abbrev pub numbered_place : ℕ → List Member → Option VariablePlace
 numbered_place number line = option_and_then (λ variable. variable_place variable line) (variable_of number)
 
--- what `place` prints of a variable's number: where it stands in the state's line, or that it stands nowhere
+-- what `place` prints of a variable's number: where it is in the state's line, or that it is nowhere
 unfoldable pub place_text : State → ℕ → List ℕ
 place_text state number = variable_or_none number (numbered_place number (line state))

@@ -4,11 +4,11 @@ use Rattle.std.specs.Fmt.{decimal}
 use Rattle.hc_project.specs.declared.places.Key.{Key}
 use Rattle.hc_project.specs.declared.places.Key.TheVariants as key
 use Rattle.hc_project.specs.declared.places.Place.{Place}
-use Rattle.hc_project.specs.declared.places.Spot.{Spot}
+use Rattle.hc_project.specs.declared.places.Location.{Location}
 
--- a full stop where something stands before it
+-- a full stop where something is before it
 abbrev pub separator : Bool → List ℕ
-separator is_behind = if is_behind then codes "." else []
+separator is_after = if is_after then codes "." else []
 
 -- a group, counted from 0 in the array `group`; nothing at the top
 unfoldable pub group_text : ℕ → List ℕ
@@ -16,8 +16,8 @@ group_text group = if group == 0 then [] else codes "group[" ++ decimal (group -
 
 -- an item of an array, as `slave[2]`; nothing where the place lies in none
 unfoldable pub array_text : Bool → List ℕ → Option ℕ → List ℕ
-array_text is_behind name None = []
-array_text is_behind name (Some index) = separator is_behind ++ name ++ codes "[" ++ decimal index ++ codes "]"
+array_text is_after name None = []
+array_text is_after name (Some index) = separator is_after ++ name ++ codes "[" ++ decimal index ++ codes "]"
 
 -- an item that a place ends at, as `entries[3][1]`
 abbrev pub item_text : List ℕ → ℕ → List ℕ → List ℕ
@@ -44,10 +44,10 @@ key_name (key.Entry index) = item_text (codes "entries") index []
 key_name (key.Variable index) = item_text (codes "entries") index (codes "[0]")
 key_name (key.Bits index) = item_text (codes "entries") index (codes "[1]")
 
--- the same behind what stands before it; nothing for a table itself
+-- the same after what is before it; nothing for a table itself
 unfoldable pub key_text : Bool → Key → List ℕ
-key_text is_behind key.Whole = []
-key_text is_behind other = separator is_behind ++ key_name other
+key_text is_after key.Whole = []
+key_text is_after other = separator is_after ++ key_name other
 
 -- the keys and indexes of a place, as `group[2].slave[0].area[1].assigned[0]`
 unfoldable pub path_text : Place → List ℕ
@@ -59,23 +59,23 @@ path_text place =
     ++ array_text true (codes "pdo") place.pdo
     ++ key_text (in_group || is_some place.slave) place.key
 
--- an alias behind a place; nothing where it isn't known
-unfoldable pub alias_text : ℕ → List ℕ
-alias_text alias = if alias == 0 then [] else codes " alias " ++ decimal alias
+-- an alias after a place; nothing where it isn't known
+unfoldable pub place_alias_text : ℕ → List ℕ
+place_alias_text alias = if alias == 0 then [] else codes " alias " ++ decimal alias
 
--- a station address behind a place; nothing where it isn't known
+-- a station address after a place; nothing where it isn't known
 unfoldable pub station_text : ℕ → List ℕ
 station_text station = if station == 0 then [] else codes " station " ++ decimal station
 
 -- a place with its alias and its station address
-unfoldable pub place_text : Place → List ℕ
-place_text place = path_text place ++ alias_text place.alias ++ station_text place.station
+unfoldable pub project_place_text : Place → List ℕ
+project_place_text place = path_text place ++ place_alias_text place.alias ++ station_text place.station
 
 -- the place of the earlier of two things
 abbrev pub first_text : Option Place → List ℕ
 first_text None = []
-first_text (Some place) = codes " first " ++ place_text place
+first_text (Some place) = codes " first " ++ project_place_text place
 
 -- the line of a place
-unfoldable pub spot_text : Spot → List ℕ
-spot_text spot = codes "at " ++ place_text spot.place ++ first_text spot.first ++ codes "\n"
+unfoldable pub location_text : Location → List ℕ
+location_text location = codes "at " ++ project_place_text location.place ++ first_text location.first ++ codes "\n"

@@ -1,21 +1,21 @@
--- What a task posts where a run stands: by the line that was published last.
+-- What a task posts where a run is: by the line that was published last.
 use Rattle.std.specs.Prelude.{ℕ, List, Option}
 use Rattle.hc_places.specs.Table.{Table, table_of}
 use Rattle.hc_events.specs.Points.{epoch_of, line_of}
 use Rattle.hc_conductor.specs.declared.one_thread.refusals.PostRefusal.{PostRefusal}
 use Rattle.hc_conductor.specs.declared.one_thread.settings.Setting.{Setting}
 use Rattle.hc_conductor.specs.Posting.{post_made, post_refused, with_post}
-use Rattle.hc_program.specs.Standings.{Standing}
+use Rattle.hc_program.specs.Standings.{SessionState}
 
 -- the table of that line
-abbrev pub table_seen : Standing → Table
+abbrev pub table_seen : SessionState → Table
 table_seen s = table_of (line_of s.seen)
 
 -- why the values of a task aren't posted, or none: the first value that is refused decides, else four posts wait
-abbrev pub post_judged : Standing → ℕ → List Setting → Option PostRefusal
+abbrev pub post_judged : SessionState → ℕ → List Setting → Option PostRefusal
 post_judged s task settings = post_refused (table_seen s) task settings s.posts
 
 -- with the post of these values for the epoch of that line
-abbrev pub with_posted : Standing → ℕ → List Setting → Standing
+abbrev pub with_posted : SessionState → ℕ → List Setting → SessionState
 with_posted s task settings =
     record s { posts = with_post task (post_made (epoch_of s.seen) (table_seen s) task settings) s.posts }

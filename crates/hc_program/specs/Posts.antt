@@ -8,7 +8,7 @@ use Rattle.hc_conductor.specs.declared.one_thread.refusals.PostRefusal.TheVarian
 use Rattle.hc_text.specs.declared.commands.post.Posting.{Posting}
 use Rattle.hc_program.specs.Postings.{post_judged, with_posted}
 use Rattle.hc_program.specs.Refusals.{refusal_text}
-use Rattle.hc_program.specs.Standings.{Standing}
+use Rattle.hc_program.specs.Standings.{SessionState}
 
 -- the number of the reason why nothing is posted
 abbrev pub post_refusal_number : PostRefusal → ℕ
@@ -35,21 +35,21 @@ unfoldable pub post_refusal_text : PostRefusal → List ℕ
 post_refusal_text refusal = codes "refused " ++ decimal (post_refusal_number refusal) ++ codes " " ++ post_refusal_name refusal ++ codes "\n"
 
 -- this line, or that the values are posted
-abbrev pub post_told : Option PostRefusal → List ℕ
-post_told None = codes "posted\n"
-post_told (Some refusal) = post_refusal_text refusal
+abbrev pub post_answered : Option PostRefusal → List ℕ
+post_answered None = codes "posted\n"
+post_answered (Some refusal) = post_refusal_text refusal
 
 -- what a post prints; a task over 7 is refused before all
-unfoldable pub post_text : Standing → Posting → List ℕ
+unfoldable pub post_text : SessionState → Posting → List ℕ
 post_text s posting =
-    if nat_lt posting.task TASKS then post_told (post_judged s posting.task posting.settings) else refusal_text NoSuchTask
+    if nat_lt posting.task TASKS then post_answered (post_judged s posting.task posting.settings) else refusal_text NoSuchTask
 
 -- a run that stays as it was where there is a refusal
-abbrev pub posted_unless : Option PostRefusal → Standing → Posting → Standing
+abbrev pub posted_unless : Option PostRefusal → SessionState → Posting → SessionState
 posted_unless None s posting = with_posted s posting.task posting.settings
 posted_unless (Some refusal) s posting = s
 
 -- where a post leaves the run
-abbrev pub posted : Standing → Posting → Standing
-posted s posting =
+abbrev pub session_posted : SessionState → Posting → SessionState
+session_posted s posting =
     if nat_lt posting.task TASKS then posted_unless (post_judged s posting.task posting.settings) s posting else s

@@ -7,47 +7,52 @@ use Rattle.hc_project.specs.Text.{group_in}
 use Rattle.hc_events.specs.Steps.{Edits}
 use Rattle.hc_text.specs.declared.commands.Command.{Command}
 use Rattle.hc_text.specs.Lines.{words_of}
-use Rattle.hc_program.specs.Answers.{told}
+use Rattle.hc_program.specs.Answers.{answer_given}
 use Rattle.hc_program.specs.Refusals.{bad_command_text, declare_fault_text}
 use Rattle.hc_text.specs.Commands.{command_in}
-use Rattle.hc_program.specs.Commands.{left_by, printed}
+use Rattle.hc_program.specs.Commands.{session_left_by, printed}
 use Rattle.hc_program.specs.Declaring.{Turn, Says, Declares}
-use Rattle.hc_program.specs.Standings.{Standing, edited, published}
+use Rattle.hc_program.specs.Standings.{SessionState, session_edited, session_published}
 
--- what a turn prints, where it leaves the run, and whether that goes on behind it
+-- what a turn prints, where it leaves the run, and whether that goes on after it
 pub record Reply : Type 0 where
   pub text : List ℕ
-  pub standing : Standing
+  pub session_state : SessionState
   pub goes_on : Bool
 
+-- a reply of its parts
+abbrev pub reply_of : List ℕ → SessionState → Bool → Reply
+reply_of text next goes_on = record { text = text; session_state = next; goes_on = goes_on }
+
 -- a line that is no command ends the run
-abbrev pub reply_to_command : Standing → ℕ → Option Command → Reply
-reply_to_command s number None = record { text = bad_command_text number; standing = s; goes_on = false }
+abbrev pub reply_to_command : SessionState → ℕ → Option Command → Reply
+reply_to_command s number None = record { text = bad_command_text number; session_state = s; goes_on = false }
 reply_to_command s number (Some command) =
-    record { text = printed s command; standing = left_by s command; goes_on = true }
+    record { text = printed s command; session_state = session_left_by s command; goes_on = true }
 
 -- a blank line prints nothing
-abbrev pub reply_to_words : Standing → ℕ → List (List ℕ) → Reply
-reply_to_words s number [] = record { text = []; standing = s; goes_on = true }
+abbrev pub reply_to_words : SessionState → ℕ → List (List ℕ) → Reply
+reply_to_words s number [] = record { text = []; session_state = s; goes_on = true }
 reply_to_words s number (name ∷ arguments) = reply_to_command s number (command_in name arguments)
 
--- the document of a declaration, where it has one: its group is declared, as by any edit, or its fault is told
-abbrev pub reply_to_document : Standing → Result Group ProjectFault → Reply
-reply_to_document s (Ok group) = record { text = told s.past (Edits (Declare group)); standing = edited s (Declare group); goes_on = true }
-reply_to_document s (Err fault) = record { text = declare_fault_text fault; standing = s; goes_on = true }
+-- the document of a declaration, where it has one: its group is declared, as by any edit, or its fault is
+-- reported
+abbrev pub reply_to_document : SessionState → Result Group ProjectFault → Reply
+reply_to_document s (Ok group) = record { text = answer_given s.history (Edits (Declare group)); session_state = session_edited s (Declare group); goes_on = true }
+reply_to_document s (Err fault) = record { text = declare_fault_text fault; session_state = s; goes_on = true }
 
 -- the reply to a turn before anything is published: to the words of a line, or to a document; a declaration without one is no command
-unfoldable pub bare_reply : Standing → Turn → Reply
+unfoldable pub bare_reply : SessionState → Turn → Reply
 bare_reply s (Says number text) = reply_to_words s number (words_of text)
 bare_reply s (Declares number None) = reply_to_command s number None
 bare_reply s (Declares number (Some document)) = reply_to_document s (group_in document)
 
--- a reply, behind which what the core accepted is published
+-- a reply; after it what the core accepted is published
 abbrev pub then_published : Reply → Reply
-then_published reply = record reply { standing = published reply.standing }
+then_published reply = record reply { session_state = session_published reply.session_state }
 
 -- the reply to a turn
-unfoldable pub reply_to : Standing → Turn → Reply
+unfoldable pub reply_to : SessionState → Turn → Reply
 reply_to s turn = then_published (bare_reply s turn)
 
 -- what a run prints, and its exit status
@@ -55,14 +60,14 @@ pub record Outcome : Type 0 where
   pub text : List ℕ
   pub status : ℕ
 
--- a reply, and what the turns behind it print unless the run ends there
-abbrev pub behind : Reply → Outcome → Outcome
-behind reply rest =
+-- a reply, and what the turns after it print unless the run ends there
+abbrev pub outcome_after_reply : Reply → Outcome → Outcome
+outcome_after_reply reply rest =
     if reply.goes_on
     then record { text = reply.text ++ rest.text; status = rest.status }
     else record { text = reply.text; status = 2 }
 
--- the turns of a run that stands somewhere as it begins
-unfoldable pub run : Standing → List Turn → Outcome
+-- the turns of a run that is somewhere as it begins
+unfoldable pub run : SessionState → List Turn → Outcome
 run s [] = record { text = []; status = 0 }
-run s (turn ∷ turns) = behind (reply_to s turn) (run (reply_to s turn).standing turns)
+run s (turn ∷ turns) = outcome_after_reply (reply_to s turn) (run (reply_to s turn).session_state turns)

@@ -2,30 +2,31 @@
 use Rattle.std.specs.Prelude.{◌≡◌, [], map, replicate}
 use Rattle.hc_records.specs.declared.limits.TheConstants.{TASKS}
 use Rattle.hc_events.specs.Accepted.{IsReachable}
-use Rattle.hc_events.specs.Changes.{AreLegal, news_of, told_by}
-use Rattle.hc_events.specs.Entries.{Record}
+use Rattle.hc_events.specs.Changes.{AreLegal, updates_of, update_in}
+use Rattle.hc_events.specs.Entries.{History}
 use Rattle.hc_events.specs.Points.{opened_with}
-use Rattle.hc_publish.specs.Told.{Told}
-use Rattle.hc_conductor.specs.Mastering.{Mastering, past_of, shown, waiting}
+use Rattle.hc_publish.specs.ChangesSince.{ChangesSince}
+use Rattle.hc_conductor.specs.Mastering.{Mastering, master_history, master_shown, waiting}
 use Rattle.hc_program.specs.declared.session.Session.TheInside.{Inside}
-use Rattle.hc_program.specs.Standings.{Standing}
+use Rattle.hc_program.specs.Standings.{SessionState}
 
--- where its run stands
-abbrev pub standing_in : Inside → Standing
-standing_in s = record { past = past_of s.master; machines = s.line; posts = waiting s.master; seen = s.seen.value.past }
+-- where its run is
+abbrev pub session_state_in : Inside → SessionState
+session_state_in s = record { history = master_history s.master; machines = s.line; posts = waiting s.master; seen = s.seen.value.history }
 
--- a record to which events lead, and what is shown is all that it tells: legal changes since its opening, with its news
-pub record IsShown (seen : Record) (told : Told) : Type 0 where
+-- a record that events lead to, and what is shown is all that it gives: legal changes since its opening, with its
+-- updates
+pub record IsShown (seen : History) (answer_given : ChangesSince) : Type 0 where
   pub reachable : IsReachable seen
-  pub groups : told.groups ≡ opened_with seen
-  pub legal : AreLegal (opened_with seen) told.changes
-  pub news : map told_by told.changes ≡ news_of seen
+  pub groups : answer_given.groups ≡ opened_with seen
+  pub legal : AreLegal (opened_with seen) answer_given.changes
+  pub updates : map update_in answer_given.changes ≡ updates_of seen
 
 -- a master at its opening: the opening is shown, and no post waits
-pub record IsFresh (m : Mastering) : Type 0 where
-  pub shown : IsShown (past_of m) (shown m)
+pub record MasterIsAtOpening (m : Mastering) : Type 0 where
+  pub shown : IsShown (master_history m) (master_shown m)
   pub none : waiting m ≡ replicate TASKS []
 
--- what is true of every session: its tasks are shown what the record tells that was published last
-abbrev pub Stands : Inside → Type 0
-Stands s = IsShown s.seen.value.past (shown s.master)
+-- what is true of every session: its tasks are shown what the record says that was published last
+abbrev pub IsSoundSession : Inside → Type 0
+IsSoundSession s = IsShown s.seen.value.history (master_shown s.master)

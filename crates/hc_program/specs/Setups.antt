@@ -3,23 +3,23 @@ use Rattle.std.specs.Prelude.{ℕ, ◌+◌, List, [], ◌∷◌, ◌++◌, codes
 use Rattle.std.specs.Fmt.{decimal}
 use Rattle.hc_events.specs.Points.{line_of}
 use Rattle.hc_segment.specs.Setup.{aliases_read, machines_named, machines_scanned, named_count}
-use Rattle.hc_program.specs.Standings.{Standing, with_machines}
+use Rattle.hc_program.specs.Standings.{SessionState, with_machines}
 
 -- the line `slot N alias A` of the slave at a position
 unfoldable pub alias_text : ℕ → ℕ → List ℕ
 alias_text position alias = codes "slot " ++ decimal position ++ codes " alias " ++ decimal alias ++ codes "\n"
 
--- those of slaves in a row, the first of which stands at this position
+-- those of slaves in a row, from this position on
 abbrev pub aliases_text : ℕ → List ℕ → List ℕ
 aliases_text position [] = []
 aliases_text position (alias ∷ aliases) = alias_text position alias ++ aliases_text (position + 1) aliases
 
 -- what a scan prints, position by position
-unfoldable pub scan_text : Standing → List ℕ
+unfoldable pub scan_text : SessionState → List ℕ
 scan_text s = aliases_text 0 (aliases_read s.machines)
 
 -- where a scan leaves the run
-abbrev pub scanned : Standing → Standing
+abbrev pub scanned : SessionState → SessionState
 scanned s = with_machines s (machines_scanned s.machines)
 
 -- the line `named N`: how many station writes came back with the working counter 1
@@ -27,9 +27,9 @@ abbrev pub named_text : ℕ → List ℕ
 named_text count = codes "named " ++ decimal count ++ codes "\n"
 
 -- what naming prints
-unfoldable pub name_text : Standing → List ℕ
-name_text s = named_text (named_count s.machines (line_of s.past))
+unfoldable pub name_text : SessionState → List ℕ
+name_text s = named_text (named_count s.machines (line_of s.history))
 
 -- where naming leaves the run
-abbrev pub named : Standing → Standing
-named s = with_machines s (machines_named s.machines (line_of s.past))
+abbrev pub named : SessionState → SessionState
+named s = with_machines s (machines_named s.machines (line_of s.history))

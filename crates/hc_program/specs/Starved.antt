@@ -1,7 +1,7 @@
--- What a run may leave in which memory was refused, or a seat or a view.
+-- What a run may leave where memory was refused, or a seat or a view.
 use Rattle.std.specs.Prelude.{◌≡◌, ◌≤◌, ◌⊎◌, ℕ, true, List, [], ◌∷◌, length, Option, Some, None, Ok, IsOk}
 use Rattle.hc_records.specs.declared.faults.ProjectFault.TheVariants as project
-use Rattle.hc_events.specs.Entries.{Record}
+use Rattle.hc_events.specs.Entries.{History}
 use Rattle.hc_text.specs.declared.input.TheConstants.{MOST_INPUT}
 use Rattle.hc_text.specs.Lines.{Line, command_lines, lines_of, project_text, words_of}
 use Rattle.hc_project.specs.Text.{project_in}
@@ -11,66 +11,72 @@ use Rattle.hc_text.specs.declared.commands.Command.{Command}
 use Rattle.hc_program.specs.declared.stops.Stop.{Stop}
 use Rattle.hc_text.specs.Commands.{command_in}
 use Rattle.hc_program.specs.Declaring.{Turn, Says, Declares, turns_of}
-use Rattle.hc_program.specs.Standings.{Standing, opened_standing}
+use Rattle.hc_program.specs.Standings.{SessionState, opened_session_state}
 use Rattle.hc_program.specs.Stops.{StopsIn, Unchanged, stop_text}
-use Rattle.hc_program.specs.Runs.{Outcome, Reply, bare_reply, behind, reply_to, then_published}
+use Rattle.hc_program.specs.Runs.{Outcome, Reply, bare_reply, outcome_after_reply, reply_to, then_published}
 use Rattle.hc_program.specs.declared.engine.RunEnd.{RunEnd}
 use Rattle.hc_program.specs.Text.{EndsAs, unopened, unread}
+use Rattle.hc_program.specs.Turns.{AnswersLine}
 
 -- the command that the words of a line spell
-abbrev pub spelt : List (List ℕ) → Option Command
-spelt [] = None
-spelt (name ∷ arguments) = command_in name arguments
+abbrev pub spelt_command : List (List ℕ) → Option Command
+spelt_command [] = None
+spelt_command (name ∷ arguments) = command_in name arguments
 
--- a line of these words for which a growth was refused, or a view: nothing was carried out, or its command was stopped
-abbrev pub StopsWords : Standing → List (List ℕ) → Stop → Standing → Type 0
-StopsWords s words why next = Unchanged s why next ⊎ ((command : Command) × (spelt words ≡ Some command) × StopsIn s command why next)
+-- a line of these words that was refused a growth, or a view: nothing was carried out, or its command was stopped
+abbrev pub StopsWords : SessionState → List (List ℕ) → Stop → SessionState → Type 0
+StopsWords s words why next = Unchanged s why next ⊎ ((command : Command) × (spelt_command words ≡ Some command) × StopsIn s command why next)
 
 -- the same of a turn; a declaration was not carried out
-abbrev pub StopsTurn : Standing → Turn → Stop → Standing → Type 0
+abbrev pub StopsTurn : SessionState → Turn → Stop → SessionState → Type 0
 StopsTurn s (Says number text) why next = StopsWords s (words_of text) why next
 StopsTurn s (Declares number document) why next = Unchanged s why next
 
 -- it prints why, and the run goes on
-pub record IsStopped (s : Standing) (turn : Turn) (reply : Reply) : Type 0 where
+pub record IsStopped (s : SessionState) (turn : Turn) (reply : Reply) : Type 0 where
   pub why : Stop
-  pub stopped : StopsTurn s turn why reply.standing
-  pub told : reply.text ≡ stop_text why
+  pub stopped : StopsTurn s turn why reply.session_state
+  pub answer_given : reply.text ≡ stop_text why
   pub on : reply.goes_on ≡ true
 
 -- the reply to a turn in want: the turn was stopped, and what it left is published or not; or its own reply is not published
-abbrev pub Stops : Standing → Turn → Reply → Type 0
+abbrev pub Stops : SessionState → Turn → Reply → Type 0
 Stops s turn reply =
     (reply ≡ bare_reply s turn)
     ⊎ ((stopped : Reply) × IsStopped s turn stopped × ((reply ≡ stopped) ⊎ (reply ≡ then_published stopped)))
 
--- a reply, and behind it what `Rest` allows
-abbrev pub GivesFirst : Reply → (Outcome → Type 0) → Outcome → Type 0
-GivesFirst reply Rest outcome = (rest : Outcome) × Rest rest × (outcome ≡ behind reply rest)
+-- a turn is answered by such a reply
+abbrev pub StopsLine : SessionState → Turn → Option (List ℕ) → Option (List ℕ) → SessionState → Option ℕ → Type 0
+StopsLine s turn before after next end = (reply : Reply) × Stops s turn reply × AnswersLine before after next end reply
 
--- a run of turns each of which gives its reply, or one in want
-unfoldable pub RunsInWant : Standing → List Turn → Outcome → Type 0
-RunsInWant s [] outcome = outcome ≡ record { text = []; status = 0 }
-RunsInWant s (turn ∷ turns) outcome =
-    GivesFirst (reply_to s turn) (RunsInWant (reply_to s turn).standing turns) outcome
-    ⊎ ((reply : Reply) × Stops s turn reply × GivesFirst reply (RunsInWant reply.standing turns) outcome)
+-- a reply, and after it what `Rest` allows
+abbrev pub GivesFirst : Reply → (Outcome → Type 0) → Outcome → Type 0
+GivesFirst reply Rest outcome = (rest : Outcome) × Rest rest × (outcome ≡ outcome_after_reply reply rest)
+
+-- a run of turns; each gives its reply, or one for refused memory
+unfoldable pub RunsWithRefusedGrowth : SessionState → List Turn → Outcome → Type 0
+RunsWithRefusedGrowth s [] outcome = outcome ≡ record { text = []; status = 0 }
+RunsWithRefusedGrowth s (turn ∷ turns) outcome =
+    GivesFirst (reply_to s turn) (RunsWithRefusedGrowth (reply_to s turn).session_state turns) outcome
+    ⊎ ((reply : Reply) × Stops s turn reply × GivesFirst reply (RunsWithRefusedGrowth reply.session_state turns) outcome)
 
 -- such a run, one at least of whose turns gives a reply in want: a later one, which the run reaches, or the first
-unfoldable pub StarvedRun : Standing → List Turn → Outcome → Type 0
+unfoldable pub StarvedRun : SessionState → List Turn → Outcome → Type 0
 StarvedRun s [] outcome = ⊥
 StarvedRun s (turn ∷ turns) outcome =
-    ((reply_to s turn).goes_on ≡ true) × GivesFirst (reply_to s turn) (StarvedRun (reply_to s turn).standing turns) outcome
-    ⊎ ((reply : Reply) × Stops s turn reply × GivesFirst reply (RunsInWant reply.standing turns) outcome)
+    ((reply_to s turn).goes_on ≡ true) × GivesFirst (reply_to s turn) (StarvedRun (reply_to s turn).session_state turns) outcome
+    ⊎ ((reply : Reply) × Stops s turn reply × GivesFirst reply (RunsWithRefusedGrowth reply.session_state turns) outcome)
 
--- memory was refused while the project was read or its fault told, or while it was opened or its fault told; or a seat was refused of a project that can be opened; or memory or a view was refused for a turn
+-- memory was refused while the project was read or its fault reported, or while it was opened or its fault reported; or a seat was refused of a project that can be opened; or memory or a view was refused
+-- for a turn
 abbrev pub StarvedSections : List ℕ → List Line → Outcome → Type 0
 StarvedSections text lines outcome =
     (outcome ≡ unopened (Project project.Memory))
     ⊎ IsOk (project_in text) × (outcome ≡ unopened Memory)
     ⊎ IsOk (opening_of text) × (outcome ≡ unopened NoSeat)
-    ⊎ ((past : Record) × (opening_of text ≡ Ok past) × StarvedRun (opened_standing past) (turns_of lines) outcome)
+    ⊎ ((history : History) × (opening_of text ≡ Ok history) × StarvedRun (opened_session_state history) (turns_of lines) outcome)
 
--- memory was refused while the input was read, which prints nothing, or behind that
+-- memory was refused while the input was read, which prints nothing, or after that
 abbrev pub StarvedOutcome : List ℕ → Outcome → Type 0
 StarvedOutcome input outcome =
     (outcome ≡ unread)

@@ -1,4 +1,4 @@
--- What a command leaves that is stopped: in those that make several calls, what earlier calls did stands.
+-- What a command leaves that is stopped: in those that make several calls, what earlier calls did is.
 use Rattle.std.specs.Prelude.{◌≡◌, ◌⊎◌, ℕ, zero, suc, true, List, take, codes}
 use Rattle.hc_events.specs.declared.faults.CoreFault.TheVariants as core
 use Rattle.hc_segment.specs.declared.faults.ChainFault.{ChainFault}
@@ -7,22 +7,22 @@ use Rattle.hc_text.specs.declared.commands.Command.{Command}
 use Rattle.hc_text.specs.declared.commands.Command.TheVariants as command
 use Rattle.hc_program.specs.declared.stops.Stop.{Stop}
 use Rattle.hc_program.specs.declared.stops.Stop.TheVariants as stop
-use Rattle.hc_program.specs.declared.stops.Want.{Want}
-use Rattle.hc_program.specs.declared.stops.Want.TheVariants as want
+use Rattle.hc_program.specs.declared.stops.RefusedGrowth.{RefusedGrowth}
+use Rattle.hc_program.specs.declared.stops.RefusedGrowth.TheVariants as refused_growth
 use Rattle.hc_program.specs.Cycles.{cycle_arrived, cycle_back, cycle_passed, cycle_sent}
-use Rattle.hc_program.specs.Programs.{can_write, is_done, write_passed, write_sent, written}
+use Rattle.hc_program.specs.Programs.{can_write, programming_is_done, write_passed, write_sent, block_programmed}
 use Rattle.hc_program.specs.Refusals.{refusal_text}
 use Rattle.hc_program.specs.Setups.{scanned}
-use Rattle.hc_program.specs.Standings.{Standing}
+use Rattle.hc_program.specs.Standings.{SessionState}
 
 -- the line of a chain that was refused
 unfoldable pub chain_fault_text : ChainFault → List ℕ
 chain_fault_text chain.Memory = codes "chain fault 1 Memory\n"
 
 -- what is printed where a growth was refused
-abbrev pub want_text : Want → List ℕ
-want_text want.Memory = refusal_text core.Memory
-want_text (want.Chain fault) = chain_fault_text fault
+abbrev pub refused_growth_text : RefusedGrowth → List ℕ
+refused_growth_text refused_growth.Memory = refusal_text core.Memory
+refused_growth_text (refused_growth.Chain fault) = chain_fault_text fault
 
 -- where a seat was given no view
 unfoldable pub no_entry_text : List ℕ
@@ -30,51 +30,51 @@ no_entry_text = codes "refused 7 NoEntry\n"
 
 -- what is printed in place of the command's text
 abbrev pub stop_text : Stop → List ℕ
-stop_text (stop.Want w) = want_text w
+stop_text (stop.RefusedGrowth w) = refused_growth_text w
 stop_text stop.NoEntry = no_entry_text
 
 -- a command of one call was not carried out
-abbrev pub Unchanged : Standing → Stop → Standing → Type 0
-Unchanged s why next = (why ≡ stop.Want want.Memory) × (next ≡ s)
+abbrev pub Unchanged : SessionState → Stop → SessionState → Type 0
+Unchanged s why next = (why ≡ stop.RefusedGrowth refused_growth.Memory) × (next ≡ s)
 
 -- nor was one for which a seat was asked for a view
-abbrev pub Unviewed : Standing → Stop → Standing → Type 0
-Unviewed s why next = ((why ≡ stop.Want want.Memory) ⊎ (why ≡ stop.NoEntry)) × (next ≡ s)
+abbrev pub Unviewed : SessionState → Stop → SessionState → Type 0
+Unviewed s why next = ((why ≡ stop.RefusedGrowth refused_growth.Memory) ⊎ (why ≡ stop.NoEntry)) × (next ≡ s)
 
 -- so many writes, each done
-abbrev pub AreWritten : ℕ → Standing → Standing → Type 0
-AreWritten zero s t = t ≡ s
-AreWritten (suc n) s t = (m : Standing) × AreWritten n s m × (can_write m.past ≡ true) × (is_done m ≡ true) × (t ≡ written m)
+abbrev pub WritesAreDone : ℕ → SessionState → SessionState → Type 0
+WritesAreDone zero s t = t ≡ s
+WritesAreDone (suc n) s t = (m : SessionState) × WritesAreDone n s m × (can_write m.history ≡ true) × (programming_is_done m ≡ true) × (t ≡ block_programmed m)
 
 -- a growth was refused, and so the command was stopped
-abbrev pub IsWanting : Stop → (Want → Type 0) → Type 0
-IsWanting why Stopped = (w : Want) × (why ≡ stop.Want w) × Stopped w
+abbrev pub StoppedForMemory : Stop → (RefusedGrowth → Type 0) → Type 0
+StoppedForMemory why Stopped = (w : RefusedGrowth) × (why ≡ stop.RefusedGrowth w) × Stopped w
 
 -- the next write was sent, and its frame wasn't made or didn't go along the line; or what came back wasn't taken in
-abbrev pub StopsInWrite : Standing → Want → Standing → Type 0
-StopsInWrite s w next = (next ≡ write_sent s) ⊎ ((w ≡ want.Memory) × (next ≡ write_passed s))
+abbrev pub StopsInWrite : SessionState → RefusedGrowth → SessionState → Type 0
+StopsInWrite s w next = (next ≡ write_sent s) ⊎ ((w ≡ refused_growth.Memory) × (next ≡ write_passed s))
 
 -- there was no room for the line; or some writes were done, and then one was stopped
-abbrev pub StopsProgram : Standing → Want → Standing → Type 0
-StopsProgram s w next = ((w ≡ want.Memory) × (next ≡ s)) ⊎ ((n : ℕ) × (m : Standing) × AreWritten n s m × StopsInWrite m w next)
+abbrev pub StopsProgram : SessionState → RefusedGrowth → SessionState → Type 0
+StopsProgram s w next = ((w ≡ refused_growth.Memory) × (next ≡ s)) ⊎ ((n : ℕ) × (m : SessionState) × WritesAreDone n s m × StopsInWrite m w next)
 
 -- tasks weren't sent; or they were, and their frames didn't go along the line; or these did, and some of what came back was taken in
-abbrev pub StopsInCycle : Standing → List ℕ → Want → Standing → Type 0
+abbrev pub StopsInCycle : SessionState → List ℕ → RefusedGrowth → SessionState → Type 0
 StopsInCycle s tasks w next =
-    ((w ≡ want.Memory) × (next ≡ s))
-    ⊎ ((w ≡ want.Chain chain.Memory) × (next ≡ cycle_sent s tasks))
-    ⊎ ((w ≡ want.Memory) × ((n : ℕ) × (next ≡ cycle_arrived (cycle_passed s tasks) (take n (cycle_back s tasks)))))
+    ((w ≡ refused_growth.Memory) × (next ≡ s))
+    ⊎ ((w ≡ refused_growth.Chain chain.Memory) × (next ≡ cycle_sent s tasks))
+    ⊎ ((w ≡ refused_growth.Memory) × ((n : ℕ) × (next ≡ cycle_arrived (cycle_passed s tasks) (take n (cycle_back s tasks)))))
 
 -- no alias was read; or all were, and they weren't gathered or weren't printed
-abbrev pub StopsScan : Standing → Want → Standing → Type 0
-StopsScan s w next = ((w ≡ want.Chain chain.Memory) × (next ≡ s)) ⊎ (next ≡ scanned s)
+abbrev pub StopsScan : SessionState → RefusedGrowth → SessionState → Type 0
+StopsScan s w next = ((w ≡ refused_growth.Chain chain.Memory) × (next ≡ s)) ⊎ (next ≡ scanned s)
 
 -- where a command leaves the run that was stopped so
-abbrev pub StopsIn : Standing → Command → Stop → Standing → Type 0
-StopsIn s command.Program why next = IsWanting why (λ w. StopsProgram s w next)
-StopsIn s (command.Cycle tasks) why next = IsWanting why (λ w. StopsInCycle s tasks w next)
-StopsIn s command.Scan why next = IsWanting why (λ w. StopsScan s w next)
-StopsIn s command.Name why next = IsWanting why (λ w. next ≡ s)
+abbrev pub StopsIn : SessionState → Command → Stop → SessionState → Type 0
+StopsIn s command.Program why next = StoppedForMemory why (λ w. StopsProgram s w next)
+StopsIn s (command.Cycle tasks) why next = StoppedForMemory why (λ w. StopsInCycle s tasks w next)
+StopsIn s command.Scan why next = StoppedForMemory why (λ w. StopsScan s w next)
+StopsIn s command.Name why next = StoppedForMemory why (λ w. next ≡ s)
 StopsIn s (command.Post posting) why next = Unviewed s why next
 StopsIn s (command.View task variable) why next = Unviewed s why next
 StopsIn s other why next = Unchanged s why next

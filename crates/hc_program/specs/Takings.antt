@@ -4,10 +4,10 @@ use Rattle.std.specs.Fmt.{decimal}
 use Rattle.hc_records.specs.declared.limits.TheConstants.{TASKS}
 use Rattle.hc_events.specs.Steps.{Step, entries_after_all}
 use Rattle.hc_conductor.specs.Taking.{events_of_all, posted_in}
-use Rattle.hc_program.specs.Standings.{Standing}
+use Rattle.hc_program.specs.Standings.{SessionState}
 
 -- the posts that wait, as events of the core: the tasks ascending, each one's posts in order
-abbrev pub posts_taken : Standing → List Step
+abbrev pub posts_taken : SessionState → List Step
 posts_taken s = events_of_all 0 s.posts
 
 -- the line `taken A refused R` of how many posts were accepted, and how many refused
@@ -15,9 +15,9 @@ unfoldable pub taken_text : ℕ → ℕ → List ℕ
 taken_text accepted refused = codes "taken " ++ decimal accepted ++ codes " refused " ++ decimal refused ++ codes "\n"
 
 -- what a take prints: the posts that the core accepts one after another, and the others
-unfoldable pub take_text : Standing → List ℕ
-take_text s = let accepted = posted_in s.past (posts_taken s) in taken_text accepted (length (posts_taken s) - accepted)
+unfoldable pub take_text : SessionState → List ℕ
+take_text s = let accepted = posted_in s.history (posts_taken s) in taken_text accepted (length (posts_taken s) - accepted)
 
 -- where it leaves the run: no post waits
-abbrev pub took : Standing → Standing
-took s = record s { past = entries_after_all s.past (posts_taken s); posts = replicate TASKS [] }
+abbrev pub session_taken : SessionState → SessionState
+session_taken s = record s { history = entries_after_all s.history (posts_taken s); posts = replicate TASKS [] }

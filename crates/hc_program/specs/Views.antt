@@ -3,7 +3,7 @@ use Rattle.std.specs.Prelude.{ℕ, nat_lt, if◌then◌else◌, List, ◌++◌, 
 use Rattle.std.specs.Fmt.{decimal}
 use Rattle.hc_records.specs.declared.limits.TheConstants.{TASKS}
 use Rattle.hc_events.specs.declared.faults.CoreFault.TheVariants.{NoSuchTask}
-use Rattle.hc_events.specs.Entries.{Record}
+use Rattle.hc_events.specs.Entries.{History}
 use Rattle.hc_events.specs.Points.{epoch_of}
 use Rattle.hc_publish.specs.declared.view_faults.ViewFault.{ViewFault}
 use Rattle.hc_publish.specs.declared.view_faults.ViewFault.TheVariants.{NoSuchVariable, IsOutput, OtherTask, NotAnswered}
@@ -11,7 +11,7 @@ use Rattle.hc_publish.specs.ViewFaults.{view_fault_number}
 use Rattle.hc_conductor.specs.Viewing.{value_at}
 use Rattle.hc_program.specs.Refusals.{refusal_text}
 
--- the name of the fault for which a task is told no value
+-- the name of the fault why a task gets no value
 abbrev pub view_fault_name : ViewFault → List ℕ
 view_fault_name NoSuchVariable = codes "NoSuchVariable"
 view_fault_name IsOutput = codes "IsOutput"
@@ -32,6 +32,6 @@ viewed_text epoch variable (Ok value) = value_text epoch variable value
 viewed_text epoch variable (Err fault) = view_fault_text fault
 
 -- what a view prints where this record was published last; a task over 7 is refused before all
-unfoldable pub view_text : Record → ℕ → ℕ → List ℕ
+unfoldable pub view_text : History → ℕ → ℕ → List ℕ
 view_text seen task variable =
     if nat_lt task TASKS then viewed_text (epoch_of seen) variable (value_at seen task variable) else refusal_text NoSuchTask

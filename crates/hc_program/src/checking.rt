@@ -1,12 +1,12 @@
-//! The run of `projectcheck`: reads a project text, and tells that it is a project, or why it isn't and where.
+//! The run of `projectcheck`: reads a project text, and says that it is a project, or why it isn't and where.
 ghost use Rattle.std.specs.Prelude.{◌≡◌, ◌≤◌, ◌++◌, false, true, length, IfOk, IfSome, OnOk, string_bytes};
 ghost use Rattle.hc_text.specs.declared.input.TheConstants.{MOST_INPUT};
-ghost use Rattle.hc_program.specs.Checking.{CheckOutcome, IsTold, StarvedCheck, position_text, told_status, told_text};
+ghost use Rattle.hc_program.specs.Checking.{CheckOutcome, IsCheckedText, StarvedCheck, position_text, answered_status, answered_text};
 ghost use Rattle.hc_program.specs.Starved.{EndsAsOne};
 
 use crate::engine::{BROKEN, Broken, DONE, RunEnd, UNOPENED, end_with};
 use crate::opening::{Unopened, memory_text};
-use crate::places::push_spot;
+use crate::places::push_location;
 use crate::refusals::push_project_fault;
 use hc_project::{Found, locate};
 use hc_records::faults::ProjectFault;
@@ -14,9 +14,9 @@ use hc_text::input::{Unread, read_all};
 use std::alloc::{AllocError, Global};
 use std::io::{Read, Write};
 
-/// What is told of a text.
+/// What is said of a text.
 #[derive(Drop)]
-struct Told {
+struct CheckedText {
     /// The lines to print.
     text: String,
     /// The exit status.
@@ -31,8 +31,8 @@ fn push_position(line: usize, column: usize, out: &mut String) -> Result<(), All
 }
 
 /// Adds the lines of a fault and its place, or the line `ok`.
-fn push_told(found: Option<Found>, out: &mut String) -> Result<(), AllocError>
-    ensures { OnOk result (string_bytes out.new ≡ string_bytes out.old ++ told_text found) }
+fn push_answered(found: Option<Found>, out: &mut String) -> Result<(), AllocError>
+    ensures { OnOk result (string_bytes out.new ≡ string_bytes out.old ++ answered_text found) }
 {
     match found {
         None => out.push_str("ok\n"),
@@ -40,15 +40,16 @@ fn push_told(found: Option<Found>, out: &mut String) -> Result<(), AllocError>
             push_project_fault(ProjectFault::NotToml, out)?;
             push_position(line, column, out)
         }
-        Some(Found::InProject { fault, spot }) => {
+        Some(Found::InProject { fault, location }) => {
             push_project_fault(fault, out)?;
-            push_spot(spot, out)
+            push_location(location, out)
         }
     }
 }
 
+/// The exit status: 0 for a project, 3 for a fault.
 fn status_of(found: Option<Found>) -> u8
-    ensures { result ≡ told_status found }
+    ensures { result ≡ answered_status found }
 {
     match found {
         None => DONE,
@@ -56,20 +57,20 @@ fn status_of(found: Option<Found>) -> u8
     }
 }
 
-/// What is told of a text, or `AllocError` where a growth was refused.
-fn tell(alloc: Global, input: &[u8]) -> Result<Told, AllocError>
-    ensures { IfOk result (λ told. IsTold input.now (string_bytes told.text) told.status) }
+/// What is said of a text, or `AllocError` where a growth was refused.
+fn say(alloc: Global, input: &[u8]) -> Result<CheckedText, AllocError>
+    ensures { IfOk result (λ answer_given. IsCheckedText input.now (string_bytes answer_given.text) answer_given.status) }
 {
     let found = locate(alloc, input)?;
     let mut text = String::new(alloc);
-    push_told(found, &mut text)?;
-    Ok(Told {
+    push_answered(found, &mut text)?;
+    Ok(CheckedText {
         text,
         status: status_of(found),
     })
 }
 
-/// Tells of an input that is read.
+/// Says of an input that is read.
 fn check_input<W: Write>(alloc: Global, input: &[u8], output: &mut W) -> RunEnd
     requires { length input.now ≤ MOST_INPUT }
     ensures unstarved { result.starved ≡ false
@@ -77,8 +78,13 @@ fn check_input<W: Write>(alloc: Global, input: &[u8], output: &mut W) -> RunEnd
     ensures starved { result.starved ≡ true
         → EndsAsOne (W.contents output.old) (W.contents output.new) result StarvedCheck }
 {
-    match tell(alloc, input) {
-        Ok(told) => end_with(told.text.as_bytes(), told.status, false, output),
+    match say(alloc, input) {
+        Ok(answer_given) => end_with(
+            answer_given.text.as_bytes(),
+            answer_given.status,
+            false,
+            output,
+        ),
         Err(_) => {
             let line = memory_text(Unopened::Project(ProjectFault::Memory));
             end_with(line, UNOPENED, true, output)
@@ -87,7 +93,7 @@ fn check_input<W: Write>(alloc: Global, input: &[u8], output: &mut W) -> RunEnd
 }
 
 /// Runs the check: reads all of a reader, and writes `ok`, or the fault of the project text and its place. Where it ends
-/// unstarved with another status than 4, what was written is what is told of the text by `locate`, with status 0 for a
+/// unstarved with another status than 4, what was written is what is said of the text by `locate`, with status 0 for a
 /// project and 3 for a fault; in any unstarved end it is a front of such a text. A starved end has written nothing, with
 /// status 4, where the input isn't read, else `project fault 11 Memory`, with status 3.
 ///

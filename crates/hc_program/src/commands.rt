@@ -1,7 +1,8 @@
-//! What each command answers: each has a file of its own with its `reply`. How it is spelled is told by
+//! What each command answers: each has a file of its own with its `reply`. How it is spelled is given
+//! by
 //! `hc_text::commands`.
 ghost use Rattle.std.specs.Prelude.{◌≡◌, ◌++◌, IfErr, OnOk, string_bytes};
-ghost use Rattle.hc_program.specs.Commands.{left_by, printed};
+ghost use Rattle.hc_program.specs.Commands.{session_left_by, printed};
 ghost use Rattle.hc_program.specs.Stops.{StopsIn};
 
 mod arrive;
@@ -31,8 +32,8 @@ use std::sync::Wait;
 use std::thread::Threads;
 
 /// Carries a command out and adds what it prints; nothing is published yet. A `Stop` where a growth was refused, or a seat
-/// was given no view: in a command of one call nothing was then accepted, in the others what was done stands (`StopsIn`),
-/// and `out` may have a front of what would have been printed.
+/// was given no view: in a command of one call nothing was then accepted, in the others what was done is (`StopsIn`), and
+/// `out` may have a front of what would have been printed.
 pub fn obey<R: Threads + Wait + Sync>(
     rt: &R,
     alloc: Global,
@@ -41,7 +42,7 @@ pub fn obey<R: Threads + Wait + Sync>(
     out: &mut String,
 ) -> Result<(), Stop>
     ensures text { OnOk result (string_bytes out.new ≡ string_bytes out.old ++ printed session.old command.now) }
-    ensures next { OnOk result (session.new ≡ left_by session.old command.now) }
+    ensures next { OnOk result (session.new ≡ session_left_by session.old command.now) }
     ensures stops { IfErr result (λ stop. StopsIn session.old command.now stop session.new) }
 {
     match command {

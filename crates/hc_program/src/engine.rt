@@ -2,14 +2,14 @@
 //! lines of its document, and writes each reply before the next turn is answered.
 ghost use Rattle.std.specs.Prelude.{◌≡◌, ◌≢◌, ◌≤◌, ◌+◌, false, true, length, IfSome};
 ghost use Rattle.std.specs.Option.{option_copied};
-ghost use Rattle.hc_text.specs.Cutting.{left_in, lines_after};
-ghost use Rattle.hc_program.specs.Declaring.{turn_of, turns_of};
-ghost use Rattle.hc_program.specs.Opening.{in_want, is_want};
-ghost use Rattle.hc_program.specs.Runs.{Reply, reply_to, run};
-ghost use Rattle.hc_program.specs.Standings.{Standing};
-ghost use Rattle.hc_program.specs.Starved.{EndsAsOne, StarvedOutcome, StarvedRun, Stops};
-ghost use Rattle.hc_program.specs.Text.{EndsAs, outcome_of, unopened};
-ghost use Rattle.hc_program.specs.Turns.{Takes, end_behind, ended};
+ghost use Rattle.hc_text.specs.Cutting.{left_in};
+ghost use Rattle.hc_program.specs.Declaring.{turn_of, next_turns};
+ghost use Rattle.hc_program.specs.Opening.{with_refused_growth, is_refused_growth};
+ghost use Rattle.hc_program.specs.Runs.{reply_to, run, reply_of};
+ghost use Rattle.hc_program.specs.Standings.{SessionState};
+ghost use Rattle.hc_program.specs.Starved.{EndsAsOne, StarvedOutcome, StarvedRun, StopsLine};
+ghost use Rattle.hc_program.specs.Text.{EndsAs, program_outcome, unopened};
+ghost use Rattle.hc_program.specs.Turns.{AnswersLine, end_after, run_end_of};
 ghost use Rattle.hc_text.specs.declared.input.TheConstants.{MOST_INPUT};
 
 use crate::opening::{Unopened, memory_text, open_session, push_unopened};
@@ -28,7 +28,7 @@ use std::thread::Threads;
 /// The exit status of a run whose last line was reached.
 pub(crate) const DONE: u8 = 0;
 
-/// The exit status behind a line that is no command.
+/// The exit status after a line that is no command.
 const BAD_COMMAND: u8 = 2;
 
 /// The exit status where the project isn't opened.
@@ -49,7 +49,7 @@ pub enum Broken {
 /// How a run ended.
 #[derive(Clone, Copy, Debug, PartialEq, Eq)]
 pub struct RunEnd {
-    /// The exit status: 0 done, 2 behind a line that is no command, 3 where the project isn't opened,
+    /// The exit status: 0 done, 2 after a line that is no command, 3 where the project isn't opened,
     /// 4 where the input isn't read or a write failed.
     pub status: u8,
     /// Whether a growth was refused on the way, or a seat or a view, which no run meets.
@@ -67,14 +67,14 @@ struct TurnEnd {
     starved: bool,
 }
 
-/// Writes a reply that ends the run, or behind which it goes on.
+/// Writes a reply. It ends the run, or the run goes on after it.
 fn write_reply<W: Write>(text: &[u8], goes_on: bool, starved: bool, output: &mut W) -> TurnEnd
-    ensures takes { (next : Standing) → Takes (W.contents output.old) (W.contents output.new) next result.end (record { text = text.now; standing = next; goes_on = goes_on }) }
+    ensures takes { (next : SessionState) → AnswersLine (W.contents output.old) (W.contents output.new) next result.end (reply_of text.now next goes_on) }
     ensures starved { result.starved ≡ starved }
 {
     match write_text(output, text) {
         Ok(()) => TurnEnd {
-            end: end_behind(goes_on),
+            end: end_after(goes_on),
             starved,
         },
         Err(_) => TurnEnd {
@@ -84,16 +84,16 @@ fn write_reply<W: Write>(text: &[u8], goes_on: bool, starved: bool, output: &mut
     }
 }
 
-/// The exit status where the run ends behind a reply that was written.
-fn end_behind(goes_on: bool) -> Option<u8>
-    ensures { result ≡ end_behind goes_on }
+/// The exit status where the run ends after a reply that was written.
+fn end_after(goes_on: bool) -> Option<u8>
+    ensures { result ≡ end_after goes_on }
 {
     if goes_on { None } else { Some(BAD_COMMAND) }
 }
 
 /// The end, with this status, of a run whose input was read: where that is 4, a write failed.
 fn ended(status: u8, starved: bool) -> RunEnd
-    ensures { result ≡ ended status starved }
+    ensures { result ≡ run_end_of status starved }
 {
     let broken = if status == BROKEN {
         Some(Broken::Unwritten)
@@ -117,9 +117,9 @@ fn take_turn<Rt: Threads + Wait + Sync, W: Write>(
     output: &mut W,
 ) -> TurnEnd
     ensures answered { result.starved ≡ false
-        → Takes (W.contents output.old) (W.contents output.new) session.new result.end (reply_to session.old (turn_of turn.entry)) }
+        → AnswersLine (W.contents output.old) (W.contents output.new) session.new result.end (reply_to session.old (turn_of turn.entry)) }
     ensures stopped { result.starved ≡ true
-        → (reply : Reply) × Stops session.old (turn_of turn.entry) reply × Takes (W.contents output.old) (W.contents output.new) session.new result.end reply }
+        → StopsLine session.old (turn_of turn.entry) (W.contents output.old) (W.contents output.new) session.new result.end }
 {
     let answered = answer(rt, alloc, turn, session);
     let published = session.publish(rt, alloc);
@@ -134,7 +134,7 @@ fn take_turn<Rt: Threads + Wait + Sync, W: Write>(
     }
 }
 
-/// Runs the command lines that follow, the first of which has a number.
+/// Runs the command lines that follow, from a number on.
 fn run_commands<Rt: Threads + Wait + Sync, W: Write>(
     rt: &Rt,
     alloc: Global,
@@ -145,9 +145,9 @@ fn run_commands<Rt: Threads + Wait + Sync, W: Write>(
 ) -> RunEnd
     requires { first + left_in (option_copied lines) ≤ MOST_INPUT + 2 }
     ensures unstarved { result.starved ≡ false
-        → EndsAs (W.contents output.old) (W.contents output.new) result (run session.old (turns_of (lines_after first (option_copied lines.entry)))) }
+        → EndsAs (W.contents output.old) (W.contents output.new) result (run session.old (next_turns first (option_copied lines.entry))) }
     ensures starved { result.starved ≡ true
-        → EndsAsOne (W.contents output.old) (W.contents output.new) result (StarvedRun session.old (turns_of (lines_after first (option_copied lines.entry)))) }
+        → EndsAsOne (W.contents output.old) (W.contents output.new) result (StarvedRun session.old (next_turns first (option_copied lines.entry))) }
 {
     let mut starved = false;
     let mut number = first;
@@ -160,15 +160,15 @@ fn run_commands<Rt: Threads + Wait + Sync, W: Write>(
             return ended(status, starved);
         }
         number = cut.first;
-        rest = cut.behind;
+        rest = cut.after_it;
     }
     ended(DONE, starved)
 }
 
-/// Writes the lines with which a run ends, and ends it with this status, which isn't that of a failed write.
+/// Writes the last lines of a run, and ends it with this status, which isn't a failed write's.
 pub(crate) fn end_with<W: Write>(lines: &[u8], end: u8, starved: bool, output: &mut W) -> RunEnd
     requires { end ≢ 4 }
-    ensures told { EndsAs (W.contents output.old) (W.contents output.new) result (record { text = lines.now; status = end }) }
+    ensures answer_given { EndsAs (W.contents output.old) (W.contents output.new) result (record { text = lines.now; status = end }) }
     ensures starved { result.starved ≡ starved }
 {
     match write_text(output, lines) {
@@ -177,18 +177,18 @@ pub(crate) fn end_with<W: Write>(lines: &[u8], end: u8, starved: bool, output: &
     }
 }
 
-/// Tells why the project isn't opened.
-#[tactic(auto, using(crate::proofs::Openings::in_want_same))]
+/// Says why the project isn't opened.
+#[tactic(auto, using(crate::proofs::Openings::in_refused_growth_same))]
 fn end_unopened<W: Write>(alloc: Global, fault: Unopened, output: &mut W) -> RunEnd
-    ensures told { result.starved ≡ false
+    ensures answer_given { result.starved ≡ false
         → EndsAs (W.contents output.old) (W.contents output.new) result (unopened fault) }
-    ensures unstarved { result.starved ≡ false → is_want fault ≡ false }
+    ensures unstarved { result.starved ≡ false → is_refused_growth fault ≡ false }
     ensures starved { result.starved ≡ true
-        → EndsAs (W.contents output.old) (W.contents output.new) result (unopened (in_want fault)) }
+        → EndsAs (W.contents output.old) (W.contents output.new) result (unopened (with_refused_growth fault)) }
 {
     let mut line = String::new(alloc);
     match push_unopened(fault, &mut line) {
-        Ok(()) => end_with(line.as_bytes(), UNOPENED, fault.is_want(), output),
+        Ok(()) => end_with(line.as_bytes(), UNOPENED, fault.is_refused_growth(), output),
         Err(_) => end_with(memory_text(fault), UNOPENED, true, output),
     }
 }
@@ -202,7 +202,7 @@ fn run_input<Rt: Threads + Wait + Sync, W: Write>(
 ) -> RunEnd
     requires { length input.now ≤ MOST_INPUT }
     ensures unstarved { result.starved ≡ false
-        → EndsAs (W.contents output.old) (W.contents output.new) result (outcome_of input.now) }
+        → EndsAs (W.contents output.old) (W.contents output.new) result (program_outcome input.now) }
     ensures starved { result.starved ≡ true
         → EndsAsOne (W.contents output.old) (W.contents output.new) result (StarvedOutcome input.now) }
 {
@@ -224,24 +224,24 @@ fn run_input<Rt: Threads + Wait + Sync, W: Write>(
     }
 }
 
-/// Runs the program: reads all of a reader, and writes what the definition of its text gives for these
-/// bytes. Where it ends unstarved with another status than 4, what was written is the whole text and
-/// the status is its status; in any unstarved end it is a front of the text.
+/// Runs the program: reads all of a reader, and writes what the definition of its text gives for these bytes. Where it
+/// ends unstarved with another status than 4, what was written is the whole text and the status is its status; in any
+/// unstarved end it is a front of the text.
 ///
-/// The same holds of a starved end and one of the texts that a refused growth allows: nothing and status 4
-/// where the input isn't read, `project fault 11 Memory` or `open fault 2 Memory` and status 3 where the
-/// project isn't opened, else the text of the commands, one or more of which gave `refused 28 Memory` or, where
-/// frames didn't go along the line, `chain fault 1 Memory`, or weren't published. A command with such a line changed
-/// nothing, but in `scan`, `program` and `cycle` what was done before stands. `open fault 3 NoSeat`, of a project that
-/// can be opened, and `refused 7 NoEntry` count as such texts; no run meets them.
+/// The same holds of a starved end and one of the texts that a refused growth allows: nothing and status 4 where the
+/// input isn't read, `project fault 11 Memory` or `open fault 2 Memory` and status 3 where the project isn't opened,
+/// else the text of the commands, where one or more gave `refused 28 Memory` or, where frames didn't go along the
+/// line, `chain fault 1 Memory`, or weren't published. A command with such a line changed nothing, but in `scan`,
+/// `program` and `cycle` what was done before is. `open fault 3 NoSeat`, of a project that can be opened, and `refused
+/// 7 NoEntry` count as such texts; no run meets them.
 ///
-/// Behind each turn what it changed is published, and each task's seat learns it. A refused publishing prints nothing;
+/// After each turn what it changed is published, and each task's seat learns it. A refused publishing prints nothing;
 /// tasks view what they did, and the next one goes on where it stopped.
 ///
-/// Faults are found in the order input, project, opening, commands. Status 4 comes where the input is
-/// longer than 4,194,304 bytes, where reading fails or doesn't end within 4,194,305 turns, and where a
-/// write fails, takes nothing, or is interrupted over 4,194,305 times in one reply. Frames go along the line
-/// in threads of its segments, for which the run waits.
+/// Faults are found in the order input, project, opening, commands. Status 4 comes where the input is longer than
+/// 4,194,304 bytes, where reading fails or doesn't end within 4,194,305 turns, and where a write fails, takes nothing,
+/// or is interrupted over 4,194,305 times in one reply. Frames go along the line in threads of its segments; the run
+/// waits for them.
 pub fn run_hotline<Rt: Threads + Wait + Sync, R: Read, W: Write>(
     rt: &Rt,
     alloc: Global,
@@ -249,7 +249,7 @@ pub fn run_hotline<Rt: Threads + Wait + Sync, R: Read, W: Write>(
     output: &mut W,
 ) -> RunEnd
     ensures unstarved { result.starved ≡ false → IfSome (R.remaining input.old)
-        (λ bytes. EndsAs (W.contents output.old) (W.contents output.new) result (outcome_of bytes)) }
+        (λ bytes. EndsAs (W.contents output.old) (W.contents output.new) result (program_outcome bytes)) }
     ensures starved { result.starved ≡ true → IfSome (R.remaining input.old)
         (λ bytes. EndsAsOne (W.contents output.old) (W.contents output.new) result (StarvedOutcome bytes)) }
 {

@@ -12,7 +12,7 @@ use std::alloc::AllocError;
 /// The bytes of the largest frame.
 pub(crate) const LARGEST_FRAME: usize = 1514;
 
-/// Adds the line of a frame of datagrams of the present line behind a word, as `sent 4: ff..`, with the
+/// Adds the line of a frame of datagrams of the present line after a word, as `sent 4: ff..`, with the
 /// values that the datagrams' output variables have now. `AllocError` where a growth was refused; `out` may
 /// then have a front of the line.
 pub fn push_frame(
@@ -21,10 +21,10 @@ pub fn push_frame(
     frame: &Sending,
     out: &mut String,
 ) -> Result<(), AllocError>
-    requires { CanBeFilled core.now.past frame.now }
-    ensures { OnOk result (string_bytes out.new ≡ string_bytes out.old ++ frame_line word.now frame.now.serial (sent_text core.now.past frame.now)) }
+    requires { CanBeFilled core.now.history frame.now }
+    ensures { OnOk result (string_bytes out.new ≡ string_bytes out.old ++ frame_line word.now frame.now.serial (sent_text core.now.history frame.now)) }
 {
-    // its datagrams fit a frame, so that its size is at most that of the largest
+    // its datagrams fit a frame, so that it is no larger than the largest
     let _ = frame.datagrams();
     let mut bytes = [0u8; LARGEST_FRAME];
     let bytes = &mut bytes[..frame.size()];

@@ -1,10 +1,10 @@
-//! Opening the project of an input, or telling why it can't be opened.
+//! Opening the project of an input, or saying why it can't be opened.
 ghost use Rattle.std.specs.Prelude.{◌≡◌, ◌++◌, IfErr, IfOk, IsOk, OnOk, false, string_bytes, true};
 ghost use Rattle.hc_project.specs.Text.{project_in};
-ghost use Rattle.hc_conductor.specs.Mastering.{past_of};
-ghost use Rattle.hc_program.specs.Sessions.{IsFresh};
-ghost use Rattle.hc_program.specs.Standings.{opened_standing};
-ghost use Rattle.hc_program.specs.Opening.{IsRefusalOf, IsRefusalOfOpening, crowded_at_opening, in_want, is_project_memory, is_want, opened_unless, opening_of, unopened_text};
+ghost use Rattle.hc_conductor.specs.Mastering.{master_history};
+ghost use Rattle.hc_program.specs.Sessions.{MasterIsAtOpening};
+ghost use Rattle.hc_program.specs.Standings.{opened_session_state};
+ghost use Rattle.hc_program.specs.Opening.{IsRefusalOf, IsRefusalOfOpening, over_limit_at_opening, with_refused_growth, is_project_memory, is_refused_growth, opened_unless, opening_of, unopened_text};
 
 use crate::refusals::push_project_fault;
 use crate::session::Session;
@@ -36,11 +36,11 @@ pub enum Unopened {
 
 impl Unopened {
     ghost use Rattle.std.specs.Prelude.{◌≡◌};
-    ghost use Rattle.hc_program.specs.Opening.{is_want};
+    ghost use Rattle.hc_program.specs.Opening.{is_refused_growth};
 
     /// Whether a growth or a seat was refused.
-    pub fn is_want(self) -> bool
-        ensures { result ≡ is_want self }
+    pub fn is_refused_growth(self) -> bool
+        ensures { result ≡ is_refused_growth self }
     {
         match self {
             Unopened::Project(fault) => is_project_memory(fault),
@@ -51,6 +51,7 @@ impl Unopened {
     }
 }
 
+/// Whether a project text was refused with `Memory`.
 fn is_project_memory(fault: ProjectFault) -> bool
     ensures { result ≡ is_project_memory fault }
 {
@@ -59,9 +60,9 @@ fn is_project_memory(fault: ProjectFault) -> bool
 
 /// The conductor and the seats of a project at its opening.
 fn open_project<R: Wait>(rt: &R, alloc: Global, project: Project) -> Result<Master, Unopened>
-    ensures opened { IfOk result (λ master. opened_unless (crowded_at_opening project) project ≡ Ok (past_of master)) }
-    ensures fresh { IfOk result IsFresh }
-    ensures refused { IfErr result (λ fault. is_want fault ≡ false → opened_unless (crowded_at_opening project) project ≡ Err fault) }
+    ensures opened { IfOk result (λ master. opened_unless (over_limit_at_opening project) project ≡ Ok (master_history master)) }
+    ensures fresh { IfOk result MasterIsAtOpening }
+    ensures refused { IfErr result (λ fault. is_refused_growth fault ≡ false → opened_unless (over_limit_at_opening project) project ≡ Err fault) }
     ensures reason { IfErr result (IsRefusalOfOpening project) }
 {
     match hc_conductor::one_thread::open(rt, alloc, project) {
@@ -76,9 +77,9 @@ fn open_project<R: Wait>(rt: &R, alloc: Global, project: Project) -> Result<Mast
 /// other fault than the text's only where the text is a project.
 #[tactic(auto, using(crate::proofs::Openings::refusal_of_text), unfolding(crate::specs::Opening::opening_of))]
 fn open_text<R: Wait>(rt: &R, alloc: Global, text: &[u8]) -> Result<Master, Unopened>
-    ensures opened { IfOk result (λ master. opening_of text.now ≡ Ok (past_of master)) }
-    ensures fresh { IfOk result IsFresh }
-    ensures refused { IfErr result (λ fault. is_want fault ≡ false → opening_of text.now ≡ Err fault) }
+    ensures opened { IfOk result (λ master. opening_of text.now ≡ Ok (master_history master)) }
+    ensures fresh { IfOk result MasterIsAtOpening }
+    ensures refused { IfErr result (λ fault. is_refused_growth fault ≡ false → opening_of text.now ≡ Err fault) }
     ensures reason { IfErr result (IsRefusalOf text.now) }
 {
     match read_project(alloc, text) {
@@ -90,9 +91,9 @@ fn open_text<R: Wait>(rt: &R, alloc: Global, text: &[u8]) -> Result<Master, Unop
 /// The session of the project of a text at its opening, or why it isn't opened. `NoSeat` comes only where the project can
 /// be opened, and each other fault than the text's only where the text is a project.
 pub fn open_session<R: Wait>(rt: &R, alloc: Global, text: &[u8]) -> Result<Session, Unopened>
-    ensures opened { IfOk result (λ session. opening_of text.now ≡ Ok session.past) }
-    ensures begun { IfOk result (λ session. session ≡ opened_standing session.past) }
-    ensures refused { IfErr result (λ fault. is_want fault ≡ false → opening_of text.now ≡ Err fault) }
+    ensures opened { IfOk result (λ session. opening_of text.now ≡ Ok session.history) }
+    ensures begun { IfOk result (λ session. session ≡ opened_session_state session.history) }
+    ensures refused { IfErr result (λ fault. is_refused_growth fault ≡ false → opening_of text.now ≡ Err fault) }
     ensures reason { IfErr result (IsRefusalOf text.now) }
 {
     let master = open_text(rt, alloc, text)?;
@@ -120,7 +121,7 @@ pub fn push_unopened(unopened: Unopened, out: &mut String) -> Result<(), AllocEr
 /// another.
 #[tactic(auto, unfolding(crate::specs::Opening::unopened_text, crate::specs::Refusals::project_fault_words))]
 pub fn memory_text(unopened: Unopened) -> &'static [u8]
-    ensures { result.now ≡ unopened_text (in_want unopened) }
+    ensures { result.now ≡ unopened_text (with_refused_growth unopened) }
 {
     match unopened {
         Unopened::Project(_fault) => b"project fault 11 Memory\n",

@@ -1,15 +1,15 @@
 //! Places of a project's text as they are printed.
 ghost use Rattle.std.specs.Prelude.{◌≡◌, ◌++◌, OnOk, string_bytes};
-ghost use Rattle.hc_program.specs.Places.{alias_text, array_text, first_text, group_text, item_text, key_name, key_text, path_text, place_text, separator, spot_text, station_text};
+ghost use Rattle.hc_program.specs.Places.{place_alias_text, array_text, first_text, group_text, item_text, key_name, key_text, path_text, project_place_text, separator, location_text, station_text};
 
-use hc_project::{Key, Place, Spot};
+use hc_project::{Key, Location, Place};
 use std::alloc::AllocError;
 
-/// A full stop where something stands before it.
-fn separator(is_behind: bool) -> &'static str
-    ensures { result.now ≡ separator is_behind }
+/// A full stop where something is before it.
+fn separator(is_after: bool) -> &'static str
+    ensures { result.now ≡ separator is_after }
 {
-    if is_behind { "." } else { "" }
+    if is_after { "." } else { "" }
 }
 
 /// Adds the group of a place, none at the top.
@@ -27,28 +27,30 @@ fn push_group(group: usize, out: &mut String) -> Result<(), AllocError>
 /// Adds an item of an array, none where the place lies in none.
 #[tactic(auto, unfolding(crate::specs::Places::array_text))]
 fn push_array(
-    is_behind: bool,
+    is_after: bool,
     name: &str,
     index: Option<usize>,
     out: &mut String,
 ) -> Result<(), AllocError>
-    ensures { OnOk result (string_bytes out.new ≡ string_bytes out.old ++ array_text is_behind name.now index) }
+    ensures { OnOk result (string_bytes out.new ≡ string_bytes out.old ++ array_text is_after name.now index) }
 {
     match index {
         Some(index) => {
-            let dot = separator(is_behind);
+            let dot = separator(is_after);
             write!(out, "{dot}{name}[{index}]")
         }
         None => Ok(()),
     }
 }
 
+/// Adds an array's name with an index in brackets, and the text that follows.
 fn push_item(name: &str, index: usize, rest: &str, out: &mut String) -> Result<(), AllocError>
     ensures { OnOk result (string_bytes out.new ≡ string_bytes out.old ++ item_text name.now index rest.now) }
 {
     write!(out, "{name}[{index}]{rest}")
 }
 
+/// Adds a key, with an index where it names an item; nothing for the whole table.
 fn push_key_name(key: Key, out: &mut String) -> Result<(), AllocError>
     ensures { OnOk result (string_bytes out.new ≡ string_bytes out.old ++ key_name key) }
 {
@@ -76,13 +78,13 @@ fn push_key_name(key: Key, out: &mut String) -> Result<(), AllocError>
 
 /// Adds what a place names, nothing where it is the table itself.
 #[tactic(auto, unfolding(crate::specs::Places::key_text))]
-fn push_key(is_behind: bool, key: Key, out: &mut String) -> Result<(), AllocError>
-    ensures { OnOk result (string_bytes out.new ≡ string_bytes out.old ++ key_text is_behind key) }
+fn push_key(is_after: bool, key: Key, out: &mut String) -> Result<(), AllocError>
+    ensures { OnOk result (string_bytes out.new ≡ string_bytes out.old ++ key_text is_after key) }
 {
     if let Key::Whole = key {
         return Ok(());
     }
-    out.push_str(separator(is_behind))?;
+    out.push_str(separator(is_after))?;
     push_key_name(key, out)
 }
 
@@ -99,9 +101,10 @@ fn push_path(place: Place, out: &mut String) -> Result<(), AllocError>
     push_key(in_group || place.slave.is_some(), place.key, out)
 }
 
-#[tactic(auto, unfolding(crate::specs::Places::alias_text))]
+/// Adds the alias of a place's group, in decimal; nothing for 0, which is the top or an alias that can't be read.
+#[tactic(auto, unfolding(crate::specs::Places::place_alias_text))]
 fn push_alias(alias: u16, out: &mut String) -> Result<(), AllocError>
-    ensures { OnOk result (string_bytes out.new ≡ string_bytes out.old ++ alias_text alias) }
+    ensures { OnOk result (string_bytes out.new ≡ string_bytes out.old ++ place_alias_text alias) }
 {
     if alias == 0 {
         return Ok(());
@@ -109,6 +112,8 @@ fn push_alias(alias: u16, out: &mut String) -> Result<(), AllocError>
     write!(out, " alias {alias}")
 }
 
+/// Adds the station address of a place's slave, in decimal; nothing for 0, where there is no slave or its address can't be
+/// read.
 #[tactic(auto, unfolding(crate::specs::Places::station_text))]
 fn push_station(station: u16, out: &mut String) -> Result<(), AllocError>
     ensures { OnOk result (string_bytes out.new ≡ string_bytes out.old ++ station_text station) }
@@ -120,9 +125,9 @@ fn push_station(station: u16, out: &mut String) -> Result<(), AllocError>
 }
 
 /// Adds a place, with its group's alias and its slave's station address where they are known.
-#[tactic(auto, unfolding(crate::specs::Places::place_text))]
+#[tactic(auto, unfolding(crate::specs::Places::project_place_text))]
 fn push_place(place: Place, out: &mut String) -> Result<(), AllocError>
-    ensures { OnOk result (string_bytes out.new ≡ string_bytes out.old ++ place_text place) }
+    ensures { OnOk result (string_bytes out.new ≡ string_bytes out.old ++ project_place_text place) }
 {
     push_path(place, out)?;
     push_alias(place.alias, out)?;
@@ -144,12 +149,12 @@ fn push_first(first: Option<Place>, out: &mut String) -> Result<(), AllocError>
 
 /// Adds the line of a place, as `at slave[1].station station 7 first slave[0].station station 7`. `AllocError` where a
 /// growth was refused; `out` may then have a front of the line.
-#[tactic(auto, unfolding(crate::specs::Places::spot_text))]
-pub fn push_spot(spot: Spot, out: &mut String) -> Result<(), AllocError>
-    ensures { OnOk result (string_bytes out.new ≡ string_bytes out.old ++ spot_text spot) }
+#[tactic(auto, unfolding(crate::specs::Places::location_text))]
+pub fn push_location(location: Location, out: &mut String) -> Result<(), AllocError>
+    ensures { OnOk result (string_bytes out.new ≡ string_bytes out.old ++ location_text location) }
 {
     out.push_str("at ")?;
-    push_place(spot.place, out)?;
-    push_first(spot.first, out)?;
+    push_place(location.place, out)?;
+    push_first(location.first, out)?;
     out.push_str("\n")
 }

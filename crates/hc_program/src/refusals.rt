@@ -8,6 +8,7 @@ use hc_events::faults::CoreFault;
 use hc_records::faults::ProjectFault;
 use std::alloc::AllocError;
 
+/// Adds the name of a project text's fault.
 fn push_project_fault_name(fault: ProjectFault, out: &mut String) -> Result<(), AllocError>
     ensures { OnOk result (string_bytes out.new ≡ string_bytes out.old ++ project_fault_name fault) }
 {
@@ -47,7 +48,7 @@ fn push_declare_fault(fault: ProjectFault, out: &mut String) -> Result<(), Alloc
 
 /// The same of a fault that may be `Memory`: that one is answered as `AllocError`, and its line is the run's to write
 /// (`memory_refusal`).
-pub fn tell_declare_fault(fault: ProjectFault, out: &mut String) -> Result<(), AllocError>
+pub fn say_declare_fault(fault: ProjectFault, out: &mut String) -> Result<(), AllocError>
     ensures text { OnOk result (string_bytes out.new ≡ string_bytes out.old ++ declare_fault_text fault) }
     ensures other { OnOk result (fault ≢ project.Memory) }
 {
@@ -76,6 +77,7 @@ fn push_bad_group(fault: ProjectFault, out: &mut String) -> Result<(), AllocErro
     write!(out, "BadGroup {number}")
 }
 
+/// Adds the name of a core's fault. A task, a number of owed blocks or a size in bytes follows it where the fault has one.
 fn push_core_fault_name(fault: CoreFault, out: &mut String) -> Result<(), AllocError>
     ensures { OnOk result (string_bytes out.new ≡ string_bytes out.old ++ core_fault_name fault) }
 {
@@ -131,7 +133,7 @@ pub fn push_refusal(fault: CoreFault, out: &mut String) -> Result<(), AllocError
 
 /// The same of a fault that may be `Memory`: that one is answered as `AllocError`, and its line is the run's to
 /// write (`memory_refusal`).
-pub fn tell_refusal(fault: CoreFault, out: &mut String) -> Result<(), AllocError>
+pub fn say_refusal(fault: CoreFault, out: &mut String) -> Result<(), AllocError>
     ensures text { OnOk result (string_bytes out.new ≡ string_bytes out.old ++ refusal_text fault) }
     ensures other { OnOk result (fault ≢ Memory) }
 {
@@ -141,7 +143,7 @@ pub fn tell_refusal(fault: CoreFault, out: &mut String) -> Result<(), AllocError
     push_refusal(fault, out)
 }
 
-/// The line of a command for which a growth was refused: it is there without another growth.
+/// The line of a command that was refused a growth: it is there without another growth.
 #[tactic(auto, unfolding(crate::specs::Refusals::refusal_text))]
 pub fn memory_refusal() -> &'static [u8]
     ensures { result.now ≡ refusal_text Memory }

@@ -16,7 +16,7 @@ use std::alloc::{AllocError, Global};
 use std::sync::Wait;
 use std::thread::Threads;
 
-/// What a turn prints, and whether the run goes on behind it.
+/// What a turn prints, and whether the run goes on after it.
 #[derive(Debug, Drop)]
 pub struct Reply {
     /// What the turn prints.
@@ -36,7 +36,7 @@ pub fn answer<R: Threads + Wait + Sync>(
 ) -> Result<Reply, Stop>
     ensures text { IfOk result (λ reply. string_bytes reply.text ≡ (bare_reply session.old (turn_of turn.entry)).text) }
     ensures goes_on { IfOk result (λ reply. reply.goes_on ≡ (bare_reply session.old (turn_of turn.entry)).goes_on) }
-    ensures next { OnOk result (session.new ≡ (bare_reply session.old (turn_of turn.entry)).standing) }
+    ensures next { OnOk result (session.new ≡ (bare_reply session.old (turn_of turn.entry)).session_state) }
     ensures stops { IfErr result (λ stop. StopsTurn session.old (turn_of turn.entry) stop session.new) }
 {
     let mut text = String::new(alloc);
@@ -44,7 +44,7 @@ pub fn answer<R: Threads + Wait + Sync>(
     Ok(Reply { text, goes_on })
 }
 
-/// Adds what a turn prints, and tells whether the run goes on behind it.
+/// Adds what a turn prints, and says whether the run goes on after it.
 #[tactic(auto, unfolding(crate::specs::Runs::bare_reply))]
 fn push_turn<R: Threads + Wait + Sync>(
     rt: &R,
@@ -55,7 +55,7 @@ fn push_turn<R: Threads + Wait + Sync>(
 ) -> Result<bool, Stop>
     ensures text { OnOk result (string_bytes out.new ≡ string_bytes out.old ++ (bare_reply session.old (turn_of turn.entry)).text) }
     ensures goes_on { IfOk result (λ goes_on. goes_on ≡ (bare_reply session.old (turn_of turn.entry)).goes_on) }
-    ensures next { OnOk result (session.new ≡ (bare_reply session.old (turn_of turn.entry)).standing) }
+    ensures next { OnOk result (session.new ≡ (bare_reply session.old (turn_of turn.entry)).session_state) }
     ensures stops { IfErr result (λ stop. StopsTurn session.old (turn_of turn.entry) stop session.new) }
 {
     match turn {
@@ -77,7 +77,7 @@ fn push_turn<R: Threads + Wait + Sync>(
     }
 }
 
-/// Adds that a line is no command: the run ends behind it.
+/// Adds that a line is no command: the run ends after it.
 fn push_no_command(number: u32, out: &mut String) -> Result<bool, AllocError>
     ensures text { OnOk result (string_bytes out.new ≡ string_bytes out.old ++ bad_command_text number) }
     ensures goes_on { IfOk result (λ goes_on. goes_on ≡ false) }
@@ -86,7 +86,7 @@ fn push_no_command(number: u32, out: &mut String) -> Result<bool, AllocError>
     Ok(false)
 }
 
-/// Adds what the words of a line print, and tells whether the run goes on behind it.
+/// Adds what the words of a line print, and says whether the run goes on after it.
 fn push_reply<R: Threads + Wait + Sync>(
     rt: &R,
     alloc: Global,
@@ -97,7 +97,7 @@ fn push_reply<R: Threads + Wait + Sync>(
 ) -> Result<bool, Stop>
     ensures text { OnOk result (string_bytes out.new ≡ string_bytes out.old ++ (reply_to_words session.old number (map (λ word. word.now) words.now)).text) }
     ensures goes_on { IfOk result (λ goes_on. goes_on ≡ (reply_to_words session.old number (map (λ word. word.now) words.now)).goes_on) }
-    ensures next { OnOk result (session.new ≡ (reply_to_words session.old number (map (λ word. word.now) words.now)).standing) }
+    ensures next { OnOk result (session.new ≡ (reply_to_words session.old number (map (λ word. word.now) words.now)).session_state) }
     ensures stops { IfErr result (λ stop. StopsWords session.old (map (λ word. word.now) words.now) stop session.new) }
 {
     let [name, arguments @ ..] = words else {

@@ -1,6 +1,6 @@
 //! Why a command is stopped.
 ghost use Rattle.std.specs.Prelude.{◌≡◌};
-ghost use Rattle.hc_program.specs.Stops.{chain_fault_text, no_entry_text, stop_text, want_text};
+ghost use Rattle.hc_program.specs.Stops.{chain_fault_text, no_entry_text, stop_text, refused_growth_text};
 
 use crate::refusals::memory_refusal;
 use hc_conductor::one_thread::refusals::NoEntry;
@@ -9,7 +9,7 @@ use std::alloc::AllocError;
 
 /// Where a growth was refused.
 #[derive(Clone, Copy, Debug, PartialEq, Eq)]
-pub enum Want {
+pub enum RefusedGrowth {
     /// For the command itself.
     Memory,
     /// For frames to go along the line.
@@ -20,53 +20,53 @@ pub enum Want {
 #[derive(Clone, Copy, Debug, PartialEq, Eq)]
 pub enum Stop {
     /// A growth was refused.
-    Want(Want),
+    RefusedGrowth(RefusedGrowth),
     /// A seat was given no view: no entry, which no run meets.
     NoEntry,
 }
 
-impl From<AllocError> for Want {
+impl From<AllocError> for RefusedGrowth {
     ghost use Rattle.std.specs.Prelude.{◌≡◌};
-    ghost use Rattle.hc_program.specs.declared.stops.Want.TheVariants.{Memory};
+    ghost use Rattle.hc_program.specs.declared.stops.RefusedGrowth.TheVariants.{Memory};
 
-    ghost from_gives = { λ _ want. want ≡ Memory };
+    ghost from_gives = { λ _ refused_growth. refused_growth ≡ Memory };
 
-    fn from(_error: AllocError) -> Want {
-        Want::Memory
+    fn from(_error: AllocError) -> RefusedGrowth {
+        RefusedGrowth::Memory
     }
 }
 
-impl From<ChainFault> for Want {
+impl From<ChainFault> for RefusedGrowth {
     ghost use Rattle.std.specs.Prelude.{◌≡◌};
-    ghost use Rattle.hc_program.specs.declared.stops.Want.TheVariants.{Chain};
+    ghost use Rattle.hc_program.specs.declared.stops.RefusedGrowth.TheVariants.{Chain};
 
-    ghost from_gives = { λ fault want. want ≡ Chain fault };
+    ghost from_gives = { λ fault refused_growth. refused_growth ≡ Chain fault };
 
-    fn from(fault: ChainFault) -> Want {
-        Want::Chain(fault)
+    fn from(fault: ChainFault) -> RefusedGrowth {
+        RefusedGrowth::Chain(fault)
     }
 }
 
-impl From<Want> for Stop {
+impl From<RefusedGrowth> for Stop {
     ghost use Rattle.std.specs.Prelude.{◌≡◌};
     ghost use Rattle.hc_program.specs.declared.stops.Stop.TheVariants as stop;
 
-    ghost from_gives = { λ want why. why ≡ stop.Want want };
+    ghost from_gives = { λ refused_growth why. why ≡ stop.RefusedGrowth refused_growth };
 
-    fn from(want: Want) -> Stop {
-        Stop::Want(want)
+    fn from(refused_growth: RefusedGrowth) -> Stop {
+        Stop::RefusedGrowth(refused_growth)
     }
 }
 
 impl From<AllocError> for Stop {
     ghost use Rattle.std.specs.Prelude.{◌≡◌};
     ghost use Rattle.hc_program.specs.declared.stops.Stop.TheVariants as stop;
-    ghost use Rattle.hc_program.specs.declared.stops.Want.TheVariants.{Memory};
+    ghost use Rattle.hc_program.specs.declared.stops.RefusedGrowth.TheVariants.{Memory};
 
-    ghost from_gives = { λ _ why. why ≡ stop.Want Memory };
+    ghost from_gives = { λ _ why. why ≡ stop.RefusedGrowth Memory };
 
     fn from(_error: AllocError) -> Stop {
-        Stop::Want(Want::Memory)
+        Stop::RefusedGrowth(RefusedGrowth::Memory)
     }
 }
 
@@ -92,12 +92,12 @@ fn chain_refusal(fault: ChainFault) -> &'static [u8]
 }
 
 /// The line of a growth that was refused: it is there without another.
-fn want_line(want: Want) -> &'static [u8]
-    ensures { result.now ≡ want_text want }
+fn refused_growth_line(refused_growth: RefusedGrowth) -> &'static [u8]
+    ensures { result.now ≡ refused_growth_text refused_growth }
 {
-    match want {
-        Want::Memory => memory_refusal(),
-        Want::Chain(fault) => chain_refusal(fault),
+    match refused_growth {
+        RefusedGrowth::Memory => memory_refusal(),
+        RefusedGrowth::Chain(fault) => chain_refusal(fault),
     }
 }
 
@@ -109,12 +109,12 @@ fn no_entry_line() -> &'static [u8]
     b"refused 7 NoEntry\n"
 }
 
-/// The line that tells why: it is there without a growth.
+/// The line that says why: it is there without a growth.
 pub fn stop_line(stop: Stop) -> &'static [u8]
     ensures { result.now ≡ stop_text stop }
 {
     match stop {
-        Stop::Want(want) => want_line(want),
+        Stop::RefusedGrowth(refused_growth) => refused_growth_line(refused_growth),
         Stop::NoEntry => no_entry_line(),
     }
 }

@@ -24,7 +24,7 @@ pub enum Turn<'a> {
     Declares {
         /// Its number.
         number: u32,
-        /// The bytes between it and the line `%%` behind it, as they stand; none where no line is that.
+        /// The bytes between it and the line `%%` after it, as they are; none where no line is that.
         document: Option<&'a [u8]>,
     },
 }
@@ -34,8 +34,8 @@ pub enum Turn<'a> {
 pub struct CutTurn<'a> {
     /// The turn.
     pub turn: Turn<'a>,
-    /// The lines behind it; none where nothing follows it.
-    pub behind: Option<&'a [u8]>,
+    /// The lines after it; none where nothing follows it.
+    pub after_it: Option<&'a [u8]>,
     /// The number of the first of them.
     pub first: u32,
 }
@@ -54,9 +54,9 @@ fn is_declare(line: &[u8]) -> bool
 fn split_declaration(number: u32, lines: Option<&[u8]>) -> CutTurn<'_>
     requires { number + 1 + left_in (option_copied lines) ≤ MOST_INPUT + 2 }
     ensures turn { turn_of result.turn ≡ Declares number (closed_text (lines_after (number + 1) (option_copied lines.entry))) }
-    ensures behind { lines_after result.first (option_copied result.behind) ≡ command_lines (lines_after (number + 1) (option_copied lines.entry)) }
-    ensures few { result.first + left_in (option_copied result.behind) ≤ MOST_INPUT + 2 }
-    ensures shorter { left_in (option_copied result.behind) ≤ left_in (option_copied lines.entry) }
+    ensures after_it { lines_after result.first (option_copied result.after_it) ≡ command_lines (lines_after (number + 1) (option_copied lines.entry)) }
+    ensures few { result.first + left_in (option_copied result.after_it) ≤ MOST_INPUT + 2 }
+    ensures shorter { left_in (option_copied result.after_it) ≤ left_in (option_copied lines.entry) }
 {
     match split_at_mark(lines, number + 1) {
         Some(sections) => CutTurn {
@@ -64,7 +64,7 @@ fn split_declaration(number: u32, lines: Option<&[u8]>) -> CutTurn<'_>
                 number,
                 document: Some(sections.project),
             },
-            behind: sections.commands,
+            after_it: sections.commands,
             first: sections.first,
         },
         None => CutTurn {
@@ -72,18 +72,18 @@ fn split_declaration(number: u32, lines: Option<&[u8]>) -> CutTurn<'_>
                 number,
                 document: None,
             },
-            behind: None,
+            after_it: None,
             first: number + 1,
         },
     }
 }
 
-/// Cuts the first turn from command lines, the first of which has a number.
+/// Cuts the first turn from command lines, from a number on.
 pub fn split_turn(lines: &[u8], number: u32) -> CutTurn<'_>
     requires { number + left_in (Some lines.now) ≤ MOST_INPUT + 2 }
-    ensures turn { turns_of (lines_after number (Some lines.now)) ≡ turn_of result.turn ∷ turns_of (lines_after result.first (option_copied result.behind)) }
-    ensures few { result.first + left_in (option_copied result.behind) ≤ MOST_INPUT + 2 }
-    ensures shorter { left_in (option_copied result.behind) ≤ length lines.now }
+    ensures turn { turns_of (lines_after number (Some lines.now)) ≡ turn_of result.turn ∷ turns_of (lines_after result.first (option_copied result.after_it)) }
+    ensures few { result.first + left_in (option_copied result.after_it) ≤ MOST_INPUT + 2 }
+    ensures shorter { left_in (option_copied result.after_it) ≤ length lines.now }
 {
     let (line, rest) = split_line(lines);
     if is_declare(line) {
@@ -91,7 +91,7 @@ pub fn split_turn(lines: &[u8], number: u32) -> CutTurn<'_>
     }
     CutTurn {
         turn: Turn::Says { number, line },
-        behind: rest,
+        after_it: rest,
         first: number + 1,
     }
 }

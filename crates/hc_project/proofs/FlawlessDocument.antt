@@ -1,4 +1,4 @@
--- Where no flaw is found in a document, reading it has none, and its groups are in their ranges.
+-- Where no fault is found in a document, reading it has none, and its groups are in their ranges.
 use Rattle.std.proofs.Common.{◌≡◌, ℕ, suc, ◌+◌, ◌-◌, ◌≤◌, ◌==◌, ◌++◌, nat_lt, false, List, length, Option, Some, None, refl, arith, option_and_then}
 use Rattle.std.specs.Prelude.{codes}
 use Rattle.std.specs.List.{list_any}
@@ -9,40 +9,40 @@ use Rattle.toml.specs.Data.{Data, Items, no_items, item, as_array, get}
 use Rattle.hc_records.specs.declared.limits.TheConstants.{MOST_GROUPS, MOST_SLAVES}
 use Rattle.hc_records.specs.declared.records.Group.{Group}
 use Rattle.hc_records.specs.Project.{has_outside, is_bare, slave_outside, slaves_of, some_slave}
-use Rattle.hc_project.specs.declared.flawed.Flaw.TheVariants.{Missing, Outside}
+use Rattle.hc_project.specs.declared.flawed.SyntaxFault.TheVariants.{Missing, Outside}
 use Rattle.hc_project.specs.declared.places.Key.TheVariants as key
 use Rattle.hc_project.specs.declared.places.Place.{Place}
 use Rattle.hc_project.specs.declared.reading.Reading.{Reading}
 use Rattle.hc_project.specs.Arrays.{array_of, each, optional_array}
 use Rattle.hc_project.specs.Places.{document}
 use Rattle.hc_project.specs.Values.{word}
-use Rattle.hc_project.specs.Flawed.{array_count, document_flaw, group_flaw, groups_flaw, others_flaw, others_flaw_of, slave_count, slave_place, slave_flaw}
+use Rattle.hc_project.specs.Flawed.{array_count, document_syntax_fault, group_syntax_fault, groups_syntax_fault, others_syntax_fault, others_syntax_fault_of, slave_count, slave_item_place, slave_syntax_fault}
 use Rattle.hc_project.specs.Levels.{declared_groups, group, slave}
 use Rattle.hc_project.proofs.Searched.{none_left, none_right, flawless}
-use Rattle.hc_project.proofs.Flawless.{array_missing, array_outside, below_most, counted_array, in_range, judged_parts, no_flaw}
+use Rattle.hc_project.proofs.Flawless.{array_missing, array_outside, below_most, counted_array, in_range, judged_parts, no_syntax_fault}
 use Rattle.hc_project.proofs.FlawlessLevels.{optional_missing, optional_outside, slave_searches, few_enough}
 
-group_missing : (room : ℕ) (here : Place) (d : Data) → group_flaw Missing room here d ≡ None → (group d).flaws.missing ≡ false
+group_missing : (room : ℕ) (here : Place) (d : Data) → group_syntax_fault Missing room here d ≡ None → (group d).syntax_faults.missing ≡ false
 group_missing room here d none =
     let alias = flawless Missing _ _ (none_left _ _ none) in
-    let slaves = array_missing slave_outside slave 1 MOST_SLAVES room slave_place slave_flaw here key.Slaves (option_and_then as_array (get (codes "slave") d)) slave_searches (none_left _ _ (none_right _ _ none)) in
+    let slaves = array_missing slave_outside slave 1 MOST_SLAVES room slave_item_place slave_syntax_fault here key.Slaves (option_and_then as_array (get (codes "slave") d)) slave_searches (none_left _ _ (none_right _ _ none)) in
     rw (alias, slaves) refl
 
 some_there : (n : ℕ) → (n == 0) ≡ false → nat_lt n 1 ≡ false
 some_there n some = grind (arith, nat_tests)
 
 record GroupInside (room : ℕ) (read : Reading Group) : Type 0 where
-  right : read.flaws.outside ≡ false
+  right : read.syntax_faults.outside ≡ false
   bare : is_bare read.value ≡ false
   slaves : list_any slave_outside read.value.slaves ≡ false
   few : length read.value.slaves ≤ room
 
-group_outside : (room : ℕ) (here : Place) (d : Data) → room ≤ MOST_SLAVES → group_flaw Outside room here d ≡ None → GroupInside room (group d)
+group_outside : (room : ℕ) (here : Place) (d : Data) → room ≤ MOST_SLAVES → group_syntax_fault Outside room here d ≡ None → GroupInside room (group d)
 group_outside room here d small none =
     let items = option_and_then as_array (get (codes "slave") d) in
     let alias = judged_parts (λ n. n == 0) (word (get (codes "alias") d)) (flawless Outside _ _ (none_left _ _ none)) in
     let some = flawless Outside _ _ (none_left _ _ (none_right _ _ (none_right _ _ none))) in
-    let slaves = array_outside slave_outside slave 1 MOST_SLAVES room slave_place slave_flaw here key.Slaves items slave_searches small (some_there (array_count items) some) (none_left _ _ (none_right _ _ none)) in
+    let slaves = array_outside slave_outside slave 1 MOST_SLAVES room slave_item_place slave_syntax_fault here key.Slaves items slave_searches small (some_there (array_count items) some) (none_left _ _ (none_right _ _ none)) in
     let count : length (group d).value.slaves ≡ array_count items = counted_array 1 MOST_SLAVES slave items in
     record {
       right = rw (alias.0, slaves.0) refl;
@@ -51,7 +51,7 @@ group_outside room here d small none =
       few = slaves.2;
     }
 
-groups_missing : (room index : ℕ) (ds : Items) → groups_flaw Missing room index ds ≡ None → (each group ds).flaws.missing ≡ false
+groups_missing : (room index : ℕ) (ds : Items) → groups_syntax_fault Missing room index ds ≡ None → (each group ds).syntax_faults.missing ≡ false
 groups_missing room index no_items none = refl
 groups_missing room index (item d ds) none =
     let first = group_missing room _ d (none_left _ _ (none_right _ _ (none_left _ _ none))) in
@@ -59,7 +59,7 @@ groups_missing room index (item d ds) none =
     rw (first, rest) refl
 
 record GroupsInside (room index : ℕ) (read : Reading (List Group)) : Type 0 where
-  right : read.flaws.outside ≡ false
+  right : read.syntax_faults.outside ≡ false
   bare : list_any is_bare read.value ≡ false
   slaves : some_slave slave_outside read.value ≡ false
   few_slaves : length (slaves_of read.value) ≤ room
@@ -68,7 +68,7 @@ record GroupsInside (room index : ℕ) (read : Reading (List Group)) : Type 0 wh
 together : (room own all rest : ℕ) → own ≤ room → rest ≤ room - own → all ≡ own + rest → all ≤ room
 together room own all rest few fewer whole = omega (arith, few, fewer, whole)
 
-groups_outside : (room index : ℕ) (ds : Items) → room ≤ MOST_SLAVES → index ≤ MOST_GROUPS - 1 → groups_flaw Outside room index ds ≡ None → GroupsInside room index (each group ds)
+groups_outside : (room index : ℕ) (ds : Items) → room ≤ MOST_SLAVES → index ≤ MOST_GROUPS - 1 → groups_syntax_fault Outside room index ds ≡ None → GroupsInside room index (each group ds)
 groups_outside room index no_items small within none =
     record { right = refl; bare = refl; slaves = refl; few_slaves = omega arith; few = omega (arith, within) }
 groups_outside room index (item d ds) small within none =
@@ -86,22 +86,22 @@ groups_outside room index (item d ds) small within none =
       few = omega (arith, rest.few);
     }
 
-others_missing_of : (room : ℕ) (items : Option Items) → others_flaw_of Missing room items ≡ None → (array_of 0 (MOST_GROUPS - 1) group items).flaws.missing ≡ false
-others_missing_of room None none = absurd (no_flaw (flawless Missing _ _ none))
+others_missing_of : (room : ℕ) (items : Option Items) → others_syntax_fault_of Missing room items ≡ None → (array_of 0 (MOST_GROUPS - 1) group items).syntax_faults.missing ≡ false
+others_missing_of room None none = absurd (no_syntax_fault (flawless Missing _ _ none))
 others_missing_of room (Some ds) none = rw (groups_missing room 0 ds none) refl
 
-others_missing : (room : ℕ) (found : Option Data) → others_flaw Missing room found ≡ None → (optional_array (MOST_GROUPS - 1) group found).flaws.missing ≡ false
+others_missing : (room : ℕ) (found : Option Data) → others_syntax_fault Missing room found ≡ None → (optional_array (MOST_GROUPS - 1) group found).syntax_faults.missing ≡ false
 others_missing room None none = refl
 others_missing room (Some d) none = others_missing_of room (as_array d) none
 
 record OthersInside (room : ℕ) (read : Reading (List Group)) : Type 0 where
-  right : read.flaws.outside ≡ false
+  right : read.syntax_faults.outside ≡ false
   bare : list_any is_bare read.value ≡ false
   slaves : some_slave slave_outside read.value ≡ false
   few_slaves : length (slaves_of read.value) ≤ room
   few : length read.value ≤ MOST_GROUPS - 1
 
-others_outside_of : (room : ℕ) (items : Option Items) → room ≤ MOST_SLAVES → others_flaw_of Outside room items ≡ None → OthersInside room (array_of 0 (MOST_GROUPS - 1) group items)
+others_outside_of : (room : ℕ) (items : Option Items) → room ≤ MOST_SLAVES → others_syntax_fault_of Outside room items ≡ None → OthersInside room (array_of 0 (MOST_GROUPS - 1) group items)
 others_outside_of room None small none = record { right = refl; bare = refl; slaves = refl; few_slaves = omega arith; few = omega arith }
 others_outside_of room (Some ds) small none =
     let all = groups_outside room 0 ds small (omega arith) none in
@@ -115,7 +115,7 @@ others_outside_of room (Some ds) small none =
       few = few;
     }
 
-others_outside : (room : ℕ) (found : Option Data) → room ≤ MOST_SLAVES → others_flaw Outside room found ≡ None → OthersInside room (optional_array (MOST_GROUPS - 1) group found)
+others_outside : (room : ℕ) (found : Option Data) → room ≤ MOST_SLAVES → others_syntax_fault Outside room found ≡ None → OthersInside room (optional_array (MOST_GROUPS - 1) group found)
 others_outside room None small none = record { right = refl; bare = refl; slaves = refl; few_slaves = omega arith; few = omega arith }
 others_outside room (Some d) small none = others_outside_of room (as_array d) small none
 
@@ -123,15 +123,15 @@ counted_optional : (found : Option Data) → length (optional_array MOST_SLAVES 
 counted_optional None = refl
 counted_optional (Some d) = counted_array 0 MOST_SLAVES slave (as_array d)
 
-pub document_missing : (d : Data) → document_flaw Missing d ≡ None → (declared_groups d).flaws.missing ≡ false
+pub document_missing : (d : Data) → document_syntax_fault Missing d ≡ None → (declared_groups d).syntax_faults.missing ≡ false
 document_missing d none =
-    let mandatory = optional_missing slave_outside slave MOST_SLAVES slave_place slave_flaw document key.Slaves (get (codes "slave") d) slave_searches (none_left _ _ none) in
+    let mandatory = optional_missing slave_outside slave MOST_SLAVES slave_item_place slave_syntax_fault document key.Slaves (get (codes "slave") d) slave_searches (none_left _ _ none) in
     let others = others_missing (MOST_SLAVES - slave_count d) (get (codes "group") d) (none_left _ _ (none_right _ _ none)) in
     rw (mandatory, others) refl
 
-pub document_outside : (d : Data) → document_flaw Outside d ≡ None → ((declared_groups d).flaws.outside ≡ false) × (has_outside (declared_groups d).value ≡ false)
+pub document_outside : (d : Data) → document_syntax_fault Outside d ≡ None → ((declared_groups d).syntax_faults.outside ≡ false) × (has_outside (declared_groups d).value ≡ false)
 document_outside d none =
-    let mandatory = optional_outside slave_outside slave MOST_SLAVES slave_place slave_flaw document key.Slaves (get (codes "slave") d) slave_searches (none_left _ _ none) in
+    let mandatory = optional_outside slave_outside slave MOST_SLAVES slave_item_place slave_syntax_fault document key.Slaves (get (codes "slave") d) slave_searches (none_left _ _ none) in
     let others = others_outside (MOST_SLAVES - slave_count d) (get (codes "group") d) (omega arith) (none_left _ _ (none_right _ _ none)) in
     let count = counted_optional (get (codes "slave") d) in
     let own = (optional_array MOST_SLAVES slave (get (codes "slave") d)).value in

@@ -9,16 +9,16 @@ use Rattle.hc_records.specs.Lists.{lowest}
 use Rattle.hc_records.specs.Project.{has_outside, has_overlap, has_repeated_alias, has_repeated_station, has_repeated_variable, has_unknown_pdo, is_wide, repeats_sync_manager, some_area, some_slave}
 use Rattle.hc_project.specs.declared.reading.Reading.{Reading}
 use Rattle.hc_project.specs.Levels.{declared_groups}
-use Rattle.hc_project.specs.Located.{spot_of}
-use Rattle.hc_project.specs.Text.{reading_faults, settled, unless_refused}
+use Rattle.hc_project.specs.Located.{location_of}
+use Rattle.hc_project.specs.Text.{reading_faults, groups_or_fault, unless_refused}
 use Rattle.hc_project.proofs.FlawlessDocument.{document_missing, document_outside}
 use Rattle.hc_project.proofs.Placed.{aliases_none, managers_none, overlaps_none, stations_none, unknown_none, variables_none, wide_none}
 
 -- the condition of a fault, over what was read
 abbrev condition : Reading (List Group) → ProjectFault → Bool
 condition read fault.NotToml = false
-condition read fault.MissingField = read.flaws.missing
-condition read fault.OutOfRange = read.flaws.outside || has_outside read.value
+condition read fault.MissingField = read.syntax_faults.missing
+condition read fault.OutOfRange = read.syntax_faults.outside || has_outside read.value
 condition read fault.RepeatedAlias = has_repeated_alias read.value
 condition read fault.RepeatedStation = has_repeated_station read.value
 condition read fault.RepeatedSyncManager = some_slave repeats_sync_manager read.value
@@ -40,8 +40,8 @@ same_meets meets a b met same = cc
 lowest_first : (meets : ProjectFault → Bool) (test : Bool) (first lowest_one : ProjectFault) (rest : Option ProjectFault)
     → (test ≡ true → meets first ≡ true) → (rest ≡ Some lowest_one → meets lowest_one ≡ true)
     → (if test then Some first else rest) ≡ Some lowest_one → meets lowest_one ≡ true
-lowest_first meets true first lowest_one rest here behind is = same_meets meets first lowest_one (here refl) is
-lowest_first meets false first lowest_one rest here behind is = behind is
+lowest_first meets true first lowest_one rest here after_it is = same_meets meets first lowest_one (here refl) is
+lowest_first meets false first lowest_one rest here after_it is = after_it is
 
 lowest_meets : (meets : ProjectFault → Bool) (list : List (Bool × ProjectFault)) (lowest_one : ProjectFault) → Judges meets list
     → lowest list ≡ Some lowest_one → meets lowest_one ≡ true
@@ -53,9 +53,9 @@ judges : (read : Reading (List Group)) → Judges (condition read) (reading_faul
 judges read = (
   λ held. held,
   (
-    or_left read.flaws.outside (has_outside read.value),
+    or_left read.syntax_faults.outside (has_outside read.value),
     (
-      or_right read.flaws.outside (has_outside read.value),
+      or_right read.syntax_faults.outside (has_outside read.value),
       (λ held. held, (λ held. held, (λ held. held, (λ held. held, (λ held. held, (λ held. held, (λ held. held, tt))))))),
     ),
   ),
@@ -65,7 +65,7 @@ refused : (found : Option ProjectFault) (groups : List Group) (lowest_one : Proj
 refused None groups lowest_one is = cc
 refused (Some found) groups lowest_one is = cc
 
-unmet : (lowest_one : ProjectFault) (d : Data) → spot_of lowest_one d ≡ None → condition (declared_groups d) lowest_one ≡ false
+unmet : (lowest_one : ProjectFault) (d : Data) → location_of lowest_one d ≡ None → condition (declared_groups d) lowest_one ≡ false
 unmet fault.NotToml d none = refl
 unmet fault.MissingField d none = document_missing d none
 unmet fault.OutOfRange d none = let parts = document_outside d none in rw (parts.0, parts.1) refl
@@ -83,7 +83,7 @@ both-ways : (b : Bool) → b ≡ true → b ≡ false → ⊥
 both-ways b held unheld = cc
 
 -- a fault that is the lowest has a place
-pub placed : (lowest_one : ProjectFault) (d : Data) → settled (declared_groups d) ≡ Err lowest_one → spot_of lowest_one d ≡ None → ⊥
+pub placed : (lowest_one : ProjectFault) (d : Data) → groups_or_fault (declared_groups d) ≡ Err lowest_one → location_of lowest_one d ≡ None → ⊥
 placed lowest_one d is none =
     both-ways (condition (declared_groups d) lowest_one)
     (lowest_meets (condition (declared_groups d)) (reading_faults (declared_groups d)) lowest_one (judges (declared_groups d)) (refused _ _ _ is))

@@ -14,4 +14,4 @@ mod Inside
 mod ReadBack
 mod WholeProject
 mod Texts
-mod Told
+mod AnswerGiven

@@ -12,7 +12,7 @@ use Rattle.hc_records.proofs.lemmas.Choices.{flat_map-flat_map}
 use Rattle.hc_project.specs.declared.places.Place.{Place}
 use Rattle.hc_project.specs.declared.places.Key.TheVariants as key
 use Rattle.hc_project.specs.Places.{document, in_area, in_pdo, with_key}
-use Rattle.hc_project.specs.Repeated.{area_variables, each_at, entry_variable, group_at, group_variables, pdo_variables, slave_at, slave_variables, station_at, stations_at, variable_at}
+use Rattle.hc_project.specs.Repeated.{offered_variables, each_at, entry_variable, group_at, group_variables, pdo_variables, group_slave_place, slave_variables, slave_station, stations_at, variable_at}
 
 -- what is listed, without the places
 abbrev pub named : {Y : Type 0} → List (Place × Y) → List Y
@@ -42,7 +42,7 @@ map_flat f parts (x ∷ xs) = map-append f (parts x) (flat_map parts xs) ∙ ap 
 pub stations_named : (groups : List Group) → named (each_at (stations_at document) 0 groups) ≡ map (λ slave. slave.station) (slaves_of groups)
 stations_named groups =
     named_each (stations_at document) (λ group. map (λ slave. slave.station) group.slaves) 0 groups
-    (λ i group. named_single (station_at (group_at i group)) (λ slave. slave.station) 0 group.slaves (λ j slave. refl))
+    (λ i group. named_single (slave_station (group_at i group)) (λ slave. slave.station) 0 group.slaves (λ j slave. refl))
     ∙ sym (map_flat (λ slave. slave.station) (λ group. group.slaves) groups)
 
 entry_named : (place : Place) (index : ℕ) (name : Option ℕ) (bits : ℕ) (entries : List Entry)
@@ -61,13 +61,13 @@ pdos_named : (place : Place) (pdos : List Pdo) → named (each_at (pdo_variables
 pdos_named place pdos =
     named_each (pdo_variables place) (λ pdo. entry_names pdo.entries) 0 pdos (λ i pdo. entries_named (in_pdo place i) 0 pdo.entries)
 
-areas_named : (place : Place) (areas : List Area) → named (each_at (area_variables place) 0 areas) ≡ area_names areas
+areas_named : (place : Place) (areas : List Area) → named (each_at (offered_variables place) 0 areas) ≡ area_names areas
 areas_named place areas =
-    named_each (area_variables place) (λ area. pdo_names area.offered) 0 areas (λ i area. pdos_named (in_area place i) area.offered)
+    named_each (offered_variables place) (λ area. pdo_names area.offered) 0 areas (λ i area. pdos_named (in_area place i) area.offered)
 
 slaves_named : (place : Place) (slaves : List Slave) → named (each_at (slave_variables place) 0 slaves) ≡ slave_names slaves
 slaves_named place slaves =
-    named_each (slave_variables place) (λ slave. area_names slave.areas) 0 slaves (λ i slave. areas_named (slave_at place i slave) slave.areas)
+    named_each (slave_variables place) (λ slave. area_names slave.areas) 0 slaves (λ i slave. areas_named (group_slave_place place i slave) slave.areas)
 
 pub variables_named : (groups : List Group) → named (each_at (group_variables document) 0 groups) ≡ slave_names (slaves_of groups)
 variables_named groups =

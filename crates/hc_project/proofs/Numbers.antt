@@ -11,7 +11,7 @@ use Rattle.hc_project.specs.Laws.{RangesAreJudgedWhole}
 over-outside : (most low high n : ℕ) → high ≤ most → nat_le n most ≡ false → is_outside low high n ≡ true
 over-outside most low high n within over = grind (arith, nat_tests)
 
-judged-whole : (fits : Bool) (low high n : ℕ) → (fits ≡ false → is_outside low high n ≡ true) → ((if fits then right n else outside 0).flaws.outside || is_outside low high (if fits then right n else outside 0).value) ≡ is_outside low high n
+judged-whole : (fits : Bool) (low high n : ℕ) → (fits ≡ false → is_outside low high n ≡ true) → ((if fits then right n else outside 0).syntax_faults.outside || is_outside low high (if fits then right n else outside 0).value) ≡ is_outside low high n
 judged-whole true low high n over = refl
 judged-whole false low high n over = sym (over refl)
 

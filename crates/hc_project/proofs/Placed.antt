@@ -13,10 +13,10 @@ use Rattle.hc_records.specs.Project.{has_overlap, has_repeated_alias, has_repeat
 use Rattle.hc_records.proofs.lemmas.Finds.{none-by}
 use Rattle.hc_project.specs.declared.places.Key.TheVariants as key
 use Rattle.hc_project.specs.declared.places.Place.{Place}
-use Rattle.hc_project.specs.declared.places.Spot.{Spot}
+use Rattle.hc_project.specs.declared.places.Location.{Location}
 use Rattle.hc_project.specs.Places.{document, first_from, in_area, pair, with_key}
-use Rattle.hc_project.specs.Repeated.{alias_at, area_unknown, area_wide, areas_overlapping, assigned_unknown, assigned_wide, each_at, extent, extent_at, first_repeat, group_at, group_variables, in_areas, in_slaves, index_of, manager_at, managers_repeated, meets, offered_at, slave_at, stations_at}
-use Rattle.hc_project.proofs.Duplicates.{TellsEarlier, no_pair, none_related, unmapped}
+use Rattle.hc_project.specs.Repeated.{alias_at, area_unknown, area_wide, areas_overlapping, assigned_unknown, assigned_wide, each_at, extent, extent_at, first_repeat, group_at, group_variables, in_areas, in_slaves, index_of, manager_at, managers_repeated, extents_meet, offered_at, group_slave_place, stations_at}
+use Rattle.hc_project.proofs.Duplicates.{SaysEarlier, no_pair, none_related, unmapped}
 use Rattle.hc_project.proofs.Names.{named, named_single, stations_named, variables_named}
 use Rattle.hc_project.proofs.Searched.{none_left, none_meets, none_right}
 
@@ -33,38 +33,38 @@ pub variables_none : (groups : List Group) → first_repeat (each_at (group_vari
 variables_none groups none = repeats_none _ _ (variables_named groups) none
 
 -- what is found in no slave, in no area
-slaves_none : (finds : Place → ℕ → Slave → Option Spot) (test : Slave → Bool) (groups : List Group)
+slaves_none : (finds : Place → ℕ → Slave → Option Location) (test : Slave → Bool) (groups : List Group)
     → ((place : Place) (index : ℕ) (slave : Slave) → finds place index slave ≡ None → test slave ≡ false)
     → first_from (in_slaves finds document) 0 groups ≡ None → some_slave test groups ≡ false
 slaves_none finds test groups unmet none =
     none_meets (in_slaves finds document) (λ group. list_any test group.slaves) 0 groups
     (λ i group here. none_meets (finds (group_at i group)) test 0 group.slaves (unmet (group_at i group)) here) none
 
-areas_none : (finds : Place → ℕ → Area → Option Spot) (test : Area → Bool) (groups : List Group)
+areas_none : (finds : Place → ℕ → Area → Option Location) (test : Area → Bool) (groups : List Group)
     → ((place : Place) (index : ℕ) (area : Area) → finds place index area ≡ None → test area ≡ false)
     → first_from (in_slaves (in_areas finds) document) 0 groups ≡ None → some_area test groups ≡ false
 areas_none finds test groups unmet none =
     slaves_none (in_areas finds) (λ slave. list_any test slave.areas) groups
-    (λ place i slave here. none_meets (finds (slave_at place i slave)) test 0 slave.areas (unmet (slave_at place i slave)) here) none
+    (λ place i slave here. none_meets (finds (group_slave_place place i slave)) test 0 slave.areas (unmet (group_slave_place place i slave)) here) none
 
 managers_of : (place : Place) (index : ℕ) (slave : Slave) → managers_repeated place index slave ≡ None → repeats_sync_manager slave ≡ false
 managers_of place index slave none =
     sym (unmapped (λ earlier later. later == earlier) (λ area. area.sm) slave.areas)
-    ∙ repeats_none _ _ (named_single (manager_at (slave_at place index slave)) (λ area. area.sm) 0 slave.areas (λ i area. refl)) none
+    ∙ repeats_none _ _ (named_single (manager_at (group_slave_place place index slave)) (λ area. area.sm) 0 slave.areas (λ i area. refl)) none
 
 pub managers_none : (groups : List Group) → first_from (in_slaves managers_repeated document) 0 groups ≡ None → some_slave repeats_sync_manager groups ≡ false
 managers_none groups none = slaves_none managers_repeated repeats_sync_manager groups managers_of none
 
 overlaps_of : (place : Place) (index : ℕ) (slave : Slave) → areas_overlapping place index slave ≡ None → has_overlap slave ≡ false
 overlaps_of place index slave none =
-    let list = each_at (extent_at (slave_at place index slave)) 0 slave.areas in
-    let same : named list ≡ map extent slave.areas = named_single (extent_at (slave_at place index slave)) extent 0 slave.areas (λ i area. refl) in
-    sym (unmapped meets extent slave.areas) ∙ ap (some_pair meets) (sym same) ∙ none_related meets list none
+    let list = each_at (extent_at (group_slave_place place index slave)) 0 slave.areas in
+    let same : named list ≡ map extent slave.areas = named_single (extent_at (group_slave_place place index slave)) extent 0 slave.areas (λ i area. refl) in
+    sym (unmapped extents_meet extent slave.areas) ∙ ap (some_pair extents_meet) (sym same) ∙ none_related extents_meet list none
 
 pub overlaps_none : (groups : List Group) → first_from (in_slaves areas_overlapping document) 0 groups ≡ None → some_slave has_overlap groups ≡ false
 overlaps_none groups none = slaves_none areas_overlapping has_overlap groups overlaps_of none
 
--- a number that stands nowhere
+-- a number that is nowhere
 unmapped_none : {X Y : Type 0} (f : X → Y) (found : Option X) → option_map f found ≡ None → found ≡ None
 unmapped_none f None none = refl
 unmapped_none f (Some x) none = cc
@@ -74,8 +74,8 @@ index_none number f list none =
     none_meets (λ index other. if number == other then Some index else None) (λ other. number == other) 0 list
     (λ i other unfound. (none-by (number == other) i None unfound).0) (unmapped_none f (index_of number list) none)
 
-unknown_tells : (area : Area) (here : Place) → TellsEarlier (λ earlier later. later == earlier) area.assigned (assigned_unknown area here)
-unknown_tells area here index number none =
+unknown_says : (area : Area) (here : Place) → SaysEarlier (λ earlier later. later == earlier) area.assigned (assigned_unknown area here)
+unknown_says area here index number none =
     index_none number (λ earlier. pair (with_key here (key.AssignedAt earlier)) (with_key here (key.AssignedAt index))) (take index area.assigned)
     (none-by (not (offers area number)) _ _ none).1
 
@@ -87,7 +87,7 @@ unknown_of place index area none =
     none_meets (assigned_unknown area here) (λ number. not (offers area number)) 0 area.assigned
     (λ i number unfound. (none-by (not (offers area number)) _ _ unfound).0) assigned in
     let once : has_repeat area.assigned ≡ false =
-    no_pair (λ earlier later. later == earlier) area.assigned (assigned_unknown area here) (unknown_tells area here) assigned in
+    no_pair (λ earlier later. later == earlier) area.assigned (assigned_unknown area here) (unknown_says area here) assigned in
     let offered : some_pair same_index area.offered ≡ false =
     sym (unmapped (λ earlier later. later == earlier) (λ pdo. pdo.index) area.offered)
     ∙ repeats_none _ _ (named_single (offered_at here) (λ pdo. pdo.index) 0 area.offered (λ i pdo. refl)) (none_left _ _ (none_right _ _ none)) in

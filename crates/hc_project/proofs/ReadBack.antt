@@ -18,7 +18,7 @@ use Rattle.hc_project.specs.Laws.{number_tree, dir_tree, entry_tree, pdo_tree, a
 use Rattle.hc_project.proofs.Numbers.{number-right}
 use Rattle.hc_project.proofs.Inside.{or-left, or-right, byte-inside, word-inside, few-inside, some-inside, manager-held, task-held, variable-inside, variable-named}
 
--- a value of which neither test holds is read back from its tree
+-- a value that neither test holds for is read back from its tree
 abbrev pub Passes : {X : Type 0} → (X → Bool) → (X → Bool) → (X → Data) → (Data → Reading X) → Type 0
 Passes {X} p q spell one = (x : X) → p x ≡ false → q x ≡ false → one (spell x) ≡ right x
 

@@ -12,7 +12,7 @@ use Rattle.hc_records.specs.declared.faults.ProjectFault.{ProjectFault}
 use Rattle.hc_records.specs.Project.{is_bare, is_misplaced, slave_outside, some_slave, has_outside, slaves_of, lowest_fault}
 use Rattle.hc_project.specs.Reading.{right}
 use Rattle.hc_project.specs.Levels.{slave, group, declared_groups}
-use Rattle.hc_project.specs.Text.{settled}
+use Rattle.hc_project.specs.Text.{groups_or_fault}
 use Rattle.hc_project.specs.Laws.{slave_tree, group_tree, project_tree, slave_unheld, group_unheld, word_unheld, ProjectsReadBack}
 use Rattle.hc_project.proofs.Inside.{or-left, or-right, few-inside}
 use Rattle.hc_project.proofs.ReadBack.{each-right, slave-right, group-right, group_outside}
@@ -77,7 +77,7 @@ groups-right mandatory others held inside =
       ← alias,
     ) refl
 
-settled-right : (groups : List Group) → lowest_fault groups ≡ None → settled (right groups) ≡ Ok groups
+settled-right : (groups : List Group) → lowest_fault groups ≡ None → groups_or_fault (right groups) ≡ Ok groups
 settled-right groups none = rw none refl
 
 empty-outside : lowest_fault [] ≡ None → ⊥
@@ -86,4 +86,4 @@ empty-outside none = cc
 pub project-read_back : ProjectsReadBack
 project-read_back [] held none = absurd (empty-outside none)
 project-read_back (mandatory ∷ others) held none =
-    ap settled (groups-right mandatory others held (none-first (has_outside (mandatory ∷ others)) _ _ none)) ∙ settled-right (mandatory ∷ others) none
+    ap groups_or_fault (groups-right mandatory others held (none-first (has_outside (mandatory ∷ others)) _ _ none)) ∙ settled-right (mandatory ∷ others) none

@@ -2,7 +2,7 @@
 use Rattle.std.specs.Prelude.{ℕ, false, List, [], ◌∷◌, length, Option, Some, None, option_and_then}
 use Rattle.toml.specs.Data.{Data, Items, no_items, item, as_array}
 use Rattle.hc_records.specs.Project.{is_outside}
-use Rattle.hc_project.specs.declared.reading.Flaws.{Flaws}
+use Rattle.hc_project.specs.declared.reading.SyntaxFaults.{SyntaxFaults}
 use Rattle.hc_project.specs.declared.reading.Reading.{Reading}
 use Rattle.hc_project.specs.Reading.{both, right, missing}
 
@@ -12,13 +12,13 @@ each one no_items = right []
 each one (item d ds) =
     let first = one d in
     let rest = each one ds in
-    record { value = first.value ∷ rest.value; flaws = both first.flaws rest.flaws }
+    record { value = first.value ∷ rest.value; syntax_faults = both first.syntax_faults rest.syntax_faults }
 
 -- a list of at least so many values and at most so many
 abbrev pub sized : {X : Type 0} → ℕ → ℕ → Reading (List X) → Reading (List X)
 sized least most list =
-    let length_flaws : Flaws = record { missing = false; outside = is_outside least most (length list.value) } in
-    record { value = list.value; flaws = both list.flaws length_flaws }
+    let length_syntax_faults : SyntaxFaults = record { missing = false; outside = is_outside least most (length list.value) } in
+    record { value = list.value; syntax_faults = both list.syntax_faults length_syntax_faults }
 
 -- a needed array of so many items
 abbrev pub array_of : {X : Type 0} → ℕ → ℕ → (Data → Reading X) → Option Items → Reading (List X)

@@ -26,7 +26,7 @@ lies_outside low high (negsuc n) = true
 abbrev pub RangesAreJudgedWhole : Type 0
 RangesAreJudgedWhole =
     (most low high : ℕ) (z : ℤ) → high ≤ most
-    → ((number most (Some (integer z))).flaws.outside || is_outside low high (number most (Some (integer z))).value)
+    → ((number most (Some (integer z))).syntax_faults.outside || is_outside low high (number most (Some (integer z))).value)
     ≡ lies_outside low high z
 
 -- two values hold the same at a key
@@ -38,15 +38,16 @@ abbrev pub DocumentsReadTheirKeys : Type 0
 DocumentsReadTheirKeys =
     (a b : Data) → AgreeAt (codes "slave") a b → AgreeAt (codes "group") a b → declared_groups a ≡ declared_groups b
 
--- values that agree at `alias` and `slave` are read as the same group, with the same flaws
+-- values that agree at `alias` and `slave` are read as the same group, with the same faults
 abbrev pub GroupsReadTheirKeys : Type 0
 GroupsReadTheirKeys = (a b : Data) → AgreeAt (codes "alias") a b → AgreeAt (codes "slave") a b → group a ≡ group b
 
--- values that agree at `station` and `area` are read as the same slave, with the same flaws
+-- values that agree at `station` and `area` are read as the same slave, with the same faults
 abbrev pub SlavesReadTheirKeys : Type 0
 SlavesReadTheirKeys = (a b : Data) → AgreeAt (codes "station") a b → AgreeAt (codes "area") a b → slave a ≡ slave b
 
--- values that agree at `sm`, `dir`, `phys`, `task`, `assigned` and `pdo` are read as the same area, with the same flaws
+-- values that agree at `sm`, `dir`, `phys`, `task`, `assigned` and `pdo` are read as the same area, with the same
+-- faults
 abbrev pub AreasReadTheirKeys : Type 0
 AreasReadTheirKeys =
     (a b : Data)
@@ -58,7 +59,7 @@ AreasReadTheirKeys =
     → AgreeAt (codes "pdo") a b
     → area a ≡ area b
 
--- values that agree at `index` and `entries` are read as the same PDO, with the same flaws
+-- values that agree at `index` and `entries` are read as the same PDO, with the same faults
 abbrev pub PdosReadTheirKeys : Type 0
 PdosReadTheirKeys = (a b : Data) → AgreeAt (codes "index") a b → AgreeAt (codes "entries") a b → pdo a ≡ pdo b
 
@@ -107,7 +108,7 @@ group_tree group =
     table (member (codes "alias") (number_tree group.alias)
     (member (codes "slave") (array_by slave_tree group.slaves) no_members))
 
--- the keys of a project's document: `group`, the groups behind the first, and `slave`, the slaves of the first, whose alias isn't written; of no groups there are no keys
+-- the keys of a project's document: `group`, the groups after the first, and `slave`, the slaves of the first, whose alias isn't written; of no groups there are no keys
 abbrev pub project_tree : List Group → Members
 project_tree [] = no_members
 project_tree (mandatory ∷ others) =

@@ -9,9 +9,9 @@ use Rattle.hc_records.specs.declared.records.Slave.{Slave}
 use Rattle.hc_records.specs.declared.records.Group.{Group}
 use Rattle.hc_records.specs.Area.{Entry}
 use Rattle.hc_records.specs.Variables.{variable_of}
-use Rattle.hc_project.specs.declared.reading.Flaws.{Flaws}
+use Rattle.hc_project.specs.declared.reading.SyntaxFaults.{SyntaxFaults}
 use Rattle.hc_project.specs.declared.reading.Reading.{Reading}
-use Rattle.hc_project.specs.Reading.{joined}
+use Rattle.hc_project.specs.Reading.{faults_joined}
 use Rattle.hc_project.specs.Values.{byte, word, double_word, direction}
 use Rattle.hc_project.specs.Arrays.{needed_array, optional_array}
 
@@ -20,10 +20,10 @@ abbrev pub entry : Data → Reading Entry
 entry d =
     let variable = double_word (at 0 d) in
     let bits = byte (at 1 d) in
-    let third : Flaws = record { missing = is_some (at 2 d); outside = false } in
+    let third : SyntaxFaults = record { missing = is_some (at 2 d); outside = false } in
     record {
       value = (variable_of variable.value, bits.value);
-      flaws = joined (variable.flaws ∷ bits.flaws ∷ third ∷ []);
+      syntax_faults = faults_joined (variable.syntax_faults ∷ bits.syntax_faults ∷ third ∷ []);
     }
 
 -- a PDO: its index, and its entries, which it needs to have
@@ -33,7 +33,7 @@ pdo d =
     let entries = needed_array 0 MOST_ENTRIES entry (get (codes "entries") d) in
     record {
       value = record { index = index.value; entries = entries.value };
-      flaws = joined (index.flaws ∷ entries.flaws ∷ []);
+      syntax_faults = faults_joined (index.syntax_faults ∷ entries.syntax_faults ∷ []);
     }
 
 -- the index of an assigned PDO
@@ -58,7 +58,7 @@ area d =
         assigned = assigned.value;
         task = task.value;
       };
-      flaws = joined (sm.flaws ∷ dir.flaws ∷ phys.flaws ∷ task.flaws ∷ assigned.flaws ∷ offered.flaws ∷ []);
+      syntax_faults = faults_joined (sm.syntax_faults ∷ dir.syntax_faults ∷ phys.syntax_faults ∷ task.syntax_faults ∷ assigned.syntax_faults ∷ offered.syntax_faults ∷ []);
     }
 
 -- a slave: its station address, and its areas, if any
@@ -68,7 +68,7 @@ slave d =
     let areas = optional_array MOST_AREAS area (get (codes "area") d) in
     record {
       value = record { station = station.value; areas = areas.value };
-      flaws = joined (station.flaws ∷ areas.flaws ∷ []);
+      syntax_faults = faults_joined (station.syntax_faults ∷ areas.syntax_faults ∷ []);
     }
 
 -- a group that comes and goes: its array of slaves is needed, and not empty
@@ -78,7 +78,7 @@ group d =
     let slaves = needed_array 1 MOST_SLAVES slave (get (codes "slave") d) in
     record {
       value = record { alias = alias.value; slaves = slaves.value };
-      flaws = joined (alias.flaws ∷ slaves.flaws ∷ []);
+      syntax_faults = faults_joined (alias.syntax_faults ∷ slaves.syntax_faults ∷ []);
     }
 
 -- the declared groups of a document, the mandatory one first: it has alias 0 and the slaves at the top
@@ -88,5 +88,5 @@ declared_groups d =
     let others = optional_array (MOST_GROUPS - 1) group (get (codes "group") d) in
     record {
       value = record { alias = 0; slaves = mandatory.value } ∷ others.value;
-      flaws = joined (mandatory.flaws ∷ others.flaws ∷ []);
+      syntax_faults = faults_joined (mandatory.syntax_faults ∷ others.syntax_faults ∷ []);
     }

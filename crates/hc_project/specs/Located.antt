@@ -5,34 +5,34 @@ use Rattle.toml.specs.Parse.{parse_document}
 use Rattle.hc_records.specs.declared.records.Group.{Group}
 use Rattle.hc_records.specs.declared.faults.ProjectFault.{ProjectFault}
 use Rattle.hc_records.specs.declared.faults.ProjectFault.TheVariants as fault
-use Rattle.hc_project.specs.declared.flawed.Flaw.TheVariants.{Missing, Outside}
+use Rattle.hc_project.specs.declared.flawed.SyntaxFault.TheVariants.{Missing, Outside}
 use Rattle.hc_project.specs.declared.located.Found.{Found}
 use Rattle.hc_project.specs.declared.located.Found.TheVariants.{InText, InProject}
-use Rattle.hc_project.specs.declared.places.Spot.{Spot}
+use Rattle.hc_project.specs.declared.places.Location.{Location}
 use Rattle.hc_project.specs.Places.{document, first_from}
-use Rattle.hc_project.specs.Flawed.{document_flaw}
+use Rattle.hc_project.specs.Flawed.{document_syntax_fault}
 use Rattle.hc_project.specs.Repeated.{alias_at, area_unknown, area_wide, areas_overlapping, each_at, first_repeat, group_variables, in_areas, in_slaves, managers_repeated, stations_at}
 use Rattle.hc_project.specs.Levels.{declared_groups}
-use Rattle.hc_project.specs.Text.{project_in, settled}
+use Rattle.hc_project.specs.Text.{project_in, groups_or_fault}
 
--- the first place in the groups that were read at which a fault's condition holds
-abbrev pub group_spot : ProjectFault → List Group → Option Spot
-group_spot fault.RepeatedAlias groups = first_repeat (each_at (alias_at document) 0 groups)
-group_spot fault.RepeatedStation groups = first_repeat (each_at (stations_at document) 0 groups)
-group_spot fault.RepeatedSyncManager groups = first_from (in_slaves managers_repeated document) 0 groups
-group_spot fault.OverlappingAreas groups = first_from (in_slaves areas_overlapping document) 0 groups
-group_spot fault.RepeatedVariable groups = first_repeat (each_at (group_variables document) 0 groups)
-group_spot fault.UnknownPdo groups = first_from (in_slaves (in_areas area_unknown) document) 0 groups
-group_spot fault.AreaTooBig groups = first_from (in_slaves (in_areas area_wide) document) 0 groups
-group_spot _ groups = None
+-- the first place in the groups that were read where a fault's condition holds
+abbrev pub group_location : ProjectFault → List Group → Option Location
+group_location fault.RepeatedAlias groups = first_repeat (each_at (alias_at document) 0 groups)
+group_location fault.RepeatedStation groups = first_repeat (each_at (stations_at document) 0 groups)
+group_location fault.RepeatedSyncManager groups = first_from (in_slaves managers_repeated document) 0 groups
+group_location fault.OverlappingAreas groups = first_from (in_slaves areas_overlapping document) 0 groups
+group_location fault.RepeatedVariable groups = first_repeat (each_at (group_variables document) 0 groups)
+group_location fault.UnknownPdo groups = first_from (in_slaves (in_areas area_unknown) document) 0 groups
+group_location fault.AreaTooBig groups = first_from (in_slaves (in_areas area_wide) document) 0 groups
+group_location _ groups = None
 
--- the first place in a document at which a fault's condition holds
-abbrev pub spot_of : ProjectFault → Data → Option Spot
-spot_of fault.MissingField d = document_flaw Missing d
-spot_of fault.OutOfRange d = document_flaw Outside d
-spot_of other d = group_spot other (declared_groups d).value
+-- the first place in a document where a fault's condition holds
+abbrev pub location_of : ProjectFault → Data → Option Location
+location_of fault.MissingField d = document_syntax_fault Missing d
+location_of fault.OutOfRange d = document_syntax_fault Outside d
+location_of other d = group_location other (declared_groups d).value
 
--- the line and the column behind a text that begins at a line and a column, both counted from 1: a line feed ends a line,
+-- the line and the column after a text that begins at a line and a column, both counted from 1: a line feed ends a line,
 -- and a byte that continues a character is of the column of its first
 abbrev pub position_from : ℕ × ℕ → List ℕ → ℕ × ℕ
 position_from (line, column) [] = (line, column)
@@ -46,20 +46,20 @@ pub record IsUnread (text : List ℕ) (line column : ℕ) : Type 0 where
   pub refused : project_in text ≡ Err fault.NotToml
   pub within : (front : ℕ) × (front ≤ length text) × ((line, column) ≡ position_from (1, 1) (take front text))
 
--- a text has the fault, which is its lowest, and the place is the first in its document at which the fault's condition holds
-pub record IsFaulty (text : List ℕ) (lowest : ProjectFault) (spot : Spot) : Type 0 where
+-- a text has the fault, which is its lowest, and the place is the first in its document where the fault's condition holds
+pub record IsFaulty (text : List ℕ) (lowest : ProjectFault) (location : Location) : Type 0 where
   pub refused : project_in text ≡ Err lowest
-  pub placed : (members : Members) × (parse_document text ≡ Some members) × (spot_of lowest (table members) ≡ Some spot)
+  pub placed : (members : Members) × (parse_document text ≡ Some members) × (location_of lowest (table members) ≡ Some location)
 
--- what is told of a text: nothing of a project, else its lowest fault and where it is
-abbrev pub Tells : List ℕ → Option Found → Type 0
-Tells text None = IsOk (project_in text)
-Tells text (Some (InText line column)) = IsUnread text line column
-Tells text (Some (InProject lowest spot)) = IsFaulty text lowest spot
+-- what is said of a text: nothing of a project, else its lowest fault and where it is
+abbrev pub LocatesFault : List ℕ → Option Found → Type 0
+LocatesFault text None = IsOk (project_in text)
+LocatesFault text (Some (InText line column)) = IsUnread text line column
+LocatesFault text (Some (InProject lowest location)) = IsFaulty text lowest location
 
 -- the same of the document that a text is read as
-abbrev pub TellsOf : Data → Option Found → Type 0
-TellsOf d None = IsOk (settled (declared_groups d))
-TellsOf d (Some (InText line column)) = ⊥
-TellsOf d (Some (InProject lowest spot)) =
-    (settled (declared_groups d) ≡ Err lowest) × (spot_of lowest d ≡ Some spot)
+abbrev pub SaysOf : Data → Option Found → Type 0
+SaysOf d None = IsOk (groups_or_fault (declared_groups d))
+SaysOf d (Some (InText line column)) = ⊥
+SaysOf d (Some (InProject lowest location)) =
+    (groups_or_fault (declared_groups d) ≡ Err lowest) × (location_of lowest d ≡ Some location)

@@ -3,7 +3,7 @@ use Rattle.std.specs.Prelude.{ℕ, suc, List, [], ◌∷◌, Option, Some, None}
 use Rattle.hc_project.specs.declared.places.Key.{Key}
 use Rattle.hc_project.specs.declared.places.Key.TheVariants.{Whole}
 use Rattle.hc_project.specs.declared.places.Place.{Place}
-use Rattle.hc_project.specs.declared.places.Spot.{Spot}
+use Rattle.hc_project.specs.declared.places.Location.{Location}
 
 -- the document itself
 abbrev pub document : Place
@@ -30,11 +30,11 @@ abbrev pub with_key : Place → Key → Place
 with_key place key = record place { key = key }
 
 -- a place alone
-abbrev pub single : Place → Spot
-single place = record { place = place; first = None }
+abbrev pub place_alone : Place → Location
+place_alone place = record { place = place; first = None }
 
 -- the places of two things, the earlier one first
-abbrev pub pair : Place → Place → Spot
+abbrev pub pair : Place → Place → Location
 pair first place = record { place = place; first = Some first }
 
 -- the first, where it was found, else the second
@@ -43,11 +43,11 @@ first_some None other = other
 first_some (Some found) other = Some found
 
 -- the first of several that was found
-abbrev pub first_of : {P : Type 0} → List (Option P) → Option P
-first_of [] = None
-first_of (found ∷ rest) = first_some found (first_of rest)
+abbrev pub first_found : {P : Type 0} → List (Option P) → Option P
+first_found [] = None
+first_found (found ∷ rest) = first_some found (first_found rest)
 
--- the first item, from an index on, in which something is found
+-- the first item, from an index on, where something is found
 abbrev pub first_from : {X P : Type 0} → (ℕ → X → Option P) → ℕ → List X → Option P
 first_from find index [] = None
 first_from find index (x ∷ xs) = first_some (find index x) (first_from find (suc index) xs)

@@ -16,7 +16,7 @@ use Rattle.hc_project.specs.Levels.{declared_groups}
 -- every project
 abbrev pub reading_faults : Reading (List Group) → List (Bool × ProjectFault)
 reading_faults groups =
-    (groups.flaws.missing, MissingField) ∷ (groups.flaws.outside, OutOfRange) ∷ project_faults groups.value
+    (groups.syntax_faults.missing, MissingField) ∷ (groups.syntax_faults.outside, OutOfRange) ∷ project_faults groups.value
 
 -- the groups where there is no fault, else the fault
 abbrev pub unless_refused : Option ProjectFault → List Group → Result (List Group) ProjectFault
@@ -24,19 +24,19 @@ unless_refused None groups = Ok groups
 unless_refused (Some fault) groups = Err fault
 
 -- the groups that were read, or the first of their `reading_faults` whose condition holds
-abbrev pub settled : Reading (List Group) → Result (List Group) ProjectFault
-settled groups = unless_refused (lowest (reading_faults groups)) groups.value
+abbrev pub groups_or_fault : Reading (List Group) → Result (List Group) ProjectFault
+groups_or_fault groups = unless_refused (lowest (reading_faults groups)) groups.value
 
 -- the project of the tree that TOML reads, where it reads one
 abbrev pub project_of : Option Members → Result (List Group) ProjectFault
 project_of None = Err NotToml
-project_of (Some members) = settled (declared_groups (table members))
+project_of (Some members) = groups_or_fault (declared_groups (table members))
 
 -- the project of a text, or its lowest fault
 unfoldable pub project_in : List ℕ → Result (List Group) ProjectFault
 project_in text = if is_utf8 text then project_of (parse_document text) else Err NotToml
 
--- the one group behind a mandatory one without slaves; none where the groups are others
+-- the one group after a mandatory one without slaves; none where the groups are others
 abbrev pub only_group : List Group → Option Group
 only_group [] = None
 only_group (mandatory ∷ []) = None
@@ -44,10 +44,10 @@ only_group (mandatory ∷ group ∷ []) = if length mandatory.slaves == 0 then S
 only_group (mandatory ∷ group ∷ other ∷ others) = None
 
 -- the group of a project that has just one and no mandatory slave
-abbrev pub single : Result (List Group) ProjectFault → Result Group ProjectFault
-single (Err fault) = Err fault
-single (Ok groups) = ok_or (only_group groups) NotOneGroup
+abbrev pub single_group : Result (List Group) ProjectFault → Result Group ProjectFault
+single_group (Err fault) = Err fault
+single_group (Ok groups) = ok_or (only_group groups) NotOneGroup
 
 -- the group of a text, or its lowest fault
 abbrev pub group_in : List ℕ → Result Group ProjectFault
-group_in text = single (project_in text)
+group_in text = single_group (project_in text)

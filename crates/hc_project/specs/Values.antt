@@ -8,24 +8,24 @@ use Rattle.hc_project.specs.declared.reading.Reading.{Reading}
 use Rattle.hc_project.specs.Reading.{right, missing, outside}
 
 -- a needed integer, from 0 to the most that its place holds
-abbrev pub number_of : ℕ → Option ℤ → Reading ℕ
-number_of most None = missing 0
-number_of most (Some (pos n)) = if nat_le n most then right n else outside 0
-number_of most (Some (negsuc n)) = outside 0
+abbrev pub needed_number : ℕ → Option ℤ → Reading ℕ
+needed_number most None = missing 0
+needed_number most (Some (pos n)) = if nat_le n most then right n else outside 0
+needed_number most (Some (negsuc n)) = outside 0
 
--- what is found at a key or in an array, read as an integer from 0 to `most` (`number_of`); an absent value and one that is no integer are missing
+-- what is found at a key or in an array, read as an integer from 0 to `most` (`needed_number`); an absent value and one that is no integer are missing
 abbrev pub number : ℕ → Option Data → Reading ℕ
-number most found = number_of most (option_and_then as_integer found)
+number most found = needed_number most (option_and_then as_integer found)
 
--- integers of 8, 16 and 32 bits; a narrower range is that of every project
+-- integers of 8, 16 and 32 bits; every project has a narrower range
 abbrev pub byte : Option Data → Reading ℕ
 byte found = number 255 found
 
--- what is found at a key or in an array, read as an integer from 0 to 65,535 (`number_of`)
+-- what is found at a key or in an array, read as an integer from 0 to 65,535 (`needed_number`)
 abbrev pub word : Option Data → Reading ℕ
 word found = number 65535 found
 
--- what is found at a key or in an array, read as an integer from 0 to 4,294,967,295 (`number_of`)
+-- what is found at a key or in an array, read as an integer from 0 to 4,294,967,295 (`needed_number`)
 abbrev pub double_word : Option Data → Reading ℕ
 double_word found = number 4294967295 found
 

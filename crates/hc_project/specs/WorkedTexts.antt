@@ -6,7 +6,7 @@ use Rattle.hc_records.specs.declared.records.Dir.TheVariants.{Out}
 use Rattle.hc_records.specs.declared.records.Group.{Group}
 use Rattle.hc_records.specs.declared.faults.ProjectFault.{ProjectFault}
 use Rattle.hc_records.specs.declared.faults.ProjectFault.TheVariants.{NotToml, MissingField, OutOfRange, RepeatedStation, NotOneGroup}
-use Rattle.hc_project.specs.Text.{project_of, single}
+use Rattle.hc_project.specs.Text.{project_of, single_group}
 use Rattle.hc_project.specs.Laws.{number_tree}
 
 abbrev read : Members → Result (List Group) ProjectFault
@@ -67,7 +67,7 @@ small_project : read small ≡ Ok (
     } ∷ [])
 small_project = refl
 
--- Of several faults the lowest, wherever it stands.
+-- Of several faults the lowest, wherever it is.
 
 abbrev of_stations : List Data → Members
 of_stations stations =
@@ -91,10 +91,11 @@ station_below_0 = refl
 station_as_string : read (of_stations (number_tree 1 ∷ number_tree 1 ∷ number_tree 0 ∷ string (codes "1") ∷ [])) ≡ Err MissingField
 station_as_string = refl
 
--- A text of one group is that group's; one with a mandatory slave, or without a group, is not. Any other fault is told first.
+-- A text of one group is that group's; one with a mandatory slave, or without a group, is not. Any other fault is reported
+-- first.
 
 abbrev read_one : Members → Result Group ProjectFault
-read_one members = single (read members)
+read_one members = single_group (read members)
 
 abbrev station_of : ℕ → Members
 station_of station = member (codes "station") (number_tree station) no_members

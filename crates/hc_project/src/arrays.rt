@@ -6,7 +6,7 @@ ghost use Rattle.toml.specs.View.{array_view, items_view, view};
 ghost use Rattle.hc_project.specs.declared.reading.Reading.{Reading};
 ghost use Rattle.hc_project.specs.Arrays.{each, needed_array, optional_array, sized};
 
-use crate::reading::{Flaws, Reading};
+use crate::reading::{Reading, SyntaxFaults};
 use hc_records::items::Items;
 use std::alloc::{AllocError, Global};
 use toml::Value;
@@ -38,30 +38,33 @@ fn read_each<T: Readable>(alloc: Global, values: &[Value]) -> Result<Reading<Ite
     ensures { IfOk result (λ reading. reading ≡ each T.reads (items_view values.now)) }
 {
     let mut items = Items::new(alloc);
-    let mut flaws = Flaws::none();
+    let mut syntax_faults = SyntaxFaults::none();
     for value in values {
         let reading = T::read(alloc, value)?;
-        flaws = flaws.both(reading.flaws);
+        syntax_faults = syntax_faults.both(reading.syntax_faults);
         items.push(reading.value)?;
     }
     Ok(Reading {
         value: items,
-        flaws,
+        syntax_faults,
     })
 }
 
-/// A list with the flaw of its length beside its own.
+/// A list with the fault of its length beside its own.
 fn size<T>(least: usize, most: usize, list: Reading<Items<T>>) -> Reading<Items<T>>
     ensures { result ≡ sized least most list }
 {
-    let Reading { value, flaws } = list;
-    let length_flaws = Flaws {
+    let Reading {
+        value,
+        syntax_faults,
+    } = list;
+    let length_syntax_faults = SyntaxFaults {
         missing: false,
         outside: value.len() < least || most < value.len(),
     };
     Reading {
         value,
-        flaws: flaws.both(length_flaws),
+        syntax_faults: syntax_faults.both(length_syntax_faults),
     }
 }
 

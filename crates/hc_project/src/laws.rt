@@ -19,7 +19,7 @@ pub fn ranges_are_judged_whole()
 {}
 
 /// Other keys are ignored: two documents that hold the same at `slave` and `group` are read the same,
-/// whatever else stands in them.
+/// whatever else is in them.
 pub fn documents_read_their_keys()
     ensures { DocumentsReadTheirKeys }
 {}

@@ -5,7 +5,7 @@ ghost use Rattle.toml.specs.View.{view};
 ghost use Rattle.hc_project.specs.Levels.{area, assigned_index, declared_groups, entry, group, pdo, slave};
 
 use crate::arrays::{Readable, read_needed, read_optional};
-use crate::reading::{Flaws, Reading};
+use crate::reading::{Reading, SyntaxFaults};
 use crate::values::{read_byte, read_direction, read_double_word, read_word};
 use hc_records::items::Items;
 use hc_records::limits::{MOST_AREAS, MOST_ENTRIES, MOST_GROUPS, MOST_PDOS, MOST_SLAVES};
@@ -28,13 +28,17 @@ impl Readable for Entry {
     fn read(_alloc: Global, value: &Value) -> Result<Reading<Entry>, AllocError> {
         let variable = read_double_word(value.get(0usize));
         let bits = read_byte(value.get(1usize));
-        let third = Flaws {
+        let third = SyntaxFaults {
             missing: value.get(2usize).is_some(),
             outside: false,
         };
         Ok(Reading {
             value: (VarId::new(variable.value), bits.value),
-            flaws: Flaws::joined(&[variable.flaws, bits.flaws, third]),
+            syntax_faults: SyntaxFaults::joined(&[
+                variable.syntax_faults,
+                bits.syntax_faults,
+                third,
+            ]),
         })
     }
 }
@@ -46,7 +50,7 @@ impl Readable for Pdo {
         let index = read_word(value.get("index"));
         let entries = read_needed::<Entry>(alloc, 0, MOST_ENTRIES, value.get("entries"))?;
         Ok(Reading {
-            flaws: Flaws::joined(&[index.flaws, entries.flaws]),
+            syntax_faults: SyntaxFaults::joined(&[index.syntax_faults, entries.syntax_faults]),
             value: Pdo {
                 index: index.value,
                 entries: entries.value,
@@ -66,13 +70,13 @@ impl Readable for Area {
         let assigned = read_needed::<u16>(alloc, 0, MOST_PDOS, value.get("assigned"))?;
         let offered = read_optional::<Pdo>(alloc, MOST_PDOS, value.get("pdo"))?;
         Ok(Reading {
-            flaws: Flaws::joined(&[
-                sm.flaws,
-                dir.flaws,
-                phys.flaws,
-                task.flaws,
-                assigned.flaws,
-                offered.flaws,
+            syntax_faults: SyntaxFaults::joined(&[
+                sm.syntax_faults,
+                dir.syntax_faults,
+                phys.syntax_faults,
+                task.syntax_faults,
+                assigned.syntax_faults,
+                offered.syntax_faults,
             ]),
             value: Area {
                 sm: sm.value,
@@ -93,7 +97,7 @@ impl Readable for Slave {
         let station = read_word(value.get("station"));
         let areas = read_optional::<Area>(alloc, MOST_AREAS, value.get("area"))?;
         Ok(Reading {
-            flaws: Flaws::joined(&[station.flaws, areas.flaws]),
+            syntax_faults: SyntaxFaults::joined(&[station.syntax_faults, areas.syntax_faults]),
             value: Slave {
                 station: station.value,
                 areas: areas.value,
@@ -110,7 +114,7 @@ impl Readable for Group {
         let alias = read_word(value.get("alias"));
         let slaves = read_needed::<Slave>(alloc, 1, MOST_SLAVES, value.get("slave"))?;
         Ok(Reading {
-            flaws: Flaws::joined(&[alias.flaws, slaves.flaws]),
+            syntax_faults: SyntaxFaults::joined(&[alias.syntax_faults, slaves.syntax_faults]),
             value: Group {
                 alias: alias.value,
                 slaves: slaves.value,
@@ -135,13 +139,13 @@ pub fn read_groups(alloc: Global, document: &Value) -> Result<Reading<Items<Grou
 {
     let mandatory = read_optional::<Slave>(alloc, MOST_SLAVES, document.get("slave"))?;
     let others = read_optional::<Group>(alloc, MOST_GROUPS - 1, document.get("group"))?;
-    let flaws = Flaws::joined(&[mandatory.flaws, others.flaws]);
+    let syntax_faults = SyntaxFaults::joined(&[mandatory.syntax_faults, others.syntax_faults]);
     let first = Group {
         alias: 0,
         slaves: mandatory.value,
     };
     Ok(Reading {
         value: with_first(first, others.value)?,
-        flaws,
+        syntax_faults,
     })
 }

@@ -15,5 +15,5 @@ mod text;
 mod values;
 
 pub use located::{Found, locate};
-pub use places::{Key, Place, Spot};
+pub use places::{Key, Location, Place};
 pub use text::{read_group, read_project};

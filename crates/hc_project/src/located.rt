@@ -1,11 +1,11 @@
-//! Where a text is no project: its lowest fault and the first place at which that fault's condition holds.
+//! Where a text is no project: its lowest fault and the first place where that fault's condition holds.
 ghost use Rattle.std.specs.Prelude.{◌≡◌, IfOk};
 ghost use Rattle.toml.specs.View.{view};
-ghost use Rattle.hc_project.specs.Located.{Tells, TellsOf, group_spot, position_from, spot_of};
+ghost use Rattle.hc_project.specs.Located.{LocatesFault, SaysOf, group_location, position_from, location_of};
 
-use crate::flawed::{Flaw, find_in_document};
+use crate::flawed::{SyntaxFault, find_in_document};
 use crate::levels::read_groups;
-use crate::places::{Place, Spot};
+use crate::places::{Location, Place};
 use crate::searches::{
     Aliases, OverlappingAreas, RepeatedManagers, Stations, UnknownPdos, Variables, WideAreas,
     find_repeat, first_in,
@@ -19,7 +19,7 @@ use toml::Value;
 /// Why a text is no project, and where.
 #[derive(Clone, Copy, Debug, PartialEq, Eq)]
 pub enum Found {
-    /// It is no TOML document (`NotToml`): the line and the column, both counted from 1, at which `toml` gave up. A
+    /// It is no TOML document (`NotToml`): the line and the column, both counted from 1, where `toml` gave up. A
     /// column counts characters.
     InText {
         /// The line.
@@ -31,8 +31,8 @@ pub enum Found {
     InProject {
         /// The lowest fault, as `read_project` answers it.
         fault: ProjectFault,
-        /// The first place at which its condition holds.
-        spot: Spot,
+        /// The first place where its condition holds.
+        location: Location,
     },
 }
 
@@ -41,8 +41,8 @@ fn find_in_project(
     alloc: Global,
     fault: ProjectFault,
     groups: &[Group],
-) -> Result<Option<Spot>, AllocError>
-    ensures { IfOk result (λ found. found ≡ group_spot fault groups.now) }
+) -> Result<Option<Location>, AllocError>
+    ensures { IfOk result (λ found. found ≡ group_location fault groups.now) }
 {
     let document = Place::document();
     match fault {
@@ -66,12 +66,12 @@ fn find_fault(
     alloc: Global,
     fault: ProjectFault,
     document: &Value,
-) -> Result<Option<Spot>, AllocError>
-    ensures { IfOk result (λ found. found ≡ spot_of fault (view document.now)) }
+) -> Result<Option<Location>, AllocError>
+    ensures { IfOk result (λ found. found ≡ location_of fault (view document.now)) }
 {
     match fault {
-        ProjectFault::MissingField => find_in_document(alloc, Flaw::Missing, document),
-        ProjectFault::OutOfRange => find_in_document(alloc, Flaw::Outside, document),
+        ProjectFault::MissingField => find_in_document(alloc, SyntaxFault::Missing, document),
+        ProjectFault::OutOfRange => find_in_document(alloc, SyntaxFault::Outside, document),
         other => {
             let groups = read_groups(alloc, document)?.value;
             find_in_project(alloc, other, groups.as_slice())
@@ -79,8 +79,8 @@ fn find_fault(
     }
 }
 
-/// The line and the column behind a text.
-fn position_behind(front: &[u8]) -> (usize, usize)
+/// The line and the column after a text.
+fn position_after(front: &[u8]) -> (usize, usize)
     ensures { result ≡ position_from (1, 1) front.now }
 {
     let mut line = 1usize;
@@ -98,7 +98,7 @@ fn position_behind(front: &[u8]) -> (usize, usize)
 
 /// The lowest fault of a document and its place, none where its groups are a project.
 fn find_lowest(alloc: Global, document: &Value) -> Result<Option<Found>, AllocError>
-    ensures { IfOk result (λ found. TellsOf (view document.now) found) }
+    ensures { IfOk result (λ found. SaysOf (view document.now) found) }
 {
     let groups = read_groups(alloc, document)?;
     let Err(fault) = settle(alloc, groups) else {
@@ -108,23 +108,23 @@ fn find_lowest(alloc: Global, document: &Value) -> Result<Option<Found>, AllocEr
         return Err(AllocError);
     }
     match find_fault(alloc, fault, document)? {
-        Some(spot) => Ok(Some(Found::InProject { fault, spot })),
+        Some(location) => Ok(Some(Found::InProject { fault, location })),
         None => unreachable!(),
     }
 }
 
-/// Where a text is no project: nothing where `read_project` accepts it, else the same fault as that answers, and the
-/// first place at which the fault's condition holds. `AllocError`, whatever the text, where a growth was refused.
+/// Where a text is no project: nothing where `read_project` accepts it, else the same fault as that answers, and the first
+/// place where the fault's condition holds. `AllocError`, whatever the text, where a growth was refused.
 ///
 /// Places are ordered as the text orders the items of its arrays, and the keys of a table as docs/use/PROJECT_TEXT.md names
-/// them: a table that is read doesn't know where in the text its keys stood. Of two things that may not stand together
-/// the later one's place counts, and the earliest is told that it can't stand with. Of too many of something the first
-/// over the limit is told.
+/// them: a table that is read doesn't know where in the text its keys was. Of two things that may not be together the later
+/// one's place counts, and its fault names the earliest that it can't be with. Of too many of something the first over the
+/// limit is reported.
 ///
-/// A refused text is read twice, and what stands twice is found in n log n steps.
+/// A refused text is read twice, and what is twice is found in n log n steps.
 #[tactic(auto, using(crate::proofs::Texts::unread))]
 pub fn locate(alloc: Global, text: &[u8]) -> Result<Option<Found>, AllocError>
-    ensures { IfOk result (λ found. Tells text.now found) }
+    ensures { IfOk result (λ found. LocatesFault text.now found) }
 {
     let table = match toml::table_from_slice(alloc, text) {
         Ok(table) => table,
@@ -132,7 +132,7 @@ pub fn locate(alloc: Global, text: &[u8]) -> Result<Option<Found>, AllocError>
             let Some(span) = error.span() else {
                 return Err(AllocError);
             };
-            let (line, column) = position_behind(&text[..span.start]);
+            let (line, column) = position_after(&text[..span.start]);
             return Ok(Some(Found::InText { line, column }));
         }
     };

@@ -1,8 +1,8 @@
 //! Places of a project's text: which group, slave, area and PDO, and which key there.
 ghost use Rattle.std.specs.Prelude.{◌≡◌};
-ghost use Rattle.hc_project.specs.Places.{first_of};
+ghost use Rattle.hc_project.specs.Places.{first_found};
 
-/// What a place names of the table in which it lies.
+/// What a place names of the table where it lies.
 #[derive(Clone, Copy, Debug, PartialEq, Eq)]
 pub enum Key {
     /// The table itself.
@@ -133,29 +133,29 @@ impl Place {
 
 /// Where a fault's condition holds.
 #[derive(Clone, Copy, Debug, PartialEq, Eq)]
-pub struct Spot {
-    /// The place; of two things that may not stand together, that of the later one.
+pub struct Location {
+    /// The place; of two things that may not be together, the later one's.
     pub place: Place,
     /// Of two such things the earlier one.
     pub first: Option<Place>,
 }
 
-impl Spot {
+impl Location {
     ghost use Rattle.std.specs.Prelude.{◌≡◌};
-    ghost use Rattle.hc_project.specs.Places.{pair, single};
+    ghost use Rattle.hc_project.specs.Places.{pair, place_alone};
 
     /// A place alone.
-    pub(crate) fn single(place: Place) -> Spot
-        ensures { result ≡ single place }
+    pub(crate) fn single(place: Place) -> Location
+        ensures { result ≡ place_alone place }
     {
-        Spot { place, first: None }
+        Location { place, first: None }
     }
 
     /// The places of two things.
-    pub(crate) fn pair(first: Place, place: Place) -> Spot
+    pub(crate) fn pair(first: Place, place: Place) -> Location
         ensures { result ≡ pair first place }
     {
-        Spot {
+        Location {
             place,
             first: Some(first),
         }
@@ -164,12 +164,12 @@ impl Spot {
 
 /// The first of these that was found.
 #[tactic(auto, unfolding(crate::specs::Places::first_some))]
-pub(crate) fn first_of(found: &[Option<Spot>]) -> Option<Spot>
-    ensures { result ≡ first_of found.now }
+pub(crate) fn first_of(found: &[Option<Location>]) -> Option<Location>
+    ensures { result ≡ first_found found.now }
 {
-    for spot in found {
-        if spot.is_some() {
-            return *spot;
+    for location in found {
+        if location.is_some() {
+            return *location;
         }
     }
     None

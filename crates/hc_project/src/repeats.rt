@@ -1,10 +1,10 @@
-//! Which number stands twice in a list of numbers with their places, and which runs of memory meet.
+//! Which number is twice in a list of numbers with their places, and which runs of memory meet.
 ghost use Rattle.std.specs.Prelude.{◌≡◌, ◌++◌, ◌==◌, ℕ, List, false, true, find, option_map, IfOk, OnOk};
 ghost use Rattle.std.specs.List.{list_any};
 ghost use Rattle.hc_project.specs.declared.places.Place.{Place};
-ghost use Rattle.hc_project.specs.Repeated.{each_at, first_related, first_repeat, meets};
+ghost use Rattle.hc_project.specs.Repeated.{each_at, first_related, first_repeat, extents_meet};
 
-use crate::places::{Place, Spot};
+use crate::places::{Location, Place};
 use std::alloc::{AllocError, Global};
 use std::collections::BTreeSet;
 
@@ -19,7 +19,7 @@ pub struct Extent {
 
 /// What a record gives to a list of numbers with their places.
 pub trait Listed<T> {
-    /// Its numbers, by its index in the array that stands at a place.
+    /// Its numbers, by its index in the array that is at a place.
     ghost lists: { Place → ℕ → T → List (Place × ℕ) };
 
     /// Adds them to a list, or answers `AllocError` where a growth was refused.
@@ -71,9 +71,9 @@ fn earlier_place(is_new: bool, before: &[(Place, u32)], number: u32) -> Option<P
     }
 }
 
-/// The first number that stood before, by a set of those seen.
+/// The first number that was before, by a set of those seen.
 #[tactic(auto, unfolding(crate::specs::Places::first_some))]
-pub fn first_repeat(alloc: Global, list: &[(Place, u32)]) -> Result<Option<Spot>, AllocError>
+pub fn first_repeat(alloc: Global, list: &[(Place, u32)]) -> Result<Option<Location>, AllocError>
     ensures { IfOk result (λ found. found ≡ first_repeat list.now) }
 {
     let mut seen = BTreeSet::new(alloc);
@@ -81,7 +81,7 @@ pub fn first_repeat(alloc: Global, list: &[(Place, u32)]) -> Result<Option<Spot>
         let (place, number) = list[index];
         let is_new = seen.insert(number)?;
         if let Some(first) = earlier_place(is_new, &list[..index], number) {
-            return Ok(Some(Spot::pair(first, place)));
+            return Ok(Some(Location::pair(first, place)));
         }
     }
     Ok(None)
@@ -89,7 +89,7 @@ pub fn first_repeat(alloc: Global, list: &[(Place, u32)]) -> Result<Option<Spot>
 
 /// Whether two runs have a byte in common.
 fn do_meet(a: Extent, b: Extent) -> bool
-    ensures { result ≡ meets a b }
+    ensures { result ≡ extents_meet a b }
 {
     let a_end = u32::from(a.start) + u32::from(a.bytes);
     let b_end = u32::from(b.start) + u32::from(b.bytes);
@@ -98,7 +98,7 @@ fn do_meet(a: Extent, b: Extent) -> bool
 
 /// The place of the first run that meets another.
 fn place_of_meeting(list: &[(Place, Extent)], extent: Extent) -> Option<Place>
-    ensures { result ≡ option_map (λ x. x.0) (find (λ x. meets x.1 extent) list.now) }
+    ensures { result ≡ option_map (λ x. x.0) (find (λ x. extents_meet x.1 extent) list.now) }
 {
     for (place, other) in list {
         if do_meet(*other, extent) {
@@ -110,13 +110,13 @@ fn place_of_meeting(list: &[(Place, Extent)], extent: Extent) -> Option<Place>
 
 /// The first run that an earlier one meets.
 #[tactic(auto, unfolding(crate::specs::Places::first_some))]
-pub fn first_meeting(list: &[(Place, Extent)]) -> Option<Spot>
-    ensures { result ≡ first_related meets list.now }
+pub fn first_meeting(list: &[(Place, Extent)]) -> Option<Location>
+    ensures { result ≡ first_related extents_meet list.now }
 {
     for index in 0..list.len() {
         let (place, extent) = list[index];
         if let Some(first) = place_of_meeting(&list[..index], extent) {
-            return Some(Spot::pair(first, place));
+            return Some(Location::pair(first, place));
         }
     }
     None

@@ -2,18 +2,18 @@
 //! were read.
 ghost use Rattle.std.specs.Prelude.{◌≡◌, ◌++◌, ◌<◌, ◌≤◌, ◌==◌, ℕ, Option, length, nat_lt, IfOk, OnOk, option_map};
 ghost use Rattle.hc_project.specs.declared.places.Place.{Place};
-ghost use Rattle.hc_project.specs.declared.places.Spot.{Spot};
+ghost use Rattle.hc_project.specs.declared.places.Location.{Location};
 ghost use Rattle.hc_records.specs.Area.{width};
 ghost use Rattle.hc_project.specs.Places.{first_from};
-ghost use Rattle.hc_project.specs.Repeated.{alias_at, area_unknown, area_variables, area_wide, areas_overlapping, assigned_unknown, assigned_wide, each_at, entry_variable, extent, extent_at, first_repeat, group_at, group_variables, in_areas, in_slaves, index_of, manager_at, managers_repeated, offered_at, pdo_variables, slave_at, slave_variables, station_at, stations_at};
+ghost use Rattle.hc_project.specs.Repeated.{alias_at, area_unknown, offered_variables, area_wide, areas_overlapping, assigned_unknown, assigned_wide, each_at, entry_variable, extent, extent_at, first_repeat, group_at, group_variables, in_areas, in_slaves, index_of, manager_at, managers_repeated, offered_at, pdo_variables, group_slave_place, slave_variables, slave_station, stations_at};
 
-use crate::places::{Key, Place, Spot, first_of};
+use crate::places::{Key, Location, Place, first_of};
 use crate::repeats::{Extent, Listed, add_each, first_meeting, first_repeat};
 use hc_records::limits::MOST_AREA_BITS;
 use hc_records::records::{Area, Entry, Group, Pdo, Slave};
 use std::alloc::{AllocError, Global};
 
-/// The place of a group, of which the mandatory one has number 0.
+/// The place of a group; the mandatory one has number 0.
 fn group_at(index: usize, group: &Group) -> Place
     ensures { result ≡ group_at index group.now }
 {
@@ -22,7 +22,7 @@ fn group_at(index: usize, group: &Group) -> Place
 
 /// The place of a slave.
 fn slave_at(place: Place, index: usize, slave: &Slave) -> Place
-    ensures { result ≡ slave_at place index slave.now }
+    ensures { result ≡ group_slave_place place index slave.now }
 {
     place.in_slave(index, slave.station)
 }
@@ -49,7 +49,7 @@ impl Listed<Group> for Aliases {
 pub struct Stations;
 
 impl Listed<Slave> for Stations {
-    ghost lists = { station_at };
+    ghost lists = { slave_station };
 
     fn add(
         list: &mut Vec<(Place, u32)>,
@@ -109,7 +109,7 @@ impl Listed<Pdo> for Variables {
 }
 
 impl Listed<Area> for Variables {
-    ghost lists = { area_variables };
+    ghost lists = { offered_variables };
 
     fn add(
         list: &mut Vec<(Place, u32)>,
@@ -184,12 +184,12 @@ impl Listed<Pdo> for Offered {
     }
 }
 
-/// The first number that stood before, among those of an array's items.
+/// The first number that was before, among those of an array's items.
 pub fn find_repeat<T, L: Listed<T>>(
     alloc: Global,
     place: Place,
     items: &[T],
-) -> Result<Option<Spot>, AllocError>
+) -> Result<Option<Location>, AllocError>
     ensures { IfOk result (λ found. found ≡ first_repeat (each_at (L.lists place) 0 items.now)) }
 {
     let mut list = Vec::new(alloc);
@@ -199,21 +199,26 @@ pub fn find_repeat<T, L: Listed<T>>(
 
 /// What is looked for in a record.
 pub trait Sought<T> {
-    /// Where it is found first, by the record's index in the array that stands at a place.
-    ghost finds: { Place → ℕ → T → Option Spot };
+    /// Where it is found first, by the record's index in the array that is at a place.
+    ghost finds: { Place → ℕ → T → Option Location };
 
     /// Finds it, or answers `AllocError` where a growth was refused.
-    fn find(alloc: Global, place: Place, index: usize, item: &T) -> Result<Option<Spot>, AllocError>
+    fn find(
+        alloc: Global,
+        place: Place,
+        index: usize,
+        item: &T,
+    ) -> Result<Option<Location>, AllocError>
         ensures { IfOk result (λ found. found ≡ finds place index item.now) };
 }
 
-/// What is found in the first item in which it is found.
+/// What is found in the first item where it is found.
 #[tactic(auto, unfolding(crate::specs::Places::first_some))]
 pub fn first_in<T, S: Sought<T>>(
     alloc: Global,
     place: Place,
     items: &[T],
-) -> Result<Option<Spot>, AllocError>
+) -> Result<Option<Location>, AllocError>
     ensures { IfOk result (λ found. found ≡ first_from (S.finds place) 0 items.now) }
 {
     for index in 0..items.len() {
@@ -236,7 +241,7 @@ impl Sought<Slave> for RepeatedManagers {
         place: Place,
         index: usize,
         item: &Slave,
-    ) -> Result<Option<Spot>, AllocError> {
+    ) -> Result<Option<Location>, AllocError> {
         find_repeat::<Area, Managers>(alloc, slave_at(place, index, item), item.areas.as_slice())
     }
 }
@@ -249,11 +254,12 @@ impl Sought<Group> for RepeatedManagers {
         _place: Place,
         index: usize,
         item: &Group,
-    ) -> Result<Option<Spot>, AllocError> {
+    ) -> Result<Option<Location>, AllocError> {
         first_in::<Slave, RepeatedManagers>(alloc, group_at(index, item), item.slaves.as_slice())
     }
 }
 
+/// The bytes of its slave's memory that an area may take: the first address, and how many.
 fn extent_of(area: &Area) -> Extent
     ensures { result ≡ extent area.now }
 {
@@ -285,7 +291,7 @@ impl Sought<Slave> for OverlappingAreas {
         place: Place,
         index: usize,
         item: &Slave,
-    ) -> Result<Option<Spot>, AllocError> {
+    ) -> Result<Option<Location>, AllocError> {
         let list = extents(alloc, slave_at(place, index, item), item.areas.as_slice())?;
         Ok(first_meeting(&list))
     }
@@ -299,12 +305,12 @@ impl Sought<Group> for OverlappingAreas {
         _place: Place,
         index: usize,
         item: &Group,
-    ) -> Result<Option<Spot>, AllocError> {
+    ) -> Result<Option<Location>, AllocError> {
         first_in::<Slave, OverlappingAreas>(alloc, group_at(index, item), item.slaves.as_slice())
     }
 }
 
-/// Where a number stands first.
+/// Where a number is first.
 #[tactic(auto, unfolding(crate::specs::Places::first_some))]
 fn index_of(numbers: &[u16], number: u16) -> Option<usize>
     ensures { result ≡ index_of number numbers.now }
@@ -317,25 +323,25 @@ fn index_of(numbers: &[u16], number: u16) -> Option<usize>
     None
 }
 
-/// Whether an assigned index isn't offered, or stood before.
-fn find_at_assigned(area: &Area, place: Place, index: usize, number: u16) -> Option<Spot>
+/// Whether an assigned index isn't offered, or was before.
+fn find_at_assigned(area: &Area, place: Place, index: usize, number: u16) -> Option<Location>
     requires { index ≤ length area.now.assigned }
     ensures { result ≡ assigned_unknown area.now place index number }
 {
     let here = place.with_key(Key::AssignedAt(index));
     if !area.offers(number) {
-        return Some(Spot::single(here));
+        return Some(Location::single(here));
     }
     let before = &area.assigned.as_slice()[..index];
     match index_of(before, number) {
-        Some(earlier) => Some(Spot::pair(place.with_key(Key::AssignedAt(earlier)), here)),
+        Some(earlier) => Some(Location::pair(place.with_key(Key::AssignedAt(earlier)), here)),
         None => None,
     }
 }
 
-/// The first assigned index that isn't offered or stood before.
+/// The first assigned index that isn't offered or was before.
 #[tactic(auto, unfolding(crate::specs::Places::first_some))]
-fn find_in_assigned(place: Place, area: &Area) -> Option<Spot>
+fn find_in_assigned(place: Place, area: &Area) -> Option<Location>
     ensures { result ≡ first_from (assigned_unknown area.now place) 0 area.now.assigned }
 {
     let assigned = area.assigned.as_slice();
@@ -359,7 +365,7 @@ impl Sought<Area> for UnknownPdos {
         place: Place,
         index: usize,
         item: &Area,
-    ) -> Result<Option<Spot>, AllocError> {
+    ) -> Result<Option<Location>, AllocError> {
         let here = place.in_area(index);
         let offered = find_repeat::<Pdo, Offered>(alloc, here, item.offered.as_slice())?;
         Ok(first_of(&[find_in_assigned(here, item), offered]))
@@ -374,7 +380,7 @@ impl Sought<Slave> for UnknownPdos {
         place: Place,
         index: usize,
         item: &Slave,
-    ) -> Result<Option<Spot>, AllocError> {
+    ) -> Result<Option<Location>, AllocError> {
         first_in::<Area, UnknownPdos>(alloc, slave_at(place, index, item), item.areas.as_slice())
     }
 }
@@ -387,7 +393,7 @@ impl Sought<Group> for UnknownPdos {
         _place: Place,
         index: usize,
         item: &Group,
-    ) -> Result<Option<Spot>, AllocError> {
+    ) -> Result<Option<Location>, AllocError> {
         first_in::<Slave, UnknownPdos>(alloc, group_at(index, item), item.slaves.as_slice())
     }
 }
@@ -400,20 +406,20 @@ fn is_wide_with(area: &Area, indexes: &[u16]) -> bool
 }
 
 /// The place of an assigned index, where the area has more bits than a datagram with it.
-fn find_at_wide(area: &Area, place: Place, index: usize, number: u16) -> Option<Spot>
+fn find_at_wide(area: &Area, place: Place, index: usize, number: u16) -> Option<Location>
     requires { index < length area.now.assigned }
     ensures { result ≡ assigned_wide area.now place index number }
 {
     if is_wide_with(area, &area.assigned.as_slice()[..index + 1]) {
-        Some(Spot::single(place.with_key(Key::AssignedAt(index))))
+        Some(Location::single(place.with_key(Key::AssignedAt(index))))
     } else {
         None
     }
 }
 
-/// The first assigned index with which an area has more bits than a datagram.
+/// The first assigned index that brings an area over a datagram's bits.
 #[tactic(auto, unfolding(crate::specs::Places::first_some))]
-fn find_wide(place: Place, area: &Area) -> Option<Spot>
+fn find_wide(place: Place, area: &Area) -> Option<Location>
     ensures { result ≡ first_from (assigned_wide area.now place) 0 area.now.assigned }
 {
     let assigned = area.assigned.as_slice();
@@ -437,7 +443,7 @@ impl Sought<Area> for WideAreas {
         place: Place,
         index: usize,
         item: &Area,
-    ) -> Result<Option<Spot>, AllocError> {
+    ) -> Result<Option<Location>, AllocError> {
         Ok(find_wide(place.in_area(index), item))
     }
 }
@@ -450,7 +456,7 @@ impl Sought<Slave> for WideAreas {
         place: Place,
         index: usize,
         item: &Slave,
-    ) -> Result<Option<Spot>, AllocError> {
+    ) -> Result<Option<Location>, AllocError> {
         first_in::<Area, WideAreas>(alloc, slave_at(place, index, item), item.areas.as_slice())
     }
 }
@@ -463,7 +469,7 @@ impl Sought<Group> for WideAreas {
         _place: Place,
         index: usize,
         item: &Group,
-    ) -> Result<Option<Spot>, AllocError> {
+    ) -> Result<Option<Location>, AllocError> {
         first_in::<Slave, WideAreas>(alloc, group_at(index, item), item.slaves.as_slice())
     }
 }

@@ -2,7 +2,7 @@
 //! make, or the one group that it declares, or the lowest fault.
 ghost use Rattle.std.specs.Prelude.{◌≡◌, ◌≢◌, IfErr, IfOk};
 ghost use Rattle.std.specs.Option.{ok_or};
-ghost use Rattle.hc_project.specs.Text.{group_in, only_group, project_in, settled};
+ghost use Rattle.hc_project.specs.Text.{group_in, only_group, project_in, groups_or_fault};
 ghost use Rattle.hc_records.specs.declared.faults.ProjectFault.TheVariants.{Memory, NotOneGroup};
 
 use crate::levels::read_groups;
@@ -16,14 +16,17 @@ use toml::Value;
 
 /// The project of what was read, or the lowest fault.
 pub fn settle(alloc: Global, groups: Reading<Items<Group>>) -> Result<Project, ProjectFault>
-    ensures project { IfOk result (λ project. settled groups ≡ Ok project) }
-    ensures refused { IfErr result (λ fault. fault ≢ Memory → settled groups ≡ Err fault) }
+    ensures project { IfOk result (λ project. groups_or_fault groups ≡ Ok project) }
+    ensures refused { IfErr result (λ fault. fault ≢ Memory → groups_or_fault groups ≡ Err fault) }
 {
-    let Reading { value, flaws } = groups;
-    if flaws.missing {
+    let Reading {
+        value,
+        syntax_faults,
+    } = groups;
+    if syntax_faults.missing {
         return Err(ProjectFault::MissingField);
     }
-    if flaws.outside {
+    if syntax_faults.outside {
         return Err(ProjectFault::OutOfRange);
     }
     Project::checked(alloc, value)
@@ -31,12 +34,12 @@ pub fn settle(alloc: Global, groups: Reading<Items<Group>>) -> Result<Project, P
 
 /// The project of a text: the bytes of a TOML document in UTF-8, as docs/use/PROJECT_TEXT.md describes it.
 ///
-/// Otherwise the lowest fault whose condition holds over the whole text: `NotToml` where the bytes
-/// aren't UTF-8 or TOML refuses them, `MissingField` where a needed key is absent or something is of
-/// another kind, `OutOfRange` to `AreaTooBig` as in `Project::checked`, and `Memory`, whatever the
-/// text, where a growth was refused. Nothing is kept of a text that is refused.
+/// Otherwise the lowest fault whose condition holds over the whole text: `NotToml` where the bytes aren't
+/// UTF-8 or TOML refuses them, `MissingField` where a needed key is absent or something is of another
+/// kind, `OutOfRange` to `AreaTooBig` as in `Project::checked`, and `Memory`, whatever the text, where a
+/// growth was refused. Nothing is kept of a text that is refused.
 ///
-/// Each byte and each value is looked at once. Names that stand twice are found in n log n steps.
+/// Each byte and each value is looked at once. Names that are twice are found in n log n steps.
 #[tactic(auto, using(crate::proofs::Texts::unread))]
 pub fn read_project(alloc: Global, text: &[u8]) -> Result<Project, ProjectFault>
     ensures project { IfOk result (λ project. project_in text.now ≡ Ok project) }
@@ -55,7 +58,7 @@ pub fn read_project(alloc: Global, text: &[u8]) -> Result<Project, ProjectFault>
     settle(alloc, groups)
 }
 
-/// The one group behind a mandatory group without slaves, or `NotOneGroup` where the groups are others.
+/// The one group after a mandatory group without slaves, or `NotOneGroup` where the groups are others.
 fn only_group(groups: Items<Group>) -> Result<Group, ProjectFault>
     ensures { result ≡ ok_or (only_group groups) NotOneGroup }
 {
@@ -70,7 +73,7 @@ fn only_group(groups: Items<Group>) -> Result<Group, ProjectFault>
 /// no mandatory slave.
 ///
 /// Otherwise the lowest fault whose condition holds over the whole text, as `read_project` answers it, or
-/// behind all of these `NotOneGroup` where it is the text of another project. `Memory` may come in place of
+/// after all of these `NotOneGroup` where it is the text of another project. `Memory` may come in place of
 /// any, where a growth was refused.
 pub fn read_group(alloc: Global, text: &[u8]) -> Result<Group, ProjectFault>
     ensures group { IfOk result (λ group. group_in text.now ≡ Ok group) }

@@ -2,7 +2,7 @@
 ghost use Rattle.std.specs.Prelude.{◌≡◌, ◌≤◌, option_and_then, option_copied, option_map};
 ghost use Rattle.toml.specs.Data.{as_integer, as_str};
 ghost use Rattle.toml.specs.View.{view};
-ghost use Rattle.hc_project.specs.Values.{byte, direction, direction_of, double_word, number, number_of, word};
+ghost use Rattle.hc_project.specs.Values.{byte, direction, direction_of, double_word, number, needed_number, word};
 
 use crate::reading::Reading;
 use hc_records::records::Dir;
@@ -42,7 +42,7 @@ fn read_number(most: u32, found: Option<&Value>) -> Reading<u32>
 
 /// The integer, where it lies from 0 to the most.
 fn number_up_to(most: u32, integer: i64) -> Reading<u32>
-    ensures value { result ≡ number_of most (Some integer) }
+    ensures value { result ≡ needed_number most (Some integer) }
     ensures low { result.value ≤ most }
 {
     if 0 <= integer && integer <= i64::from(most) {
@@ -56,10 +56,13 @@ fn number_up_to(most: u32, integer: i64) -> Reading<u32>
 pub fn read_byte(found: Option<&Value>) -> Reading<u8>
     ensures { result ≡ byte (option_map (λ v. view v.now) found.entry) }
 {
-    let Reading { value, flaws } = read_number(u32::from(u8::MAX), found);
+    let Reading {
+        value,
+        syntax_faults,
+    } = read_number(u32::from(u8::MAX), found);
     Reading {
         value: value as u8,
-        flaws,
+        syntax_faults,
     }
 }
 
@@ -67,10 +70,13 @@ pub fn read_byte(found: Option<&Value>) -> Reading<u8>
 pub fn read_word(found: Option<&Value>) -> Reading<u16>
     ensures { result ≡ word (option_map (λ v. view v.now) found.entry) }
 {
-    let Reading { value, flaws } = read_number(u32::from(u16::MAX), found);
+    let Reading {
+        value,
+        syntax_faults,
+    } = read_number(u32::from(u16::MAX), found);
     Reading {
         value: value as u16,
-        flaws,
+        syntax_faults,
     }
 }
 

@@ -9,8 +9,8 @@ use mathlib.Core.List.{IsPrefix}
 use lib.Dec.{leb}
 use prog.Atomic.{either}
 use Rattle.logbook.specs.Pages.{Cell, cell, keeps, no_nib, step, Moves, Goes}
-use Rattle.hc_publish.specs.Told.{Told}
-use Rattle.hc_publish.specs.Book.{Extends, last_of, top, Rises, IsKept, Adds}
+use Rattle.hc_publish.specs.ChangesSince.{ChangesSince}
+use Rattle.hc_publish.specs.PublicationLog.{Extends, last_of, top, Rises, IsUnchanged, Adds}
 
 prefix_self : {A : Type 0} (xs : List A) → IsPrefix xs xs
 prefix_self xs = ([], append-nil xs)
@@ -39,24 +39,24 @@ prefix_snoc (x ∷ []) [] y p = grind (arith, common_steps)
 prefix_snoc (x ∷ z ∷ xs) [] y p = grind (arith, common_steps)
 prefix_snoc (x ∷ xs) (z ∷ ys) y p = grind (arith, common_steps, prefix_snoc xs ys y (p.0, cc (p.1)))
 
-extends_self : (x : Told) → Extends x x
+extends_self : (x : ChangesSince) → Extends x x
 extends_self x = record { groups = refl; changes = prefix_self x.changes }
 
-pub extends_same : (x y : Told) → x ≡ y → Extends x y
+pub extends_same : (x y : ChangesSince) → x ≡ y → Extends x y
 extends_same x y e = subst (λ z. Extends x z) e (extends_self x)
 
-extends_trans : (x y z : Told) → Extends x y → Extends y z → Extends x z
+extends_trans : (x y z : ChangesSince) → Extends x y → Extends y z → Extends x z
 extends_trans x y z p q = record { groups = q.groups ∙ p.groups; changes = prefix_trans x.changes y.changes z.changes p.changes q.changes }
 
 -- of two that extend each other the changes are the same
-pub extends_both : (x y : Told) → Extends x y → Extends y x → x.changes ≡ y.changes
+pub extends_both : (x y : ChangesSince) → Extends x y → Extends y x → x.changes ≡ y.changes
 extends_both x y p q = prefix_whole x.changes y.changes p.changes (prefix_longer y.changes x.changes q.changes)
 
-last-append : (x : Told) (log : List Told) (e : Told) → last_of x (log ++ e ∷ []) ≡ e
+last-append : (x : ChangesSince) (log : List ChangesSince) (e : ChangesSince) → last_of x (log ++ e ∷ []) ≡ e
 last-append x [] e = refl
 last-append x (y ∷ log) e = last-append y log e
 
-pub top-append : (log : List Told) (e : Told) → top (log ++ e ∷ []) ≡ e
+pub top-append : (log : List ChangesSince) (e : ChangesSince) → top (log ++ e ∷ []) ≡ e
 top-append log e = last-append (record { groups = []; changes = [] }) log e
 
 pub rises_none : Rises []
@@ -65,7 +65,7 @@ rises_none (x ∷ a) [] ne p q = absurd (cc (p.1))
 rises_none (x ∷ a) (y ∷ b) ne p q = absurd (cc (q.1))
 
 -- an entry that goes on from the last one, where there is one
-rises_more : (log : List Told) (e : Told) → Rises log → (0 < length log → Extends (top log) e) → Rises (log ++ e ∷ [])
+rises_more : (log : List ChangesSince) (e : ChangesSince) → Rises log → (0 < length log → Extends (top log) e) → Rises (log ++ e ∷ [])
 rises_more log e rises on a b ne p q =
     let all = log ++ e ∷ [] in
     let last : top all ≡ e = top-append log e in
@@ -75,18 +75,18 @@ rises_more log e rises on a b ne p q =
     ⊎_elim (λ (r : IsPrefix b log). rises a b ne p r) (λ (r : b ≡ all). subst (λ z. IsPrefix a z → Extends (top a) (top z)) (sym r) whole p) (prefix_snoc b log e q)
 
 -- of two beginnings of one book, that with fewer entries is extended by the other
-rises_shorter : (log a b : List Told) → Rises log → 0 < length a → IsPrefix a log → IsPrefix b log → length a ≤ length b → Extends (top a) (top b)
+rises_shorter : (log a b : List ChangesSince) → Rises log → 0 < length a → IsPrefix a log → IsPrefix b log → length a ≤ length b → Extends (top a) (top b)
 rises_shorter log a b rises ne p q le = rises a b ne (prefix_shorter a b log p q le) q
 
-abbrev pub shown : List Told → List Told
+abbrev pub shown : List ChangesSince → List ChangesSince
 shown log = []
 
-abbrev pub moved : Told → List Told → List Told → ℕ → Type 0
+abbrev pub moved : ChangesSince → List ChangesSince → List ChangesSince → ℕ → Type 0
 moved ask xs ys n = Unit {0}
 
-adds_goes : (log v : List Told) (e : Told) (old : ℕ) → length v ≡ old → (0 < length v → Extends (top v) e) → Rises log → IsPrefix v log
+adds_goes : (log v : List ChangesSince) (e : ChangesSince) (old : ℕ) → length v ≡ old → (0 < length v → Extends (top v) e) → Rises log → IsPrefix v log
     → (b : Bool) → (length log == old) ≡ b
-    → Goes IsKept shown (moved e) 0 (v, (no_nib, None)) (λ n. either (n == old) (old + 1) n) (Adds (step 0 old (old + 1) e) (v, (no_nib, None))) ((length log, true) ∷ (0, true) ∷ []) log
+    → Goes IsUnchanged shown (moved e) 0 (v, (no_nib, None)) (λ n. either (n == old) (old + 1) n) (Adds (step 0 old (old + 1) e) (v, (no_nib, None))) ((length log, true) ∷ (0, true) ∷ []) log
 adds_goes log v e old len on rises pre true is =
     let here : length log ≡ old = grind (arith, nat_tests) in
     let same : v ≡ log = prefix_whole v log pre (omega arith) in
@@ -113,21 +113,21 @@ adds_goes log v e old len on rises pre false is =
     )
 
 -- whatever the book is, the exchange adds the entry to all that was seen, or finds that the book has gone on
-pub adds_moves : (v : List Told) (e : Told) (old : ℕ) → length v ≡ old → (0 < length v → Extends (top v) e)
-    → Moves IsKept shown (moved e) 0 (v, (no_nib, None)) (λ n. either (n == old) (old + 1) n) (Adds (step 0 old (old + 1) e) (v, (no_nib, None)))
-adds_moves v e old len on cs log kept pre away =
+pub adds_moves : (v : List ChangesSince) (e : ChangesSince) (old : ℕ) → length v ≡ old → (0 < length v → Extends (top v) e)
+    → Moves IsUnchanged shown (moved e) 0 (v, (no_nib, None)) (λ n. either (n == old) (old + 1) n) (Adds (step 0 old (old + 1) e) (v, (no_nib, None)))
+adds_moves v e old len on cs log unchanged pre away =
     let P : List Cell → Type 0 = λ c. (0 < length c) × ((cell c 0).1 ≡ true)
-    × Goes IsKept shown (moved e) 0 (v, (no_nib, None)) (λ n. either (n == old) (old + 1) n) (Adds (step 0 old (old + 1) e) (v, (no_nib, None))) c log in
-    subst P (sym kept.words) (omega arith, refl, adds_goes log v e old len on kept.rises pre (length log == old) refl)
+    × Goes IsUnchanged shown (moved e) 0 (v, (no_nib, None)) (λ n. either (n == old) (old + 1) n) (Adds (step 0 old (old + 1) e) (v, (no_nib, None))) c log in
+    subst P (sym unchanged.words) (omega arith, refl, adds_goes log v e old len on unchanged.rises pre (length log == old) refl)
 
 -- the test of the counts says which entry extends the other
-pub within : (log a b : List Told) (n m : ℕ) → Rises log → 0 < length a → 0 < length b → IsPrefix a log → IsPrefix b log → n ≡ length a → m ≡ length b → (t : Bool) → leb n m ≡ t
+pub within : (log a b : List ChangesSince) (n m : ℕ) → Rises log → 0 < length a → 0 < length b → IsPrefix a log → IsPrefix b log → n ≡ length a → m ≡ length b → (t : Bool) → leb n m ≡ t
     → MatchBool t (Extends (top a) (top b)) (Extends (top b) (top a))
 within log a b n m rises an bn p q na mb true is = rises_shorter log a b rises an p q (let le : n ≤ m = grind (arith, nat_tests) in omega (arith, le, na, mb))
 within log a b n m rises an bn p q na mb false is = rises_shorter log b a rises bn q p (let le : m < n = grind (arith, nat_tests) in omega (arith, le, na, mb))
 
--- what extends goes on to do so with changes behind
-pub extends_more : (x y z : Told) → Extends x y → z.groups ≡ y.groups → IsPrefix y.changes z.changes → Extends x z
+-- what extends goes on to do so with changes after
+pub extends_more : (x y z : ChangesSince) → Extends x y → z.groups ≡ y.groups → IsPrefix y.changes z.changes → Extends x z
 extends_more x y z p g c = extends_trans x y z p (record { groups = g; changes = c })
 
 same_range : (a n : ℕ) → map (λ (k : ℕ). k) (range_with_len a n) ≡ range_with_len a n

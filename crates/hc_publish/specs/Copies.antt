@@ -1,4 +1,4 @@
--- What a copy tells.
+-- What a copy gives.
 use Rattle.hc_publish.specs.declared.copies.Copy.TheInside.{Inside}
 use Rattle.hc_publish.specs.Stories.{Story}
 

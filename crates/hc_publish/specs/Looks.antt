@@ -1,20 +1,20 @@
 -- What clauses see of a view.
 use Rattle.std.specs.Prelude.{ℕ, List}
 use Rattle.hc_events.specs.declared.change.Change.{Change}
-use Rattle.hc_publish.specs.Told.{Told}
-use Rattle.hc_publish.specs.Book.{TheSeen}
+use Rattle.hc_publish.specs.ChangesSince.{ChangesSince}
+use Rattle.hc_publish.specs.PublicationLog.{TheSeen}
 use Rattle.hc_publish.specs.Stories.{Origin}
 
--- the seat's task, what the copy that it looks at was told, and what was seen of the book at that copy's last seal
+-- the seat's task, what the copy that it looks at got, and what was seen of the book at that copy's last seal
 pub record Look : Type 0 where
   pub task : ℕ
-  pub told : Told
+  pub changes_since : ChangesSince
   pub token : TheSeen
 
 -- the changes that the view shows
 abbrev pub shown : Look → List Change
-shown v = v.told.changes
+shown v = v.changes_since.changes
 
 -- which publisher its seat belongs to
 abbrev pub view_origin : Look → Origin
-view_origin v = record { book = v.token.book; groups = v.told.groups }
+view_origin v = record { publication_log = v.token.book; groups = v.changes_since.groups }

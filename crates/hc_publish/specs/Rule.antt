@@ -4,16 +4,16 @@ use mathlib.Core.Option.{some}
 use lib.ListN.{get_elem?}
 use Rattle.logbook.specs.Pages.{Book}
 use Rattle.hc_events.specs.declared.change.Change.{Change}
-use Rattle.hc_publish.specs.Told.{IsLegal, Told, with_change}
+use Rattle.hc_publish.specs.ChangesSince.{IsLegal, ChangesSince, with_change}
 use Rattle.hc_publish.specs.declared.absorb.Step.{Step}
 use Rattle.hc_publish.specs.declared.absorb.Step.TheVariants.{Changed, Sealed}
-use Rattle.hc_publish.specs.Book.{TheSeen, top}
+use Rattle.hc_publish.specs.PublicationLog.{TheSeen, top}
 use Rattle.hc_publish.specs.Stories.{Story}
 
 -- a copy after a step
-abbrev pub taken : Story → Step → Story
-taken s (Changed c) = record s { shown = with_change s.shown c }
-taken s (Sealed f) = record s { token = f }
+abbrev pub copy_after : Story → Step → Story
+copy_after s (Changed c) = record s { shown = with_change s.shown c }
+copy_after s (Sealed f) = record s { token = f }
 
 -- the changes among the steps
 abbrev pub changes_in : List Step → List Change
@@ -27,18 +27,18 @@ seals_in [] = 0
 seals_in (Changed c ∷ steps) = seals_in steps
 seals_in (Sealed f ∷ steps) = suc (seals_in steps)
 
--- the seals are no more than the changes, and one where a refused publishing left one behind them
+-- the seals are no more than the changes, and one where a refused publishing left one after them
 abbrev pub AreFew : Bool → List Step → Type 0
 AreFew true steps = seals_in steps ≤ suc (length (changes_in steps))
 AreFew false steps = seals_in steps ≤ length (changes_in steps)
 
--- what is shown behind some steps
-abbrev pub behind_steps : Told → List Step → Told
-behind_steps s steps = record { groups = s.groups; changes = s.changes ++ changes_in steps }
+-- what is shown after some steps
+abbrev pub after_steps : ChangesSince → List Step → ChangesSince
+after_steps s steps = record { groups = s.groups; changes = s.changes ++ changes_in steps }
 
 -- the books of some tokens
-abbrev pub books : List TheSeen → List Book
-books v = map (λ t. t.book) v
+abbrev pub publication_logs : List TheSeen → List Book
+publication_logs v = map (λ t. t.book) v
 
 -- each token is of the book of the copy
 abbrev pub Bound : List TheSeen → Story → Type 0
@@ -50,9 +50,9 @@ abbrev pub IsSealed : Story → Type 0
 IsSealed x = (top x.token.log ≡ x.shown) × IsLegal x.shown
 
 -- the published copy is sealed, and each thread knows its book
-abbrev pub Holds : Story → List (List TheSeen) → Type 0
-Holds x views = IsSealed x × ((seat : ℕ) (v : List TheSeen) → get_elem? views seat ≡ some v → Bound v x)
+abbrev pub CopyIsSealed : Story → List (List TheSeen) → Type 0
+CopyIsSealed x views = IsSealed x × ((seat : ℕ) (v : List TheSeen) → get_elem? views seat ≡ some v → Bound v x)
 
--- what a step tells: a sealed copy, of the book that was known
+-- what a step gives: a sealed copy, of the book that was known
 abbrev pub Sees : List TheSeen → Story → Story → List TheSeen → Type 0
 Sees v x y w = (w ≡ y.token ∷ []) × Bound v y × IsSealed y

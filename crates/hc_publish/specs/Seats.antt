@@ -3,20 +3,20 @@ use Rattle.std.specs.Prelude.{◌≡◌, ℕ, List, []}
 use Rattle.hc_events.specs.declared.change.Change.{Change}
 use Rattle.hc_publish.specs.declared.publisher.Note.{Note}
 use Rattle.hc_publish.specs.declared.seat.Seat.{Seat}
-use Rattle.hc_publish.specs.Book.{TheSeen, top}
+use Rattle.hc_publish.specs.PublicationLog.{TheSeen, top}
 use Rattle.hc_publish.specs.Stories.{Origin}
 
 -- which publisher a front is of
 abbrev pub front_origin : TheSeen → Origin
-front_origin f = record { book = f.book; groups = (top f.log).groups }
+front_origin f = record { publication_log = f.book; groups = (top f.log).groups }
 
 -- the longest list that the seat saw or learnt
 abbrev pub known : Seat → List Change
 known s = (top s.front.log).changes
 
 -- the list that was published when the note was made
-abbrev pub carried : Note → List Change
-carried n = (top n.front.log).changes
+abbrev pub noted_changes : Note → List Change
+noted_changes n = (top n.front.log).changes
 
 -- which publisher it belongs to
 abbrev pub seat_origin : Seat → Origin
@@ -31,5 +31,5 @@ abbrev pub task_of : Seat → ℕ
 task_of s = s.task
 
 -- the seat belongs to this publisher, and has seen or learnt nothing yet
-abbrev pub IsFresh : Origin → Seat → Type 0
-IsFresh origin s = (known s ≡ []) × (seat_origin s ≡ origin)
+abbrev pub SeatIsAtOpening : Origin → Seat → Type 0
+SeatIsAtOpening origin s = (known s ≡ []) × (seat_origin s ≡ origin)

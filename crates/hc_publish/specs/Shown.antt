@@ -1,34 +1,34 @@
--- What a copy keeps follows from what it was told.
+-- What a copy keeps follows from what it got.
 use Rattle.std.specs.Prelude.{◌≡◌, ℕ, ◌<◌, All, None, min}
 use Rattle.hc_records.specs.declared.limits.TheConstants.{LAST_EPOCH, MOST_DATAGRAMS}
 use Rattle.hc_records.specs.Line.{groups_of}
 use Rattle.hc_records.specs.Project.{lowest_fault}
 use Rattle.hc_places.specs.Table.{Table}
-use Rattle.hc_images.specs.Image.{Image, data_of}
+use Rattle.hc_images.specs.Image.{DatagramImage, data_of}
 use Rattle.hc_events.specs.declared.change.Change.{Change}
 use Rattle.hc_events.specs.declared.change.Change.TheVariants as change
 use Rattle.hc_events.specs.Images.{FitsImage}
 use Rattle.hc_publish.specs.declared.shown.Shown.TheInside.{Inside}
 use Rattle.hc_publish.specs.Histories.{changes_of}
-use Rattle.hc_publish.specs.Told.{Told, data_shown, epoch_shown, table_shown}
+use Rattle.hc_publish.specs.ChangesSince.{ChangesSince, data_shown, epoch_shown, table_shown}
 
 -- the opened plan's groups, and the history's changes
-abbrev pub told_in : Inside → Told
-told_in copy = record { groups = groups_of copy.opened.value.groups; changes = changes_of copy.history }
+abbrev pub answered_in : Inside → ChangesSince
+answered_in copy = record { groups = groups_of copy.opened.value.groups; changes = changes_of copy.history }
 
 -- a change has data of a datagram that a line can have
 abbrev pub FitsCopy : Change → Type 0
 FitsCopy (change.Swapped swap) = Unit {0}
 FitsCopy (change.Good good) = FitsImage good
 
--- a table, an epoch and an image are those to which the changes lead, from the opening of a project
-pub record Shows (told : Told) (table : Table) (epoch : ℕ) (image : Image) : Type 0 where
-  pub project : lowest_fault told.groups ≡ None
-  pub fits : All FitsCopy told.changes
-  pub table_is : table ≡ table_shown told
-  pub epoch_is : epoch ≡ min (epoch_shown told) LAST_EPOCH
-  pub data_is : (task d : ℕ) → d < MOST_DATAGRAMS → data_of image task d ≡ data_shown told task d
+-- a table, an epoch and an image are those that the changes lead to, from the opening of a project
+pub record Shows (changes_since : ChangesSince) (table : Table) (epoch : ℕ) (image : DatagramImage) : Type 0 where
+  pub project : lowest_fault changes_since.groups ≡ None
+  pub fits : All FitsCopy changes_since.changes
+  pub table_is : table ≡ table_shown changes_since
+  pub epoch_is : epoch ≡ min (epoch_shown changes_since) LAST_EPOCH
+  pub data_is : (task d : ℕ) → d < MOST_DATAGRAMS → data_of image task d ≡ data_shown changes_since task d
 
--- so are those of each copy
-abbrev pub Follows : Inside → Type 0
-Follows copy = Shows (told_in copy) copy.places copy.epoch copy.inputs
+-- so are each copy's
+abbrev pub CopiesFollow : Inside → Type 0
+CopiesFollow copy = Shows (answered_in copy) copy.places copy.epoch copy.inputs

@@ -2,19 +2,19 @@
 use Rattle.std.specs.Prelude.{List}
 use Rattle.logbook.specs.Pages.{Book}
 use Rattle.hc_records.specs.declared.records.Group.{Group}
-use Rattle.hc_publish.specs.Told.{Told}
-use Rattle.hc_publish.specs.Book.{TheSeen}
+use Rattle.hc_publish.specs.ChangesSince.{ChangesSince}
+use Rattle.hc_publish.specs.PublicationLog.{TheSeen}
 
 -- what it shows, and what was seen of the book at its last seal
 pub record Story : Type 0 where
-  pub shown : Told
+  pub shown : ChangesSince
   pub token : TheSeen
 
 -- where a publisher, a seat, a view or a note comes from: a publisher's book, and the groups that were opened
 pub record Origin : Type 0 where
-  pub book : Book
+  pub publication_log : Book
   pub groups : List Group
 
--- that of a copy
+-- a copy's
 abbrev pub origin : Story → Origin
-origin s = record { book = s.token.book; groups = s.shown.groups }
+origin s = record { publication_log = s.token.book; groups = s.shown.groups }

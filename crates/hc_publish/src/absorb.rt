@@ -1,10 +1,10 @@
 //! How a copy takes in a step.
 ghost use Rattle.std.specs.Prelude.{◌≡◌, MatchResult};
-ghost use Rattle.hc_publish.specs.Told.{with_change};
-ghost use Rattle.hc_publish.specs.Rule.{taken};
+ghost use Rattle.hc_publish.specs.ChangesSince.{with_change};
+ghost use Rattle.hc_publish.specs.Rule.{copy_after};
 
-use crate::book::Front;
 use crate::copies::Copy;
+use crate::publication_log::LogPrefix;
 use hc_events::change::Change;
 use left_right::Absorb;
 use std::alloc::AllocError;
@@ -14,11 +14,11 @@ use std::alloc::AllocError;
 pub enum Step {
     Changed(Change),
     /// The front whose last entry is what a copy shows with all the changes before.
-    Sealed(Front),
+    Sealed(LogPrefix),
 }
 
 impl Copy {
-    // Keeps a good answer for the publisher, if there is room.
+    /// Keeps a good answer, whose memory the publisher uses again, if there is room. Any other change is dropped.
     fn keep(&mut self, change: Change)
         ensures { self.new ≡ self.old }
     {
@@ -30,7 +30,7 @@ impl Copy {
         }
     }
 
-    // A change that the other copy has taken in before. It comes back where a growth was refused.
+    /// Takes in a change that the other copy already has. It comes back if a growth is refused; the copy is then as it was.
     fn take_over(&mut self, change: Change) -> Result<(), Change>
         ensures { MatchResult result (λ _. self.new ≡ record self.old { shown = with_change self.old.shown change }) (λ back. (back ≡ change) × (self.new ≡ self.old)) }
     {
@@ -49,7 +49,7 @@ impl Absorb<Step> for Copy {
 
     ghost state = { λ copy. copy };
 
-    ghost applied = { taken };
+    ghost applied = { copy_after };
 
     fn absorb_first(&mut self, operation: &Step, _other: &Copy) -> Result<(), AllocError> {
         match operation {

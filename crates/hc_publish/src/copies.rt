@@ -1,5 +1,5 @@
 //! One published copy.
-use crate::book::Front;
+use crate::publication_log::LogPrefix;
 use crate::shown::Shown;
 use hc_events::change::GoodAnswer;
 use std::marker::Model;
@@ -9,7 +9,7 @@ use std::sync::Mutex;
 #[derive(Drop)]
 pub struct Copy {
     pub(crate) shown: Shown,
-    pub(crate) front: Front,
+    pub(crate) front: LogPrefix,
     // good answers that both copies have taken in, until the publisher takes them out, which alone looks here: a lock,
     // since the seats' threads have the copy at hand too
     pub(crate) used: Mutex<Vec<GoodAnswer>>,

@@ -20,7 +20,7 @@ impl History {
     ghost use Rattle.hc_events.specs.declared.change.Change.TheVariants as change;
     ghost use Rattle.hc_publish.specs.Histories.{changes_of};
 
-    /// A swap came behind them.
+    /// A swap came after them.
     pub(crate) fn add_swap(&mut self, swap: &Swap)
         ensures { changes_of self.new ≡ changes_of self.old ++ change.Swapped swap.now ∷ [] }
     {
@@ -28,7 +28,7 @@ impl History {
         *self = History::Swapped(before, Snapshot::of(swap));
     }
 
-    /// A good answer came behind them.
+    /// A good answer came after them.
     pub(crate) fn add_good(&mut self, good: &GoodAnswer)
         ensures { changes_of self.new ≡ changes_of self.old ++ change.Good good.now ∷ [] }
     {

@@ -4,12 +4,12 @@
 #![tactic(auto)]
 
 mod absorb;
-pub mod book;
 pub mod copies;
 pub mod faults;
 mod history;
 pub mod laws;
 mod opening;
+pub mod publication_log;
 pub mod publisher;
 pub mod rule;
 pub mod seat;

@@ -3,14 +3,14 @@ ghost use Rattle.std.specs.Prelude.{◌≡◌, ◌⊎◌, [], All, IfErr, IfOk, 
 ghost use Rattle.std.specs.List.{range_with_len};
 ghost use Rattle.hc_records.specs.declared.limits.TheConstants.{TASKS};
 ghost use Rattle.hc_records.specs.Line.{groups_of};
-ghost use Rattle.hc_publish.specs.Told.{IsOpening};
+ghost use Rattle.hc_publish.specs.ChangesSince.{IsOpening};
 ghost use Rattle.hc_publish.specs.declared.faults.OpenFault.TheVariants.{Memory, NoSeat};
-ghost use Rattle.hc_publish.specs.Board.{published, pending, origin_of};
-ghost use Rattle.hc_publish.specs.Seats.{IsFresh, task_of};
+ghost use Rattle.hc_publish.specs.PublishedState.{published, pending, origin_of};
+ghost use Rattle.hc_publish.specs.Seats.{SeatIsAtOpening, task_of};
 
-use crate::book::Front;
 use crate::copies::Copy;
 use crate::faults::OpenFault;
+use crate::publication_log::LogPrefix;
 use crate::publisher::{Copies, Publisher};
 use crate::rule::Looks;
 use crate::seat::Seat;
@@ -24,14 +24,14 @@ use std::sync::{Mutex, Wait};
 // as many good answers that were taken in are kept in each copy: one of each datagram that a line can have
 const MOST_USED: usize = TASKS as usize * MOST_DATAGRAMS;
 
-// The publisher, with nothing published and nothing pending.
+/// The publisher of a plan at its opening, with nothing published and nothing pending. `AllocError` if a growth is refused.
 fn opened<R: Wait>(rt: &R, alloc: Global, plan: &Plan) -> Result<Publisher, AllocError>
     requires { IsOpening plan.now }
     ensures { IfOk result (λ publisher. (published publisher ≡ []) × (pending publisher ≡ []) × ((origin_of publisher).groups ≡ groups_of plan.now.groups)) }
 {
     let first = Shown::of(alloc, plan)?;
     let second = Shown::of(alloc, plan)?;
-    let Some((head, front)) = Front::opened(&first) else {
+    let Some((head, front)) = LogPrefix::opened(&first) else {
         return Err(AllocError);
     };
     let first = Copy {
@@ -58,10 +58,10 @@ fn opened<R: Wait>(rt: &R, alloc: Global, plan: &Plan) -> Result<Publisher, Allo
     })
 }
 
-/// A publisher of a plan at its opening, where nothing is published yet, and a seat for each of the eight tasks, that
-/// of task i at place i. All growths but those of later changes are made here, before the copies are shared.
-/// Otherwise `Memory` where a growth was refused, or `NoSeat` where a seat was; `TooManyDatagrams` never, since a
-/// plan's line is not crowded.
+/// A publisher of a plan at its opening, where nothing is published yet, and a seat for each of the eight tasks, task
+/// i's at place i. All growths but those of later changes are made here, before the copies are shared. Otherwise
+/// `Memory` where a growth was refused, or `NoSeat` where a seat was; `TooManyDatagrams` never, since a plan's line
+/// is not over its limit.
 pub fn open<R: Wait>(
     rt: &R,
     alloc: Global,
@@ -70,7 +70,7 @@ pub fn open<R: Wait>(
     requires { IsOpening plan.now }
     ensures published { IfOk result (λ opened. (published opened.0 ≡ []) × (pending opened.0 ≡ []) × ((origin_of opened.0).groups ≡ groups_of plan.now.groups)) }
     ensures tasks { IfOk result (λ opened. map task_of opened.1.items ≡ range_with_len 0 TASKS) }
-    ensures fresh { IfOk result (λ opened. All (IsFresh (origin_of opened.0)) opened.1.items) }
+    ensures at_opening { IfOk result (λ opened. All (SeatIsAtOpening (origin_of opened.0)) opened.1.items) }
     ensures refused { IfErr result (λ fault. (fault ≡ Memory) ⊎ (fault ≡ NoSeat)) }
 {
     let mut seats = Vec::with_capacity(alloc, usize::from(TASKS))?;

@@ -1,7 +1,7 @@
 //! The publisher.
 use crate::absorb::Step;
-use crate::book::{Front, Head};
 use crate::copies::Copy;
+use crate::publication_log::{Head, LogPrefix};
 use crate::rule::{Image, Known};
 use hc_events::change::Change;
 use left_right::writer::Writer;
@@ -17,29 +17,29 @@ pub struct Publisher {
     pub(crate) writer: Copies,
     pub(crate) head: Head,
     // of the whole book: all that was ever about to be shown
-    pub(crate) front: Front,
+    pub(crate) front: LogPrefix,
     // the last pending step is a seal of all the changes, left by a publishing that was refused
     pub(crate) is_sealed: bool,
 }
 
 impl Model for Publisher {
-    ghost use Rattle.hc_publish.specs.Board.{Board};
-    ghost use Rattle.hc_publish.specs.Published.{Stands, board_in};
+    ghost use Rattle.hc_publish.specs.PublishedState.{PublishedState};
+    ghost use Rattle.hc_publish.specs.Published.{IsSoundPublisher, published_state_in};
 
-    ghost Value = { Board };
+    ghost Value = { PublishedState };
 
-    ghost view = { board_in };
+    ghost view = { published_state_in };
 
-    ghost invariant = { Stands };
+    ghost invariant = { IsSoundPublisher };
 }
 
 /// What was published, for a seat to learn. It has no bytes but a count.
 #[derive(Drop)]
 pub struct Note {
-    pub(crate) front: Front,
+    pub(crate) front: LogPrefix,
 }
 
-/// The change that was refused for want of memory comes back.
+/// The change that was refused with `Memory` comes back.
 #[derive(Debug, Drop, Error)]
 #[error("out of memory")]
 pub struct Kept(pub Change);

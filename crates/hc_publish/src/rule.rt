@@ -1,11 +1,11 @@
-//! The rule of the published copy, and the steps that keep it: `Looks` is a publish or an entry, `Binds` tells a new
-//! seat which book it is. What a seat saw, and what a note carries, is a front of that book, by which each of
-//! two lists begins the other.
+//! The rule of the published copy, and the steps that keep it: `Looks` is a publish or an entry, `Binds` gives a new
+//! seat which book it is. What a seat saw, and what a note carries, is a front of that publication log. So of two
+//! such lists one begins the other.
 ghost use Rattle.std.specs.Prelude.{[], ◌++◌};
-ghost use Rattle.hc_publish.specs.Rule.{Holds, Sees};
+ghost use Rattle.hc_publish.specs.Rule.{CopyIsSealed, Sees};
 
-use crate::book::Token;
 use crate::copies::Copy;
+use crate::publication_log::Token;
 use atomic_table::{Join, Split};
 use crossbeam_utils::rule::{Outcome, Protocol};
 
@@ -16,7 +16,7 @@ pub type Known = [Token; 0];
 pub struct Image;
 
 impl Protocol<Copy, Known> for Image {
-    ghost holds = { Holds };
+    ghost holds = { CopyIsSealed };
 
     ghost first = { [] };
 }
@@ -28,7 +28,7 @@ impl Outcome<Copy, Known> for Looks {
     ghost then = { Sees };
 }
 
-/// The publisher tells what it knows, and a seat learns it.
+/// The publisher says what it knows, and a seat learns it.
 pub struct Binds;
 
 impl Split<Known> for Binds {
@@ -38,7 +38,7 @@ impl Split<Known> for Binds {
 }
 
 impl Join<Known> for Binds {
-    ghost both = { λ known told. known ++ told };
+    ghost both = { λ known changes_since. known ++ changes_since };
 
     ghost spent = { [] };
 }

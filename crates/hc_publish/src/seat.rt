@@ -1,10 +1,10 @@
 //! Seats.
 ghost use Rattle.std.specs.Prelude.{◌≡◌, [], ◌∷◌};
 ghost use Rattle.left_right.specs.Sides.{view};
-ghost use Rattle.hc_publish.specs.Rule.{books};
+ghost use Rattle.hc_publish.specs.Rule.{publication_logs};
 
-use crate::book::Front;
 use crate::copies::Copy;
+use crate::publication_log::LogPrefix;
 use crate::rule::{Image, Known};
 use left_right::reader::Reader;
 
@@ -15,6 +15,6 @@ mod steps;
 pub struct Seat {
     pub(crate) task: u8,
     pub(crate) reader: Reader<Copy, Known, Image>,
-    pub(crate) front: Front,
-    ghost bound: { books (view reader.place) ≡ front.book ∷ [] },
+    pub(crate) front: LogPrefix,
+    ghost bound: { publication_logs (view reader.place) ≡ front.book ∷ [] },
 }

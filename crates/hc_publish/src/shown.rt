@@ -43,22 +43,22 @@ impl Drop for Shown {
 }
 
 impl Model for Shown {
-    ghost use Rattle.hc_publish.specs.Told.{Told};
-    ghost use Rattle.hc_publish.specs.Shown.{Follows, told_in};
+    ghost use Rattle.hc_publish.specs.ChangesSince.{ChangesSince};
+    ghost use Rattle.hc_publish.specs.Shown.{CopiesFollow, answered_in};
 
-    ghost Value = { Told };
+    ghost Value = { ChangesSince };
 
-    ghost view = { told_in };
+    ghost view = { answered_in };
 
-    ghost invariant = { Follows };
+    ghost invariant = { CopiesFollow };
 }
 
-/// The value of a variable in its datagram's data, in which its place ends.
+/// The value of a variable in its datagram's data, where its place ends.
 fn read_number(bytes: &[u8], place: Place) -> u64
     requires { place.bit + place.bits ≤ 8 * length bytes.now }
     ensures { result ≡ number_at bytes.now place }
 {
-    // tells what the single bits of the answer spell
+    // says what the single bits of the answer spell
     reading_takes_list();
     get_bits(bytes, usize::from(place.bit), usize::from(place.bits))
 }
@@ -72,7 +72,7 @@ impl Shown {
     ghost use Rattle.hc_places.specs.Ranges.{IsDatagram};
     ghost use Rattle.hc_places.specs.Table.{datagram_in, part_in, place_in};
     ghost use Rattle.hc_events.specs.declared.change.Change.TheVariants as change;
-    ghost use Rattle.hc_publish.specs.Told.{IsLegal, IsOpening, TakesNoMemory, data_shown, epoch_shown, just_told, table_shown, with_change};
+    ghost use Rattle.hc_publish.specs.ChangesSince.{IsLegal, IsOpening, TakesNoMemory, data_shown, epoch_shown, just_answered, table_shown, with_change};
     ghost use Rattle.hc_publish.specs.Values.{value_shown};
 
     /// What tasks see of a plan at its opening: the places of its line, epoch 0, and no datagram with data. It
@@ -80,7 +80,7 @@ impl Shown {
     /// refused.
     pub fn of(alloc: Global, plan: &Plan) -> Result<Shown, AllocError>
         requires { IsOpening plan.now }
-        ensures { IfOk result (λ shown. shown ≡ just_told (groups_of plan.now.groups)) }
+        ensures { IfOk result (λ shown. shown ≡ just_answered (groups_of plan.now.groups)) }
     {
         let places = plan.places().copied(alloc)?;
         let inputs = Inputs::new(alloc)?;
@@ -94,7 +94,7 @@ impl Shown {
         })
     }
 
-    /// A swap: the next epoch with its places, in which no datagram has data. The memory for it is taken first;
+    /// A swap: the next epoch with its places, where no datagram has data. The memory for it is taken first;
     /// `AllocError` where a growth was refused, and then nothing has changed.
     fn take_swap(&mut self, swap: &Swap) -> Result<(), AllocError>
         ensures taken { MatchResult result (λ _. self.new ≡ with_change self.old (change.Swapped swap.now)) (λ _. self.new ≡ self.old) }
@@ -117,9 +117,9 @@ impl Shown {
         self.history.add_good(good);
     }
 
-    /// Takes a change in, behind those that were taken in before; it needn't be legal. A swap changes the copy
-    /// where it stands, and costs what it changes; a good answer costs its bytes. Only a swap by which a variable
-    /// appears or goes takes memory: `AllocError` where that was refused, and then nothing has changed.
+    /// Takes a change in, after those that were taken in before; it needn't be legal. A swap changes the copy
+    /// where it is, and costs what it changes; a good answer costs its bytes. Only a swap that makes a variable
+    /// appear or go takes memory: `AllocError` where that was refused, and then nothing has changed.
     pub fn take_in(&mut self, change: &Change) -> Result<(), AllocError>
         ensures taken { MatchResult result (λ _. self.new ≡ with_change self.old change.now) (λ _. self.new ≡ self.old) }
         ensures succeeds { TakesNoMemory self.old change.now → IsOk result }
@@ -158,7 +158,7 @@ impl Shown {
         self.places.datagram(task, number)
     }
 
-    /// Where a variable stands; none where it has no place in the line. It takes no memory.
+    /// Where a variable is; none where it has no place in the line. It takes no memory.
     pub fn place(&self, variable: VarId) -> Option<Place>
         ensures { result ≡ place_in (table_shown self.now) variable }
     {

@@ -14,11 +14,11 @@ pub struct View {
 
 impl Model for View {
     ghost use Rattle.hc_publish.specs.Looks.{Look};
-    ghost use Rattle.hc_publish.specs.Views.{Stands, look_of};
+    ghost use Rattle.hc_publish.specs.Views.{IsSoundView, look_of};
 
     ghost Value = { Look };
 
     ghost view = { look_of };
 
-    ghost invariant = { Stands };
+    ghost invariant = { IsSoundView };
 }

@@ -1,11 +1,11 @@
-//! Why a task isn't told a variable's value. A fault's number is part of the program's printed words and never
-//! changes.
+//! Why a task doesn't get a variable's value. A fault's number is part of the program's printed words and
+//! never changes.
 ghost use Rattle.std.specs.Prelude.{◌≡◌};
 ghost use Rattle.hc_publish.specs.ViewFaults.{view_fault_number};
 
 use thiserror::Error;
 
-/// Why a task isn't told a variable's value.
+/// Why a task doesn't get a variable's value.
 #[derive(Clone, Copy, Debug, PartialEq, Eq, Error)]
 pub enum ViewFault {
     /// The variable has no place in the line.

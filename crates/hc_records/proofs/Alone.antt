@@ -1,9 +1,9 @@
--- From an area that begins a later datagram on, a list stands as a list of its own.
+-- From an area that begins a later datagram on, a list is as a list of its own.
 use Rattle.std.proofs.Common.{◌≡◌, ℕ, ◌+◌, ◌≤◌, inl, Bool, true, false, List, [], ◌∷◌, ◌++◌, refl, sym, ap, ◌∙◌, arith}
 use Rattle.std.specs.Prelude.{All, map}
 use Rattle.std.proofs.lemmas.List.Elements.{All-head}
 use Rattle.hc_records.specs.TaskList.{Keyed}
-use Rattle.hc_records.specs.Packing.{Front, Placed, opening, fits, placed_at, behind, packed}
+use Rattle.hc_records.specs.Packing.{Front, Placed, opening, fits, placed_at, front_with, packed}
 use Rattle.hc_records.specs.Image.{datagram_count}
 use Rattle.hc_records.specs.Boundaries.{begins_later}
 use Rattle.hc_records.specs.Laws.{IsPackable, front_after, raised}
@@ -26,15 +26,15 @@ place-raised false datagrams front area =
 packed-raised : (datagrams : ℕ) (front : Front) (list : List Keyed) → packed (raised_front datagrams front) list ≡ map (raised datagrams) (packed front list)
 packed-raised datagrams front [] = refl
 packed-raised datagrams front (area ∷ areas) =
-    ap (λ placed. placed ∷ packed (behind placed) areas) (place-raised (fits front area) datagrams front area)
-    ∙ ap (λ rest. raised datagrams (placed_at front area) ∷ rest) (packed-raised datagrams (behind (placed_at front area)) areas)
+    ap (λ placed. placed ∷ packed (front_with placed) areas) (place-raised (fits front area) datagrams front area)
+    ∙ ap (λ rest. raised datagrams (placed_at front area) ∷ rest) (packed-raised datagrams (front_with (placed_at front area)) areas)
 
 -- an area that begins a later datagram doesn't fit
 later-other : (fitting : Bool) (front : Front) (area : Keyed) → IsBegun front → begins_later (place fitting front area) ≡ true → fitting ≡ false
 later-other true front area begun later = sym later ∙ fitting-begins front area begun
 later-other false front area begun later = refl
 
--- it stands as the first area of a list, in the next datagram
+-- it is as the first area of a list, in the next datagram
 pub first-raised : (datagrams : ℕ) (front : Front) (area : Keyed) → area.1 ≤ 11888 → datagrams ≡ front.datagram + 1 → fits front area ≡ false →
     placed_at front area ≡ raised datagrams (placed_at opening area)
 first-raised datagrams front area narrow same other =
@@ -47,7 +47,7 @@ first-raised datagrams front area narrow same other =
     ∙ ap (λ bit. let placed : Placed = record { key = area.0; bits = area.1; datagram = 0 + datagrams; bit = bit } in placed) (sym bit)
     ∙ sym first
 
--- the datagrams of what stands before it are those up to the one being filled
+-- the datagrams of what is before it are those up to the one being filled
 pub before-count : (before : List Keyed) (area : Keyed) → area.1 ≤ 11888 → fits (front_after opening before) area ≡ false →
     datagram_count (packed opening before) ≡ (front_after opening before).datagram + 1
 before-count [] area narrow other = let fitting = opening-fits area narrow in let none : true ≡ false = sym fitting ∙ other in cc
@@ -64,5 +64,5 @@ packed-alone before area areas all later =
     let other : fits front area ≡ false = later-other (fits front area) front area begun later in
     let first : placed_at front area ≡ raised count (placed_at opening area) = first-raised count front area narrow (before-count before area narrow other) other in
     packed-append opening before (area ∷ areas)
-    ∙ ap (λ placed. packed opening before ++ placed ∷ packed (behind placed) areas) first
-    ∙ ap (λ rest. packed opening before ++ raised count (placed_at opening area) ∷ rest) (packed-raised count (behind (placed_at opening area)) areas)
+    ∙ ap (λ placed. packed opening before ++ placed ∷ packed (front_with placed) areas) first
+    ∙ ap (λ rest. packed opening before ++ raised count (placed_at opening area) ∷ rest) (packed-raised count (front_with (placed_at opening area)) areas)

@@ -18,9 +18,9 @@ pub seen_again : (seen : ℕ → Bool) (n : ℕ) (numbers : List ℕ) → seen n
     → (list_any seen (n ∷ numbers) || has_repeat (n ∷ numbers)) ≡ true
 seen_again seen n numbers before = rw before refl
 
--- the set after one more number tells that number and those it told before
-told : (test was : Bool) → cond test true was ≡ (was || test)
-told test was = grind (arith, common_steps)
+-- the set after one more number says that number and those it reported before
+answer_given : (test was : Bool) → cond test true was ≡ (was || test)
+answer_given test was = grind (arith, common_steps)
 
 same_test : (n q : ℕ) → is_at (nat_cmp n) q ≡ (q == n)
 same_test n q = grind (arith, nat_tests)
@@ -36,5 +36,5 @@ pub seen_more : (seen now : ℕ → Bool) (n : ℕ) (numbers : List ℕ)
     → ((q : ℕ) → now q ≡ cond (is_at (nat_cmp n) q) true (seen q)) → seen n ≡ false
     → (list_any seen (n ∷ numbers) || has_repeat (n ∷ numbers)) ≡ (list_any now numbers || has_repeat numbers)
 seen_more seen now n numbers updated new =
-    rw (new, met seen now n numbers (λ q. updated q ∙ told (is_at (nat_cmp n) q) (seen q) ∙ ap (λ b. seen q || b) (same_test n q)))
+    rw (new, met seen now n numbers (λ q. updated q ∙ answer_given (is_at (nat_cmp n) q) (seen q) ∙ ap (λ b. seen q || b) (same_test n q)))
     (moved (list_any seen numbers) (list_any (λ q. q == n) numbers) (has_repeat numbers))

@@ -33,22 +33,22 @@ greater-within true more high key test within = within-trans key high more withi
 greater-within false more high key test within = within
 
 -- a widened hull holds what it held
-widened-keeps : (key more : Key) (hull : Option Interval) → IsInHull key hull → IsInHull key (widened hull more)
-widened-keeps key more None in_hull = absurd in_hull
-widened-keeps key more (Some interval) in_hull = record {
+widened-stays : (key more : Key) (hull : Option Interval) → IsInHull key hull → IsInHull key (widened hull more)
+widened-stays key more None in_hull = absurd in_hull
+widened-stays key more (Some interval) in_hull = record {
   from = lesser-within (is_before more interval.0) more interval.0 key refl in_hull.from;
   to = greater-within (is_before interval.1 more) more interval.1 key refl in_hull.to;
 }
 
-pub fold-keeps : (key : Key) (hull : Option Interval) (keys : List Key) → IsInHull key hull → IsInHull key (fold widened hull keys)
-fold-keeps key hull [] in_hull = in_hull
-fold-keeps key hull (more ∷ keys) in_hull = fold-keeps key (widened hull more) keys (widened-keeps key more hull in_hull)
+pub fold-stays : (key : Key) (hull : Option Interval) (keys : List Key) → IsInHull key hull → IsInHull key (fold widened hull keys)
+fold-stays key hull [] in_hull = in_hull
+fold-stays key hull (more ∷ keys) in_hull = fold-stays key (widened hull more) keys (widened-stays key more hull in_hull)
 
 -- the hull of a key's direction holds the first touched key
 first-in-hull : (key : Key) (keys : List Key) → IsInHull key (hull key.dir (key ∷ keys))
 first-in-hull key keys =
     let alike = same_dir-refl key.dir in
-    rw alike (fold-keeps key (Some (key, key)) (filter (λ other. same_dir other.dir key.dir) keys) (record { from = within-refl key; to = within-refl key }))
+    rw alike (fold-stays key (Some (key, key)) (filter (λ other. same_dir other.dir key.dir) keys) (record { from = within-refl key; to = within-refl key }))
 
 -- a span that holds a key of a hull meets it
 pub span-meets : (key : Key) (hull : Option Interval) (span : Interval) → IsInHull key hull → IsIn key span → meets_hull hull span ≡ true
@@ -89,7 +89,7 @@ walk : (test : Interval → Bool) (key from : Key) (later : List Key) → is_wit
     1 ≤ length (filter test (spans_from from later))
 walk test key from [] low high passes = one-passes test (from, END) [] (passes (from, END) (record { from = low; to = high }))
 walk test key from (next ∷ later) low high passes =
-    walk-step (is_within key next) test key from next (spans_from next later) refl low passes (λ behind. walk test key next later behind high passes)
+    walk-step (is_within key next) test key from next (spans_from next later) refl low passes (λ after_it. walk test key next later after_it high passes)
 
 -- a touched key lies between START and END
 record IsKeyBetween (key : Key) : Type 0 where

@@ -3,11 +3,11 @@ use Rattle.std.specs.Prelude.{◌≡◌, ℕ, ◌+◌, ◌<◌, ◌≤◌, None,
 use Rattle.hc_records.specs.declared.limits.TheConstants.{TASKS}
 use Rattle.hc_records.specs.Line.{Member, State, groups_of, line}
 use Rattle.hc_records.specs.Image.{datagram_count, datagram_length, logical_address, task_places}
-use Rattle.hc_records.specs.Edits.{crowded_task}
+use Rattle.hc_records.specs.Edits.{over_limit_task}
 use Rattle.hc_records.specs.Project.{lowest_fault}
 
 -- the line has a datagram of a task with this number
-pub record IsDatagram (line : List Member) (task datagram : ℕ) : Type 0 where
+pub record LineHasDatagram (line : List Member) (task datagram : ℕ) : Type 0 where
   pub in_task : task < TASKS
   pub counted : datagram < datagram_count (task_places task line)
 
@@ -20,7 +20,7 @@ pub record HasAddress (line : List Member) (task datagram address : ℕ) : Type 
 abbrev pub AddressesHaveOneDatagram : Type 0
 AddressesHaveOneDatagram =
     (state : State) (task datagram other another address : ℕ)
-    → lowest_fault (groups_of state.groups) ≡ None → crowded_task (line state) ≡ None
-    → IsDatagram (line state) task datagram → HasAddress (line state) task datagram address
-    → IsDatagram (line state) other another → HasAddress (line state) other another address
+    → lowest_fault (groups_of state.groups) ≡ None → over_limit_task (line state) ≡ None
+    → LineHasDatagram (line state) task datagram → HasAddress (line state) task datagram address
+    → LineHasDatagram (line state) other another → HasAddress (line state) other another address
     → (task ≡ other) × (datagram ≡ another)

@@ -18,12 +18,12 @@ abbrev pub assigned_entries : Area → List Entry
 assigned_entries area = flat_map (entries_at area.offered) area.assigned
 
 -- the sum of the bits of entries, gaps included; 0 where there is none
-abbrev pub bits_of : List Entry → ℕ
-bits_of entries = sum_by (λ entry. entry.1) entries
+abbrev pub entry_bits : List Entry → ℕ
+entry_bits entries = sum_by (λ entry. entry.1) entries
 
 -- the width of an area, in bits
 abbrev pub width : Area → ℕ
-width area = bits_of (assigned_entries area)
+width area = entry_bits (assigned_entries area)
 
 -- an area offers a PDO with this index
 abbrev pub offers : Area → ℕ → Bool

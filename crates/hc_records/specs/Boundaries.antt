@@ -12,7 +12,7 @@ use Rattle.hc_records.specs.TaskList.{Keyed, task_list}
 use Rattle.hc_records.specs.Packing.{Placed, opening, packed}
 use Rattle.hc_records.specs.Image.{tasks}
 
--- an area at which a second or later datagram begins
+-- an area where a second or later datagram begins
 abbrev pub begins_later : Placed → Bool
 begins_later area = (area.bit == 0) && nat_lt 0 area.datagram
 
@@ -20,7 +20,7 @@ begins_later area = (area.bit == 0) && nat_lt 0 area.datagram
 abbrev pub later_keys : List Keyed → List Key
 later_keys list = map (λ area. area.key) (filter begins_later (packed opening list))
 
--- the boundaries of a task: START, the keys at which a second or later datagram begins, and END
+-- the boundaries of a task: START, the keys where a second or later datagram begins, and END
 abbrev pub boundaries : List Keyed → List Key
 boundaries list = START ∷ (later_keys list ++ END ∷ [])
 

@@ -48,8 +48,8 @@ abbrev pub is_too_big : List ℕ → Area → Bool
 is_too_big pdos area = nat_lt MOST_AREA_BITS (width (record area { assigned = pdos }))
 
 -- the lowest task of a line that has more than 16 datagrams
-abbrev pub crowded_task : List Member → Option ℕ
-crowded_task line = find (λ task. nat_lt MOST_DATAGRAMS (datagram_count (task_places task line))) tasks
+abbrev pub over_limit_task : List Member → Option ℕ
+over_limit_task line = find (λ task. nat_lt MOST_DATAGRAMS (datagram_count (task_places task line))) tasks
 
 -- the declared group, with its presence set where it has the alias
 abbrev pub with_presence : ℕ → Bool → Declared → Declared
@@ -117,18 +117,18 @@ own_faults state (Move station area task) =
     area_faults state station area ++ (not (nat_lt task TASKS), NoSuchTask) ∷ []
 own_faults state (Declare group) = []
 
--- the smallest project that may have a group: an empty mandatory group stands before it
-abbrev pub alone : Group → List Group
-alone group = record { alias = 0; slaves = [] } ∷ group ∷ []
+-- the smallest project that may have a group: an empty mandatory group is before it
+abbrev pub smallest_project : Group → List Group
+smallest_project group = record { alias = 0; slaves = [] } ∷ group ∷ []
 
 -- a slave of a declared group, present or not, offers the variable in one of its areas
 abbrev pub is_declared_variable : List Declared → ℕ → Bool
 is_declared_variable groups variable = list_any (λ name. name == variable) (slave_names (slaves_of (groups_of groups)))
 
--- the faults of a group that is declared behind others, the lowest first: those that it has by itself, what is taken already, and the limits
+-- the faults of a group that is declared after others, the lowest first: those that it has by itself, what is taken already, and the limits
 abbrev pub declaring_faults : List Declared → Group → List (Bool × EditFault)
 declaring_faults groups group =
-    (is_some (lowest_fault (alone group)), BadGroup (unwrap_or (lowest_fault (alone group)) OutOfRange))
+    (is_some (lowest_fault (smallest_project group)), BadGroup (unwrap_or (lowest_fault (smallest_project group)) OutOfRange))
     ∷ (list_any (λ declared. declared.group.alias == group.alias) groups, AliasTaken)
     ∷ (list_any (λ slave. list_any (λ declared. has_station slave.station declared.group.slaves) groups) group.slaves, StationTaken)
     ∷ (list_any (is_declared_variable groups) (slave_names group.slaves), VariableTaken)
@@ -136,7 +136,7 @@ declaring_faults groups group =
     ∷ (nat_lt MOST_SLAVES (length (slaves_of (groups_of groups)) + length group.slaves), TooManySlaves)
     ∷ []
 
--- the faults that are judged behind all others: those of a declared group
+-- the faults that are judged after all others: those of a declared group
 abbrev pub late_faults : State → Edit → List (Bool × EditFault)
 late_faults state (Connect alias) = []
 late_faults state (Disconnect alias) = []
@@ -144,11 +144,12 @@ late_faults state (Remap station area pdos) = []
 late_faults state (Move station area task) = []
 late_faults state (Declare group) = declaring_faults state.groups group
 
--- the faults of an edit: its own, then those that every edit may have, a crowded task of the new line and the last epoch, then those of a declared group
+-- the faults of an edit: its own, then those that every edit may have, a task over the limit of the new line and the last epoch, then those of a
+-- declared group
 abbrev pub edit_faults : State → Edit → List (Bool × EditFault)
 edit_faults state edit =
     own_faults state edit
-    ++ (is_some (crowded_task (line (changed state edit))), TooManyDatagrams (unwrap_or (crowded_task (line (changed state edit))) 0))
+    ++ (is_some (over_limit_task (line (changed state edit))), TooManyDatagrams (unwrap_or (over_limit_task (line (changed state edit))) 0))
     ∷ (state.epoch == LAST_EPOCH, EpochsSpent)
     ∷ late_faults state edit
 

@@ -19,7 +19,7 @@ task_places task line = packed opening (task_list task line)
 abbrev pub inside : ℕ → List Placed → List Placed
 inside datagram areas = filter (λ area. area.datagram == datagram) areas
 
--- the first bit behind all of them
+-- the first bit after all of them
 abbrev pub end_of : List Placed → ℕ
 end_of areas = fold (λ end area. max end (area.bit + area.bits)) 0 areas
 
@@ -44,7 +44,7 @@ logical_address task datagram = 0x01000000 * (task + 1) + 2048 * datagram
 abbrev pub image_length : List Placed → ℕ
 image_length areas = datagram_offset areas (datagram_count areas)
 
--- the byte of the image in which an area begins
+-- the byte of the image where an area begins
 abbrev pub first_byte : List Placed → Placed → ℕ
 first_byte areas area = datagram_offset areas area.datagram + area.bit / 8
 
@@ -57,13 +57,13 @@ abbrev pub input_length : List Placed → ℕ
 input_length areas = image_length areas - output_length areas
 
 -- an area of the slave with a rank, in a direction
-abbrev pub is_of : ℕ → Dir → Key → Bool
-is_of rank dir key = (key.rank == rank) && same_dir key.dir dir
+abbrev pub area_is_of : ℕ → Dir → Key → Bool
+area_is_of rank dir key = (key.rank == rank) && same_dir key.dir dir
 
 -- what a slave adds to the working counter of a datagram with the areas of these keys: 2 where one is an output area of it, 1 where one is an input area
 abbrev pub counter_share : List Key → ℕ → ℕ
 counter_share keys rank =
-    (if list_any (is_of rank Out) keys then 2 else 0) + (if list_any (is_of rank In) keys then 1 else 0)
+    (if list_any (area_is_of rank Out) keys then 2 else 0) + (if list_any (area_is_of rank In) keys then 1 else 0)
 
 -- the working counter of a datagram that every slave of the line has processed
 abbrev pub expected_counter : ℕ → ℕ → List Member → ℕ
@@ -78,13 +78,13 @@ pub record VariablePlace : Type 0 where
   pub bits : ℕ
   pub dir : Dir
 
--- the variables of entries, the first of which begins at a bit, each with its first bit and its bits
+-- the variables of entries, from a bit on, each with its first bit and its bits
 abbrev pub variables_from : ℕ → List Entry → List (ℕ × (ℕ × ℕ))
 variables_from bit [] = []
 variables_from bit (entry ∷ entries) =
     option_map_or (λ variable. (variable, (bit, entry.1)) ∷ []) entry.0 [] ++ variables_from (bit + entry.1) entries
 
--- the variables of an area that stands in a task
+-- the variables of an area that is in a task
 abbrev pub area_variables : ℕ → Listed × Placed → List (ℕ × VariablePlace)
 area_variables task pair =
     map (λ found. (

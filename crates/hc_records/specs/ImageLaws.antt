@@ -25,7 +25,7 @@ ImagesAreShort =
     (list : List Keyed) → All IsPackable list → datagram_count (packed opening list) ≤ MOST_DATAGRAMS
     → image_length (packed opening list) ≤ MOST_DATAGRAMS * MOST_DATAGRAM_BYTES
 
--- a place is that of 1 to 64 bits, all of them in one datagram of its task
+-- a place has 1 to 64 bits, all of them in one datagram of its task
 pub record LiesInDatagram (line : List Member) (place : VariablePlace) : Type 0 where
   pub task : place.task < TASKS
   pub datagram : place.datagram < datagram_count (task_places place.task line)
@@ -40,7 +40,7 @@ VariablesLieInDatagrams =
     → lowest_fault (groups_of state.groups) ≡ None → variable_place variable (line state) ≡ Some place
     → LiesInDatagram (line state) place
 
--- of two places in one datagram, one ends at or before the bit at which the other begins
+-- of two places in one datagram, one ends at or before the bit where the other begins
 abbrev pub SharesNoBit : VariablePlace → VariablePlace → Type 0
 SharesNoBit a b =
     a.task ≡ b.task → a.datagram ≡ b.datagram → (a.bit + a.bits ≤ b.bit) ⊎ (b.bit + b.bits ≤ a.bit)
@@ -51,17 +51,17 @@ VariablesShareNoBit =
     (line : List Member) (variable other : ℕ) (place another : VariablePlace) → variable ≢ other
     → variable_place variable line ≡ Some place → variable_place other line ≡ Some another → SharesNoBit place another
 
--- the bit of its task's image at which a place begins
+-- the bit of its task's image where a place begins
 abbrev pub place_bit : List Member → VariablePlace → ℕ
 place_bit line place = 8 * datagram_offset (task_places place.task line) place.datagram + place.bit
 
--- an output variable ends by the end of the image's output bytes, and an input variable begins at or behind it
-pub record StandsInItsPart (line : List Member) (place : VariablePlace) : Type 0 where
+-- an output variable ends by the end of the image's output bytes, and an input variable begins at or after it
+pub record IsInItsPart (line : List Member) (place : VariablePlace) : Type 0 where
   pub output : place.dir ≡ Out → place_bit line place + place.bits ≤ 8 * output_length (task_places place.task line)
   pub input : place.dir ≡ In → 8 * output_length (task_places place.task line) ≤ place_bit line place
 
 -- so does every variable of a line
-abbrev pub VariablesStandInTheirParts : Type 0
-VariablesStandInTheirParts =
+abbrev pub VariablesAreInTheirParts : Type 0
+VariablesAreInTheirParts =
     (state : State) (variable : ℕ) (place : VariablePlace) → variable_place variable (line state) ≡ Some place
-    → StandsInItsPart (line state) place
+    → IsInItsPart (line state) place

@@ -8,7 +8,7 @@ use Rattle.hc_records.specs.declared.keys.TheConstants.Key.{START, END}
 use Rattle.hc_records.specs.Keys.{is_before}
 use Rattle.hc_records.specs.Line.{State, groups_of, line}
 use Rattle.hc_records.specs.TaskList.{Keyed, task_list}
-use Rattle.hc_records.specs.Packing.{Front, Placed, opening, fits, placed_at, behind, packed}
+use Rattle.hc_records.specs.Packing.{Front, Placed, opening, fits, placed_at, front_with, packed}
 use Rattle.hc_records.specs.Image.{datagram_count, datagram_length, datagram_offset, output_length}
 use Rattle.hc_records.specs.Boundaries.{begins_later, later_keys, touched, unsettled_spans, width_in}
 use Rattle.hc_records.specs.Project.{lowest_fault}
@@ -24,7 +24,7 @@ ProjectsArePackable =
     (state : State) (task : ℕ) → lowest_fault (groups_of state.groups) ≡ None
     → All IsPackable (task_list task (line state))
 
--- the places of a list are those of its areas, in its order
+-- the places of a list are its areas', in its order
 abbrev pub PlacesKeepTheList : Type 0
 PlacesKeepTheList = (front : Front) (list : List Keyed) → map (λ area. (area.key, area.bits)) (packed front list) ≡ list
 
@@ -55,13 +55,13 @@ DatagramsAreSendable =
     (list : List Keyed) (datagram : ℕ) → All IsPackable list → datagram < datagram_count (packed opening list)
     → IsDatagramLength (datagram_length (packed opening list) datagram)
 
--- an area stands in an earlier datagram than another, or ends in the same one before the other begins
-abbrev pub StandsBefore : Placed → Placed → Type 0
-StandsBefore a b = (a.datagram < b.datagram) ⊎ ((a.datagram ≡ b.datagram) × (a.bit + a.bits ≤ b.bit))
+-- an area is in an earlier datagram than another, or ends in the same one before the other begins
+abbrev pub LiesBefore : Placed → Placed → Type 0
+LiesBefore a b = (a.datagram < b.datagram) ⊎ ((a.datagram ≡ b.datagram) × (a.bit + a.bits ≤ b.bit))
 
 -- so two areas of a task share no bit
 abbrev pub AreasShareNoBit : Type 0
-AreasShareNoBit = (list : List Keyed) → AllPairs StandsBefore (packed opening list)
+AreasShareNoBit = (list : List Keyed) → AllPairs LiesBefore (packed opening list)
 
 -- the keys of a list ascend
 abbrev pub Ascends : List Keyed → Type 0
@@ -91,18 +91,18 @@ PackingIsLeast =
     (list : List Keyed) (parts : List (List Keyed)) → flat_map (λ part. part) parts ≡ list
     → All FitsOneDatagram parts → datagram_count (packed opening list) ≤ length parts
 
--- the datagram being filled once the areas of a list stand
+-- the datagram being filled once the areas of a list are
 abbrev pub front_after : Front → List Keyed → Front
 front_after front [] = front
-front_after front (area ∷ areas) = front_after (behind (placed_at front area)) areas
+front_after front (area ∷ areas) = front_after (front_with (placed_at front area)) areas
 
 -- an area with so many datagrams before those of its own list
 abbrev pub raised : ℕ → Placed → Placed
 raised datagrams area = record area { datagram = area.datagram + datagrams }
 
--- from an area that begins a later datagram on, the areas stand as if they were a list of their own
-abbrev pub CutsStandAlone : Type 0
-CutsStandAlone =
+-- from an area that begins a later datagram on, the areas are as if they were a list of their own
+abbrev pub CutsAreAlone : Type 0
+CutsAreAlone =
     (before : List Keyed) (area : Keyed) (areas : List Keyed) → All IsPackable (before ++ area ∷ areas)
     → begins_later (placed_at (front_after opening before) area) ≡ true
     → packed opening (before ++ area ∷ areas)
@@ -113,8 +113,8 @@ abbrev pub cuts_from : Front → List Keyed → List Key
 cuts_from front [] = []
 cuts_from front (area ∷ areas) =
     if fits front area
-    then cuts_from (behind (placed_at front area)) areas
-    else area.0 ∷ cuts_from (behind (placed_at front area)) areas
+    then cuts_from (front_with (placed_at front area)) areas
+    else area.0 ∷ cuts_from (front_with (placed_at front area)) areas
 
 -- the boundaries inside a list are the keys of the areas that don't fit the datagram being filled
 abbrev pub BoundariesAreCuts : Type 0
@@ -135,16 +135,16 @@ BoundariesHaveWidth =
 abbrev pub UntouchedIsSettled : Type 0
 UntouchedIsSettled = (list : List Keyed) → unsettled_spans list list ≡ 0
 
--- the bit of the task's image at which an area begins
-abbrev pub image_bit : List Placed → Placed → ℕ
-image_bit areas area = 8 * datagram_offset areas area.datagram + area.bit
+-- the bit of the task's image where an area begins
+abbrev pub area_image_bit : List Placed → Placed → ℕ
+area_image_bit areas area = 8 * datagram_offset areas area.datagram + area.bit
 
--- an output area ends by the end of the image's output bytes, and an input area begins at or behind it
+-- an output area ends by the end of the image's output bytes, and an input area begins at or after it
 pub record KeepsToItsPart (areas : List Placed) (area : Placed) : Type 0 where
-  pub output : area.key.dir ≡ Out → image_bit areas area + area.bits ≤ 8 * output_length areas
-  pub input : area.key.dir ≡ In → 8 * output_length areas ≤ image_bit areas area
+  pub output : area.key.dir ≡ Out → area_image_bit areas area + area.bits ≤ 8 * output_length areas
+  pub input : area.key.dir ≡ In → 8 * output_length areas ≤ area_image_bit areas area
 
--- so the outputs of a task are the first bytes of its image, and its inputs are the bytes behind them
+-- so the outputs of a task are the first bytes of its image, and its inputs are the bytes after them
 abbrev pub OutputsComeFirst : Type 0
 OutputsComeFirst = (list : List Keyed) → Ascends list → All (KeepsToItsPart (packed opening list)) (packed opening list)
 

@@ -7,7 +7,7 @@ abbrev pub some_pair : {X : Type 0} → (X → X → Bool) → List X → Bool
 some_pair related [] = false
 some_pair related (x ∷ xs) = list_any (related x) xs || some_pair related xs
 
--- a number stands twice in the list
+-- a number is twice in the list
 abbrev pub has_repeat : List ℕ → Bool
 has_repeat = some_pair (λ x y. y == x)
 

@@ -17,18 +17,18 @@ pub record Front : Type 0 where
 abbrev pub opening : Front
 opening = record { datagram = 0; bit = 0; last = Out }
 
--- an area, its width, and the datagram and the bit at which it begins
+-- an area, its width, and the datagram and the bit where it begins
 pub record Placed : Type 0 where
   pub key : Key
   pub bits : ℕ
   pub datagram : ℕ
   pub bit : ℕ
 
--- the first byte border at or behind a bit
+-- the first byte border at or after a bit
 abbrev pub next_byte : ℕ → ℕ
 next_byte bit = 8 * ((bit + 7) / 8)
 
--- an area of 8 bits or more begins a byte, and so does the first input behind an output; another begins at the first free bit
+-- an area of 8 bits or more begins a byte, and so does the first input after an output; another begins at the first free bit
 abbrev pub beginning : Front → Keyed → ℕ
 beginning front area = if nat_le 8 area.1 || is_turn front.last area.0.dir then next_byte front.bit else front.bit
 
@@ -36,18 +36,18 @@ beginning front area = if nat_le 8 area.1 || is_turn front.last area.0.dir then 
 abbrev pub fits : Front → Keyed → Bool
 fits front area = nat_le (beginning front area + area.1) MOST_AREA_BITS
 
--- where an area stands: in the datagram being filled where it fits, else at bit 0 of a new one
+-- where an area is: in the datagram being filled where it fits, else at bit 0 of a new one
 abbrev pub placed_at : Front → Keyed → Placed
 placed_at front area =
     if fits front area
     then record { key = area.0; bits = area.1; datagram = front.datagram; bit = beginning front area }
     else record { key = area.0; bits = area.1; datagram = front.datagram + 1; bit = 0 }
 
--- the datagram being filled, once an area stands in it
-abbrev pub behind : Placed → Front
-behind placed = record { datagram = placed.datagram; bit = placed.bit + placed.bits; last = placed.key.dir }
+-- the datagram being filled, once an area is in it
+abbrev pub front_with : Placed → Front
+front_with placed = record { datagram = placed.datagram; bit = placed.bit + placed.bits; last = placed.key.dir }
 
 -- the areas of a list, each with its place
 abbrev pub packed : Front → List Keyed → List Placed
 packed front [] = []
-packed front (area ∷ areas) = placed_at front area ∷ packed (behind (placed_at front area)) areas
+packed front (area ∷ areas) = placed_at front area ∷ packed (front_with (placed_at front area)) areas

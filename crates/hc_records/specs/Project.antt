@@ -9,7 +9,7 @@ use Rattle.hc_records.specs.declared.records.Group.{Group}
 use Rattle.hc_records.specs.declared.faults.ProjectFault.{ProjectFault}
 use Rattle.hc_records.specs.declared.faults.ProjectFault.TheVariants.{OutOfRange, RepeatedAlias, RepeatedStation, RepeatedSyncManager, OverlappingAreas, RepeatedVariable, UnknownPdo, AreaTooBig}
 use Rattle.hc_records.specs.Lists.{has_repeat, lowest, some_pair}
-use Rattle.hc_records.specs.Area.{Entry, bits_of, has_unknown, width}
+use Rattle.hc_records.specs.Area.{Entry, entry_bits, has_unknown, width}
 
 -- all slaves, in declared order
 abbrev pub slaves_of : List Group → List Slave
@@ -25,7 +25,7 @@ some_area test groups = some_slave (λ slave. list_any test slave.areas) groups
 
 -- the bits of all entries of some PDOs
 abbrev pub offered_bits : List Pdo → ℕ
-offered_bits offered = sum_by (λ pdo. bits_of pdo.entries) offered
+offered_bits offered = sum_by (λ pdo. entry_bits pdo.entries) offered
 
 -- the bytes of its slave's memory that an area may take: those of all its offered PDOs, or of the widest area
 abbrev pub reach : Area → ℕ
@@ -78,7 +78,7 @@ has_outside groups =
     || nat_lt MOST_SLAVES (length (slaves_of groups))
     || some_slave slave_outside groups
 
--- a name stands twice
+-- a name is twice
 
 -- two groups have one alias
 abbrev pub has_repeated_alias : List Group → Bool
@@ -134,7 +134,7 @@ abbrev pub has_unknown_pdo : Area → Bool
 has_unknown_pdo area =
     has_unknown area.assigned area || has_repeat area.assigned || some_pair same_index area.offered
 
--- an assigned width is over that of a datagram
+-- an assigned width is over a datagram's
 abbrev pub is_wide : Area → Bool
 is_wide area = nat_lt MOST_AREA_BITS (width area)
 

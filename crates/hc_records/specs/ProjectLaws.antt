@@ -49,7 +49,8 @@ pub record KeepsAreasApart (slave : Slave) : Type 0 where
 abbrev pub ReachesShareNoByte : Type 0
 ReachesShareNoByte = (groups : List Group) → lowest_fault groups ≡ None → All KeepsAreasApart (slaves_of groups)
 
--- a group that is declared behind those of a project, and has none of the faults of a declared group, leaves them again a project's
+-- a group that is declared after the groups of a project, and has none of the faults of a declared group, leaves them again a
+-- project's
 abbrev pub DeclaredGroupsKeepProjects : Type 0
 DeclaredGroupsKeepProjects =
     (groups : List Declared) (group : Group) → lowest_fault (groups_of groups) ≡ None → lowest (declaring_faults groups group) ≡ None

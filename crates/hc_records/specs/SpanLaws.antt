@@ -5,7 +5,7 @@ use Rattle.hc_records.specs.declared.keys.TheConstants.Key.{END}
 use Rattle.hc_records.specs.Keys.{is_before, is_within}
 use Rattle.hc_records.specs.Line.{State, groups_of, line}
 use Rattle.hc_records.specs.TaskList.{Keyed, task_list}
-use Rattle.hc_records.specs.Packing.{Front, Placed, behind, fits, opening, packed, placed_at}
+use Rattle.hc_records.specs.Packing.{Front, Placed, front_with, fits, opening, packed, placed_at}
 use Rattle.hc_records.specs.Image.{inside}
 use Rattle.hc_records.specs.Boundaries.{Interval, boundaries, is_settled, spans}
 use Rattle.hc_records.specs.Project.{lowest_fault}
@@ -23,7 +23,7 @@ ProjectsHaveTaskLists =
     (state : State) (task : ℕ) → lowest_fault (groups_of state.groups) ≡ None
     → IsTaskList (task_list task (line state))
 
--- an area of a span: its key is the span's first one or a later one, and before the one at which the next span begins
+-- an area of a span: its key is the span's first one or a later one, and before the one where the next span begins
 abbrev pub lies_in : Interval → Placed → Bool
 lies_in span area = is_within span.0 area.key && is_before area.key span.1
 
@@ -56,13 +56,13 @@ SettledSpansStay =
 -- the key of the first area that doesn't fit, where a datagram is being filled; END where all fit
 abbrev pub next_cut : Front → List Keyed → Key
 next_cut front [] = END
-next_cut front (area ∷ areas) = if fits front area then next_cut (behind (placed_at front area)) areas else area.0
+next_cut front (area ∷ areas) = if fits front area then next_cut (front_with (placed_at front area)) areas else area.0
 
 -- the areas up to there, with their places
-abbrev pub carried : Front → List Keyed → List Placed
-carried front [] = []
-carried front (area ∷ areas) =
-    if fits front area then placed_at front area ∷ carried (behind (placed_at front area)) areas else []
+abbrev pub places_in_span : Front → List Keyed → List Placed
+places_in_span front [] = []
+places_in_span front (area ∷ areas) =
+    if fits front area then placed_at front area ∷ places_in_span (front_with (placed_at front area)) areas else []
 
 -- the areas of a list from a key on
 abbrev pub areas_from : Key → List Keyed → List Keyed
@@ -71,7 +71,7 @@ areas_from key list = filter (λ area. is_within key area.0) list
 -- the span that begins at a boundary ends where the areas from there on, packed alone, are cut first; its datagram carries those
 pub record IsCutAlone (list : List Keyed) (span : Interval) : Type 0 where
   pub next : span.1 ≡ next_cut opening (areas_from span.0 list)
-  pub areas : span_areas list span ≡ map seen_area (carried opening (areas_from span.0 list))
+  pub areas : span_areas list span ≡ map seen_area (places_in_span opening (areas_from span.0 list))
 
 -- so it is with every span of a task's list
 abbrev pub SpansAreCutAlone : Type 0

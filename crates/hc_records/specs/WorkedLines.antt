@@ -205,14 +205,14 @@ gripper_after = refl
 abbrev sixteen : List Slave
 sixteen = map (λ station. with_output station 1400) (range_with_len 1 16)
 
-abbrev crowded : State
-crowded = opened (group_of 0 sixteen ∷ group_of 10 (with_output 17 1400 ∷ []) ∷ [])
+abbrev over_limit : State
+over_limit = opened (group_of 0 sixteen ∷ group_of 10 (with_output 17 1400 ∷ []) ∷ [])
 
-crowded_fault : fault_of crowded (Connect 10) ≡ Some (TooManyDatagrams 0)
-crowded_fault = refl
+over_limit_fault : fault_of over_limit (Connect 10) ≡ Some (TooManyDatagrams 0)
+over_limit_fault = refl
 
-crowded_stays : (state_after crowded (Connect 10)).epoch ≡ 0
-crowded_stays = refl
+over_limit_stays : (state_after over_limit (Connect 10)).epoch ≡ 0
+over_limit_stays = refl
 
 -- A tool is connected and disconnected, each twice.
 
@@ -365,7 +365,7 @@ taken : (fault_of both_docked (Declare (another 200 2001))
     ≡ Some AliasTaken ∷ Some StationTaken ∷ Some VariableTaken ∷ Some VariableTaken ∷ []
 taken = refl
 
--- A group that no project may have is refused as such, behind the last epoch and before what is taken.
+-- A group that no project may have is refused as such, after the last epoch and before what is taken.
 
 bare_group : fault_of docked (Declare (another 0 1001)) ≡ Some (BadGroup OutOfRange)
 bare_group = refl

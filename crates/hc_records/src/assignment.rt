@@ -2,7 +2,7 @@
 //! then. Widths are counted in bits up to one more than a datagram holds, so that no sum runs over.
 ghost use Rattle.std.specs.Prelude.{◌≡◌, min};
 ghost use Rattle.std.specs.List.{flat_map};
-ghost use Rattle.hc_records.specs.Area.{bits_of, entries_at};
+ghost use Rattle.hc_records.specs.Area.{entry_bits, entries_at};
 ghost use Rattle.hc_records.specs.Lists.{has_repeat};
 ghost use Rattle.hc_records.specs.Project.{offered_bits};
 
@@ -26,7 +26,7 @@ impl Relation<u16> for SameNumber {
     }
 }
 
-/// Whether an index stands twice in a list.
+/// Whether an index is twice in a list.
 pub fn repeats(indexes: &[u16]) -> bool
     ensures { result ≡ has_repeat indexes.now }
 {
@@ -35,7 +35,7 @@ pub fn repeats(indexes: &[u16]) -> bool
 
 /// The bits of entries, or `WIDTH_CAP` where they are more.
 fn capped_bits(entries: &[Entry]) -> u32
-    ensures { result ≡ min WIDTH_CAP (bits_of entries.now) }
+    ensures { result ≡ min WIDTH_CAP (entry_bits entries.now) }
 {
     let mut total = 0u32;
     for entry in entries {
@@ -58,7 +58,7 @@ pub fn offered_entries(offered: &[Pdo], index: u16) -> &[Entry]
 
 /// The bits of offered PDOs in the order of their indexes, or `WIDTH_CAP` where they are more.
 fn assigned_bits(offered: &[Pdo], indexes: &[u16]) -> u32
-    ensures { result ≡ min WIDTH_CAP (bits_of (flat_map (entries_at offered.now) indexes.now)) }
+    ensures { result ≡ min WIDTH_CAP (entry_bits (flat_map (entries_at offered.now) indexes.now)) }
 {
     let mut total = 0u32;
     for index in indexes {

@@ -64,7 +64,7 @@ impl Relation<Area> for SameManager {
     }
 }
 
-/// A slave of which two areas have one sync manager.
+/// A slave with one sync manager for two areas.
 struct RepeatedManager;
 
 impl Condition<Slave> for RepeatedManager {
@@ -94,7 +94,7 @@ impl Relation<Area> for Overlap {
     }
 }
 
-/// A slave of which two areas overlap.
+/// A slave with two areas that overlap.
 struct Overlapping;
 
 impl Condition<Slave> for Overlapping {

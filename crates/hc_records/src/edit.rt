@@ -28,7 +28,7 @@ pub enum Edit {
         /// The task, 0 to 7.
         task: u8,
     },
-    /// A group is declared behind the others. It is absent until it is connected.
+    /// A group is declared after the others. It is absent until it is connected.
     Declare(Group),
 }
 

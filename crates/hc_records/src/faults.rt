@@ -31,7 +31,7 @@ pub enum ProjectFault {
     /// Two areas of a slave may take the same byte of its memory.
     #[error("two areas of a slave overlap")]
     OverlappingAreas,
-    /// A variable stands in two entries.
+    /// A variable is in two entries.
     #[error("a variable stands in two entries")]
     RepeatedVariable,
     /// An assigned PDO isn't offered or is assigned twice, or two offered PDOs have one index.
@@ -111,7 +111,7 @@ pub enum EditFault {
     /// The area doesn't offer a PDO of the index.
     #[error("the area does not offer the PDO")]
     UnknownPdo,
-    /// An index stands twice.
+    /// An index is twice.
     #[error("a PDO is named twice")]
     RepeatedPdo,
     /// The PDOs have more bits than a datagram.

@@ -1,7 +1,7 @@
 //! What follows from the definitions of `specs/`, so that a reader can trust them: each function here
 //! does nothing, and its contract is a law that holds of every list, line or project. Nobody calls it.
-ghost use Rattle.hc_records.specs.Laws.{ProjectsArePackable, PlacesKeepTheList, AreasLieInside, WideAreasBeginBytes, DatagramsAreSendable, AreasShareNoBit, KeysAscend, KeysLieAboveStart, KeysLieBelowEnd, PackingIsLeast, CutsStandAlone, BoundariesAreCuts, DatagramsAreSpans, BoundariesHaveWidth, UntouchedIsSettled, OutputsComeFirst, TouchedCountsOnce};
-ghost use Rattle.hc_records.specs.ImageLaws.{DatagramsTileTheImage, ImagesAreShort, VariablesLieInDatagrams, VariablesShareNoBit, VariablesStandInTheirParts};
+ghost use Rattle.hc_records.specs.Laws.{ProjectsArePackable, PlacesKeepTheList, AreasLieInside, WideAreasBeginBytes, DatagramsAreSendable, AreasShareNoBit, KeysAscend, KeysLieAboveStart, KeysLieBelowEnd, PackingIsLeast, CutsAreAlone, BoundariesAreCuts, DatagramsAreSpans, BoundariesHaveWidth, UntouchedIsSettled, OutputsComeFirst, TouchedCountsOnce};
+ghost use Rattle.hc_records.specs.ImageLaws.{DatagramsTileTheImage, ImagesAreShort, VariablesLieInDatagrams, VariablesShareNoBit, VariablesAreInTheirParts};
 ghost use Rattle.hc_records.specs.AddressLaws.{AddressesHaveOneDatagram};
 ghost use Rattle.hc_records.specs.SpanLaws.{ProjectsHaveTaskLists, SettledSpansStay, SpansAreCutAlone, SpansAreDatagrams};
 ghost use Rattle.hc_records.specs.ProjectLaws.{DeclaredGroupsKeepProjects, DeclaredGroupsKeepTheLine, ProjectsKeepTheirLimits, RanksAreCounted, ReachesHoldWidths, ReachesShareNoByte, StationsAreDistinct};
@@ -18,7 +18,7 @@ pub fn places_keep_the_list()
     ensures { PlacesKeepTheList }
 {}
 
-/// Where each area of a list has 1 to 11,888 bits, each lies wholly in one datagram: the bit at which it
+/// Where each area of a list has 1 to 11,888 bits, each lies wholly in one datagram: the bit where it
 /// begins and its bits together are at most 11,888, the bits of the longest datagram's data.
 pub fn areas_lie_inside()
     ensures { AreasLieInside }
@@ -36,7 +36,7 @@ pub fn datagrams_are_sendable()
 {}
 
 /// No two areas of a task share a bit: of two areas, the earlier in the task's list lies in an earlier
-/// datagram, or ends in the same datagram at or before the bit at which the later one begins.
+/// datagram, or ends in the same datagram at or before the bit where the later one begins.
 pub fn areas_share_no_bit()
     ensures { AreasShareNoBit }
 {}
@@ -64,15 +64,15 @@ pub fn packing_is_least()
     ensures { PackingIsLeast }
 {}
 
-/// Where each area of a list has 1 to 11,888 bits: from an area at which a second or later datagram
-/// begins, the areas stand as if they were a list of their own, at the same bits and in datagrams
-/// numbered on from those before. So what comes before a boundary doesn't move what comes behind it.
-pub fn cuts_stand_alone()
-    ensures { CutsStandAlone }
+/// Where each area of a list has 1 to 11,888 bits: from an area where a second or later datagram
+/// begins, the areas are as if they were a list of their own, at the same bits and in datagrams
+/// numbered on from those before. So what comes before a boundary doesn't move what comes after it.
+pub fn cuts_are_alone()
+    ensures { CutsAreAlone }
 {}
 
 /// Where each area of a list has 1 to 11,888 bits, a second or later datagram begins exactly at the
-/// areas that don't fit the datagram being filled: the bit at which such an area would begin and its
+/// areas that don't fit the datagram being filled: the bit where such an area would begin and its
 /// bits together are over 11,888.
 pub fn boundaries_are_cuts()
     ensures { BoundariesAreCuts }
@@ -95,10 +95,10 @@ pub fn untouched_is_settled()
     ensures { UntouchedIsSettled }
 {}
 
-/// The outputs of a task are the first bytes of its process data image, and its inputs the bytes behind
+/// The outputs of a task are the first bytes of its process data image, and its inputs the bytes after
 /// them: where the keys of a list ascend, each output area ends by the bit 8 times the output length (in
-/// bytes), and each input area begins at or behind it. Bits of the image are counted from 0: an area
-/// begins 8 times its datagram's offset (in bytes) and its own first bit behind the image's start.
+/// bytes), and each input area begins at or after it. Bits of the image are counted from 0: an area
+/// begins 8 times its datagram's offset (in bytes) and its own first bit after the image's start.
 pub fn outputs_come_first()
     ensures { OutputsComeFirst }
 {}
@@ -154,15 +154,15 @@ pub fn variables_lie_in_datagrams()
 {}
 
 /// Two variables of a line share no bit: of two in one datagram of a task, one ends at or before the bit
-/// at which the other begins.
+/// where the other begins.
 pub fn variables_share_no_bit()
     ensures { VariablesShareNoBit }
 {}
 
-/// Output variables lie in front of the output length of their task's process data image (in bytes), and
-/// input variables at or behind it. Bits of the image are counted from 0.
-pub fn variables_stand_in_their_parts()
-    ensures { VariablesStandInTheirParts }
+/// Output variables lie before the output length of their task's process data image (in bytes), and
+/// input variables at or after it. Bits of the image are counted from 0.
+pub fn variables_are_in_their_parts()
+    ensures { VariablesAreInTheirParts }
 {}
 
 /// In a project the bytes of its slave's memory that an area may take (its reach) hold the bits of its
@@ -177,13 +177,13 @@ pub fn reaches_share_no_byte()
     ensures { ReachesShareNoByte }
 {}
 
-/// A group that is declared behind those of a project leaves them again a project's, where no fault of a
-/// declared group holds of it.
+/// A group that is declared after the groups of a project leaves them again a project's, where no fault
+/// of a declared group holds of it.
 pub fn declared_groups_keep_projects()
     ensures { DeclaredGroupsKeepProjects }
 {}
 
-/// A group that is declared behind others, absent as it is, leaves the line as it was.
+/// A group that is declared after others, absent as it is, leaves the line as it was.
 pub fn declared_groups_keep_the_line()
     ensures { DeclaredGroupsKeepTheLine }
 {}

@@ -19,7 +19,7 @@ pub const MOST_ENTRIES: usize = 64;
 pub const MOST_ENTRY_BITS: u8 = 64;
 
 /// The most data bytes of a datagram: what is left of the 1,500 bytes of an Ethernet frame's data
-/// behind the EtherCAT header (2), the datagram's header (10) and its working counter (2)
+/// after the EtherCAT header (2), the datagram's header (10) and its working counter (2)
 /// (ETG.1000.4, 5.3 and 5.4).
 pub const MOST_DATAGRAM_BYTES: u16 = 1486;
 
@@ -36,11 +36,11 @@ pub const MOST_DATAGRAMS: usize = 16;
 /// The highest sync manager number of an area (ETG.1000.4, 6.7: 16 channels).
 pub const LAST_SYNC_MANAGER: u8 = 15;
 
-/// The first byte of a slave's memory that an area may take, behind all registers (this project's
+/// The first byte of a slave's memory that an area may take, after all registers (this project's
 /// profile).
 pub const MEMORY_START: u16 = 0x1000;
 
-/// The byte behind the last one of a slave's memory that an area may take (this project's profile).
+/// The byte after the last one of a slave's memory that an area may take (this project's profile).
 pub const MEMORY_END: u16 = 0x3000;
 
 /// The last epoch: an epoch is counted in 32 bits (this project's profile).

@@ -1,9 +1,7 @@
 //! The line of a state: the slaves of the groups that are present, in declared order.
-ghost use Rattle.std.specs.Prelude.{◌≡◌, ◌+◌, ◌<◌, ◌≤◌, ◌++◌, find, length};
+ghost use Rattle.std.specs.Prelude.{◌≡◌, ◌<◌, length};
 ghost use Rattle.std.specs.Iterator.{YieldsFirst, item_count};
-ghost use Rattle.std.specs.List.{list_any};
-ghost use Rattle.hc_records.specs.Edits.{has_station};
-ghost use Rattle.hc_records.specs.Line.{IsCounted, is_at, line_from, members_from};
+ghost use Rattle.hc_records.specs.Line.{IsCounted, line_from, members_from};
 
 use crate::records::{Declared, Slave};
 use std::marker::Model;
@@ -47,9 +45,9 @@ impl<'a> Member<'a> {
 pub struct LineMembers<'a> {
     // the slaves that are left of the group that the walk has reached
     slaves: &'a [Slave],
-    // the rank of the first of them, or of the first slave behind them
+    // the rank of the first of them, or of the first slave after them
     rank: usize,
-    // the groups behind it
+    // the groups after it
     groups: &'a [Declared],
 }
 
@@ -87,45 +85,18 @@ impl<'a> Iterator for LineMembers<'a> {
 
     fn next(&mut self) -> Option<Member<'a>> {
         while self.slaves.is_empty() {
-            let (declared, behind) = self.groups.split_first()?;
+            let (declared, after_it) = self.groups.split_first()?;
             if declared.present {
                 self.slaves = declared.group.slaves.as_slice();
             } else {
                 self.rank += declared.group.slaves.len();
             }
-            self.groups = behind;
+            self.groups = after_it;
         }
-        let (slave, behind) = self.slaves.split_first()?;
+        let (slave, after_it) = self.slaves.split_first()?;
         let rank = self.rank as u16;
-        self.slaves = behind;
+        self.slaves = after_it;
         self.rank += 1;
         Some(Member { rank, slave })
     }
-}
-
-/// The slave of the line with a station address; none where none is present. It takes no memory.
-pub fn member_at<'a>(groups: &'a [Declared], station: u16) -> Option<Member<'a>>
-    requires { IsCounted groups.now }
-    ensures { result ≡ find (is_at station) (line_from 1 groups.now) }
-{
-    for member in members(groups) {
-        if member.slave.station == station {
-            return Some(member);
-        }
-    }
-    None
-}
-
-/// Whether a slave has a station address.
-fn has_station(slaves: &[Slave], station: u16) -> bool
-    ensures { result ≡ has_station station slaves.now }
-{
-    slaves.iter().any(|slave| slave.station == station)
-}
-
-/// Whether a slave with a station address is declared, present or not. It takes no memory.
-pub fn is_declared_station(groups: &[Declared], station: u16) -> bool
-    ensures { result ≡ list_any (λ declared. has_station station declared.group.slaves) groups.now }
-{
-    groups.iter().any(|declared| has_station(declared.group.slaves.as_slice(), station))
 }

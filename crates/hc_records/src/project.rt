@@ -1,6 +1,6 @@
-//! A project: declared groups in which every value is in its range and every name stands once.
+//! A project: declared groups where every value is in its range and every name is once.
 ghost use Rattle.std.specs.Prelude.{◌≡◌, ◌≢◌, Err, None, Some, IfErr, IfOk, IsTrue, OnOk};
-ghost use Rattle.hc_records.specs.Edits.{alone};
+ghost use Rattle.hc_records.specs.Edits.{smallest_project};
 ghost use Rattle.hc_records.specs.Limits.{IsProjectInside};
 ghost use Rattle.hc_records.specs.Project.{has_outside, lowest_fault};
 ghost use Rattle.hc_records.specs.declared.faults.ProjectFault.TheVariants.{Memory, OutOfRange};
@@ -12,7 +12,7 @@ use crate::records::Group;
 use std::alloc::{AllocError, Global};
 use std::marker::Model;
 
-/// Declared groups, the mandatory one first, in which no fault's condition holds.
+/// Declared groups, the mandatory one first, where no fault's condition holds.
 #[derive(Debug, Drop)]
 pub struct Project {
     groups: Items<Group>,
@@ -48,7 +48,7 @@ impl Project {
     /// The declared groups, the mandatory one first.
     pub fn groups(&self) -> &[Group]
         ensures value { result.now ≡ self.now }
-        ensures kept { lowest_fault self.now ≡ None }
+        ensures unchanged { lowest_fault self.now ≡ None }
         ensures inside { IsProjectInside self.now }
     {
         self.groups.as_slice()
@@ -57,16 +57,16 @@ impl Project {
     /// Hands the groups out.
     pub fn into_groups(self) -> Items<Group>
         ensures value { result ≡ self }
-        ensures kept { lowest_fault self ≡ None }
+        ensures unchanged { lowest_fault self ≡ None }
     {
         let Project { groups } = self;
         groups
     }
 }
 
-/// An empty mandatory group, and a copy of a group behind it.
+/// An empty mandatory group, and a copy of a group after it.
 fn alone(alloc: Global, group: &Group) -> Result<Vec<Group>, AllocError>
-    ensures { IfOk result (λ groups. groups.items ≡ alone group.now) }
+    ensures { IfOk result (λ groups. groups.items ≡ smallest_project group.now) }
 {
     let mut groups = Vec::with_capacity(alloc, 2)?;
     groups.push_reserved(Group {
@@ -78,13 +78,13 @@ fn alone(alloc: Global, group: &Group) -> Result<Vec<Group>, AllocError>
 }
 
 impl Group {
-    /// A copy of the group, if it may stand in a project: no fault's condition holds of it beside an empty
+    /// A copy of the group, if it may be in a project: no fault's condition holds of it beside an empty
     /// mandatory group. Otherwise the lowest of the faults from `OutOfRange` to `AreaTooBig` whose
     /// condition holds, or `Memory` where a growth was refused. The group stays as it is.
     pub fn checked(&self, alloc: Global) -> Result<Group, ProjectFault>
         ensures copy { IfOk result (λ copy. copy ≡ self.now) }
-        ensures accepted { OnOk result (lowest_fault (alone self.now) ≡ None) }
-        ensures refused { IfErr result (λ fault. fault ≢ Memory → lowest_fault (alone self.now) ≡ Some fault) }
+        ensures accepted { OnOk result (lowest_fault (smallest_project self.now) ≡ None) }
+        ensures refused { IfErr result (λ fault. fault ≢ Memory → lowest_fault (smallest_project self.now) ≡ Some fault) }
     {
         let mut both = alone(alloc, self)?;
         judge(alloc, both.as_slice())?;

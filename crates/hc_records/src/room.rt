@@ -23,7 +23,7 @@ impl<T> Model for Room<T> {
 }
 
 impl<T: Drop> Room<T> {
-    /// Memory for the elements of a list and so many more behind them: for twice as many where the list's
+    /// Memory for the elements of a list and so many more after them: for twice as many where the list's
     /// own memory has no room for these, so that a list which grows bit by bit rarely moves. `AllocError`
     /// where the growth was refused.
     pub fn for_more(alloc: Global, list: &Vec<T>, more: usize) -> Result<Room<T>, AllocError>

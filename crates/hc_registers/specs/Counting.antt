@@ -1,4 +1,4 @@
--- The working counter of a register write, and that of a datagram by its areas, in the order of their keys.
+-- The working counter of a register write, and of a datagram by its areas, in the order of their keys.
 use Rattle.std.specs.Prelude.{ℕ, ◌+◌, ◌==◌, ◌&&◌, if◌then◌else◌, List, [], ◌∷◌, Option, Some, None}
 use Rattle.hc_records.specs.declared.records.Dir.{Dir}
 use Rattle.hc_records.specs.declared.records.Dir.TheVariants.{Out, In}
@@ -10,7 +10,7 @@ abbrev pub weight : Dir → ℕ
 weight Out = 2
 weight In = 1
 
--- what the area with a key adds to the counter of its datagram, behind the area before it: nothing where both are of one slave and direction
+-- what the area with a key adds to the counter of its datagram, after the area before it: nothing where both are of one slave and direction
 abbrev pub added_share : Option Key → Key → ℕ
 added_share None key = weight key.dir
 added_share (Some before) key =

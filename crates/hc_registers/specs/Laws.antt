@@ -1,4 +1,4 @@
--- What is written into a block is read from it, a slave's blocks stand apart, and a datagram's counter is counted in one pass. Each is the contract of a function of `laws`.
+-- What is written into a block is read from it, a slave's blocks are apart, and a datagram's counter is counted in one pass. Each is the contract of a function of `laws`.
 use Rattle.std.specs.Prelude.{◌≡◌, ℕ, ◌+◌, ◌/◌, ◌%◌, ◌<◌, ◌≤◌, ◌^◌, length, slice_index, sum_by, All, AllPairs, Contains, IsTrue, List, None}
 use Rattle.hc_records.specs.declared.limits.TheConstants.{MOST_AREA_BITS}
 use Rattle.hc_records.specs.declared.records.Area.{Area}
@@ -42,17 +42,17 @@ abbrev pub FmmusAreRead : Type 0
 FmmusAreRead = (area : Area) (mapping : Mapping) → area.phys < 2 ^ 16 → IsMappable area mapping → FmmuFields area mapping
 
 -- a register that a block takes
-pub record Takes (block : RegisterBlock) (register : ℕ) : Type 0 where
+pub record CoversRegister (block : RegisterBlock) (register : ℕ) : Type 0 where
   pub from : block.register ≤ register
   pub below : register < block.register + length block.bytes
 
 -- two blocks take no register in common
-abbrev pub StandApart : RegisterBlock → RegisterBlock → Type 0
-StandApart a b = (register : ℕ) → Takes a register → ¬ (Takes b register)
+abbrev pub AreApart : RegisterBlock → RegisterBlock → Type 0
+AreApart a b = (register : ℕ) → CoversRegister a register → ¬ (CoversRegister b register)
 
 -- the blocks of a slave that keeps the limits of a project, in any line, take no register in common
-abbrev pub BlocksStandApart : Type 0
-BlocksStandApart = (line : List Member) (member : Member) → IsSlaveInside member.slave → AllPairs StandApart (slave_blocks line member)
+abbrev pub BlocksAreApart : Type 0
+BlocksAreApart = (line : List Member) (member : Member) → IsSlaveInside member.slave → AllPairs AreApart (slave_blocks line member)
 
 -- where keys ascend, and so do ranks that have each key's, what the slaves with these ranks add is what the areas add in their order
 abbrev pub AscendingKeysAreCounted : Type 0

@@ -11,15 +11,15 @@ use Rattle.hc_registers.specs.Blocks.{LineBlock, line_blocks, member_blocks, mov
 use Rattle.hc_registers.specs.Ranked.{moved_ranked}
 use Rattle.hc_registers.specs.RankPlaces.{place, places}
 
--- the blocks that stand at places, in their order
+-- the blocks that are at places, in their order
 abbrev pub standing : List (Option LineBlock) → List LineBlock
 standing places = flat_map option_to_list places
 
--- at the places of a project's line stand its blocks, in line and block order
+-- at the places of a project's line are its blocks, in line and block order
 abbrev pub PlacesHoldTheLine : Type 0
 PlacesHoldTheLine = (state : State) → lowest_fault (groups_of state.groups) ≡ None → standing (places state) ≡ line_blocks (line state)
 
--- at the place of a slave's rank and a number stands its block with that number; nothing where it has no such block
+-- at the place of a slave's rank and a number is its block with that number; nothing where it has no such block
 abbrev pub HasPlaces : State → Member → Type 0
 HasPlaces state member =
     (number : ℕ) → number < 16 → slice_get (places state) (place member.rank number) ≡ Some (slice_get (member_blocks (line state) member) number)
@@ -32,7 +32,7 @@ MembersHavePlaces = (state : State) → All (HasPlaces state) (line state)
 abbrev pub RankedAreMoved : Type 0
 RankedAreMoved = (old new : List Member) → map (λ block. block.found) (moved_ranked old new) ≡ moved_blocks old new
 
--- a group that is declared, absent, adds sixteen empty places for each of its slaves behind those of the others, which stay as they are
+-- a group that is declared, absent, adds sixteen empty places for each of its slaves after those of the others, which stay as they are
 abbrev pub DeclaredGroupsAddEmptyPlaces : Type 0
 DeclaredGroupsAddEmptyPlaces =
     (state : State) (group : Group) → places (changed state (Declare group)) ≡ places state ++ replicate (16 * length group.slaves) None

@@ -18,7 +18,7 @@ numbers = range_with_len 0 16
 abbrev pub slave_places : List Member → Bool → Member → List (Option LineBlock)
 slave_places line present member = map (slice_get (if present then member_blocks line member else [])) numbers
 
--- what a line has at the places of declared groups' slaves, the first of which has a rank
+-- what a line has at the places of declared groups' slaves, from a rank on
 abbrev pub places_from : List Member → ℕ → List Declared → List (Option LineBlock)
 places_from line rank [] = []
 places_from line rank (declared ∷ rest) =

@@ -1,5 +1,5 @@
 //! Blocks as they are written: bytes at a register.
-ghost use Rattle.std.specs.Prelude.{◌≡◌, ◌+◌, ◌*◌, ◌<◌, ◌≤◌};
+ghost use Rattle.std.specs.Prelude.{◌≡◌, ◌+◌, ◌*◌, ◌<◌, ◌≤◌, take};
 ghost use Rattle.std.specs.Option.{ForSome};
 ghost use Rattle.hc_records.specs.Area.{width};
 ghost use Rattle.hc_records.specs.declared.limits.TheConstants.{LAST_SYNC_MANAGER, MOST_AREA_BITS, MOST_AREAS};
@@ -10,23 +10,28 @@ use crate::registers::{
     FMMU_BLOCK_BYTES, FMMU_BLOCKS, SYNC_MANAGER_BLOCK_BYTES, SYNC_MANAGER_BLOCKS,
 };
 use crate::sync_manager::sized_block;
-use arrayvec::ArrayVec;
 use hc_records::records::Area;
 use std::marker::Model;
 
-/// The bytes of a sync manager or FMMU block, and the register at which they begin.
+/// The bytes of a sync manager or FMMU block, and the register where they begin.
 #[derive(Clone, Debug, Drop)]
 pub struct Block {
     register: u16,
-    bytes: ArrayVec<u8, 16>,
+    // 8 or 16
+    length: u8,
+    // those after its length are 0
+    bytes: [u8; 16],
 }
 
 impl Model for Block {
+    ghost use Rattle.std.specs.Prelude.{◌≤◌, take};
     ghost use Rattle.hc_registers.specs.Blocks.{RegisterBlock};
 
     ghost Value = { RegisterBlock };
 
-    ghost view = { λ block. record { register = block.register; bytes = block.bytes.items } };
+    ghost view = { λ block. record { register = block.register; bytes = take block.length block.bytes } };
+
+    ghost invariant = { λ block. block.length ≤ 16 };
 }
 
 /// A block of the line that a slave is configured with.
@@ -48,18 +53,23 @@ impl Model for LineBlock {
     ghost view = { λ found. record { station = found.station; number = found.number; block = found.block } };
 }
 
+/// Eight bytes and as many zeros.
+fn with_zeros(bytes: &[u8; 8]) -> [u8; 16]
+    ensures { take 8 result ≡ bytes.now }
+{
+    let [a, b, c, d, e, f, g, h] = *bytes;
+    [a, b, c, d, e, f, g, h, 0, 0, 0, 0, 0, 0, 0, 0]
+}
+
 /// The FMMU block of these bytes for the area at an index of its slave's record.
 fn fmmu_of(index: u8, bytes: [u8; 16]) -> Block
     requires { index < MOST_AREAS }
     ensures { result ≡ record { register = FMMU_BLOCKS + FMMU_BLOCK_BYTES * index; bytes = bytes } }
 {
-    let mut block = ArrayVec::new();
-    for byte in bytes {
-        block.push(byte);
-    }
     Block {
         register: FMMU_BLOCKS + FMMU_BLOCK_BYTES * u16::from(index),
-        bytes: block,
+        length: 16,
+        bytes,
     }
 }
 
@@ -77,18 +87,16 @@ impl Block {
         requires bits { bits ≡ width area.now }
         ensures { result ≡ sync_manager_block area.now }
     {
-        let mut bytes = ArrayVec::new();
-        for byte in sized_block(area, bits) {
-            bytes.push(byte);
-        }
+        let bytes = sized_block(area, bits);
         Block {
             register: SYNC_MANAGER_BLOCKS + SYNC_MANAGER_BLOCK_BYTES * u16::from(area.sm),
-            bytes,
+            length: 8,
+            bytes: with_zeros(&bytes),
         }
     }
 
-    /// The FMMU block of the area that stands at an index of its slave's record, 16 bytes. An area
-    /// of 0 bits isn't mapped.
+    /// The FMMU block of the area that is at an index of its slave's record, 16 bytes. An area of 0
+    /// bits isn't mapped.
     pub fn fmmu(index: u8, area: &Area, mapping: Option<Mapping>) -> Block
         requires index { index < MOST_AREAS }
         requires mapping { ForSome mapping (IsMappable area.now) }
@@ -108,7 +116,18 @@ impl Block {
         fmmu_of(index, mapped_block(area, bits, mapping))
     }
 
-    /// The register at which the block begins.
+    /// The same block once more. It takes no memory, as the block has its bytes in itself.
+    pub fn copied(&self) -> Block
+        ensures { result ≡ self.now }
+    {
+        Block {
+            register: self.register,
+            length: self.length,
+            bytes: self.bytes,
+        }
+    }
+
+    /// The register where the block begins.
     pub fn register(&self) -> u16
         ensures { result ≡ self.now.register }
     {
@@ -119,6 +138,6 @@ impl Block {
     pub fn bytes(&self) -> &[u8]
         ensures { result.now ≡ self.now.bytes }
     {
-        self.bytes.as_slice()
+        &self.bytes[..usize::from(self.length)]
     }
 }

@@ -2,7 +2,7 @@
 //! (ETG.1000.4, 5.4: a slave that reads adds 1, one that writes 2, one that does both 3).
 ghost use Rattle.std.specs.Prelude.{◌≡◌, ◌≤◌, length, sum_by};
 ghost use Rattle.std.specs.List.{list_any};
-ghost use Rattle.hc_records.specs.Image.{counter_share, is_of};
+ghost use Rattle.hc_records.specs.Image.{counter_share, area_is_of};
 ghost use Rattle.hc_records.specs.declared.limits.TheConstants.{MOST_SLAVES};
 ghost use Rattle.hc_registers.specs.Counting.{added_share, weight};
 
@@ -11,7 +11,7 @@ use hc_records::records::Dir;
 
 /// Whether a slave has an area of a direction among those of a datagram.
 fn has_area(keys: &[Key], rank: u16, dir: Dir) -> bool
-    ensures { result ≡ list_any (is_of rank dir) keys.now }
+    ensures { result ≡ list_any (area_is_of rank dir) keys.now }
 {
     keys.iter().any(|key| key.rank == rank && key.dir == dir)
 }
@@ -51,8 +51,8 @@ fn weight(dir: Dir) -> u16
     }
 }
 
-/// What the area with a key adds to the working counter of its datagram behind the area before it,
-/// if there is one: 2 for outputs and 1 for inputs, and 0 where both areas are of one slave and
+/// What the area with a key adds to the working counter of its datagram after the area before it, if
+/// there is one: 2 for outputs and 1 for inputs, and 0 where both areas are of one slave and
 /// direction. A pass over a datagram's areas, whose keys ascend, that adds this from 0 ends with the
 /// datagram's expected counter, as `expected_count` gives it.
 pub fn added_count(before: Option<Key>, key: Key) -> u16

@@ -14,10 +14,11 @@ use hc_records::task::Task;
 /// project's profile).
 const TASK_SPAN: u32 = 0x0100_0000;
 
-/// The logical addresses from the start of a datagram to that of the next one (this project's profile).
+/// The logical addresses from the start of a datagram to the start of the next one (this project's
+/// profile).
 const DATAGRAM_SPAN: u32 = 2048;
 
-/// The logical address at which a datagram of a task begins.
+/// The logical address where a datagram of a task begins.
 pub fn logical_address(task: Task, datagram: u16) -> u32
     ensures { result ≡ logical_address task datagram }
 {

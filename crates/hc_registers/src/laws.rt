@@ -1,6 +1,6 @@
 //! What follows from the definitions of the blocks and of the working counter: each function does
 //! nothing, and its contract is a law. Nobody calls it.
-ghost use Rattle.hc_registers.specs.Laws.{AscendingKeysAreCounted, BlocksStandApart, FmmusAreRead, SyncManagersAreRead};
+ghost use Rattle.hc_registers.specs.Laws.{AscendingKeysAreCounted, BlocksAreApart, FmmusAreRead, SyncManagersAreRead};
 
 /// The fields of an area's sync manager block are read as they were written: its start address, its
 /// length in bytes, its control and its activation; its status and its PDI control are 0.
@@ -15,13 +15,13 @@ pub fn fmmus_are_read()
 
 /// The sync manager and FMMU blocks of a slave of a project take no register in common, so each
 /// register that is written belongs to one of them.
-pub fn blocks_stand_apart()
-    ensures { BlocksStandApart }
+pub fn blocks_are_apart()
+    ensures { BlocksAreApart }
 {}
 
 /// Where keys ascend strictly, and so do ranks among which each key's is, the counter by slaves (for
 /// each rank 2 for its outputs and 1 for its inputs) is what the areas add one after another: 2 or 1,
-/// and nothing behind an area of the same slave and direction.
+/// and nothing after an area of the same slave and direction.
 pub fn ascending_keys_are_counted()
     ensures { AscendingKeysAreCounted }
 {}

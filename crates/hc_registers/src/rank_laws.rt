@@ -7,17 +7,17 @@ pub fn places_hold_the_line()
     ensures { PlacesHoldTheLine }
 {}
 
-/// Each slave of a line has its blocks at its places, each at that of its number, and nothing at the others.
+/// Each slave of a line has its blocks at its places, each at its number's place, and nothing at the others.
 pub fn members_have_places()
     ensures { MembersHavePlaces }
 {}
 
-/// The moved blocks that are told with their ranks are those of the definition, in line and block order.
+/// The moved blocks that are reported with their ranks are the definition's, in line and block order.
 pub fn ranked_are_moved()
     ensures { RankedAreMoved }
 {}
 
-/// A group that is declared, absent, adds sixteen empty places for each of its slaves behind those of the others.
+/// A group that is declared, absent, adds sixteen empty places for each of its slaves after those of the others.
 pub fn declared_groups_add_empty_places()
     ensures { DeclaredGroupsAddEmptyPlaces }
 {}

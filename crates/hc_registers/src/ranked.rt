@@ -1,4 +1,4 @@
-//! What is told by rank of the blocks of a line and of the slaves that leave it.
+//! What is given by rank of the blocks of a line and of the slaves that leave it.
 ghost use Rattle.std.specs.Prelude.{◌≡◌, ◌≤◌};
 ghost use Rattle.hc_registers.specs.RankPlaces.{place};
 

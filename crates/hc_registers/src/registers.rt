@@ -1,4 +1,4 @@
-//! Where the register blocks stand (ETG.1000.4, 6.6 and 6.7).
+//! Where the register blocks are (ETG.1000.4, 6.6 and 6.7).
 
 /// The register of a slave's first FMMU block.
 pub const FMMU_BLOCKS: u16 = 0x0600;

@@ -18,11 +18,11 @@ is_open_post [] b none_yet = refl
 is_open_post (Buffer c ∷ xs) b none_yet = is_open_post xs b none_yet
 is_open_post (End ∷ xs) b none_yet = none_yet
 
--- what stands before and behind in an open ring is open
-pub is_open_behind : (xs ys : List Item) → is_open (xs ++ ys) ≡ true → is_open ys ≡ true
-is_open_behind [] ys none_yet = none_yet
-is_open_behind (Buffer b ∷ xs) ys none_yet = is_open_behind xs ys none_yet
-is_open_behind (End ∷ xs) ys none_yet = absurd (cc)
+-- what is before and after in an open ring is open
+pub is_open_after : (xs ys : List Item) → is_open (xs ++ ys) ≡ true → is_open ys ≡ true
+is_open_after [] ys none_yet = none_yet
+is_open_after (Buffer b ∷ xs) ys none_yet = is_open_after xs ys none_yet
+is_open_after (End ∷ xs) ys none_yet = absurd (cc)
 
 pub is_open_before : (xs ys : List Item) → is_open (xs ++ ys) ≡ true → is_open xs ≡ true
 is_open_before [] ys none_yet = refl
@@ -41,7 +41,7 @@ posts_of_items [] true = refl
 posts_of_items (b ∷ posts) false = ap (λ zs. b ∷ zs) (posts_of_items posts false)
 posts_of_items (b ∷ posts) true = ap (λ zs. b ∷ zs) (posts_of_items posts true)
 
--- an open ring, and the end behind it
+-- an open ring, and the end after it
 pub items_of_ended : (xs : List Item) → is_open xs ≡ true → xs ++ End ∷ [] ≡ items_of (posts_of (xs ++ End ∷ [])) true
 items_of_ended [] none_yet = refl
 items_of_ended (Buffer b ∷ xs) none_yet = ap (λ zs. Buffer b ∷ zs) (items_of_ended xs none_yet)
@@ -50,7 +50,7 @@ items_of_ended (End ∷ xs) none_yet = absurd (cc)
 pub posts_of_ended : (xs : List Item) → posts_of (xs ++ End ∷ []) ≡ posts_of xs
 posts_of_ended xs = posts_of_append xs (End ∷ []) ∙ append-nil (posts_of xs)
 
--- behind the end the ring is not open
+-- after the end the ring is not open
 is_open_ended : (posts : List Post) → is_open (items_of posts true) ≡ false
 is_open_ended [] = refl
 is_open_ended (b ∷ posts) = is_open_ended posts
@@ -98,24 +98,24 @@ came_end xs ys x ended not_yet came more is =
 pub posts_of_end : (xs ys : List Item) (x : Item) → ys ≡ xs ++ x ∷ [] → x ≡ End → posts_of ys ≡ posts_of xs
 posts_of_end xs ys x more is = ap posts_of (more ∙ ap (λ y. xs ++ y ∷ []) is) ∙ posts_of_append xs (End ∷ []) ∙ append-nil (posts_of xs)
 
--- behind the end nothing comes
+-- after the end nothing comes
 pub shut_by_end : (xs ys : List Item) (x : Item) → ys ≡ xs ++ x ∷ [] → x ≡ End → is_open ys ≡ true → ⊥
 shut_by_end xs ys x more is none_yet =
-    let same = is_open_behind xs (End ∷ []) (ap is_open (sym (more ∙ ap (λ y. xs ++ y ∷ []) is)) ∙ none_yet) in absurd (cc)
+    let same = is_open_after xs (End ∷ []) (ap is_open (sym (more ∙ ap (λ y. xs ++ y ∷ []) is)) ∙ none_yet) in absurd (cc)
 
--- no post is known before an end behind which nothing is known
-pub known_before_end : (known behind : List Item) (x : Item) → IsPrefix known (x ∷ behind) → x ≡ End → (0 < length behind → false ≡ true) → posts_of known ≡ []
+-- no post is known before an end with nothing known after it
+pub known_before_end : (known after_it : List Item) (x : Item) → IsPrefix known (x ∷ after_it) → x ≡ End → (0 < length after_it → false ≡ true) → posts_of known ≡ []
 known_before_end known [] x h is none =
     let p = posts_of_prefix known (End ∷ []) (h.0, h.1 ∙ ap (λ y. y ∷ []) is) in
     nil_from_length (posts_of known) (omega (arith, ap length p.1, length-append (posts_of known) p.0))
-known_before_end known (y ∷ behind) x h is none = let no : false ≡ true = none (omega arith) in absurd (cc)
+known_before_end known (y ∷ after_it) x h is none = let no : false ≡ true = none (omega arith) in absurd (cc)
 
--- behind the end nothing is sent
-nothing_behind : (posts all : List Post) (known : List Item) → items_of posts true ++ known ≡ items_of all true → known ≡ []
-nothing_behind [] [] known same = ap (drop 1) same
-nothing_behind [] (b ∷ all) known same = absurd (cc)
-nothing_behind (p ∷ posts) [] known same = absurd (cc)
-nothing_behind (p ∷ posts) (b ∷ all) known same = nothing_behind posts all known (ap (drop 1) same)
+-- after the end nothing is sent
+nothing_after : (posts all : List Post) (known : List Item) → items_of posts true ++ known ≡ items_of all true → known ≡ []
+nothing_after [] [] known same = ap (drop 1) same
+nothing_after [] (b ∷ all) known same = absurd (cc)
+nothing_after (p ∷ posts) [] known same = absurd (cc)
+nothing_after (p ∷ posts) (b ∷ all) known same = nothing_after posts all known (ap (drop 1) same)
 
 length-items_of : (posts : List Post) → length (items_of posts true) ≡ length posts + 1
 length-items_of [] = refl
@@ -146,4 +146,4 @@ known_posts items known whole false not_yet came sent all =
 -- where the end came, nothing else is sent
 pub known_none : (items known whole : List Item) (ended : Bool) → items ≡ items_of (posts_of items) ended → items ++ known ≡ whole → whole ≡ items_of (posts_of whole) true → ended ≡ true → known ≡ []
 known_none items known whole false came sent all ended = absurd (cc)
-known_none items known whole true came sent all ended = nothing_behind (posts_of items) (posts_of whole) known (ap (λ xs. xs ++ known) (sym came) ∙ sent ∙ all)
+known_none items known whole true came sent all ended = nothing_after (posts_of items) (posts_of whole) known (ap (λ xs. xs ++ known) (sym came) ∙ sent ∙ all)

@@ -18,7 +18,7 @@ ended_is items posts false came all =
 pub posts_are : (items : List Item) (posts : List Post) → items ≡ items_of posts true → posts_of items ≡ posts
 posts_are items posts all = ap posts_of all ∙ posts_of_items posts true
 
--- behind the end, what was taken and what is left is all that came
+-- after the end, what was taken and what is left is all that came
 pub whole : (taken rest posts : List Post) (known : List Item) → taken ++ rest ≡ posts → known ≡ [] → taken ++ (rest ++ posts_of known) ≡ posts
 whole taken rest posts known order none = ap (λ k. taken ++ (rest ++ posts_of k)) none ∙ ap (λ xs. taken ++ xs) (append-nil rest) ∙ order
 

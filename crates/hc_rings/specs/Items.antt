@@ -1,4 +1,4 @@
--- What goes through a ring of posts: posts, and behind the last of them the end.
+-- What goes through a ring of posts: posts, and after the last of them the end.
 use Rattle.std.specs.Prelude.{◌≡◌, ◌-◌, Bool, true, false, List, [], ◌∷◌, ◌++◌, length, map, take}
 use Rattle.hc_rings.specs.Post.{Post}
 use Rattle.hc_rings.specs.declared.item.Item.{Item}
@@ -17,8 +17,8 @@ is_open (Buffer post ∷ items) = is_open items
 is_open (End ∷ items) = false
 
 -- nothing follows the end
-abbrev pub Follows : List Item → Item → Type 0
-Follows before item = is_open before ≡ true
+abbrev pub EndIsLast : List Item → Item → Type 0
+EndIsLast before item = is_open before ≡ true
 
 -- the items of a ring through which these posts went, and after them its end or not yet
 abbrev pub items_of : List Post → Bool → List Item

@@ -4,10 +4,10 @@ use Rattle.hc_rings.specs.Post.{Post, overwritten}
 use Rattle.hc_rings.specs.Ring.{taken, left, EndCameAfter}
 use Rattle.hc_rings.specs.declared.posts.PostReceiver.{PostReceiver}
 
--- where the end came behind some posts, what was taken, followed by what is left, is these posts
+-- where the end came after some posts, what was taken, followed by what is left, is these posts
 abbrev pub TakenThenLeftIsPosted : Type 0
 TakenThenLeftIsPosted = (r : PostReceiver) (posts : List Post) → EndCameAfter r posts → taken r ++ left r ≡ posts
 
--- as many bytes as there are, written over all of them, are what then stands there
-abbrev pub WrittenBytesStand : Type 0
-WrittenBytesStand = (bytes written : List ℕ) → length written ≡ length bytes → overwritten bytes written ≡ written
+-- as many bytes as there are, written over all of them, are what then is there
+abbrev pub WrittenBytesAreThere : Type 0
+WrittenBytesAreThere = (bytes written : List ℕ) → length written ≡ length bytes → overwritten bytes written ≡ written

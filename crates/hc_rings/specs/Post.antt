@@ -19,10 +19,10 @@ abbrev pub overwritten : List ℕ → List ℕ → List ℕ
 overwritten bytes written = take (length bytes) (written ++ drop (length written) bytes)
 
 -- the post with other bytes written over its own
-abbrev pub with_written : Post → List ℕ → Post
-with_written post written = record { epoch = post.epoch; bytes = overwritten post.bytes written }
+abbrev pub post_with_written : Post → List ℕ → Post
+post_with_written post written = record { epoch = post.epoch; bytes = overwritten post.bytes written }
 
 -- how many posts an option is: one or none
-abbrev pub count_of : Option Post → ℕ
-count_of None = 0
-count_of (Some post) = 1
+abbrev pub post_count : Option Post → ℕ
+post_count None = 0
+post_count (Some post) = 1

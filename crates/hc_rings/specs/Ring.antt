@@ -1,9 +1,10 @@
 -- What contracts see of the two ends of a ring of posts: what was posted, what was taken, and what is left.
-use Rattle.std.specs.Prelude.{◌≡◌, ◌+◌, ℕ, List, ◌++◌, length, true, Option, Some, None}
+use Rattle.std.specs.Prelude.{◌≡◌, ◌+◌, ◌-◌, ◌⊎◌, ℕ, List, ◌++◌, length, true, Option, Some, None}
 use Rattle.rtrb.specs.Ring.{sent, received, known_free, known_items, IsPair, SameProducer, SameConsumer}
-use Rattle.hc_rings.specs.Post.{Post, count_of}
+use Rattle.hc_rings.specs.Post.{Post, post_count}
 use Rattle.hc_rings.specs.Items.{all_but, items_of}
 use Rattle.hc_rings.specs.Ends.{put_in, came_out, known_ahead}
+use Rattle.hc_rings.specs.declared.posts.TheConstants.{POSTS_WAITING, SPARE_BUFFERS}
 use Rattle.hc_rings.specs.declared.posts.PostSender.{PostSender}
 use Rattle.hc_rings.specs.declared.posts.PostReceiver.{PostReceiver}
 
@@ -23,17 +24,29 @@ known_spares s = length (known_items s.spares.ring)
 abbrev pub handed_out : PostSender → ℕ
 handed_out s = length (received s.spares.ring)
 
--- the post for which the sender holds a buffer, as it stands in it
+-- the post that the sender holds a buffer for, as it is in it
 abbrev pub held : PostSender → Option Post
 held s = s.held
 
 -- the sender now holds this post, in the buffer that it held before or in one that was handed out to it
-abbrev pub Holds : PostSender → PostSender → Post → Type 0
-Holds old new post = (held new ≡ Some post) × (handed_out new + count_of (held old) ≡ handed_out old + 1)
+abbrev pub HoldsThisPost : PostSender → PostSender → Post → Type 0
+HoldsThisPost old new post = (held new ≡ Some post) × (handed_out new + post_count (held old) ≡ handed_out old + 1)
 
 -- each buffer that was handed out was posted or is held: so it is as long as `buffer` is unused
 abbrev pub PostsEach : PostSender → Type 0
-PostsEach s = handed_out s ≡ length (posted s) + count_of (held s)
+PostsEach s = handed_out s ≡ length (posted s) + post_count (held s)
+
+-- how many of its buffers the sender has seen come back: those that were handed out or are spare, but for the four of the opening
+abbrev pub seen_back : PostSender → ℕ
+seen_back s = (handed_out s + known_spares s) - SPARE_BUFFERS
+
+-- how many of its posts it has seen taken out of the ring: each leaves a place
+abbrev pub seen_taken : PostSender → ℕ
+seen_taken s = (known_places s + length (posted s)) - (POSTS_WAITING + 1)
+
+-- all of its posts but four were taken, as far as it has seen: their buffers came back, or they are out of the ring
+abbrev pub FourWait : PostSender → Type 0
+FourWait s = (length (posted s) ≡ seen_back s + SPARE_BUFFERS) ⊎ (length (posted s) ≡ seen_taken s + POSTS_WAITING)
 
 -- every post that the receiver has taken, oldest first: all that came out of the ring but those that wait in `rest`
 abbrev pub taken : PostReceiver → List Post
@@ -43,15 +56,15 @@ taken r = all_but r.rest.items (came_out r.posts)
 abbrev pub left : PostReceiver → List Post
 left r = r.rest.items ++ known_ahead r.posts
 
--- the end came out of the ring behind these posts: nothing else came, and nothing follows the end
+-- the end came out of the ring after these posts: nothing else came, and nothing follows the end
 abbrev pub EndCameAfter : PostReceiver → List Post → Type 0
 EndCameAfter r posts = received r.posts.ring ≡ items_of posts true
 
--- the two ends of one ring of posts, with that of the spare buffers which go back
+-- the two ends of one ring of posts, with the ring of the spare buffers that go back
 abbrev pub ArePostEnds : PostSender → PostReceiver → Type 0
 ArePostEnds s r = IsPair s.posts.ring r.posts.ring × IsPair r.spares s.spares.ring
 
--- every buffer that the receiver has given back, behind the spares that the ring was made with
+-- every buffer that the receiver has given back, after the spares that the ring was made with
 abbrev pub given_back : PostReceiver → List Post
 given_back r = sent r.spares
 
@@ -69,7 +82,7 @@ SameReceiver old new = SameConsumer old.posts.ring new.posts.ring × SameProduce
 
 -- the sender is as it was before, but for the post that it now holds
 abbrev pub HoldsPost : PostSender → PostSender → Post → Type 0
-HoldsPost old new post = SameSender old new × (posted new ≡ posted old) × Holds old new post × (PostsEach old → PostsEach new)
+HoldsPost old new post = SameSender old new × (posted new ≡ posted old) × HoldsThisPost old new post × (PostsEach old → PostsEach new)
 
 -- the sender is as it was before, and it holds nothing
 abbrev pub HoldsNothing : PostSender → PostSender → Type 0

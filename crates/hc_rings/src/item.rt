@@ -1,5 +1,5 @@
-//! What goes through a ring of posts, and in which order.
-ghost use Rattle.hc_rings.specs.Items.{Follows};
+//! What goes through a ring of posts, and where order.
+ghost use Rattle.hc_rings.specs.Items.{EndIsLast};
 
 use crate::post_buffer::PostBuffer;
 use rtrb::Protocol;
@@ -16,5 +16,5 @@ pub(crate) enum Item {
 pub(crate) struct EndComesLast;
 
 impl Protocol<Item> for EndComesLast {
-    ghost allows = { Follows };
+    ghost allows = { EndIsLast };
 }

@@ -1,4 +1,4 @@
-//! The end of a ring that posts go into. A `PostSender` owns it; as it is dropped it leaves the end behind the last post.
+//! The end of a ring that posts go into. A `PostSender` owns it; as it is dropped it leaves the end after the last post.
 ghost use Rattle.std.specs.Prelude.{◌≡◌, ◌+◌, ◌≤◌, true, length};
 ghost use Rattle.rtrb.specs.Ring.{sent, known_free, producer_capacity};
 ghost use Rattle.hc_rings.specs.Items.{is_open};
@@ -33,6 +33,7 @@ impl OutgoingPosts {
         ensures full { IfErr result (λ back. (back ≡ buffer) × (put_in self.new ≡ put_in self.old)) }
         ensures full_only_after_four { OnErr result (POSTS_WAITING ≤ length (put_in self.old)) }
         ensures full_where_no_place { OnErr result (known_free self.old.ring ≤ 1) }
+        ensures full_where_none_found { OnErr result (known_free self.new.ring ≤ 1) }
     {
         if self.ring.slots() < 2 {
             return Err(buffer);
@@ -50,7 +51,7 @@ impl OutgoingPosts {
         self.ring.is_abandoned()
     }
 
-    /// Leaves the end, and tells all that went in. `None` where the other end of the ring is gone.
+    /// Leaves the end, and says all that went in. `None` where the other end of the ring is gone.
     #[tactic(auto, using(crate::proofs::Items::posts_of_ended, crate::proofs::Items::items_of_ended))]
     pub(crate) fn finish(self) -> Option<PostsEnd>
         ensures ring { IfSome result (λ end. (incoming : IncomingPosts) → IsPair self.ring incoming.ring → IsFinishedOf end.items incoming.ring) }

@@ -21,6 +21,7 @@ impl SpareBuffers {
         ensures ring { SameConsumer self.old.ring self.new.ring }
         ensures some { OnSome result (length (received self.new.ring) ≡ length (received self.old.ring) + 1) }
         ensures none { IfNone result (length (received self.new.ring) ≡ length (received self.old.ring)) }
+        ensures none_known { IfNone result (length (known_items self.new.ring) ≡ 0) }
         ensures none_only_after_four { IfNone result (4 ≤ length (received self.old.ring)) }
         ensures known { 0 < length (known_items self.old.ring) → IsSome result }
     {

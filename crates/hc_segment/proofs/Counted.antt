@@ -1,4 +1,4 @@
--- How many slaves stand in front of a group, and in a line.
+-- How many slaves are before a group, and in a line.
 use Rattle.std.proofs.Common.{◌≡◌, ◌≤◌, ◌+◌, ℕ, suc, Bool, true, false, cond, List, [], ◌∷◌, length, refl, ap, subst, ◌∙◌, arith, Some, length-append}
 use Rattle.std.specs.Prelude.{Option, sum_by, find}
 use Rattle.std.proofs.lemmas.List.Sums.{sum_by-cons}
@@ -40,7 +40,7 @@ length-line rank declared groups =
     length-append (members_from rank (present_slaves declared)) (line_from (rank + slaves_in declared) groups)
     ∙ ap (λ (n : ℕ). n + length (line_from (rank + slaves_in declared) groups)) (length-members (present_slaves declared) rank)
 
--- so many stand in front of a group, and no more than there are
+-- so many are before a group, and no more than there are
 pub before-line : (alias rank : ℕ) (groups : List Declared) → slaves_before alias groups ≤ length (line_from rank groups)
 before-line alias rank [] = omega arith
 before-line alias rank (declared ∷ groups) =
@@ -51,8 +51,8 @@ before-line alias rank (declared ∷ groups) =
 -- a group that is found
 found-if : (b : Bool) (declared found : Declared) (others : Option Declared) (slaves more : ℕ) → cond b (Some declared) others ≡ Some found → slaves_in declared ≤ slaves + more
     → (others ≡ Some found → slaves_in found ≤ more) → slaves_in found ≤ slaves + more
-found-if true declared found others slaves more is here behind = let same : declared ≡ found = cc in subst (λ (d : Declared). slaves_in d ≤ slaves + more) same here
-found-if false declared found others slaves more is here behind = let few = behind is in omega (arith, few)
+found-if true declared found others slaves more is here after_it = let same : declared ≡ found = cc in subst (λ (d : Declared). slaves_in d ≤ slaves + more) same here
+found-if false declared found others slaves more is here after_it = let few = after_it is in omega (arith, few)
 
 pub found-few : (alias : ℕ) (groups : List Declared) (found : Declared) → find (has_alias alias) groups ≡ Some found → slaves_in found ≤ sum_by slaves_in groups
 found-few alias [] found is = cc
@@ -60,15 +60,15 @@ found-few alias (declared ∷ groups) found is =
     let few = found-if (has_alias alias declared) declared found (find (has_alias alias) groups) (slaves_in declared) (sum_by slaves_in groups) is (omega arith) (found-few alias groups found) in
     omega (arith, few, sum_by-cons slaves_in declared groups)
 
-within-if : (b : Bool) (declared found : Declared) (others : Option Declared) (here before behind : ℕ) → cond b (Some declared) others ≡ Some found → found.present ≡ true → (declared.present ≡ true → here ≡ slaves_in declared)
-    → (others ≡ Some found → before + slaves_in found ≤ behind) → cond b 0 (here + before) + slaves_in found ≤ here + behind
-within-if true declared found others here before behind is present whole later =
+within-if : (b : Bool) (declared found : Declared) (others : Option Declared) (here before after_it : ℕ) → cond b (Some declared) others ≡ Some found → found.present ≡ true → (declared.present ≡ true → here ≡ slaves_in declared)
+    → (others ≡ Some found → before + slaves_in found ≤ after_it) → cond b 0 (here + before) + slaves_in found ≤ here + after_it
+within-if true declared found others here before after_it is present whole later =
     let same : declared ≡ found = cc in
     let count : here ≡ slaves_in declared = whole (ap (λ (d : Declared). d.present) same ∙ present) in
     omega (arith, count, ap slaves_in same)
-within-if false declared found others here before behind is present whole later = let few = later is in omega (arith, few)
+within-if false declared found others here before after_it is present whole later = let few = later is in omega (arith, few)
 
--- a group that is present stands in the line whole
+-- a group that is present is in the line whole
 pub found-line : (alias rank : ℕ) (groups : List Declared) (found : Declared) → find (has_alias alias) groups ≡ Some found → found.present ≡ true
     → slaves_before alias groups + slaves_in found ≤ length (line_from rank groups)
 found-line alias rank [] found is present = cc

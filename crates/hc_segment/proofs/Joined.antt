@@ -10,7 +10,7 @@ whole : (xs ys zs : List (List ℕ)) → xs ++ ys ≡ zs → length xs ≡ lengt
 whole xs [] zs e n = sym (append-nil xs) ∙ e
 whole xs (y ∷ ys) zs e n = absurd (omega (arith, length-append xs (y ∷ ys), ap length e))
 
--- all that the first segment sent was taken behind it
+-- all that the first segment sent was taken after it
 pub handed-on : (s : Machines) (count : ℕ) (got sent got2 known : List (List ℕ)) → length got ≡ count → sent ≡ frames_through s got → length got2 ≡ count → got2 ++ known ≡ sent → got2 ≡ frames_through s got
 handed-on s count got sent got2 known a b c d = whole got2 known (frames_through s got) (d ∙ b) (c ∙ sym a ∙ sym (length-frames s got))
 

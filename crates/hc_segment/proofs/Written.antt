@@ -4,7 +4,7 @@ use Rattle.std.proofs.Math.ListN.{set}
 use Rattle.std.proofs.Math.Seq.{take-append_seam}
 use Rattle.hc_machine.specs.Memory.{with_part}
 use Rattle.hc_segment.specs.Line.{all_machines}
-use Rattle.hc_segment.specs.Cutting.{IsCut}
+use Rattle.hc_segment.specs.Cutting.{AreSegmentSizes}
 use Rattle.hc_segment.specs.Machines.{poked}
 use Rattle.hc_segment.proofs.lemmas.Counts.{poked-count}
 
@@ -24,26 +24,26 @@ poked-front (x ∷ a) b zero at part within = refl
 poked-front (x ∷ a) b (suc i) at part within = ap (λ (rest : List (List ℕ)). x ∷ rest) (poked-front a b i at part (omega arith))
 
 pub poked-back : (a b : List (List ℕ)) (i at : ℕ) (part : List ℕ) → length a ≤ i → poked i at part (a ++ b) ≡ a ++ poked (i - length a) at part b
-poked-back [] b i at part behind = let e : i - 0 ≡ i = omega arith in ap (λ (n : ℕ). poked n at part b) (sym e)
-poked-back (x ∷ a) b zero at part behind = absurd (omega arith)
-poked-back (x ∷ a) b (suc i) at part behind =
+poked-back [] b i at part after_it = let e : i - 0 ≡ i = omega arith in ap (λ (n : ℕ). poked n at part b) (sym e)
+poked-back (x ∷ a) b zero at part after_it = absurd (omega arith)
+poked-back (x ∷ a) b (suc i) at part after_it =
     let e : suc i - suc (length a) ≡ i - length a = omega arith in
     ap (λ (rest : List (List ℕ)). x ∷ rest) (poked-back a b i at part (omega arith) ∙ ap (λ (n : ℕ). a ++ poked n at part b) (sym e))
 
 -- segments with as many machines, written over all of them
-pub kept-count : (items new : List (List (List ℕ))) (count len : ℕ) → count ≡ length (all_machines items) → len ≡ length items → length new ≡ length items
+pub unchanged-count : (items new : List (List (List ℕ))) (count len : ℕ) → count ≡ length (all_machines items) → len ≡ length items → length new ≡ length items
     → length (all_machines new) ≡ length (all_machines items) → count ≡ length (all_machines (take len (new ++ drop (length new) items)))
-kept-count items new count len counted whole many same =
+unchanged-count items new count len counted whole many same =
     counted
     ∙ sym same
     ∙ ap (λ (ss : List (List (List ℕ))). length (all_machines ss)) (sym (overwritten-whole items new many))
     ∙ ap (λ (n : ℕ). length (all_machines (take n (new ++ drop (length new) items)))) (sym whole)
 
 -- they are cut as before
-pub kept-cut : (items new : List (List (List ℕ))) (count len : ℕ) → IsCut count (map (length {A = List ℕ}) items) → len ≡ length items → length new ≡ length items
-    → map (length {A = List ℕ}) new ≡ map (length {A = List ℕ}) items → IsCut count (map (length {A = List ℕ}) (take len (new ++ drop (length new) items)))
-kept-cut items new count len cut whole many same =
-    subst (IsCut count)
+pub unchanged-cut : (items new : List (List (List ℕ))) (count len : ℕ) → AreSegmentSizes count (map (length {A = List ℕ}) items) → len ≡ length items → length new ≡ length items
+    → map (length {A = List ℕ}) new ≡ map (length {A = List ℕ}) items → AreSegmentSizes count (map (length {A = List ℕ}) (take len (new ++ drop (length new) items)))
+unchanged-cut items new count len cut whole many same =
+    subst (AreSegmentSizes count)
     (sym same
     ∙ ap (λ (ss : List (List (List ℕ))). map (length {A = List ℕ}) ss) (sym (overwritten-whole items new many))
     ∙ ap (λ (n : ℕ). map (length {A = List ℕ}) (take n (new ++ drop (length new) items))) (sym whole))

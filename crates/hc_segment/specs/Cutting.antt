@@ -2,7 +2,7 @@
 use Rattle.std.specs.Prelude.{◌≤◌, ◌+◌, ◌/◌, ℕ, List, All, length}
 
 -- room for so many segments, each of so many machines at most
-pub record Room : Type 0 where
+pub record SegmentRoom : Type 0 where
   pub number : ℕ
   pub size : ℕ
 
@@ -11,6 +11,6 @@ abbrev pub fourth : ℕ → ℕ
 fourth count = (count + 3) / 4
 
 -- so many machines are cut into segments of these sizes: at most four, each of at most a fourth of the machines
-pub record IsCut (count : ℕ) (sizes : List ℕ) : Type 0 where
+pub record AreSegmentSizes (count : ℕ) (sizes : List ℕ) : Type 0 where
   pub few : length sizes ≤ 4
   pub small : All (λ size. size ≤ fourth count) sizes

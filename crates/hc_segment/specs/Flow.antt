@@ -1,5 +1,6 @@
 -- What a thread, or a row of threads, does between two rings of frames.
 use Rattle.std.specs.Prelude.{◌≡◌, ℕ, List, [], length}
+use Rattle.hc_lend.specs.Work.{HavePassed}
 use Rattle.hc_rings.specs.declared.frames.FrameReceiver.{FrameReceiver}
 use Rattle.hc_rings.specs.declared.frames.FrameSender.{FrameSender}
 use Rattle.hc_rings.specs.Frames.{SameFrameReceiver, SameFrameSender, frames_sent, frames_taken}
@@ -16,3 +17,8 @@ pub record Flows (count : ℕ) (line line' : List (List (List ℕ))) (from from'
 -- nothing went through yet
 abbrev pub Unused : FrameReceiver → FrameSender → Type 0
 Unused from to = (frames_taken from ≡ []) × (frames_sent to ≡ [])
+
+-- frames flow through segments (`Flows`), and a worker for each segment, from this number on, has passed a gate
+abbrev pub FlowsPast :
+    (ℕ → Type 0) → ℕ → ℕ → List (List (List ℕ)) → List (List (List ℕ)) → FrameReceiver → FrameReceiver → FrameSender → FrameSender → Type 0
+FlowsPast passed first count line line' from from' to to' = Flows count line line' from from' to to' × HavePassed passed first (length line)

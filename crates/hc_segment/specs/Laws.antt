@@ -1,12 +1,12 @@
 -- What follows from the definitions: how frames go through machines in a row, and through segments.
 use Rattle.std.specs.Prelude.{◌≡◌, All, ℕ, List, ◌++◌, length, map}
-use Rattle.hc_frames.specs.FrameText.{Carried, Datagram, frame_text, sent}
+use Rattle.hc_frames.specs.FrameText.{WireDatagram, Datagram, frame_text, sent_on_wire}
 use Rattle.hc_frames.specs.Laws.{CanBeCarried}
 use Rattle.hc_frames.specs.Returned.{IsReturned}
 use Rattle.hc_machine.specs.declared.limits.TheConstants.{MEMORY_BYTES}
 use Rattle.hc_segment.specs.Line.{all_machines, frame_through, frames_through, line_after, line_frames, machines_after}
 
--- behind two rows of machines frames are those behind the second of those behind the first, and each machine is as its own row leaves it
+-- after two rows of machines frames are those after the second of those after the first, and each machine is as its own row leaves it
 abbrev pub RowsAreJoined : Type 0
 RowsAreJoined =
     (a b frames : List (List ℕ))
@@ -18,8 +18,8 @@ LinesAreSegments =
     (line : List (List (List ℕ))) (frames : List (List ℕ))
     → (line_frames line frames ≡ frames_through (all_machines line) frames) × (all_machines (line_after line frames) ≡ machines_after (all_machines line) frames)
 
--- a sending's frame is a returned text of it behind any machines, whatever bytes stand behind it
+-- a sending's frame is a returned text of it after any machines, whatever bytes are after it
 abbrev pub SentTextsComeBack : Type 0
 SentTextsComeBack =
-    (machines : List (List ℕ)) (serial : ℕ) (ds : List Datagram) (behind : List ℕ) → All (λ m. length m ≡ MEMORY_BYTES) machines → CanBeCarried serial (map sent ds)
-    → (parts : List Carried) × IsReturned serial ds parts (frame_through machines (frame_text serial ds ++ behind)) × CanBeCarried serial parts
+    (machines : List (List ℕ)) (serial : ℕ) (ds : List Datagram) (after_it : List ℕ) → All (λ m. length m ≡ MEMORY_BYTES) machines → CanBeCarried serial (map sent_on_wire ds)
+    → (parts : List WireDatagram) × IsReturned serial ds parts (frame_through machines (frame_text serial ds ++ after_it)) × CanBeCarried serial parts

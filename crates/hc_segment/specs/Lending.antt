@@ -5,9 +5,9 @@ use Rattle.hc_machine.specs.contracts.machine.SlaveMachine as machine
 use Rattle.hc_segment.specs.contracts.segment.Segment as segment
 
 -- the machines with what was written over the first ones: as many as before
-abbrev pub overwritten : List (List ℕ) → List (List ℕ) → List (List ℕ)
-overwritten machines written = take (length machines) (written ++ drop (length written) machines)
+abbrev pub machines_overwritten : List (List ℕ) → List (List ℕ) → List (List ℕ)
+machines_overwritten machines written = take (length machines) (written ++ drop (length written) machines)
 
 -- the segment, with what was left written over its machines
 abbrev pub LendsMachines : MutBor (List (List ℕ)) → MutBor (List (List ℕ)) → Fml
-LendsMachines machines lent = Lends segment.the_row (Array machine.the_row 0) machines lent (overwritten machines.now)
+LendsMachines machines lent = Lends segment.the_row (Array machine.the_row 0) machines lent (machines_overwritten machines.now)

@@ -14,12 +14,12 @@ use Rattle.hc_machine.specs.Memory.{fresh_memory, with_part}
 unfoldable pub fresh : ℕ → List ℕ
 fresh alias = fresh_memory alias
 
--- a fresh machine for each of these slaves: the alias stands in the first, 0 in the others
+-- a fresh machine for each of these slaves: the alias is in the first, 0 in the others
 abbrev pub fresh_from : ℕ → List Slave → List (List ℕ)
 fresh_from alias [] = []
 fresh_from alias (slave ∷ slaves) = fresh alias ∷ fresh_from 0 slaves
 
--- those of a group: its alias stands in its first slave
+-- those of a group: its alias is in its first slave
 abbrev pub fresh_machines : Group → List (List ℕ)
 fresh_machines group = fresh_from group.alias group.slaves
 
@@ -35,23 +35,23 @@ opened_machines groups = flat_map machines_of groups
 abbrev pub has_alias : ℕ → Declared → Bool
 has_alias alias declared = declared.group.alias == alias
 
--- how many slaves of the line stand in front of the group with the alias
+-- how many slaves of the line are before the group with the alias
 abbrev pub slaves_before : ℕ → List Declared → ℕ
 slaves_before alias [] = 0
 slaves_before alias (declared ∷ groups) =
     if has_alias alias declared then 0 else length (present_slaves declared) + slaves_before alias groups
 
--- behind so many machines, which stay, so many go and others come in their place
+-- after so many machines, which stay, so many go and others come in their place
 pub record Replacement : Type 0 where
   pub position : ℕ
   pub gone : ℕ
   pub coming : List (List ℕ)
 
--- the machines behind it
-abbrev pub replaced : Replacement → List (List ℕ) → List (List ℕ)
-replaced r machines = take r.position machines ++ (r.coming ++ drop (r.position + r.gone) machines)
+-- the machines after it
+abbrev pub machines_replaced : Replacement → List (List ℕ) → List (List ℕ)
+machines_replaced r machines = take r.position machines ++ (r.coming ++ drop (r.position + r.gone) machines)
 
--- a group that comes in behind so many machines brings fresh ones, where it isn't there already
+-- a group that comes in after so many machines brings fresh ones, where it isn't there already
 abbrev pub coming_at : ℕ → Declared → Option Replacement
 coming_at position declared =
     if declared.present then None else Some (record { position = position; gone = 0; coming = fresh_machines declared.group })
@@ -67,9 +67,9 @@ replacement groups (Connect alias) = option_and_then (coming_at (slaves_before a
 replacement groups (Disconnect alias) = option_and_then (going_at (slaves_before alias groups)) (find (has_alias alias) groups)
 replacement groups other = None
 
--- the machines behind an edit that is accepted where these groups are declared: the others keep their memory
-abbrev pub machines_behind_edit : List Declared → Edit → List (List ℕ) → List (List ℕ)
-machines_behind_edit groups edit machines = option_map_or (λ r. replaced r machines) (replacement groups edit) machines
+-- the machines after an edit that is accepted where these groups are declared: the others keep their memory
+abbrev pub machines_after_edit : List Declared → Edit → List (List ℕ) → List (List ℕ)
+machines_after_edit groups edit machines = option_map_or (λ r. machines_replaced r machines) (replacement groups edit) machines
 
 -- the machines with bytes written from byte `at` on to the memory of the one with this number, counted from 0; as they were where there is none
 abbrev pub poked : ℕ → ℕ → List ℕ → List (List ℕ) → List (List ℕ)

@@ -13,7 +13,7 @@ abbrev pub count_after : Inside → ℕ
 count_after e = e.count + vec_len e.coming - (min (e.position + e.gone) e.count - min e.position e.count)
 
 -- there is room for all machines, old and coming ones, in a row, and for those that stay and come in at most four segments
-pub record IsReady (e : Inside) : Type 0 where
+pub record HasRoomForMachines (e : Inside) : Type 0 where
   pub few : e.position + e.gone < 2 ^ 32
   pub empty : vec_len e.all ≡ 0
   pub room : e.count + vec_len e.coming ≤ vec_capacity e.all

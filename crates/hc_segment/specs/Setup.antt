@@ -19,7 +19,7 @@ alias_frames count = map alias_frame (range_with_len 0 count)
 unfoldable pub station_frame : ℕ → ℕ → List ℕ
 station_frame position station = frame_text SETUP_SERIAL (station_write (position % 65536) station ∷ [])
 
--- the frames that give the members of a line theirs, the first of which stands at this position
+-- the frames that give the members of a line theirs, from this position on
 abbrev pub station_frames : ℕ → List Member → List (List ℕ)
 station_frames position [] = []
 station_frames position (member ∷ members) = station_frame position member.slave.station ∷ station_frames (position + 1) members
@@ -28,7 +28,7 @@ station_frames position (member ∷ members) = station_frame position member.sla
 abbrev pub data_in : List ℕ → ℕ
 data_in frame = word_at frame FIRST_DATA
 
--- the working counter behind them
+-- the working counter after them
 abbrev pub counter_in : List ℕ → ℕ
 counter_in frame = word_at frame (FIRST_DATA + 2)
 
@@ -36,7 +36,7 @@ counter_in frame = word_at frame (FIRST_DATA + 2)
 unfoldable pub aliases_read : List (List ℕ) → List ℕ
 aliases_read machines = map data_in (frames_through machines (alias_frames (length machines)))
 
--- the machines behind the reads
+-- the machines after the reads
 unfoldable pub machines_scanned : List (List ℕ) → List (List ℕ)
 machines_scanned machines = machines_after machines (alias_frames (length machines))
 
@@ -48,6 +48,6 @@ is_taken_once frame = counter_in frame == 1
 unfoldable pub named_count : List (List ℕ) → List Member → ℕ
 named_count machines members = length (filter is_taken_once (frames_through machines (station_frames 0 members)))
 
--- the machines behind the writes
+-- the machines after the writes
 unfoldable pub machines_named : List (List ℕ) → List Member → List (List ℕ)
 machines_named machines members = machines_after machines (station_frames 0 members)

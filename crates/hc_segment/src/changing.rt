@@ -4,7 +4,7 @@ ghost use Rattle.std.specs.Option.{option_copied};
 ghost use Rattle.hc_records.specs.Line.{IsCounted, groups_of, line_from, present_slaves};
 ghost use Rattle.hc_records.specs.Project.{lowest_fault};
 ghost use Rattle.hc_segment.specs.Line.{all_machines};
-ghost use Rattle.hc_segment.specs.Machines.{coming_at, going_at, has_alias, replaced, replacement, slaves_before};
+ghost use Rattle.hc_segment.specs.Machines.{coming_at, going_at, has_alias, machines_replaced, replacement, slaves_before};
 
 use crate::Segment;
 use crate::fresh::fresh_machines;
@@ -34,11 +34,11 @@ impl Model for LineEdit {
 
     ghost Value = { Prepared };
 
-    ghost use Rattle.hc_segment.specs.Prepared.{IsReady, prepared_in};
+    ghost use Rattle.hc_segment.specs.Prepared.{HasRoomForMachines, prepared_in};
 
     ghost view = { prepared_in };
 
-    ghost invariant = { IsReady };
+    ghost invariant = { HasRoomForMachines };
 }
 
 /// The declared group with an alias.
@@ -59,7 +59,7 @@ fn present_count(declared: &Declared) -> usize
     }
 }
 
-/// How many slaves of the line stand in front of the group with an alias. There are 512 groups at most, so deep is this
+/// How many slaves of the line are before the group with an alias. There are 512 groups at most, so deep is this
 /// recursion.
 fn slaves_before(groups: &[Declared], alias: u16) -> usize
     requires { IsCounted groups.now }
@@ -90,7 +90,7 @@ fn gathered(segments: &mut Vec<Segment>, room: Vec<SlaveMachine>) -> Vec<SlaveMa
     all
 }
 
-/// Behind so many machines, which stay, so many go and others come in their place.
+/// After so many machines, which stay, so many go and others come in their place.
 fn turned(
     machines: Vec<SlaveMachine>,
     position: usize,
@@ -99,17 +99,17 @@ fn turned(
 ) -> Vec<SlaveMachine>
     requires few { position + gone < 2 ^ 64 }
     requires room { vec_len machines + vec_len coming ≤ vec_capacity machines }
-    ensures { result.items ≡ replaced (record { position = position; gone = gone; coming = coming.items }) machines.items }
+    ensures { result.items ≡ machines_replaced (record { position = position; gone = gone; coming = coming.items }) machines.items }
 {
     let mut machines = machines;
     let mut coming = coming;
     let front = position.min(machines.len());
     let back = (position + gone).min(machines.len());
-    let behind = machines.len() - back;
+    let after_it = machines.len() - back;
     machines.rotate_left(back);
-    machines.truncate(behind + front);
+    machines.truncate(after_it + front);
     let _moved = machines.append(&mut coming);
-    machines.rotate_left(behind);
+    machines.rotate_left(after_it);
     machines
 }
 
@@ -216,7 +216,7 @@ impl SimulatedLine {
     /// fourth of them, rounded up. It takes no memory.
     pub fn carry_out(&mut self, ready: LineEdit)
         requires { ready.count ≡ length self.old }
-        ensures { self.new ≡ replaced ready.replacement self.old }
+        ensures { self.new ≡ machines_replaced ready.replacement self.old }
     {
         let LineEdit {
             count: _,

@@ -3,8 +3,8 @@ ghost use Rattle.std.specs.Prelude.{◌≡◌, ◌+◌, ◌<◌, ◌^◌, length
 ghost use Rattle.std.specs.Thread.{IsSync};
 ghost use Rattle.hc_lend.specs.Work.{HavePassed};
 ghost use Rattle.hc_rings.specs.Frames.{SameFrameReceiver, SameFrameSender, frames_sent, frames_taken};
-ghost use Rattle.hc_segment.specs.Flow.{Flows, Unused};
-ghost use Rattle.hc_segment.specs.Line.{frame_through, frames_through, machines_after, machines_behind};
+ghost use Rattle.hc_segment.specs.Flow.{Flows, Unused, FlowsPast};
+ghost use Rattle.hc_segment.specs.Line.{frame_through, frames_through, machines_after, machines_after_frame};
 
 use crate::rings::{Seam, send_waiting, take_waiting};
 use crate::segment::Segment;
@@ -16,7 +16,7 @@ use std::thread::{Threads, join_mut};
 /// Passes a frame through a segment in its box.
 fn process_box(segment: &mut Segment, frame: &mut FrameBox)
     ensures frame { frame.new ≡ frame_through segment.old frame.old }
-    ensures machines { segment.new ≡ machines_behind segment.old frame.old }
+    ensures machines { segment.new ≡ machines_after_frame segment.old frame.old }
 {
     segment.process(frame.bytes_mut());
 }
@@ -66,8 +66,8 @@ fn work<R: Wait, G: Gate>(
     serve(rt, number, segment, from, to, count, gate);
 }
 
-/// One thread for each segment, of which the first has this number. What the last one sends is what the segments make of
-/// what the first one takes.
+/// One thread for each segment, numbered from this number on. What the last one sends is what the segments make of what
+/// the first one takes.
 pub(crate) fn flow<R: Threads + Wait + Sync, G: Gate + Sync>(
     rt: &R,
     number: usize,
@@ -101,8 +101,7 @@ pub(crate) fn flow<R: Threads + Wait + Sync, G: Gate + Sync>(
         &mut ||
             requires { IsSync R.row × IsSync G.row × Unused into.now to.now × (vec_len seams.now + 1 ≡ length rest.now)
                 × (number + 1 + length rest.now < 2 ^ 64) }
-            ensures { Flows count rest.entry.now rest.exit.now into.entry.now into.exit.now to.entry.now to.exit.now
-                × HavePassed (G.passed gate.entry.now) (number + 1) (length rest.entry.now) }
+            ensures { FlowsPast (G.passed gate.entry.now) (number + 1) count rest.entry.now rest.exit.now into.entry.now into.exit.now to.entry.now to.exit.now }
         { flow(rt, number + 1, rest, seams, into, to, count, gate) },
         &mut || work(rt, number, first, from, out, count, gate),
     );

@@ -6,6 +6,7 @@ use hc_machine::SlaveMachine;
 use hc_records::records::{Declared, Group};
 use std::alloc::{AllocError, Global};
 
+/// A machine with an alias that no frame has met yet. `AllocError` if its memory is refused.
 #[tactic(auto, unfolding(crate::specs::Machines::fresh))]
 fn fresh(alloc: Global, alias: u16) -> Result<SlaveMachine, AllocError>
     ensures { IfOk result (λ machine. machine ≡ fresh alias) }
@@ -13,7 +14,7 @@ fn fresh(alloc: Global, alias: u16) -> Result<SlaveMachine, AllocError>
     SlaveMachine::new(alloc, alias)
 }
 
-/// A fresh machine for each slave of a group: its alias stands in the first, the others have 0.
+/// A fresh machine for each slave of a group: its alias is in the first, the others have 0.
 pub(crate) fn fresh_machines(alloc: Global, group: &Group) -> Result<Vec<SlaveMachine>, AllocError>
     ensures { IfOk result (λ machines. machines.items ≡ fresh_machines group.now) }
 {

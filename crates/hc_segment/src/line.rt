@@ -24,13 +24,13 @@ pub struct SimulatedLine {
 
 impl Model for SimulatedLine {
     ghost use Rattle.std.specs.Prelude.{ℕ, List};
-    ghost use Rattle.hc_segment.specs.Segments.{IsLine, machines_in};
+    ghost use Rattle.hc_segment.specs.Segments.{IsSegmentLine, machines_in};
 
     ghost Value = { List (List ℕ) };
 
     ghost view = { machines_in };
 
-    ghost invariant = { IsLine };
+    ghost invariant = { IsSegmentLine };
 }
 
 /// Holds no segment back.

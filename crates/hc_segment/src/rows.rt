@@ -1,4 +1,4 @@
-//! Machines are cut into segments, for which the room is taken before.
+//! Machines are cut into segments; the room for them is taken before.
 ghost use Rattle.std.specs.Prelude.{◌≡◌, ◌≤◌, ◌+◌, ◌*◌, ◌/◌, [], ◌++◌, All, IfOk, drop, length, map, take, vec_len, vec_capacity};
 ghost use Rattle.std.specs.Vec.Iter.{into_iter_items};
 ghost use Rattle.hc_segment.specs.Line.{all_machines};
@@ -13,13 +13,13 @@ use std::vec::IntoIter;
 /// The segments of a line at most.
 const MOST_SEGMENTS: usize = 4;
 
-/// Room for the machines of a segment. Contracts see it as the number of machines for which there is room.
+/// Room for the machines of a segment. Contracts see it as the number of machines that there is room for.
 #[derive(Drop)]
-struct Row {
+struct SegmentMachines {
     machines: Vec<SlaveMachine>,
 }
 
-impl Model for Row {
+impl Model for SegmentMachines {
     ghost use Rattle.std.specs.Prelude.{◌≡◌, ℕ, vec_capacity, vec_len};
 
     ghost Value = { ℕ };
@@ -29,12 +29,12 @@ impl Model for Row {
     ghost invariant = { λ row. vec_len row.machines ≡ 0 };
 }
 
-impl Row {
+impl SegmentMachines {
     /// Room for so many.
-    fn new(alloc: Global, size: usize) -> Result<Row, AllocError>
+    fn new(alloc: Global, size: usize) -> Result<SegmentMachines, AllocError>
         ensures { IfOk result (λ row. size ≤ row) }
     {
-        Ok(Row {
+        Ok(SegmentMachines {
             machines: Vec::with_capacity(alloc, size)?,
         })
     }
@@ -45,7 +45,7 @@ impl Row {
         ensures segment { result ≡ take most (into_iter_items machines.old) }
         ensures rest { into_iter_items machines.new ≡ drop most (into_iter_items machines.old) }
     {
-        let Row { machines: mut row } = self;
+        let SegmentMachines { machines: mut row } = self;
         for _ in 0..most {
             let Some(machine) = machines.next() else {
                 return Segment::of(row);
@@ -62,16 +62,16 @@ impl Row {
 pub(crate) struct Cut {
     // no segment yet, but a place for one of each row
     segments: Vec<Segment>,
-    rows: Vec<Row>,
+    rows: Vec<SegmentMachines>,
     // the machines of a segment at most
     size: usize,
 }
 
 impl Model for Cut {
     ghost use Rattle.std.specs.Prelude.{◌≡◌, ◌≤◌, All, length, vec_capacity, vec_len};
-    ghost use Rattle.hc_segment.specs.Cutting.{Room};
+    ghost use Rattle.hc_segment.specs.Cutting.{SegmentRoom};
 
-    ghost Value = { Room };
+    ghost Value = { SegmentRoom };
 
     ghost view = { λ cut. record { number = length cut.rows.items; size = cut.size } };
 
@@ -79,13 +79,13 @@ impl Model for Cut {
 }
 
 /// So many rows of this size.
-fn rows_of(alloc: Global, number: usize, size: usize) -> Result<Vec<Row>, AllocError>
+fn rows_of(alloc: Global, number: usize, size: usize) -> Result<Vec<SegmentMachines>, AllocError>
     ensures count { IfOk result (λ rows. length rows.items ≡ number) }
     ensures rows { IfOk result (λ rows. All (λ row. size ≤ row) rows.items) }
 {
     let mut rows = Vec::new(alloc);
     for _ in 0..number {
-        rows.push(Row::new(alloc, size)?)?;
+        rows.push(SegmentMachines::new(alloc, size)?)?;
     }
     Ok(rows)
 }

@@ -4,7 +4,7 @@ ghost use Rattle.std.specs.Borrow.{sem};
 ghost use Rattle.hc_frames.specs.Arrived.{fault_in};
 ghost use Rattle.hc_machine.specs.declared.limits.TheConstants.{MEMORY_BYTES};
 ghost use Rattle.hc_segment.specs.Lending.{LendsMachines};
-ghost use Rattle.hc_segment.specs.Line.{frame_through, machines_behind};
+ghost use Rattle.hc_segment.specs.Line.{frame_through, machines_after_frame};
 
 use hc_machine::{SlaveMachine, is_readable};
 use std::marker::Model;
@@ -27,7 +27,7 @@ impl Model for Segment {
 fn pass(machines: &mut [SlaveMachine], frame: &mut [u8])
     requires { is_none (fault_in frame.old) ≡ true }
     ensures frame { frame.new ≡ frame_through machines.old frame.old }
-    ensures machines { machines.new ≡ machines_behind machines.old frame.old }
+    ensures machines { machines.new ≡ machines_after_frame machines.old frame.old }
     ensures readable { is_none (fault_in frame.new) ≡ true }
 {
     for machine in machines.iter_mut() {
@@ -44,13 +44,13 @@ impl Segment {
     }
 
     /// Passes a frame through the machines, one after another, in the frame's place. A frame that the reader reads is read
-    /// behind them too. Takes no memory.
+    /// after them too. Takes no memory.
     pub fn process(&mut self, frame: &mut [u8])
         ensures frame { frame.new ≡ frame_through self.old frame.old }
-        ensures machines { self.new ≡ machines_behind self.old frame.old }
+        ensures machines { self.new ≡ machines_after_frame self.old frame.old }
         ensures readable { is_none (fault_in frame.old) ≡ true → is_none (fault_in frame.new) ≡ true }
     {
-        // a frame that is read is read behind each machine too
+        // a frame that is read is read after each machine too
         if is_readable(frame) {
             pass(self.machines.as_mut_slice(), frame);
         }
@@ -62,7 +62,7 @@ impl Segment {
         ensures sizes { All (λ m. length m ≡ MEMORY_BYTES) self.now }
     {
         let machines = self.machines.as_slice();
-        // a list's value doesn't tell its machines' sizes: each machine tells its own
+        // a list's value doesn't give its machines' sizes: each machine gives its own
         for machine in machines {
             let _bytes = machine.memory();
         }

@@ -5,12 +5,12 @@ use Rattle.std.proofs.lemmas.Bool.{eq-eqb, ne_eqb}
 use Rattle.std.proofs.lemmas.List.{length-replicate}
 use Rattle.std.proofs.lemmas.List.Concat.{length-flat_map}
 use Rattle.std.proofs.lemmas.List.Sums.{sum_by-cons}
-use Rattle.hc_frames.specs.FrameText.{datagram_text, frame_head, padding}
+use Rattle.hc_frames.specs.FrameText.{sent_datagram_text, frame_head, padding}
 use Rattle.hc_records.specs.Line.{Member}
-use Rattle.hc_events.specs.Sendings.{Frame, Named, length_of}
+use Rattle.hc_events.specs.Sendings.{Frame, Named, line_data_length}
 use Rattle.hc_sendings.specs.PartTexts.{frame_part_text, own_bytes_of, own_texts, part_text, share_text, text_if}
 use Rattle.hc_sendings.specs.Parts.{frame_part, if_of, own_bytes, own_share, padding_bytes, part_size, share}
-use Rattle.hc_sendings.specs.Texts.{Data, carried_by, carried_bytes}
+use Rattle.hc_sendings.specs.Texts.{Data, datagram_with_data, carried_bytes}
 use Rattle.hc_sendings.proofs.Sums.{sum-same}
 use Rattle.hc_sendings.proofs.Written.{others, others-is}
 
@@ -32,18 +32,18 @@ length_share : (task size : ℕ) (text : List ℕ) (found : Option Named) → le
 length_share task size text None is = refl
 length_share task size text (Some named) is = length_if (named.0 == task) text size is
 
-datagram_length : (bytes : Data) (serial : ℕ) (more : Bool) (named : Named) → length (datagram_text serial more (carried_by bytes named)) ≡ 12 + length (bytes named.0 named.1)
+datagram_length : (bytes : Data) (serial : ℕ) (more : Bool) (named : Named) → length (sent_datagram_text serial more (datagram_with_data bytes named)) ≡ 12 + length (bytes named.0 named.1)
 datagram_length bytes serial more named = grind (arith, length-append)
 
 own_length : (bytes : Data) (serial task : ℕ) (names : List Named) → length (own_texts bytes serial task names) ≡ own_bytes_of bytes task names
 own_length bytes serial task [] = refl
 own_length bytes serial task (named ∷ rest) =
-    let text = datagram_text serial (not (length rest == 0)) (carried_by bytes named) in
+    let text = sent_datagram_text serial (not (length rest == 0)) (datagram_with_data bytes named) in
     let own = length_if (named.0 == task) text (12 + length (bytes named.0 named.1)) (datagram_length bytes serial (not (length rest == 0)) named) in
     let sum = sum_by-cons (λ (n : Named). if_of task (12 + length (bytes n.0 n.1)) n) named rest in
-    let behind = own_length bytes serial task rest in
+    let after_it = own_length bytes serial task rest in
     let both = length-append (text_if task named.0 text) (own_texts bytes serial task rest) in
-    omega (arith, own, sum, behind, both)
+    omega (arith, own, sum, after_it, both)
 
 pub part-length : (bytes : Data) (task : ℕ) (frame : Frame)
     → length (frame_part_text bytes task frame)
@@ -62,9 +62,9 @@ part-length bytes task frame =
     ∙ ap (λ n. share task 16 (slice_get names 0) + own_bytes_of bytes task names + n)
     (length_share task (padding_bytes size) (padding size) (slice_get names (length names - 1)) (length-replicate {A = ℕ} (padding_bytes size) 0))
 
--- data with the datagrams' lengths make parts of the sizes that the line tells
+-- data with the datagrams' lengths make parts of the sizes that the line gives
 
-frame_sized : (bytes : Data) (line : List Member) (task : ℕ) (frame : Frame) → ((t d : ℕ) → length (bytes t d) ≡ length_of line (t, d))
+frame_sized : (bytes : Data) (line : List Member) (task : ℕ) (frame : Frame) → ((t d : ℕ) → length (bytes t d) ≡ line_data_length line (t, d))
     → length (frame_part_text bytes task frame) ≡ frame_part line task frame.datagrams
 frame_sized bytes line task frame sized =
     let names = frame.datagrams in
@@ -79,7 +79,7 @@ frame_sized bytes line task frame sized =
     ∙ ap (λ (n : ℕ). share task 16 (slice_get names 0) + n + share task (padding_bytes (carried_bytes bytes names)) last) own
     ∙ ap (λ (n : ℕ). share task 16 (slice_get names 0) + sum_by (own_share line task) names + share task (padding_bytes n) last) size
 
-pub parts-sized : (bytes : Data) (line : List Member) (task : ℕ) (frames : List Frame) → ((t d : ℕ) → length (bytes t d) ≡ length_of line (t, d))
+pub parts-sized : (bytes : Data) (line : List Member) (task : ℕ) (frames : List Frame) → ((t d : ℕ) → length (bytes t d) ≡ line_data_length line (t, d))
     → length (part_text bytes task frames) ≡ part_size line task frames
 parts-sized bytes line task frames sized =
     length-flat_map (frame_part_text bytes task) frames

@@ -1,4 +1,4 @@
--- One more datagram behind the frames.
+-- One more datagram after the frames.
 use Rattle.std.proofs.Common.{◌≡◌, ◌∙◌, ◌+◌, ◌-◌, ◌≤◌, ℕ, Bool, true, false, cond, List, [], ◌∷◌, ◌++◌, length, get_or, set, take, refl, sym, ap, arith, append_assoc, length-append, map}
 use Rattle.std.specs.Prelude.{Option, Some, None, IfSome}
 use Rattle.std.specs.List.{range_with_len}
@@ -7,10 +7,10 @@ use Rattle.std.proofs.lemmas.List.{append-nil, get_or-set_same, length-set, take
 use Rattle.std.proofs.lemmas.Option.{get_or_from_slice_get, slice_get-get_or, slice_get_within}
 use Rattle.std.proofs.lemmas.List.FromFn.{map-range_with_len_more}
 use Rattle.hc_records.specs.Line.{Member}
-use Rattle.hc_events.specs.Sendings.{Frame, Named, alone, framed_behind, has_room, joined, length_of}
+use Rattle.hc_events.specs.Sendings.{Frame, Named, frame_of_one, framed_after, has_room, frame_joined, line_data_length}
 use Rattle.hc_sendings.specs.Framing.{closed, done_by, framed_from, last_with, open_in}
 
--- ---- frames of which the last is open
+-- ---- frames, the last one open
 
 pub open-at : (frames : List Frame) (frame : Frame) → 1 ≤ length frames → frame ≡ get_or frames (length frames - 1) frame → open_in frames ≡ Some frame
 open-at frames frame some is = slice_get-get_or frames (length frames - 1) frame (omega (arith, some)) ∙ ap (λ (f : Frame). Some f) (sym is)
@@ -38,12 +38,12 @@ open-push frames frame =
 
 -- the open one has room
 
-by-room : (frames : List Frame) (last frame : Frame) (serial bytes : ℕ) (datagram : Named) (room : Bool) → room ≡ true → frame ≡ joined last datagram bytes
-    → (closed frames ≡ closed frames ++ cond room [] (last ∷ [])) × (Some frame ≡ Some (cond room (joined last datagram bytes) (alone (last.serial + 1) datagram bytes)))
+by-room : (frames : List Frame) (last frame : Frame) (serial bytes : ℕ) (datagram : Named) (room : Bool) → room ≡ true → frame ≡ frame_joined last datagram bytes
+    → (closed frames ≡ closed frames ++ cond room [] (last ∷ [])) × (Some frame ≡ Some (cond room (frame_joined last datagram bytes) (frame_of_one (last.serial + 1) datagram bytes)))
 by-room frames last frame serial bytes datagram true room is = (sym (append-nil (closed frames)), ap (λ (f : Frame). Some f) is)
 by-room frames last frame serial bytes datagram false room is = cc
 
-pub set-joined : (frames : List Frame) (last frame : Frame) (serial bytes : ℕ) (datagram : Named) → open_in frames ≡ Some last → has_room last.bytes bytes ≡ true → frame ≡ joined last datagram bytes
+pub set-joined : (frames : List Frame) (last frame : Frame) (serial bytes : ℕ) (datagram : Named) → open_in frames ≡ Some last → has_room last.bytes bytes ≡ true → frame ≡ frame_joined last datagram bytes
     → (closed (set frames (length frames - 1) frame) ≡ closed frames ++ done_by (open_in frames) bytes)
     × (open_in (set frames (length frames - 1) frame) ≡ Some (last_with serial (open_in frames) datagram bytes))
 set-joined frames last frame serial bytes datagram here room is =
@@ -58,18 +58,18 @@ set-joined frames last frame serial bytes datagram here room is =
 
 -- or it is done
 
-by-full : (frames : List Frame) (last frame : Frame) (bytes : ℕ) (datagram : Named) (room : Bool) → room ≡ false → closed frames ++ last ∷ [] ≡ frames → frame ≡ alone (last.serial + 1) datagram bytes
-    → (frames ≡ closed frames ++ cond room [] (last ∷ [])) × (Some frame ≡ Some (cond room (joined last datagram bytes) (alone (last.serial + 1) datagram bytes)))
+by-full : (frames : List Frame) (last frame : Frame) (bytes : ℕ) (datagram : Named) (room : Bool) → room ≡ false → closed frames ++ last ∷ [] ≡ frames → frame ≡ frame_of_one (last.serial + 1) datagram bytes
+    → (frames ≡ closed frames ++ cond room [] (last ∷ [])) × (Some frame ≡ Some (cond room (frame_joined last datagram bytes) (frame_of_one (last.serial + 1) datagram bytes)))
 by-full frames last frame bytes datagram true room whole is = cc
 by-full frames last frame bytes datagram false room whole is = (sym whole, ap (λ (f : Frame). Some f) is)
 
-pub push-next : (frames : List Frame) (last frame : Frame) (serial bytes : ℕ) (datagram : Named) → open_in frames ≡ Some last → has_room last.bytes bytes ≡ false → frame ≡ alone (last.serial + 1) datagram bytes
+pub push-next : (frames : List Frame) (last frame : Frame) (serial bytes : ℕ) (datagram : Named) → open_in frames ≡ Some last → has_room last.bytes bytes ≡ false → frame ≡ frame_of_one (last.serial + 1) datagram bytes
     → (closed (frames ++ frame ∷ []) ≡ closed frames ++ done_by (open_in frames) bytes) × (open_in (frames ++ frame ∷ []) ≡ Some (last_with serial (open_in frames) datagram bytes))
 push-next frames last frame serial bytes datagram here room is =
     let both = by-full frames last frame bytes datagram (has_room last.bytes bytes) room (closed-open frames last here) is in
     rw here (closed-push frames frame ∙ both.0, open-push frames frame ∙ both.1)
 
--- behind all datagrams they are all frames
+-- after all datagrams they are all frames
 
 whole-by : (line : List Member) (serial : ℕ) (frames : List Frame) (last : Option Frame) → open_in frames ≡ last → closed frames ++ framed_from line serial last [] ≡ frames
 whole-by line serial [] None none = refl
@@ -84,20 +84,20 @@ whole-of line serial frames = whole-by line serial frames (open_in frames) refl
 -- ---- one more datagram
 
 either-room : (room : Bool) (line : List Member) (frame longer next : Frame) (rest : List Named)
-    → cond room [] (frame ∷ []) ++ framed_behind line (cond room longer next) rest ≡ cond room (framed_behind line longer rest) (frame ∷ framed_behind line next rest)
+    → cond room [] (frame ∷ []) ++ framed_after line (cond room longer next) rest ≡ cond room (framed_after line longer rest) (frame ∷ framed_after line next rest)
 either-room true line frame longer next rest = refl
 either-room false line frame longer next rest = refl
 
 -- it comes first of what is left
 framed-first : (line : List Member) (serial : ℕ) (last : Option Frame) (datagram : Named) (rest : List Named)
-    → done_by last (length_of line datagram) ++ framed_from line serial (Some (last_with serial last datagram (length_of line datagram))) rest ≡ framed_from line serial last (datagram ∷ rest)
+    → done_by last (line_data_length line datagram) ++ framed_from line serial (Some (last_with serial last datagram (line_data_length line datagram))) rest ≡ framed_from line serial last (datagram ∷ rest)
 framed-first line serial None datagram rest = refl
 framed-first line serial (Some frame) datagram rest =
-    let length = length_of line datagram in
-    either-room (has_room frame.bytes length) line frame (joined frame datagram length) (alone (frame.serial + 1) datagram length) rest
+    let length = line_data_length line datagram in
+    either-room (has_room frame.bytes length) line frame (frame_joined frame datagram length) (frame_of_one (frame.serial + 1) datagram length) rest
 
--- the frames so far, and those of what is left, behind a datagram more
-pub framed-more : (line : List Member) (serial : ℕ) (done : List Frame) (last : Option Frame) (datagram : Named) (bytes : ℕ) (rest : List Named) → bytes ≡ length_of line datagram
+-- the frames so far and the remaining ones, after a datagram more
+pub framed-more : (line : List Member) (serial : ℕ) (done : List Frame) (last : Option Frame) (datagram : Named) (bytes : ℕ) (rest : List Named) → bytes ≡ line_data_length line datagram
     → (done ++ done_by last bytes) ++ framed_from line serial (Some (last_with serial last datagram bytes)) rest ≡ done ++ framed_from line serial last (datagram ∷ rest)
 framed-more line serial done last datagram bytes rest is =
     append_assoc done (done_by last bytes) (framed_from line serial (Some (last_with serial last datagram bytes)) rest)
@@ -112,7 +112,7 @@ numbers-more task number rest =
     ∙ ap (λ names. names ++ rest) (sym (map-range_with_len_more (λ d. (task, d)) 0 number number (omega arith)))
 
 either-serial : (room : Bool) (frame : Frame) (datagram : Named) (length bound : ℕ) → frame.serial ≤ bound
-    → (cond room (joined frame datagram length) (alone (frame.serial + 1) datagram length)).serial ≤ bound + 1
+    → (cond room (frame_joined frame datagram length) (frame_of_one (frame.serial + 1) datagram length)).serial ≤ bound + 1
 either-serial true frame datagram length bound low = omega (arith, low)
 either-serial false frame datagram length bound low = omega (arith, low)
 

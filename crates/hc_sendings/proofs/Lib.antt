@@ -7,7 +7,7 @@ pub mod Sums
 pub mod Written
 pub mod lemmas
 pub mod Noted
-pub mod Alive
+pub mod AwaitedStill
 pub mod Sent
 pub mod Ended
 pub mod Again
@@ -15,4 +15,4 @@ pub mod Found
 pub mod Room
 pub mod Rows
 pub mod Walked
-pub mod Told
+pub mod AnswerGiven

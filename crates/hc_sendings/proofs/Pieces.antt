@@ -12,14 +12,14 @@ use Rattle.hc_records.specs.Image.{datagram_count, task_places}
 use Rattle.hc_records.specs.Line.{Member}
 use Rattle.hc_records.specs.Lists.{has_repeat}
 use Rattle.hc_records.proofs.lemmas.Lists.{All-append_left, All-append_right, All-from_none, All-passing, AllPairs-append, AllPairs-append_left, AllPairs-append_right, AllPairs-between, AllPairs-flat_map, AllPairs-head, AllPairs-map, AllPairs-nil, AllPairs-tail}
-use Rattle.hc_records.proofs.lemmas.Spans.{filter-keeps}
-use Rattle.hc_frames.specs.FrameText.{Carried, datagram_text, datagrams_text, frame_head, frame_text, padding, sent}
+use Rattle.hc_records.proofs.lemmas.Spans.{filter-stays}
+use Rattle.hc_frames.specs.FrameText.{WireDatagram, sent_datagram_text, sent_datagrams_text, frame_head, frame_text, padding, sent_on_wire}
 use Rattle.hc_frames.specs.Sizes.{text_size}
 use Rattle.hc_frames.proofs.lemmas.Texts.{length-carried_texts}
 use Rattle.hc_events.specs.Sendings.{Frame, Named, sendings_of, task_datagrams}
 use Rattle.hc_events.proofs.lemmas.Frames.{in_row, row-of}
 use Rattle.hc_sendings.specs.PartTexts.{own_texts, part_text, share_text, text_if}
-use Rattle.hc_sendings.specs.Texts.{Data, carried_by, carried_bytes, text_of}
+use Rattle.hc_sendings.specs.Texts.{Data, datagram_with_data, carried_bytes, frame_text_of}
 use Rattle.hc_sendings.proofs.Sums.{is_one_of}
 use Rattle.hc_sendings.proofs.Written.{spelled}
 use Rattle.hc_sendings.proofs.lemmas.Whole.{IsWhole, whole-frames}
@@ -60,10 +60,10 @@ none_later place task (p ∷ ps) all =
 
 all_others : (place : ℕ → ℕ) (task : ℕ) (pieces : List Piece) → All (λ p. place task < place p.0) pieces → others task pieces ≡ pieces
 all_others place task pieces all =
-    filter-keeps (is_other task) pieces
+    filter-stays (is_other task) pieces
     (All-weaker (λ (p : Piece). place task < place p.0) (λ p. is_other task p ≡ true) (λ p less. ap not (not_it place task p.0 less)) pieces all)
 
--- the first task's pieces stand in front of the others
+-- the first task's pieces are before the others
 abbrev IsFirstOr : (ℕ → ℕ) → ℕ → Piece → Type 0
 IsFirstOr place task piece = (piece.0 ≡ task) ⊎ (place task < place piece.0)
 
@@ -118,7 +118,7 @@ left_by : (task own : ℕ) (tasks : List ℕ) (here : Bool) → (own == task) �
 left_by task own tasks true it one left = let never : false ≡ true = left in cc
 left_by task own tasks false it one left = one
 
--- the texts that tasks have of pieces in the tasks' order, joined, are those of the pieces
+-- the texts that tasks have of pieces in the tasks' order, joined, are the pieces'
 pieces_join : (place : ℕ → ℕ) (tasks : List ℕ) (pieces : List Piece) → AllPairs (λ a b. place a < place b) tasks → AllPairs (Ascend place) pieces → All (λ p. is_one_of tasks p.0 ≡ true) pieces
     → flat_map (λ task. texts_if task pieces) tasks ≡ joined_texts pieces
 pieces_join place [] [] ranked ascend all = refl
@@ -130,17 +130,17 @@ pieces_join place (task ∷ tasks) pieces ranked ascend all =
     let alike = flat_alike (λ other. texts_if other pieces) (λ other. texts_if other (others task pieces)) tasks
     (All-weaker (λ other. place task < place other) (λ other. texts_if other pieces ≡ texts_if other (others task pieces))
     (λ other less. same_others task other pieces (ne_eqb task other (λ same. let at_least : place task ≡ place other = ap place same in absurd (omega arith)))) tasks later) in
-    let behind = pieces_join place tasks (others task pieces) (AllPairs-tail (λ a b. place a < place b) task tasks ranked) (AllPairs-filter (Ascend place) (is_other task) pieces ascend)
+    let after_it = pieces_join place tasks (others task pieces) (AllPairs-tail (λ a b. place a < place b) task tasks ranked) (AllPairs-filter (Ascend place) (is_other task) pieces ascend)
     (All-passing (λ (p : Piece). is_one_of tasks p.0 ≡ true) (is_other task) pieces
     (All-weaker (λ (p : Piece). is_one_of (task ∷ tasks) p.0 ≡ true) (λ p. is_other task p ≡ true → is_one_of tasks p.0 ≡ true)
     (λ p one left. left_by task p.0 tasks (p.0 == task) refl one left) pieces all)) in
-    ap (λ rest. texts_if task pieces ++ rest) (alike ∙ behind) ∙ sym front
+    ap (λ rest. texts_if task pieces ++ rest) (alike ∙ after_it) ∙ sym front
 
 -- the pieces of a frame
 
 abbrev own_pieces : Data → ℕ → List Named → List Piece
 own_pieces bytes serial [] = []
-own_pieces bytes serial (named ∷ rest) = (named.0, datagram_text serial (not (length rest == 0)) (carried_by bytes named)) ∷ own_pieces bytes serial rest
+own_pieces bytes serial (named ∷ rest) = (named.0, sent_datagram_text serial (not (length rest == 0)) (datagram_with_data bytes named)) ∷ own_pieces bytes serial rest
 
 abbrev last_of : Named → List Named → Named
 last_of named [] = named
@@ -161,7 +161,7 @@ last_there named (next ∷ rest) = last_there next rest
 own_part : (bytes : Data) (serial task : ℕ) (names : List Named) → texts_if task (own_pieces bytes serial names) ≡ own_texts bytes serial task names
 own_part bytes serial task [] = refl
 own_part bytes serial task (named ∷ rest) =
-    ap (λ behind. text_if task named.0 (datagram_text serial (not (length rest == 0)) (carried_by bytes named)) ++ behind) (own_part bytes serial task rest)
+    ap (λ after_it. text_if task named.0 (sent_datagram_text serial (not (length rest == 0)) (datagram_with_data bytes named)) ++ after_it) (own_part bytes serial task rest)
 
 part_in : (bytes : Data) (serial size task : ℕ) (names : List Named) → 0 < length names
     → texts_if task (pieces_in bytes serial size names)
@@ -173,7 +173,7 @@ part_in bytes serial size task (named ∷ rest) some =
     let less : length names - 1 ≡ length rest = omega arith in
     let last : text_if task (last_of named rest).0 (padding size) ≡ share_text task (padding size) (slice_get names (length names - 1)) =
     sym (ap (share_text task (padding size)) (ap (slice_get names) less ∙ last_there named rest)) in
-    ap (λ behind. head ++ behind) (flat_map-append (λ (p : Piece). text_if task p.0 p.1) (own_pieces bytes serial names) (((last_of named rest).0, padding size) ∷ []))
+    ap (λ after_it. head ++ after_it) (flat_map-append (λ (p : Piece). text_if task p.0 p.1) (own_pieces bytes serial names) (((last_of named rest).0, padding size) ∷ []))
     ∙ ap (λ own. head ++ (own ++ (text_if task (last_of named rest).0 (padding size) ++ []))) (own_part bytes serial task names)
     ∙ ap (λ end. head ++ (own_texts bytes serial task names ++ end)) (append-nil (text_if task (last_of named rest).0 (padding size)) ∙ last)
     ∙ sym (append_assoc head (own_texts bytes serial task names) (share_text task (padding size) (slice_get names (length names - 1))))
@@ -188,28 +188,28 @@ parts_in bytes task (frame ∷ frames) some =
 
 -- joined they are the frame
 
-own_joined : (bytes : Data) (serial : ℕ) (names : List Named) → joined_texts (own_pieces bytes serial names) ≡ datagrams_text serial (map (carried_by bytes) names)
+own_joined : (bytes : Data) (serial : ℕ) (names : List Named) → joined_texts (own_pieces bytes serial names) ≡ sent_datagrams_text serial (map (datagram_with_data bytes) names)
 own_joined bytes serial [] = refl
 own_joined bytes serial (named ∷ rest) =
-    ap (λ behind. datagram_text serial (not (length rest == 0)) (carried_by bytes named) ++ behind) (own_joined bytes serial rest) ∙ spelled bytes serial named rest
+    ap (λ after_it. sent_datagram_text serial (not (length rest == 0)) (datagram_with_data bytes named) ++ after_it) (own_joined bytes serial rest) ∙ spelled bytes serial named rest
 
-sizes_same : (bytes : Data) (names : List Named) → text_size (map sent (map (carried_by bytes) names)) ≡ carried_bytes bytes names
+sizes_same : (bytes : Data) (names : List Named) → text_size (map sent_on_wire (map (datagram_with_data bytes) names)) ≡ carried_bytes bytes names
 sizes_same bytes [] = refl
 sizes_same bytes (named ∷ rest) =
-    let text = sum_by-cons (λ (d : Carried). 12 + length d.bytes) (sent (carried_by bytes named)) (map sent (map (carried_by bytes) rest)) in
+    let text = sum_by-cons (λ (d : WireDatagram). 12 + length d.bytes) (sent_on_wire (datagram_with_data bytes named)) (map sent_on_wire (map (datagram_with_data bytes) rest)) in
     let own = sum_by-cons (λ (n : Named). 12 + length (bytes n.0 n.1)) named rest in
-    let behind = sizes_same bytes rest in
+    let after_it = sizes_same bytes rest in
     omega arith
 
-text_length : (bytes : Data) (serial : ℕ) (names : List Named) → length (datagrams_text serial (map (carried_by bytes) names)) ≡ carried_bytes bytes names
-text_length bytes serial names = length-carried_texts serial (map sent (map (carried_by bytes) names)) ∙ sizes_same bytes names
+text_length : (bytes : Data) (serial : ℕ) (names : List Named) → length (sent_datagrams_text serial (map (datagram_with_data bytes) names)) ≡ carried_bytes bytes names
+text_length bytes serial names = length-carried_texts serial (map sent_on_wire (map (datagram_with_data bytes) names)) ∙ sizes_same bytes names
 
 -- a text to which the parts of a frame were added, one after another
 pub added-up : (bytes : Data) (serial size : ℕ) (names : List Named) (none head all text : List ℕ) → none ≡ [] → head ≡ none ++ frame_head serial size
-    → all ≡ head ++ datagrams_text serial (map (carried_by bytes) names) → text ≡ all ++ padding size → size ≡ carried_bytes bytes names
-    → text ≡ frame_text serial (map (carried_by bytes) names)
+    → all ≡ head ++ sent_datagrams_text serial (map (datagram_with_data bytes) names) → text ≡ all ++ padding size → size ≡ carried_bytes bytes names
+    → text ≡ frame_text serial (map (datagram_with_data bytes) names)
 added-up bytes serial size names none head all text is_none is_head is_all is_text same =
-    let own = datagrams_text serial (map (carried_by bytes) names) in
+    let own = sent_datagrams_text serial (map (datagram_with_data bytes) names) in
     is_text
     ∙ ap (λ before. before ++ padding size) (is_all ∙ ap (λ before. before ++ own) (is_head ∙ ap (λ before. before ++ frame_head serial size) is_none))
     ∙ append_assoc (frame_head serial size) own (padding size)
@@ -222,22 +222,22 @@ added (Ok x) new old more other is same = is ∙ ap (λ text. old ++ text) same
 added (Err e) new old more other is same = search rules
 
 joined_in : (bytes : Data) (serial : ℕ) (names : List Named) → 0 < length names
-    → joined_texts (pieces_in bytes serial (carried_bytes bytes names) names) ≡ frame_text serial (map (carried_by bytes) names)
+    → joined_texts (pieces_in bytes serial (carried_bytes bytes names) names) ≡ frame_text serial (map (datagram_with_data bytes) names)
 joined_in bytes serial [] some = absurd (omega (arith, some))
 joined_in bytes serial (named ∷ rest) some =
     let names = named ∷ rest in
     let size = carried_bytes bytes names in
-    let text = datagrams_text serial (map (carried_by bytes) names) in
+    let text = sent_datagrams_text serial (map (datagram_with_data bytes) names) in
     let last : List Piece = ((last_of named rest).0, padding size) ∷ [] in
-    ap (λ behind. frame_head serial size ++ behind) (flat_map-append (λ (p : Piece). p.1) (own_pieces bytes serial names) last)
+    ap (λ after_it. frame_head serial size ++ after_it) (flat_map-append (λ (p : Piece). p.1) (own_pieces bytes serial names) last)
     ∙ ap (λ own. frame_head serial size ++ (own ++ (padding size ++ []))) (own_joined bytes serial names)
     ∙ ap (λ end. frame_head serial size ++ (text ++ end)) (append-nil (padding size))
     ∙ ap (λ (n : ℕ). frame_head serial n ++ (text ++ padding n)) (sym (text_length bytes serial names))
 
-frame_joined : (bytes : Data) (frame : Frame) → 0 < length frame.datagrams → joined_texts (pieces_of bytes frame) ≡ text_of bytes frame
+frame_joined : (bytes : Data) (frame : Frame) → 0 < length frame.datagrams → joined_texts (pieces_of bytes frame) ≡ frame_text_of bytes frame
 frame_joined bytes frame some = joined_in bytes frame.serial frame.datagrams some
 
-frames_joined : (bytes : Data) (frames : List Frame) → All (λ frame. 0 < length frame.datagrams) frames → joined_texts (flat_map (pieces_of bytes) frames) ≡ flat_map (text_of bytes) frames
+frames_joined : (bytes : Data) (frames : List Frame) → All (λ frame. 0 < length frame.datagrams) frames → joined_texts (flat_map (pieces_of bytes) frames) ≡ flat_map (frame_text_of bytes) frames
 frames_joined bytes [] some = refl
 frames_joined bytes (frame ∷ frames) some =
     flat_map-append (λ (p : Piece). p.1) (pieces_of bytes frame) (flat_map (pieces_of bytes) frames)
@@ -249,16 +249,16 @@ frames_joined bytes (frame ∷ frames) some =
 own_all : (P : ℕ → Type 0) (bytes : Data) (serial : ℕ) (names : List Named) → All (λ named. P named.0) names → All (λ p. P p.0) (own_pieces bytes serial names)
 own_all P bytes serial [] all = All-nil (λ (p : Piece). P p.0)
 own_all P bytes serial (named ∷ rest) all =
-    All-cons (λ (p : Piece). P p.0) (named.0, datagram_text serial (not (length rest == 0)) (carried_by bytes named)) (own_pieces bytes serial rest)
+    All-cons (λ (p : Piece). P p.0) (named.0, sent_datagram_text serial (not (length rest == 0)) (datagram_with_data bytes named)) (own_pieces bytes serial rest)
     (All-head (λ (n : Named). P n.0) named rest all) (own_all P bytes serial rest (All-tail (λ (n : Named). P n.0) named rest all))
 
 last_all : (P : Named → Type 0) (named : Named) (rest : List Named) → All P (named ∷ rest) → P (last_of named rest)
 last_all P named [] all = All-head P named [] all
 last_all P named (next ∷ rest) all = last_all P next rest (All-tail P named (next ∷ rest) all)
 
-behind_all : (P : ℕ → Type 0) (bytes : Data) (serial size : ℕ) (named : Named) (rest : List Named) → All (λ n. P n.0) (named ∷ rest)
+after_all : (P : ℕ → Type 0) (bytes : Data) (serial size : ℕ) (named : Named) (rest : List Named) → All (λ n. P n.0) (named ∷ rest)
     → All (λ p. P p.0) (own_pieces bytes serial (named ∷ rest) ++ ((last_of named rest).0, padding size) ∷ [])
-behind_all P bytes serial size named rest all =
+after_all P bytes serial size named rest all =
     All-append (λ (p : Piece). P p.0) (own_pieces bytes serial (named ∷ rest)) (((last_of named rest).0, padding size) ∷ []) (own_all P bytes serial (named ∷ rest) all)
     (All-cons (λ (p : Piece). P p.0) ((last_of named rest).0, padding size) [] (last_all (λ (n : Named). P n.0) named rest all) (All-nil (λ (p : Piece). P p.0)))
 
@@ -266,7 +266,7 @@ pieces_all : (P : ℕ → Type 0) (bytes : Data) (serial size : ℕ) (names : Li
 pieces_all P bytes serial size [] all = All-nil (λ (p : Piece). P p.0)
 pieces_all P bytes serial size (named ∷ rest) all =
     All-cons (λ (p : Piece). P p.0) (named.0, frame_head serial size) (own_pieces bytes serial (named ∷ rest) ++ ((last_of named rest).0, padding size) ∷ [])
-    (All-head (λ (n : Named). P n.0) named rest all) (behind_all P bytes serial size named rest all)
+    (All-head (λ (n : Named). P n.0) named rest all) (after_all P bytes serial size named rest all)
 
 frames_all : (P : ℕ → Type 0) (bytes : Data) (frames : List Frame) → All (λ named. P named.0) (in_row frames) → All (λ p. P p.0) (flat_map (pieces_of bytes) frames)
 frames_all P bytes [] all = All-nil (λ (p : Piece). P p.0)
@@ -286,18 +286,18 @@ chained a b c low high = omega arith
 up_to_last : (place : ℕ → ℕ) (named : Named) (rest : List Named) → AllPairs (AscendNamed place) (named ∷ rest) → All (λ n. place n.0 ≤ place (last_of named rest).0) (named ∷ rest)
 up_to_last place named [] ascend = All-cons (λ (n : Named). place n.0 ≤ place named.0) named [] (at_least (place named.0)) (All-nil (λ (n : Named). place n.0 ≤ place named.0))
 up_to_last place named (next ∷ rest) ascend =
-    let behind = up_to_last place next rest (AllPairs-tail (AscendNamed place) named (next ∷ rest) ascend) in
+    let after_it = up_to_last place next rest (AllPairs-tail (AscendNamed place) named (next ∷ rest) ascend) in
     let last = (last_of next rest).0 in
     All-cons (λ (n : Named). place n.0 ≤ place last) named (next ∷ rest)
     (chained (place named.0) (place next.0) (place last)
     (All-head (AscendNamed place named) next rest (AllPairs-head (AscendNamed place) named (next ∷ rest) ascend))
-    (All-head (λ (n : Named). place n.0 ≤ place last) next rest behind))
-    behind
+    (All-head (λ (n : Named). place n.0 ≤ place last) next rest after_it))
+    after_it
 
 own_ascend : (place : ℕ → ℕ) (bytes : Data) (serial : ℕ) (names : List Named) → AllPairs (AscendNamed place) names → AllPairs (Ascend place) (own_pieces bytes serial names)
 own_ascend place bytes serial [] ascend = AllPairs-nil (Ascend place)
 own_ascend place bytes serial (named ∷ rest) ascend =
-    AllPairs-cons (Ascend place) (named.0, datagram_text serial (not (length rest == 0)) (carried_by bytes named)) (own_pieces bytes serial rest)
+    AllPairs-cons (Ascend place) (named.0, sent_datagram_text serial (not (length rest == 0)) (datagram_with_data bytes named)) (own_pieces bytes serial rest)
     (own_all (λ k. place named.0 ≤ place k) bytes serial rest (AllPairs-head (AscendNamed place) named rest ascend))
     (own_ascend place bytes serial rest (AllPairs-tail (AscendNamed place) named rest ascend))
 
@@ -308,7 +308,7 @@ pieces_ascend place bytes serial size (named ∷ rest) ascend =
     let last : Piece = ((last_of named rest).0, padding size) in
     let own = own_pieces bytes serial names in
     AllPairs-cons (Ascend place) (named.0, frame_head serial size) (own ++ last ∷ [])
-    (behind_all (λ k. place named.0 ≤ place k) bytes serial size named rest
+    (after_all (λ k. place named.0 ≤ place k) bytes serial size named rest
     (All-cons (AscendNamed place named) named rest (at_least (place named.0)) (AllPairs-head (AscendNamed place) named rest ascend)))
     (AllPairs-append (Ascend place) own (last ∷ []) (own_ascend place bytes serial names ascend)
     (AllPairs-cons (Ascend place) last [] (All-nil (Ascend place last)) (AllPairs-nil (Ascend place)))
@@ -321,12 +321,12 @@ frames_ascend place bytes [] ascend = AllPairs-nil (Ascend place)
 frames_ascend place bytes (frame ∷ frames) ascend =
     let names = frame.datagrams in
     let size = carried_bytes bytes names in
-    let behind = flat_map (pieces_of bytes) frames in
-    AllPairs-append (Ascend place) (pieces_of bytes frame) behind
+    let after_it = flat_map (pieces_of bytes) frames in
+    AllPairs-append (Ascend place) (pieces_of bytes frame) after_it
     (pieces_ascend place bytes frame.serial size names (AllPairs-append_left (AscendNamed place) names (in_row frames) ascend))
     (frames_ascend place bytes frames (AllPairs-append_right (AscendNamed place) names (in_row frames) ascend))
-    (pieces_all (λ k. All (λ (q : Piece). place k ≤ place q.0) behind) bytes frame.serial size names
-    (All-weaker (λ (a : Named). All (AscendNamed place a) (in_row frames)) (λ (a : Named). All (λ (q : Piece). place a.0 ≤ place q.0) behind)
+    (pieces_all (λ k. All (λ (q : Piece). place k ≤ place q.0) after_it) bytes frame.serial size names
+    (All-weaker (λ (a : Named). All (AscendNamed place a) (in_row frames)) (λ (a : Named). All (λ (q : Piece). place a.0 ≤ place q.0) after_it)
     (λ a all. frames_all (λ k. place a.0 ≤ place k) bytes frames all) names (AllPairs-between (AscendNamed place) names (in_row frames) ascend)))
 
 -- the place of a task among tasks
@@ -346,7 +346,7 @@ places_ascend [] distinct = AllPairs-nil (λ a b. place_among [] a < place_among
 places_ascend (task ∷ tasks) distinct =
     let parts = or_parts (list_any (λ other. other == task) tasks) (has_repeat tasks) distinct in
     let apart = All-from_none (λ other. other == task) tasks parts.0 in
-    let behind = places_ascend tasks parts.1 in
+    let after_it = places_ascend tasks parts.1 in
     let first : place_among (task ∷ tasks) task ≡ 0 = ap (λ b. cond b 0 (place_among tasks task + 1)) (eq-eqb task task refl) in
     let later : (own : ℕ) → (own == task) ≡ false → place_among (task ∷ tasks) own ≡ place_among tasks own + 1 =
     λ own other. ap (λ b. cond b 0 (place_among tasks own + 1)) other in
@@ -356,7 +356,7 @@ places_ascend (task ∷ tasks) distinct =
     (λ i j d lower within.
     let low = later (get_or tasks i d) (apart i d (inside i j (length tasks) lower within)) in
     let high = later (get_or tasks j d) (apart j d within) in
-    let less = behind i j d lower within in
+    let less = after_it i j d lower within in
     omega (arith, low, high, less))
 
 -- the datagrams of the tasks come in their order
@@ -370,7 +370,7 @@ named_ascend line place tasks ranked =
     tasks ranked
 
 pub parts-join : (bytes : Data) (line : List Member) (serial : ℕ) (tasks : List ℕ) → has_repeat tasks ≡ false
-    → flat_map (λ task. part_text bytes task (sendings_of line serial tasks)) tasks ≡ flat_map (text_of bytes) (sendings_of line serial tasks)
+    → flat_map (λ task. part_text bytes task (sendings_of line serial tasks)) tasks ≡ flat_map (frame_text_of bytes) (sendings_of line serial tasks)
 parts-join bytes line serial tasks distinct =
     let names = flat_map (task_datagrams line) tasks in
     let frames = sendings_of line serial tasks in

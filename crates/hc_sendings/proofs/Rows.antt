@@ -9,7 +9,7 @@ use Rattle.hc_records.specs.Line.{Member}
 use Rattle.hc_records.specs.Image.{datagram_count, task_places}
 use Rattle.hc_places.specs.declared.table.Datagram.{Datagram}
 use Rattle.hc_places.specs.Table.{datagram_in, datagram_of, table_of}
-use Rattle.hc_events.specs.Accepted.{StandsIn}
+use Rattle.hc_events.specs.Accepted.{IsInLine}
 use Rattle.hc_events.specs.Answering.{has_head}
 use Rattle.hc_events.specs.Arrivals.{Part}
 use Rattle.hc_events.specs.Heads.{data_head}
@@ -21,24 +21,24 @@ blank = record { address = 0; length = 0; expected = 0; offset = 0 }
 
 row-of : (line : List Member) (task d : ℕ) → d < datagram_count (task_places task line)
     → slice_get (map (datagram_of line task) (range_with_len 0 (datagram_count (task_places task line)))) d ≡ Some (datagram_of line task d)
-row-of line task d stands =
+row-of line task d is_placed =
     let count = length-map-range_with_len (datagram_of line task) 0 (datagram_count (task_places task line)) in
-    slice_get-get_or (map (datagram_of line task) (range_with_len 0 (datagram_count (task_places task line)))) d blank (omega (arith, count, stands))
-    ∙ ap (λ (row : Datagram). Some row) (get_or-map-range_with_len (datagram_of line task) 0 (datagram_count (task_places task line)) d d blank stands (omega arith))
+    slice_get-get_or (map (datagram_of line task) (range_with_len 0 (datagram_count (task_places task line)))) d blank (omega (arith, count, is_placed))
+    ∙ ap (λ (row : Datagram). Some row) (get_or-map-range_with_len (datagram_of line task) 0 (datagram_count (task_places task line)) d d blank is_placed (omega arith))
 
 row-at : (line : List Member) (task d : ℕ) → task < TASKS → d < datagram_count (task_places task line) → datagram_in (table_of line) task d ≡ Some (datagram_of line task d)
-row-at line zero d low stands = row-of line 0 d stands
-row-at line (suc zero) d low stands = row-of line 1 d stands
-row-at line (suc (suc zero)) d low stands = row-of line 2 d stands
-row-at line (suc (suc (suc zero))) d low stands = row-of line 3 d stands
-row-at line (suc (suc (suc (suc zero)))) d low stands = row-of line 4 d stands
-row-at line (suc (suc (suc (suc (suc zero))))) d low stands = row-of line 5 d stands
-row-at line (suc (suc (suc (suc (suc (suc zero)))))) d low stands = row-of line 6 d stands
-row-at line (suc (suc (suc (suc (suc (suc (suc zero))))))) d low stands = row-of line 7 d stands
-row-at line (suc (suc (suc (suc (suc (suc (suc (suc task)))))))) d low stands = absurd (omega arith)
+row-at line zero d low is_placed = row-of line 0 d is_placed
+row-at line (suc zero) d low is_placed = row-of line 1 d is_placed
+row-at line (suc (suc zero)) d low is_placed = row-of line 2 d is_placed
+row-at line (suc (suc (suc zero))) d low is_placed = row-of line 3 d is_placed
+row-at line (suc (suc (suc (suc zero)))) d low is_placed = row-of line 4 d is_placed
+row-at line (suc (suc (suc (suc (suc zero))))) d low is_placed = row-of line 5 d is_placed
+row-at line (suc (suc (suc (suc (suc (suc zero)))))) d low is_placed = row-of line 6 d is_placed
+row-at line (suc (suc (suc (suc (suc (suc (suc zero))))))) d low is_placed = row-of line 7 d is_placed
+row-at line (suc (suc (suc (suc (suc (suc (suc (suc task)))))))) d low is_placed = absurd (omega arith)
 
-pub row-is : (line : List Member) (named : Named) → named.0 < TASKS → StandsIn line named → datagram_in (table_of line) named.0 named.1 ≡ Some (datagram_of line named.0 named.1)
-row-is line named low stands = row-at line named.0 named.1 low stands
+pub row-is : (line : List Member) (named : Named) → named.0 < TASKS → IsInLine line named → datagram_in (table_of line) named.0 named.1 ≡ Some (datagram_of line named.0 named.1)
+row-is line named low is_placed = row-at line named.0 named.1 low is_placed
 
 -- it came back with its head, or it didn't
 

@@ -9,16 +9,16 @@ use Rattle.hc_events.specs.Arrivals.{Arrival, Part}
 use Rattle.hc_events.specs.Heads.{Head, Block, data_head}
 use Rattle.hc_events.specs.Answering.{Judged, Verdict, Good, Wrong, Stale, has_heads}
 use Rattle.hc_sendings.specs.declared.writes.AwaitedBlock.{AwaitedBlock}
-use Rattle.hc_sendings.specs.Waiting.{AwaitedFrame, AwaitedWrite, Carried, Waiting}
+use Rattle.hc_sendings.specs.Waiting.{AwaitedFrame, AwaitedWrite, AwaitedDatagram, Waiting}
 
 -- what is due to come back of a datagram or a register block: what the sending said of it, and whether it wasn't sent again since
 pub record Due : Type 0 where
   pub head : Head
-  pub newest : Bool
+  pub last_sent : Bool
 
 -- of a frame: what the line says of its datagrams
-abbrev pub due_of : List Member → Carried → Due
-due_of line carried = record { head = data_head line carried.datagram; newest = carried.newest }
+abbrev pub due_of : List Member → AwaitedDatagram → Due
+due_of line carried = record { head = data_head line carried.datagram; last_sent = carried.last_sent }
 
 -- what is due of an awaited frame, datagram by datagram: the head that each has in the line, and whether this is the newest frame that it was sent in
 abbrev pub frame_due : List Member → AwaitedFrame → List Due
@@ -36,7 +36,7 @@ written_head block = record {
 
 -- what is due of a block of an awaited write
 abbrev pub block_due : AwaitedBlock → Due
-block_due block = record { head = written_head block; newest = block.newest }
+block_due block = record { head = written_head block; last_sent = block.last_sent }
 
 -- what is due of an awaited register write, block by block
 abbrev pub write_due : AwaitedWrite → List Due
@@ -54,14 +54,14 @@ blocks_with serial waiting = option_map_or (λ write. write.blocks) (found_write
 abbrev pub found_frame : ℕ → Waiting → Option AwaitedFrame
 found_frame serial waiting = find (λ frame. frame.serial == serial) waiting.frames
 
--- what is due to come back with a serial: that of the write with this serial, else that of the frame; none where neither is awaited
+-- what is due to come back with a serial: the one of the write with this serial, else the frame's; none where neither is awaited
 abbrev pub due_with : List Member → Waiting → ℕ → Option (List Due)
 due_with line waiting serial =
     option_or (option_map write_due (found_write serial waiting)) (option_map (frame_due line) (found_frame serial waiting))
 
 -- a datagram that came back: stale where it was sent again, else good or wrong by its working counter
 abbrev pub verdict_of : Due → Part → Verdict
-verdict_of due part = if due.newest then (if part.counter == due.head.expected then Good else Wrong) else Stale
+verdict_of due part = if due.last_sent then (if part.counter == due.head.expected then Good else Wrong) else Stale
 
 -- a datagram that is due, with what came back of it and the verdict on that
 abbrev pub judge_due : Due × Part → Judged

@@ -6,7 +6,7 @@ pub mod Parts
 pub mod Texts
 pub mod Waiting
 pub mod Judging
-pub mod Record
-pub mod Kept
+pub mod History
+pub mod Stored
 pub mod Walk
 pub mod WriteFrames

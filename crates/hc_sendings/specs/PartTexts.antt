@@ -3,10 +3,10 @@ use Rattle.std.specs.Prelude.{ℕ, ◌≡◌, ◌+◌, ◌-◌, ◌^◌, ◌<◌
 use Rattle.std.specs.Option.{option_map_or}
 use Rattle.std.specs.List.{flat_map}
 use Rattle.hc_records.specs.declared.limits.TheConstants.{TASKS}
-use Rattle.hc_frames.specs.FrameText.{datagram_text, frame_head, padding}
+use Rattle.hc_frames.specs.FrameText.{sent_datagram_text, frame_head, padding}
 use Rattle.hc_events.specs.Sendings.{Frame, Named}
 use Rattle.hc_sendings.specs.Parts.{if_of}
-use Rattle.hc_sendings.specs.Texts.{Data, carried_by, carried_bytes}
+use Rattle.hc_sendings.specs.Texts.{Data, datagram_with_data, carried_bytes}
 
 -- a text where it belongs to the task, else none
 abbrev pub text_if : ℕ → ℕ → List ℕ → List ℕ
@@ -16,14 +16,15 @@ text_if task own text = if own == task then text else []
 abbrev pub share_text : ℕ → List ℕ → Option Named → List ℕ
 share_text task text datagram = option_map_or (λ named. text_if task named.0 text) datagram []
 
--- the datagrams of the task, each as it stands in its frame: more follow it there unless it is the last
+-- the datagrams of the task, each as it is in its frame: more follow it there unless it is the last
 abbrev pub own_texts : Data → ℕ → ℕ → List Named → List ℕ
 own_texts bytes serial task [] = []
 own_texts bytes serial task (named ∷ rest) =
-    text_if task named.0 (datagram_text serial (not (length rest == 0)) (carried_by bytes named))
+    text_if task named.0 (sent_datagram_text serial (not (length rest == 0)) (datagram_with_data bytes named))
     ++ own_texts bytes serial task rest
 
--- of a frame the datagrams of the task; its first 16 bytes belong to the task of its first datagram, its padding to that of its last
+-- of a frame the datagrams of the task; its first 16 bytes belong to the task of its first datagram, its padding to the task of its
+-- last
 abbrev pub frame_part_text : Data → ℕ → Frame → List ℕ
 frame_part_text bytes task frame =
     share_text task (frame_head frame.serial (carried_bytes bytes frame.datagrams)) (slice_get frame.datagrams 0)

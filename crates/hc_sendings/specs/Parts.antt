@@ -3,7 +3,7 @@ use Rattle.std.specs.Prelude.{ℕ, ◌+◌, ◌-◌, ◌==◌, if◌then◌else�
 use Rattle.std.specs.Option.{option_map_or}
 use Rattle.hc_records.specs.Line.{Member}
 use Rattle.hc_frames.specs.declared.limits.TheConstants.{LEAST_FRAME}
-use Rattle.hc_events.specs.Sendings.{Frame, Named, length_of}
+use Rattle.hc_events.specs.Sendings.{Frame, Named, line_data_length}
 
 -- of so many bytes all where they belong to a datagram of the task, else none
 abbrev pub if_of : ℕ → ℕ → Named → ℕ
@@ -15,17 +15,17 @@ share task bytes datagram = option_map_or (if_of task bytes) datagram 0
 
 -- a datagram with its header and its working counter
 abbrev pub own_bytes : List Member → Named → ℕ
-own_bytes line named = 12 + length_of line named
+own_bytes line named = 12 + line_data_length line named
 
 -- the bytes of a datagram with its header and its counter where it is one of the task's, else none
 abbrev pub own_share : List Member → ℕ → Named → ℕ
 own_share line task named = if_of task (own_bytes line named) named
 
--- the zeros behind datagrams with so many bytes, up to the least frame
+-- the zeros after datagrams with so many bytes, up to the least frame
 abbrev pub padding_bytes : ℕ → ℕ
 padding_bytes bytes = LEAST_FRAME - (16 + bytes)
 
--- of a frame the datagrams of the task; the 16 bytes before them belong to the first one's task, the zeros behind them to the last one's
+-- of a frame the datagrams of the task; the 16 bytes before them belong to the first one's task, the zeros after them to the last one's
 abbrev pub frame_part : List Member → ℕ → List Named → ℕ
 frame_part line task datagrams =
     share task 16 (slice_get datagrams 0)

@@ -2,12 +2,12 @@
 use Rattle.std.specs.Prelude.{ℕ, ◌&&◌, nat_lt, if◌then◌else◌, List, Option, Some, None}
 use Rattle.hc_records.specs.Line.{Member}
 use Rattle.hc_records.specs.Image.{datagram_count, task_places}
-use Rattle.hc_events.specs.Sendings.{Frame, alone, length_of}
+use Rattle.hc_events.specs.Sendings.{Frame, frame_of_one, line_data_length}
 use Rattle.hc_events.specs.Steps.{serials_left}
 
 -- as it would be sent next, whether or not blocks are owed; none where the task has no such datagram or no serial is left
 abbrev pub preview_in : List Member → ℕ → ℕ → ℕ → Option Frame
 preview_in line serial task d =
     if nat_lt d (datagram_count (task_places task line)) && serials_left serial 1
-    then Some (alone serial (task, d) (length_of line (task, d)))
+    then Some (frame_of_one serial (task, d) (line_data_length line (task, d)))
     else None

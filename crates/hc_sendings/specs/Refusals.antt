@@ -11,7 +11,7 @@ use Rattle.hc_events.specs.Steps.{is_no_task, serials_left}
 abbrev pub early_faults : ℕ → List ℕ → List (Bool × CoreFault)
 early_faults owed tasks = (list_any is_no_task tasks, NoSuchTask) ∷ (nat_lt 0 owed, Unprogrammed owed) ∷ []
 
--- and behind that too few serials for the frames
+-- and after that too few serials for the frames
 abbrev pub sending_faults : List Member → ℕ → ℕ → List ℕ → List (Bool × CoreFault)
 sending_faults line serial owed tasks =
     early_faults owed tasks ++ (not (serials_left serial (length (sendings_of line serial tasks))), SerialsSpent) ∷ []

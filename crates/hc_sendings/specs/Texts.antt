@@ -9,13 +9,13 @@ abbrev pub Data : Type 0
 Data = ℕ → ℕ → List ℕ
 
 -- a datagram of tasks with its data: a logical read and write at its logical address
-abbrev pub carried_by : Data → Named → Datagram
-carried_by bytes named = lrw (logical_address named.0 named.1) (bytes named.0 named.1)
+abbrev pub datagram_with_data : Data → Named → Datagram
+datagram_with_data bytes named = lrw (logical_address named.0 named.1) (bytes named.0 named.1)
 
 -- the bytes of a frame's datagrams, with their headers and their counters
 abbrev pub carried_bytes : Data → List Named → ℕ
 carried_bytes bytes datagrams = sum_by (λ named. 12 + length (bytes named.0 named.1)) datagrams
 
 -- the text of a frame whose datagrams carry these data
-abbrev pub text_of : Data → Frame → List ℕ
-text_of bytes frame = frame_text frame.serial (map (carried_by bytes) frame.datagrams)
+abbrev pub frame_text_of : Data → Frame → List ℕ
+frame_text_of bytes frame = frame_text frame.serial (map (datagram_with_data bytes) frame.datagrams)

@@ -1,23 +1,24 @@
--- What was sent and can still be answered with news: frames of tasks, and register writes (this project's profile).
+-- What was sent and can still be answered that is current: frames of tasks, and register writes (this project's
+-- profile).
 use Rattle.std.specs.Prelude.{ℕ, ◌<◌, ◌==◌, ◌&&◌, not, Bool, true, false, if◌then◌else◌, List, [], ◌∷◌, ◌++◌, All, AllPairs, filter, fold, length, map}
 use Rattle.std.specs.List.{list_any}
 use Rattle.hc_records.specs.declared.limits.TheConstants.{MOST_DATAGRAMS, TASKS}
 use Rattle.hc_records.specs.Line.{Member}
 use Rattle.hc_frames.specs.FrameText.{station_address}
 use Rattle.hc_events.specs.Sendings.{Frame, Named}
-use Rattle.hc_events.specs.Accepted.{StandsIn}
+use Rattle.hc_events.specs.Accepted.{IsInLine}
 use Rattle.hc_sendings.specs.declared.write_frames.PlacedBlock.{PlacedBlock}
 use Rattle.hc_sendings.specs.declared.writes.AwaitedBlock.{AwaitedBlock}
 
 -- a datagram of an awaited frame, and whether this is the newest frame that it was sent in
-pub record Carried : Type 0 where
+pub record AwaitedDatagram : Type 0 where
   pub datagram : Named
-  pub newest : Bool
+  pub last_sent : Bool
 
 -- a frame of tasks: its serial, and its datagrams in order
 pub record AwaitedFrame : Type 0 where
   pub serial : ℕ
-  pub datagrams : List Carried
+  pub datagrams : List AwaitedDatagram
 
 -- a frame of register writes: its serial, and its blocks in order
 pub record AwaitedWrite : Type 0 where
@@ -30,43 +31,44 @@ pub record Waiting : Type 0 where
   pub writes : List AwaitedWrite
   pub forgotten : Bool
 
--- nothing is awaited: so it is at the opening, and behind an accepted edit
+-- nothing is awaited: so it is at the opening, and after an accepted edit
 abbrev pub nothing : Waiting
 nothing = record { frames = []; writes = []; forgotten = false }
 
 -- a frame is sent: it is the newest one of its datagrams
 
 -- a datagram as the frame that sends it carries it: this frame is its newest
-abbrev pub just_sent : Named → Carried
-just_sent named = record { datagram = named; newest = true }
+abbrev pub just_sent : Named → AwaitedDatagram
+just_sent named = record { datagram = named; last_sent = true }
 
 -- a frame as it is awaited once it was sent
 abbrev pub as_sent : Frame → AwaitedFrame
 as_sent frame = record { serial = frame.serial; datagrams = map just_sent frame.datagrams }
 
--- the others aren't that of these datagrams any more
+-- the others aren't these datagrams' any more
 
 -- two names are of one datagram: the same task, and the same number in it
 abbrev pub is_named : Named → Named → Bool
 is_named named other = (named.0 == other.0) && (named.1 == other.1)
 
--- a datagram of an older frame behind a sending of these datagrams: that frame isn't its newest if it is one of them
-abbrev pub sent_again : List Named → Carried → Carried
+-- a datagram of an older frame after a sending of these datagrams: that frame isn't its newest if it is one of them
+abbrev pub sent_again : List Named → AwaitedDatagram → AwaitedDatagram
 sent_again again carried =
-    record { datagram = carried.datagram; newest = carried.newest && not (list_any (is_named carried.datagram) again) }
+    record { datagram = carried.datagram; last_sent = carried.last_sent && not (list_any (is_named carried.datagram) again) }
 
--- an older frame behind a sending of these datagrams
+-- an older frame after a sending of these datagrams
 abbrev pub with_again : List Named → AwaitedFrame → AwaitedFrame
 with_again again frame = record { serial = frame.serial; datagrams = map (sent_again again) frame.datagrams }
 
 -- and a frame is awaited as long as it is the newest of one datagram at least
-abbrev pub is_alive : AwaitedFrame → Bool
-is_alive frame = list_any (λ carried. carried.newest) frame.datagrams
+abbrev pub is_still_awaited : AwaitedFrame → Bool
+is_still_awaited frame = list_any (λ carried. carried.last_sent) frame.datagrams
 
--- what is awaited once a frame was sent: it stands behind the others, of which those stay that are the newest of one datagram at least
+-- what is awaited once a frame was sent: it is after the others, and of those just the ones stay that are the newest of one datagram
+-- at least
 abbrev pub sent : Waiting → Frame → Waiting
 sent waiting frame =
-    record waiting { frames = filter is_alive (map (with_again frame.datagrams) waiting.frames ++ as_sent frame ∷ []) }
+    record waiting { frames = filter is_still_awaited (map (with_again frame.datagrams) waiting.frames ++ as_sent frame ∷ []) }
 
 -- frames one after another
 abbrev pub all_sent : Waiting → List Frame → Waiting
@@ -82,7 +84,7 @@ awaited_block placed = record {
   number = placed.block.number;
   address = station_address placed.block.station placed.block.block.register;
   length = length placed.block.block.bytes;
-  newest = true;
+  last_sent = true;
 }
 
 -- two are of one block: the same station address, and the same number in the slave's order
@@ -91,7 +93,7 @@ is_same block other = (block.station == other.station) && (block.number == other
 
 -- a block of an older write after a write of these blocks
 abbrev pub written_again : List AwaitedBlock → AwaitedBlock → AwaitedBlock
-written_again again block = record block { newest = block.newest && not (list_any (is_same block) again) }
+written_again again block = record block { last_sent = block.last_sent && not (list_any (is_same block) again) }
 
 -- an older write after a write of these blocks
 abbrev pub with_written : List AwaitedBlock → AwaitedWrite → AwaitedWrite
@@ -99,7 +101,7 @@ with_written again write = record write { blocks = map (written_again again) wri
 
 -- a write is awaited as long as one of its blocks is the newest at least
 abbrev pub is_awaited : AwaitedWrite → Bool
-is_awaited write = list_any (λ block. block.newest) write.blocks
+is_awaited write = list_any (λ block. block.last_sent) write.blocks
 
 -- the older writes that stay awaited after a write of these blocks: none where a slave was forgotten since the last write, since a write after that takes the place of all before it
 abbrev pub older_writes : List AwaitedBlock → Waiting → List AwaitedWrite
@@ -112,7 +114,7 @@ wrote serial blocks waiting =
 
 -- a block of a write after the slave with a station address was forgotten
 abbrev pub block_forgotten : ℕ → AwaitedBlock → AwaitedBlock
-block_forgotten station block = record block { newest = block.newest && not (block.station == station) }
+block_forgotten station block = record block { last_sent = block.last_sent && not (block.station == station) }
 
 -- a write after that
 abbrev pub write_forgotten : ℕ → AwaitedWrite → AwaitedWrite
@@ -133,15 +135,15 @@ ended serial waiting = record waiting {
 -- what the caller keeps to
 
 -- a datagram that a task can have
-pub record IsNamed (named : Named) : Type 0 where
+pub record IsTaskDatagram (named : Named) : Type 0 where
   pub task : named.0 < TASKS
   pub number : named.1 < MOST_DATAGRAMS
 
 -- frames are sent with serials that ascend, above those of the frames that are awaited
-pub record ComeBehind (waiting : Waiting) (frames : List Frame) : Type 0 where
+pub record ComeAfter (waiting : Waiting) (frames : List Frame) : Type 0 where
   pub ascend : AllPairs (λ a b. a.serial < b.serial) frames
-  pub behind : All (λ frame. All (λ next. frame.serial < next.serial) frames) waiting.frames
+  pub after_it : All (λ frame. All (λ next. frame.serial < next.serial) frames) waiting.frames
 
 -- what is awaited is of the line
-abbrev pub AllStand : List Member → Waiting → Type 0
-AllStand line waiting = All (λ frame. All (λ carried. StandsIn line carried.datagram) frame.datagrams) waiting.frames
+abbrev pub AllAreInLine : List Member → Waiting → Type 0
+AllAreInLine line waiting = All (λ frame. All (λ carried. IsInLine line carried.datagram) frame.datagrams) waiting.frames

@@ -1,5 +1,5 @@
 -- The walk over a frame's datagrams beside those that came back. Contracts inside the crate cite it.
-use Rattle.std.specs.Prelude.{if◌then◌else◌, List, map, Option, Some, None}
+use Rattle.std.specs.Prelude.{Bool, if◌then◌else◌, List, map, Option, Some, None}
 use Rattle.std.specs.List.{zip}
 use Rattle.hc_places.specs.declared.table.Datagram.{Datagram}
 use Rattle.hc_frames.specs.declared.commands.Command.TheVariants.{Lrw}
@@ -20,3 +20,7 @@ head_of named found =
 abbrev pub outcomes_in : List Due → List Part → Option (List Outcome)
 outcomes_in due parts =
     if has_heads (map (λ one. one.head) due) parts then Some (map (λ pair. outcome_for (judge_due pair)) (zip due parts)) else None
+
+-- the outcomes that were gathered, where all came back; else none
+abbrev pub whole_or_none : Bool → List Outcome → Option (List Outcome)
+whole_or_none whole outcomes = if whole then Some outcomes else None

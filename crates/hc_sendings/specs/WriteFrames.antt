@@ -24,8 +24,8 @@ abbrev pub block_of : PlacedBlock → LineBlock
 block_of placed = placed.block
 
 -- a block after the others
-abbrev pub joined : PlacedBlock → WriteFrame → WriteFrame
-joined placed frame =
+abbrev pub block_joined : PlacedBlock → WriteFrame → WriteFrame
+block_joined placed frame =
     record { bytes = frame.bytes + (12 + length placed.block.block.bytes); blocks = frame.blocks ++ placed ∷ [] }
 
 -- the datagram that writes a block

@@ -1,13 +1,13 @@
-//! What was sent and can still be answered with news.
+//! What was sent and can still be answered that is current.
 ghost use Rattle.std.specs.Prelude.{◌≡◌, ◌==◌, ◌<◌, ◌≤◌, [], ◌∷◌, ◌++◌, ◌+◌, ◌⊎◌, false, true, All, AllPairs, Contains, IfSome, IsTrue, filter, find, if◌then◌else◌, length, map, nat_lt, option_map, vec_capacity, vec_len};
 ghost use Rattle.std.specs.List.Sorted.{IsPartitionPoint};
 ghost use Rattle.hc_events.specs.Sendings.{Named};
-ghost use Rattle.hc_sendings.specs.Kept.{awaited_frames, emptied, kept_of, newest_after, newest_of, frame_by};
-ghost use Rattle.hc_sendings.specs.Waiting.{IsNamed, is_alive};
+ghost use Rattle.hc_sendings.specs.Stored.{SerialsAreBelow, awaited_of, awaited_frames, frame_emptied, stored_frame, last_sent_after, last_sent_of, frame_by};
+ghost use Rattle.hc_sendings.specs.Waiting.{IsTaskDatagram, is_still_awaited};
 
-use crate::kept::KeptFrame;
+use crate::last_sent::LastSent;
 use crate::last_writes::LastWrites;
-use crate::newest::Newest;
+use crate::stored::StoredFrame;
 use crate::write_frames::PlacedBlock;
 use crate::writes::AwaitedBlock;
 use hc_events::sending::Sending;
@@ -30,9 +30,9 @@ pub const AWAITED_WRITES: usize = 2;
 /// datagrams, 128; nor is a write that is the newest of no block.
 #[derive(Debug)]
 pub struct Awaited {
-    pub(crate) newest: Newest,
+    pub(crate) last_sent: LastSent,
     // in the order of their serials; some may be the newest of no datagram
-    pub(crate) frames: Vec<KeptFrame>,
+    pub(crate) frames: Vec<StoredFrame>,
     pub(crate) writes: LastWrites,
     pub(crate) forgotten: bool,
 }
@@ -40,7 +40,7 @@ pub struct Awaited {
 impl Drop for Awaited {
     fn drop(self) {
         let Awaited {
-            newest: _,
+            last_sent: _,
             frames: _,
             writes: _,
             forgotten: _,
@@ -50,47 +50,47 @@ impl Drop for Awaited {
 
 impl Model for Awaited {
     ghost use Rattle.std.specs.Prelude.{◌≤◌, vec_capacity};
-    ghost use Rattle.hc_sendings.specs.Kept.{AreKept, awaited_frames};
+    ghost use Rattle.hc_sendings.specs.Stored.{AreStored, awaited_frames};
     ghost use Rattle.hc_sendings.specs.Waiting.{Waiting};
     ghost use Rattle.hc_records.specs.declared.slots.TheConstants.{SLOTS};
 
     ghost Value = { Waiting };
 
-    ghost view = { λ awaited. record { frames = awaited_frames awaited.newest awaited.frames.items; writes = awaited.writes; forgotten = awaited.forgotten } };
+    ghost view = { λ awaited. record { frames = awaited_frames awaited.last_sent awaited.frames.items; writes = awaited.writes; forgotten = awaited.forgotten } };
 
-    ghost invariant = { λ awaited. AreKept awaited.newest awaited.frames.items × (SLOTS ≤ vec_capacity awaited.frames) };
+    ghost invariant = { λ awaited. AreStored awaited.last_sent awaited.frames.items × (SLOTS ≤ vec_capacity awaited.frames) };
 }
 
 /// Each frame is the newest of its datagrams, the last one last.
-fn note_all(newest: &mut Newest, frames: &[Sending])
-    requires { All (λ frame. All IsNamed frame.datagrams) frames.now }
-    ensures noted { (named : Named) → IsNamed named → newest_of newest.new named ≡ newest_after named (newest_of newest.old named) frames.now }
-    ensures places { length newest.new ≡ length newest.old }
+fn note_all(last_sent: &mut LastSent, frames: &[Sending])
+    requires { All (λ frame. All IsTaskDatagram frame.datagrams) frames.now }
+    ensures noted { (named : Named) → IsTaskDatagram named → last_sent_of last_sent.new named ≡ last_sent_after named (last_sent_of last_sent.old named) frames.now }
+    ensures places { length last_sent.new ≡ length last_sent.old }
 {
     for frame in frames {
-        newest.note(frame.serial(), frame.datagrams());
+        last_sent.note(frame.serial(), frame.datagrams());
     }
 }
 
 /// Whether a frame is the newest of one of its datagrams at least.
-pub(crate) fn is_alive(newest: &Newest, frame: &KeptFrame) -> bool
-    ensures { result ≡ is_alive (frame_by newest.now frame.now) }
+pub(crate) fn is_still_awaited(last_sent: &LastSent, frame: &StoredFrame) -> bool
+    ensures { result ≡ is_still_awaited (frame_by last_sent.now frame.now) }
 {
-    newest.is_any(frame.serial(), frame.datagrams())
+    last_sent.is_any(frame.serial(), frame.datagrams())
 }
 
 /// The frames stay that are the newest of a datagram.
-fn keep_alive(frames: &mut Vec<KeptFrame>, newest: &Newest)
-    ensures frames { frames.new.items ≡ filter (λ frame. is_alive (frame_by newest.now frame)) frames.old.items }
+fn keep_awaited(frames: &mut Vec<StoredFrame>, last_sent: &LastSent)
+    ensures frames { frames.new.items ≡ filter (λ frame. is_still_awaited (frame_by last_sent.now frame)) frames.old.items }
     ensures room { vec_capacity frames.new ≡ vec_capacity frames.old }
 {
-    frames.retain(|frame| is_alive(newest, frame));
+    frames.retain(|frame| is_still_awaited(last_sent, frame));
 }
 
 /// Whether frames that come have higher serials than all that are kept, by the last one that is kept and the first that
 /// comes, and the first that is kept wasn't answered.
-fn may_stay(frames: &[KeptFrame], more: &[Sending]) -> bool
-    requires kept { AllPairs (λ a b. a.serial < b.serial) frames.now }
+fn may_stay(frames: &[StoredFrame], more: &[Sending]) -> bool
+    requires stored { AllPairs (λ a b. a.serial < b.serial) frames.now }
     requires come { AllPairs (λ a b. a.serial < b.serial) more.now }
     ensures { IsTrue result → All (λ old. All (λ next. old.serial < next.serial) more.now) frames.now }
 {
@@ -106,51 +106,51 @@ fn may_stay(frames: &[KeptFrame], more: &[Sending]) -> bool
 /// The frames that are the newest of no datagram go, so that few are searched; unless the first of them wasn't answered, and
 /// frames that come have higher serials than all of them: where these are noted, none of those comes to be the newest of
 /// one again.
-fn make_way(frames: &mut Vec<KeptFrame>, newest: &Newest, more: &[Sending])
-    requires kept { AllPairs (λ a b. a.serial < b.serial) frames.old.items }
+fn make_way(frames: &mut Vec<StoredFrame>, last_sent: &LastSent, more: &[Sending])
+    requires stored { AllPairs (λ a b. a.serial < b.serial) frames.old.items }
     requires come { AllPairs (λ a b. a.serial < b.serial) more.now }
-    ensures frames { (frames.new.items ≡ filter (λ frame. is_alive (frame_by newest.now frame)) frames.old.items) ⊎ ((frames.new.items ≡ frames.old.items) × All (λ old. All (λ next. old.serial < next.serial) more.now) frames.old.items) }
+    ensures frames { (frames.new.items ≡ awaited_of last_sent.now frames.old.items) ⊎ ((frames.new.items ≡ frames.old.items) × SerialsAreBelow more.now frames.old.items) }
     ensures room { vec_capacity frames.new ≡ vec_capacity frames.old }
 {
     if !may_stay(frames, more) {
-        keep_alive(frames, newest);
+        keep_awaited(frames, last_sent);
     }
 }
 
 /// The frames that are the newest of no datagram go, unless there is room for so many more.
-fn make_room(frames: &mut Vec<KeptFrame>, newest: &Newest, more: usize)
-    ensures frames { (frames.new.items ≡ filter (λ frame. is_alive (frame_by newest.now frame)) frames.old.items) ⊎ ((frames.new.items ≡ frames.old.items) × (vec_len frames.old + more ≤ vec_capacity frames.old)) }
+fn make_room(frames: &mut Vec<StoredFrame>, last_sent: &LastSent, more: usize)
+    ensures frames { (frames.new.items ≡ awaited_of last_sent.now frames.old.items) ⊎ ((frames.new.items ≡ frames.old.items) × (vec_len frames.old + more ≤ vec_capacity frames.old)) }
     ensures room { vec_capacity frames.new ≡ vec_capacity frames.old }
 {
     if frames.capacity() - frames.len() < more {
-        keep_alive(frames, newest);
+        keep_awaited(frames, last_sent);
     }
 }
 
-/// What is kept of a frame comes behind the others where it is the newest of a datagram; then there is room for it.
-fn add_alive(frames: &mut Vec<KeptFrame>, newest: &Newest, frame: &Sending)
-    requires { is_alive (frame_by newest.now (kept_of frame.now)) ≡ true → vec_len frames.old < vec_capacity frames.old }
-    ensures frames { frames.new.items ≡ frames.old.items ++ (if is_alive (frame_by newest.now (kept_of frame.now)) then kept_of frame.now ∷ [] else []) }
+/// What is kept of a frame comes after the others where it is the newest of a datagram; then there is room for it.
+fn add_awaited(frames: &mut Vec<StoredFrame>, last_sent: &LastSent, frame: &Sending)
+    requires { is_still_awaited (frame_by last_sent.now (stored_frame frame.now)) ≡ true → vec_len frames.old < vec_capacity frames.old }
+    ensures frames { frames.new.items ≡ frames.old.items ++ (if is_still_awaited (frame_by last_sent.now (stored_frame frame.now)) then stored_frame frame.now ∷ [] else []) }
     ensures room { vec_capacity frames.new ≡ vec_capacity frames.old }
 {
-    if newest.is_any(frame.serial(), frame.datagrams()) {
-        frames.push_reserved(KeptFrame::of(frame));
+    if last_sent.is_any(frame.serial(), frame.datagrams()) {
+        frames.push_reserved(StoredFrame::of(frame));
     }
 }
 
-/// Those of the frames that are the newest of a datagram come behind the others; there is room for them.
-fn add_all(frames: &mut Vec<KeptFrame>, newest: &Newest, more: &[Sending])
-    requires { length (frames.old.items ++ filter (λ frame. is_alive (frame_by newest.now frame)) (map kept_of more.now)) ≤ vec_capacity frames.old }
-    ensures frames { frames.new.items ≡ frames.old.items ++ filter (λ frame. is_alive (frame_by newest.now frame)) (map kept_of more.now) }
+/// Those of the frames that are the newest of a datagram come after the others; there is room for them.
+fn add_all(frames: &mut Vec<StoredFrame>, last_sent: &LastSent, more: &[Sending])
+    requires { length (frames.old.items ++ filter (λ frame. is_still_awaited (frame_by last_sent.now frame)) (map stored_frame more.now)) ≤ vec_capacity frames.old }
+    ensures frames { frames.new.items ≡ frames.old.items ++ filter (λ frame. is_still_awaited (frame_by last_sent.now frame)) (map stored_frame more.now) }
     ensures room { vec_capacity frames.new ≡ vec_capacity frames.old }
 {
     for frame in more {
-        add_alive(frames, newest, frame);
+        add_awaited(frames, last_sent, frame);
     }
 }
 
 /// How many frames have a lower serial.
-fn count_below(frames: &[KeptFrame], serial: u64) -> usize
+fn count_below(frames: &[StoredFrame], serial: u64) -> usize
     requires { AllPairs (λ a b. a.serial < b.serial) frames.now }
     ensures { IsPartitionPoint (λ frame. nat_lt frame.serial serial ≡ true) (λ frame. nat_lt frame.serial serial ≡ false) frames.now result }
 {
@@ -159,17 +159,17 @@ fn count_below(frames: &[KeptFrame], serial: u64) -> usize
 
 /// The frame with a serial, where it is the newest of a datagram.
 pub(crate) fn find_frame<'a>(
-    newest: &Newest,
-    frames: &'a [KeptFrame],
+    last_sent: &LastSent,
+    frames: &'a [StoredFrame],
     serial: u64,
-) -> Option<&'a KeptFrame>
+) -> Option<&'a StoredFrame>
     requires { AllPairs (λ a b. a.serial < b.serial) frames.now }
-    ensures found { option_map (λ frame. frame_by newest.now frame.now) result ≡ find (λ frame. frame.serial == serial) (awaited_frames newest.now frames.now) }
-    ensures alive { IfSome result (λ frame. is_alive (frame_by newest.now frame.now) ≡ true) }
+    ensures found { option_map (λ frame. frame_by last_sent.now frame.now) result ≡ find (λ frame. frame.serial == serial) (awaited_frames last_sent.now frames.now) }
+    ensures awaited_still { IfSome result (λ frame. is_still_awaited (frame_by last_sent.now frame.now) ≡ true) }
     ensures among { IfSome result (λ frame. Contains frames.now frame.now) }
 {
     let frame = frames.get(count_below(frames, serial))?;
-    if frame.serial() == serial && is_alive(newest, frame) {
+    if frame.serial() == serial && is_still_awaited(last_sent, frame) {
         Some(frame)
     } else {
         None
@@ -177,9 +177,9 @@ pub(crate) fn find_frame<'a>(
 }
 
 /// The frame with a serial, if it is kept, has no datagrams any more.
-fn empty(frames: &mut Vec<KeptFrame>, serial: u64)
+fn empty(frames: &mut Vec<StoredFrame>, serial: u64)
     requires { AllPairs (λ a b. a.serial < b.serial) frames.old.items }
-    ensures frames { frames.new.items ≡ map (emptied serial) frames.old.items }
+    ensures frames { frames.new.items ≡ map (frame_emptied serial) frames.old.items }
     ensures room { vec_capacity frames.new ≡ vec_capacity frames.old }
 {
     let place = count_below(frames.as_slice(), serial);
@@ -194,14 +194,14 @@ impl Awaited {
     ghost use Rattle.hc_events.specs.declared.sending.TheConstants.{FRAME_BLOCKS};
     ghost use Rattle.hc_sendings.specs.declared.awaited.TheConstants.{AWAITED_WRITES};
     ghost use Rattle.hc_sendings.specs.Judging.{blocks_with};
-    ghost use Rattle.hc_sendings.specs.Waiting.{ComeBehind, IsNamed, all_sent, awaited_block, ended, forgot, nothing, older_writes, wrote};
+    ghost use Rattle.hc_sendings.specs.Waiting.{ComeAfter, IsTaskDatagram, all_sent, awaited_block, ended, forgot, nothing, older_writes, wrote};
 
     /// Nothing is awaited. It takes all the memory that it will need: `AllocError` where that was refused.
     pub fn new(alloc: Global) -> Result<Awaited, AllocError>
         ensures { IfOk result (λ awaited. awaited ≡ nothing) }
     {
         Ok(Awaited {
-            newest: Newest::new(alloc)?,
+            last_sent: LastSent::new(alloc)?,
             frames: Vec::with_capacity(alloc, SLOTS)?,
             writes: LastWrites::new(alloc)?,
             forgotten: false,
@@ -222,18 +222,19 @@ impl Awaited {
     /// each of the eight tasks. The serials ascend, above those of the frames that are awaited. It takes
     /// no memory.
     pub fn send(&mut self, frames: &[Sending])
-        requires named { All (λ frame. All IsNamed frame.datagrams) frames.now }
-        requires behind { ComeBehind self.old frames.now }
+        requires named { All (λ frame. All IsTaskDatagram frame.datagrams) frames.now }
+        requires after_it { ComeAfter self.old frames.now }
         ensures sent { self.new ≡ all_sent self.old frames.now }
         ensures few { length self.new.frames ≤ TASKS * MOST_DATAGRAMS }
     {
-        make_way(&mut self.frames, &self.newest, frames);
-        note_all(&mut self.newest, frames);
-        make_room(&mut self.frames, &self.newest, frames.len());
-        add_all(&mut self.frames, &self.newest, frames);
+        make_way(&mut self.frames, &self.last_sent, frames);
+        note_all(&mut self.last_sent, frames);
+        make_room(&mut self.frames, &self.last_sent, frames.len());
+        add_all(&mut self.frames, &self.last_sent, frames);
     }
 
-    /// The older writes of which a write of these blocks takes the place go, and the others stay.
+    /// The older writes that a write of these blocks replaces go, and the others stay.
+    #[inline(always)]
     fn retire(&mut self, again: &[PlacedBlock])
         ensures { self.new ≡ record self.old { writes = older_writes (map awaited_block again.now) self.old } }
     {
@@ -247,6 +248,7 @@ impl Awaited {
     /// Register blocks, 74 at most, are sent in one frame, and are awaited from now on. Older writes of these blocks aren't
     /// awaited any more, and where a slave was forgotten since the last write no older write is: one at most stays awaited,
     /// which is the caller's condition. It takes no memory.
+    #[inline(always)]
     pub fn write(&mut self, serial: u64, blocks: &[PlacedBlock])
         requires few { length blocks.now ≤ FRAME_BLOCKS }
         requires room { length (older_writes (map awaited_block blocks.now) self.old) < AWAITED_WRITES }

@@ -2,7 +2,7 @@
 ghost use Rattle.std.specs.Prelude.{◌≡◌, ◌≢◌, ◌+◌, ◌-◌, ◌^◌, ◌==◌, ◌<◌, ◌≤◌, [], All, if◌then◌else◌, length, slice_get};
 ghost use Rattle.hc_records.specs.Image.{logical_address};
 ghost use Rattle.hc_records.specs.declared.limits.TheConstants.{TASKS};
-ghost use Rattle.hc_frames.specs.FrameText.{datagram_text, frame_head, lrw};
+ghost use Rattle.hc_frames.specs.FrameText.{sent_datagram_text, frame_head, lrw};
 ghost use Rattle.hc_frames.specs.declared.limits.TheConstants.{MAX_DATA, MAX_ETHERCAT};
 ghost use Rattle.hc_sendings.specs.PartTexts.{CanBeWritten, frame_part_text, own_bytes_of, own_texts, part_text};
 ghost use Rattle.hc_sendings.specs.Parts.{padding_bytes, share};
@@ -50,7 +50,7 @@ fn write_datagram(out: &mut [u8], serial: u64, datagram: Named, bytes: &[u8], mo
     requires exact { length out.old ≢ 0 → length out.old ≡ 12 + length bytes.now }
     requires known { datagram.0 < TASKS }
     requires size { length bytes.now ≤ MAX_DATA }
-    ensures { out.new ≡ if length out.old == 0 then [] else datagram_text serial more (lrw (logical_address datagram.0 datagram.1) bytes.now) }
+    ensures { out.new ≡ if length out.old == 0 then [] else sent_datagram_text serial more (lrw (logical_address datagram.0 datagram.1) bytes.now) }
 {
     if !out.is_empty() {
         let (task, number) = datagram;
@@ -96,7 +96,7 @@ fn last_share(datagrams: &[Named], task: u8, bytes: usize) -> usize
     share(task, bytes, datagrams.last().copied())
 }
 
-/// The zeros behind so many bytes of datagrams, up to the least frame.
+/// The zeros after so many bytes of datagrams, up to the least frame.
 fn padding_bytes(size: usize) -> usize
     requires { size ≤ MAX_ETHERCAT }
     ensures { result ≡ padding_bytes size }
@@ -142,7 +142,7 @@ fn fill_frame_part<D: SentData>(out: &mut [u8], frame: &Sending, task: u8, sent:
 }
 
 /// Writes the part of one task in frames of several into a slice of its exact size: of each frame the task's
-/// datagrams, the 16 bytes before them where the frame's first datagram is the task's, and the zeros behind
+/// datagrams, the 16 bytes before them where the frame's first datagram is the task's, and the zeros after
 /// them where its last one is; no bytes where the task has none. Each datagram carries the data that `sent`
 /// has of it, which are as many as it was planned with. Tasks are 0 to 7, and serials below 2^40. It takes no
 /// memory. A proposal has 128 frames at most, so deep is this recursion.

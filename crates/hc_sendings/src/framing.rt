@@ -1,17 +1,17 @@
 //! Puts the datagrams of tasks into frames, one datagram after another.
-ghost use Rattle.std.specs.Prelude.{◌≡◌, ◌+◌, ◌*◌, ◌^◌, ◌<◌, ◌≤◌, ◌++◌, [], IfSome, List, OnErr, OnOk, Some, ℕ, length, vec_capacity, vec_len};
+ghost use Rattle.std.specs.Prelude.{◌≡◌, ◌+◌, ◌*◌, ◌^◌, ◌<◌, ◌≤◌, ◌++◌, [], IfSome, OnErr, OnOk, Some, ℕ, length, vec_capacity, vec_len};
 ghost use Rattle.hc_records.specs.Line.{line};
 ghost use Rattle.hc_records.specs.declared.limits.TheConstants.{MOST_DATAGRAMS, TASKS};
 ghost use Rattle.hc_frames.specs.declared.limits.TheConstants.{MAX_DATA, SETUP_SERIAL};
-ghost use Rattle.hc_events.specs.Sendings.{Named, sendings_of, task_datagrams};
-ghost use Rattle.hc_sendings.specs.Framing.{closed, done_by, framed_from, last_with, open_in};
+ghost use Rattle.hc_events.specs.Sendings.{Named, sendings_of};
+ghost use Rattle.hc_sendings.specs.Framing.{FramesTask, IsOpenUpTo, closed, done_by, last_with, open_in};
 
 use hc_events::sending::{Named, Sending};
 use hc_plan::plan::Plan;
 use std::alloc::AllocError;
 
-/// Puts a datagram with so many bytes of data, 1 to 1,486, behind frames, of which the last is open: into that one
-/// where it has room, else it is done and the datagram begins a frame with the next serial, or with the first one.
+/// Puts a datagram with so many bytes of data, 1 to 1,486, after frames, the last one open: into that one where it
+/// has room, else it is done and the datagram begins a frame with the next serial, or with the first one.
 fn place(
     frames: &mut Vec<Sending>,
     serial: u64,
@@ -41,7 +41,7 @@ fn place(
     Ok(())
 }
 
-/// Puts the datagrams of a task behind the frames, of which the last is open.
+/// Puts the datagrams of a task after the frames, the last one open.
 fn place_task(
     plan: &Plan,
     frames: &mut Vec<Sending>,
@@ -50,11 +50,11 @@ fn place_task(
 ) -> Result<(), AllocError>
     requires serial { serial + MOST_DATAGRAMS < 2 ^ 64 }
     requires last { IfSome (open_in frames.old.items) (λ frame. frame.serial + MOST_DATAGRAMS < 2 ^ 64) }
-    ensures serials { OnOk result ((bound : ℕ) → serial ≤ bound → IfSome (open_in frames.old.items) (λ frame. frame.serial ≤ bound) → IfSome (open_in frames.new.items) (λ frame. frame.serial ≤ bound + MOST_DATAGRAMS)) }
+    ensures serials { OnOk result ((bound : ℕ) → serial ≤ bound → IsOpenUpTo bound frames.old.items → IsOpenUpTo (bound + MOST_DATAGRAMS) frames.new.items) }
     ensures more { OnOk result (vec_len frames.new ≤ vec_len frames.old + MOST_DATAGRAMS) }
     ensures room { vec_capacity frames.old ≤ vec_capacity frames.new }
     ensures full { OnErr result (vec_capacity frames.old < vec_len frames.old + MOST_DATAGRAMS) }
-    ensures framed { OnOk result ((rest : List Named) → closed frames.new.items ++ framed_from (line plan.now) serial (open_in frames.new.items) rest ≡ closed frames.old.items ++ framed_from (line plan.now) serial (open_in frames.old.items) (task_datagrams (line plan.now) task ++ rest)) }
+    ensures framed { OnOk result (FramesTask (line plan.now) serial task frames.old.items frames.new.items) }
 {
     let datagrams = plan.places().datagrams(task);
     for number in 0..datagrams.len() {
@@ -76,9 +76,9 @@ fn most_frames(plan: &Plan, tasks: &[u8]) -> usize
     count
 }
 
-/// Puts the frames in which tasks are sent, with serials from this one on, into an empty list: datagrams in the tasks'
-/// order, each of which joins the frame before it where that has room, else begins a frame. A list with room for 128
-/// frames is never refused a growth, and the list's room never falls.
+/// Puts the frames where tasks are sent, with serials from this one on, into an empty list: datagrams in the tasks'
+/// order; each joins the frame before it where that has room, else begins a frame. A list with room for 128 frames is
+/// never refused a growth, and the list's room never falls.
 pub(crate) fn put_frames(
     plan: &Plan,
     serial: u64,

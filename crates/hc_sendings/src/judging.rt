@@ -4,23 +4,23 @@ ghost use Rattle.hc_records.specs.Line.{line};
 ghost use Rattle.hc_registers.specs.declared.counters.TheConstants.{WRITE_COUNT};
 ghost use Rattle.hc_places.specs.Table.{datagram_of};
 ghost use Rattle.hc_events.specs.declared.answer.Outcome.{Outcome};
-ghost use Rattle.hc_events.specs.Accepted.{StandsIn};
+ghost use Rattle.hc_events.specs.Accepted.{IsInLine};
 ghost use Rattle.hc_events.specs.Answering.{Good, Wrong, has_head};
 ghost use Rattle.hc_events.specs.Heads.{data_head};
-ghost use Rattle.hc_events.specs.Outcomes.{told_with};
+ghost use Rattle.hc_events.specs.Outcomes.{arrived_answer};
 ghost use Rattle.hc_events.specs.Sendings.{Named};
-ghost use Rattle.hc_events.specs.Steps.{outcome_for, told_of, told_of_block};
+ghost use Rattle.hc_events.specs.Steps.{outcome_for, judged_answer, write_answer};
 ghost use Rattle.hc_sendings.specs.declared.awaited.TheConstants.{FRAME_DATAGRAMS};
-ghost use Rattle.hc_sendings.specs.Waiting.{IsNamed};
+ghost use Rattle.hc_sendings.specs.Waiting.{IsTaskDatagram};
 ghost use Rattle.hc_events.specs.declared.sending.TheConstants.{FRAME_BLOCKS};
 ghost use Rattle.hc_sendings.specs.Judging.{block_due, frame_due, judge_due, judged_due};
-ghost use Rattle.hc_sendings.specs.Kept.{frame_by};
-ghost use Rattle.hc_sendings.specs.Walk.{head_of, outcomes_in};
+ghost use Rattle.hc_sendings.specs.Stored.{frame_by};
+ghost use Rattle.hc_sendings.specs.Walk.{head_of, outcomes_in, whole_or_none};
 
 use crate::awaited::{Awaited, find_frame};
-use crate::kept::KeptFrame;
-use crate::newest::Newest;
-use crate::writes::{AwaitedBlock, any_newest};
+use crate::last_sent::LastSent;
+use crate::stored::StoredFrame;
+use crate::writes::{AwaitedBlock, any_last_sent};
 use hc_events::answer::{Arrived, Outcome};
 use hc_events::sending::Named;
 use hc_frames::Command;
@@ -31,8 +31,8 @@ use hc_registers::counters::WRITE_COUNT;
 use std::alloc::AllocError;
 
 /// What a register write is that came back with this working counter.
-fn told_of_write(counter: u16) -> Arrived
-    ensures { (none : List Outcome) → told_with result none ≡ told_of_block (if counter == WRITE_COUNT then Good else Wrong) }
+fn sent_write_answer(counter: u16) -> Arrived
+    ensures { (none : List Outcome) → arrived_answer result none ≡ write_answer (if counter == WRITE_COUNT then Good else Wrong) }
 {
     if counter == WRITE_COUNT {
         Arrived::WriteDone
@@ -60,7 +60,7 @@ impl AwaitedBlock {
     fn judge(&self, part: &Part<'_>) -> Outcome
         ensures { result ≡ outcome_for (judge_due (block_due self.now, part.now.carried)) }
     {
-        if !self.newest {
+        if !self.last_sent {
             return Outcome::Stale;
         }
         if part.counter == WRITE_COUNT {
@@ -73,16 +73,16 @@ impl AwaitedBlock {
 
 /// What an arrival is for a write of one block, which has its serial.
 fn judge_one(block: &AwaitedBlock, arrival: &Returned<'_>) -> Arrived
-    ensures { (none : List Outcome) → told_with result none ≡ told_of (judged_due arrival.now (block_due block.now ∷ [])) }
+    ensures { (none : List Outcome) → arrived_answer result none ≡ judged_answer (judged_due arrival.now (block_due block.now ∷ [])) }
 {
     let mut parts = arrival.parts();
     let Some(part) = parts.next() else {
         return Arrived::Stale;
     };
-    if parts.next().is_some() || !block.is_of(&part) || !block.newest {
+    if parts.next().is_some() || !block.is_of(&part) || !block.last_sent {
         return Arrived::Stale;
     }
-    told_of_write(part.counter)
+    sent_write_answer(part.counter)
 }
 
 /// Puts into an empty list what the blocks of a write are that came back as this arrival, in one walk over both. Whether
@@ -121,7 +121,7 @@ fn judge_write(
 ) -> Result<Arrived, AllocError>
     requires few { length blocks.now ≤ FRAME_BLOCKS }
     requires empty { outcomes.old.items ≡ [] }
-    ensures answer { IfOk result (λ arrived. told_with arrived outcomes.new.items ≡ told_of (judged_due arrival.now (map block_due blocks.now))) }
+    ensures answer { IfOk result (λ arrived. arrived_answer arrived outcomes.new.items ≡ judged_answer (judged_due arrival.now (map block_due blocks.now))) }
     ensures room { OnErr result (vec_capacity outcomes.old < FRAME_DATAGRAMS) }
     ensures capacity { vec_capacity outcomes.old ≤ vec_capacity outcomes.new }
     ensures none { OnErr result (outcomes.new.items ≡ []) }
@@ -129,7 +129,7 @@ fn judge_write(
     if blocks.len() == 1 {
         return Ok(judge_one(&blocks[0], arrival));
     }
-    if judge_blocks(blocks, arrival, outcomes)? && any_newest(blocks) {
+    if judge_blocks(blocks, arrival, outcomes)? && any_last_sent(blocks) {
         Ok(Arrived::Written)
     } else {
         Ok(Arrived::Stale)
@@ -146,10 +146,10 @@ fn is_of(part: &Part<'_>, sent: Datagram) -> bool
 }
 
 /// What a datagram is that came back with its head, by whether it wasn't sent again since.
-fn judge(datagram: Named, sent: Datagram, is_newest: bool, part: &Part<'_>) -> Outcome
-    ensures { result ≡ outcome_for (judge_due (record { head = head_of datagram sent; newest = is_newest }, part.now.carried)) }
+fn judge(datagram: Named, sent: Datagram, is_last_sent: bool, part: &Part<'_>) -> Outcome
+    ensures { result ≡ outcome_for (judge_due (record { head = head_of datagram sent; last_sent = is_last_sent }, part.now.carried)) }
 {
-    if !is_newest {
+    if !is_last_sent {
         return Outcome::Stale;
     }
     if part.counter != sent.expected {
@@ -166,8 +166,8 @@ fn judge(datagram: Named, sent: Datagram, is_newest: bool, part: &Part<'_>) -> O
 
 /// The datagram of the plan's line, where it came back with its command, its address and its length.
 fn sent_datagram(plan: &Plan, datagram: Named, part: &Part<'_>) -> Option<Datagram>
-    requires named { IsNamed datagram }
-    requires stands { StandsIn (line plan.now) datagram }
+    requires named { IsTaskDatagram datagram }
+    requires is_placed { IsInLine (line plan.now) datagram }
     ensures { result ≡ (if has_head (data_head (line plan.now) datagram) part.now.carried then Some (datagram_of (line plan.now) datagram.0 datagram.1) else None) }
 {
     let sent = plan.places().datagram(datagram.0, datagram.1)?;
@@ -179,15 +179,15 @@ fn sent_datagram(plan: &Plan, datagram: Named, part: &Part<'_>) -> Option<Datagr
 /// length.
 fn judge_parts(
     plan: &Plan,
-    newest: &Newest,
-    frame: &KeptFrame,
+    last_sent: &LastSent,
+    frame: &StoredFrame,
     arrival: &Returned<'_>,
     outcomes: &mut Vec<Outcome>,
 ) -> Result<bool, AllocError>
-    requires named { All IsNamed frame.now.datagrams }
-    requires stands { All (StandsIn (line plan.now)) frame.now.datagrams }
+    requires named { All IsTaskDatagram frame.now.datagrams }
+    requires is_placed { All (IsInLine (line plan.now)) frame.now.datagrams }
     requires empty { outcomes.old.items ≡ [] }
-    ensures outcomes { IfOk result (λ whole. (if whole then Some outcomes.new.items else None) ≡ outcomes_in (frame_due (line plan.now) (frame_by newest.now frame.now)) arrival.now.parts) }
+    ensures outcomes { IfOk result (λ whole. whole_or_none whole outcomes.new.items ≡ outcomes_in (frame_due (line plan.now) (frame_by last_sent.now frame.now)) arrival.now.parts) }
     ensures room { OnErr result (vec_capacity outcomes.old < FRAME_DATAGRAMS) }
     ensures capacity { vec_capacity outcomes.old ≤ vec_capacity outcomes.new }
     ensures none { OnErr result (outcomes.new.items ≡ []) }
@@ -201,8 +201,8 @@ fn judge_parts(
         let Some(sent) = sent_datagram(plan, *datagram, &part) else {
             return Ok(false);
         };
-        let is_newest = newest.is(frame.serial(), *datagram);
-        outcomes.push_reserved(judge(*datagram, sent, is_newest, &part));
+        let is_last_sent = last_sent.is(frame.serial(), *datagram);
+        outcomes.push_reserved(judge(*datagram, sent, is_last_sent, &part));
     }
     Ok(parts.next().is_none())
 }
@@ -210,10 +210,10 @@ fn judge_parts(
 impl Awaited {
     ghost use Rattle.std.specs.Prelude.{◌≡◌, ◌<◌, ◌≤◌, [], IfOk, OnErr, vec_capacity};
     ghost use Rattle.hc_records.specs.Line.{line};
-    ghost use Rattle.hc_events.specs.Outcomes.{told_with};
-    ghost use Rattle.hc_events.specs.Steps.{told_of};
+    ghost use Rattle.hc_events.specs.Outcomes.{arrived_answer};
+    ghost use Rattle.hc_events.specs.Steps.{judged_answer};
     ghost use Rattle.hc_sendings.specs.declared.awaited.TheConstants.{FRAME_DATAGRAMS};
-    ghost use Rattle.hc_sendings.specs.Waiting.{AllStand};
+    ghost use Rattle.hc_sendings.specs.Waiting.{AllAreInLine};
     ghost use Rattle.hc_sendings.specs.Judging.{judged_in};
 
     /// What an arrival is, by what is awaited with its serial: `Stale` where nothing is, or where a datagram is missing
@@ -223,15 +223,16 @@ impl Awaited {
     /// since or its slave was forgotten, else good or wrong by its working counter. What is awaited is of the plan's line.
     /// It takes memory where the list has no room for the frame's datagrams, 115 at most, alone: `AllocError` where that
     /// was refused, and the list is empty. Its room never falls.
+    #[inline(always)]
     pub fn judge(
         &self,
         plan: &Plan,
         arrival: &Returned<'_>,
         outcomes: &mut Vec<Outcome>,
     ) -> Result<Arrived, AllocError>
-        requires stand { AllStand (line plan.now) self.now }
+        requires are_placed { AllAreInLine (line plan.now) self.now }
         requires empty { outcomes.old.items ≡ [] }
-        ensures answer { IfOk result (λ arrived. told_with arrived outcomes.new.items ≡ told_of (judged_in (line plan.now) self.now arrival.now)) }
+        ensures answer { IfOk result (λ arrived. arrived_answer arrived outcomes.new.items ≡ judged_answer (judged_in (line plan.now) self.now arrival.now)) }
         ensures room { OnErr result (vec_capacity outcomes.old < FRAME_DATAGRAMS) }
         ensures capacity { vec_capacity outcomes.old ≤ vec_capacity outcomes.new }
         ensures none { OnErr result (outcomes.new.items ≡ []) }
@@ -239,11 +240,11 @@ impl Awaited {
         if let Some(blocks) = self.writes.find(arrival.serial()) {
             return judge_write(blocks, arrival, outcomes);
         }
-        let found = find_frame(&self.newest, self.frames.as_slice(), arrival.serial());
+        let found = find_frame(&self.last_sent, self.frames.as_slice(), arrival.serial());
         let Some(frame) = found else {
             return Ok(Arrived::Stale);
         };
-        if judge_parts(plan, &self.newest, frame, arrival, outcomes)? {
+        if judge_parts(plan, &self.last_sent, frame, arrival, outcomes)? {
             Ok(Arrived::Answered)
         } else {
             Ok(Arrived::Stale)

@@ -46,8 +46,8 @@ impl LastWrites {
         self.last.clear();
     }
 
-    /// A write of these blocks is sent: they aren't the newest of the writes before it, of which those go that are the newest
-    /// of no block.
+    /// A write of these blocks is sent: they aren't the newest of the writes before it any more. A write that is the newest of no
+    /// block goes.
     pub(crate) fn write_again(&mut self, again: &[PlacedBlock])
         ensures { self.new ≡ filter is_awaited (map (with_written (map awaited_block again.now)) self.old) }
     {

@@ -6,7 +6,7 @@ ghost use Rattle.hc_records.specs.Lists.{lowest};
 ghost use Rattle.hc_frames.specs.declared.limits.TheConstants.{SETUP_SERIAL};
 ghost use Rattle.hc_records.specs.declared.limits.TheConstants.{MOST_DATAGRAMS, TASKS};
 ghost use Rattle.hc_events.specs.declared.faults.CoreFault.TheVariants.{Memory, SerialsSpent};
-ghost use Rattle.hc_events.specs.Accepted.{StandsIn};
+ghost use Rattle.hc_events.specs.Accepted.{IsInLine};
 ghost use Rattle.hc_events.specs.Calls.{AreSentTogether};
 ghost use Rattle.hc_events.specs.Sendings.{sendings_of};
 ghost use Rattle.hc_events.specs.Steps.{is_no_task, serials_left};
@@ -27,7 +27,7 @@ fn names_no_task(tasks: &[u8]) -> bool
     tasks.iter().any(|task| !(*task < TASKS))
 }
 
-/// The fault that is judged before any frame is planned: `NoSuchTask`, and behind it `Unprogrammed`.
+/// The fault that is judged before any frame is planned: `NoSuchTask`, and after it `Unprogrammed`.
 fn refuse_early(owed: u32, tasks: &[u8]) -> Result<(), CoreFault>
     ensures passed { OnOk result (lowest (early_faults owed tasks.now) ≡ None) }
     ensures refused { IfErr result (λ fault. lowest (early_faults owed tasks.now) ≡ Some fault) }
@@ -52,7 +52,7 @@ fn plan_frames(
     requires few { length tasks.now ≤ TASKS }
     requires empty { frames.old.items ≡ [] }
     ensures frames { OnOk result (frames.new.items ≡ sendings_of (line plan.now) serial tasks.now) }
-    ensures stand { OnOk result (All (λ frame. All (StandsIn (line plan.now)) frame.datagrams) frames.new.items) }
+    ensures are_placed { OnOk result (All (λ frame. All (IsInLine (line plan.now)) frame.datagrams) frames.new.items) }
     ensures left { OnOk result (serial + length frames.new.items ≤ SETUP_SERIAL) }
     ensures refused { IfErr result (λ fault. fault ≢ Memory → (fault ≡ SerialsSpent) × (SETUP_SERIAL < serial + length (sendings_of (line plan.now) serial tasks.now))) }
     ensures room { IfErr result (λ fault. fault ≡ Memory → vec_capacity frames.old < MOST_DATAGRAMS * TASKS) }
@@ -65,10 +65,10 @@ fn plan_frames(
     Ok(())
 }
 
-/// The frames in which 1 to 8 distinct tasks are sent by a plan, with serials from `serial` on, which is
-/// at most that of alias reads and station writes: datagrams in the tasks' order, each of which joins
-/// the frame before it where that has room, else begins a frame; none where the tasks have no datagram.
-/// So their datagrams are the line's, and their serials are below that of alias reads and station writes.
+/// The frames where 1 to 8 distinct tasks are sent by a plan, with serials from `serial` on, which is at most the serial
+/// of alias reads and station writes: datagrams in the tasks' order; each joins the frame before it where that has room,
+/// else begins a frame; none where the tasks have no datagram. So their datagrams are the line's, and their serials are
+/// below the serial of alias reads and station writes.
 ///
 /// They are put into a list that is used again: what it held is dropped, and it is empty where they are refused. It takes
 /// memory where the list has no room for as many frames as the tasks have datagrams; so one with room for 128, 16 of each
@@ -76,7 +76,7 @@ fn plan_frames(
 ///
 /// `NoSuchTask` where a number is over 7; `Unprogrammed` where register blocks are owed, `owed` of them;
 /// `SerialsSpent` where the frames need more serials than are left; and of several the first of these.
-/// `Memory` where a growth was refused, and only behind the first two.
+/// `Memory` where a growth was refused, and only after the first two.
 pub fn propose_into(
     plan: &Plan,
     serial: u64,
@@ -87,7 +87,7 @@ pub fn propose_into(
     requires serial { serial ≤ SETUP_SERIAL }
     requires together { AreSentTogether tasks.now }
     ensures frames { OnOk result (frames.new.items ≡ sendings_of (line plan.now) serial tasks.now) }
-    ensures stand { OnOk result (All (λ frame. All (StandsIn (line plan.now)) frame.datagrams) frames.new.items) }
+    ensures are_placed { OnOk result (All (λ frame. All (IsInLine (line plan.now)) frame.datagrams) frames.new.items) }
     ensures left { OnOk result (serial + length frames.new.items ≤ SETUP_SERIAL) }
     ensures accepted { OnOk result (lowest (sending_faults (line plan.now) serial owed tasks.now) ≡ None) }
     ensures refused { IfErr result (λ fault. fault ≢ Memory → lowest (sending_faults (line plan.now) serial owed tasks.now) ≡ Some fault) }
@@ -114,8 +114,9 @@ fn is_sendable(serial: u64, count: usize, number: u8) -> bool
 }
 
 /// The frame of one datagram of a task alone, as it would be sent next by a plan, whether or not blocks
-/// are owed: with the next serial, which is at most that of alias reads and station writes. None where
-/// the task has no such datagram, there is no such task, or no serial is left. It takes no memory.
+/// are owed: with the next serial, which is at most the serial of alias reads and station writes. None
+/// where the task has no such datagram, there is no such task, or no serial is left. It takes no
+/// memory.
 pub fn preview(plan: &Plan, serial: u64, task: u8, number: u8) -> Option<Sending>
     requires { serial ≤ SETUP_SERIAL }
     ensures { result ≡ preview_in (line plan.now) serial task number }

@@ -1,7 +1,7 @@
 //! A frame of register writes: the owed blocks that share it, and its bytes. The core fills it from the first owed block
 //! on, writes it, and hands its blocks to what is awaited.
 ghost use Rattle.std.specs.Prelude.{◌≡◌, ◌+◌, ◌≤◌, length, map};
-ghost use Rattle.hc_frames.specs.FrameText.{datagrams_text};
+ghost use Rattle.hc_frames.specs.FrameText.{sent_datagrams_text};
 ghost use Rattle.hc_frames.specs.declared.limits.TheConstants.{MAX_ETHERCAT};
 ghost use Rattle.hc_sendings.specs.WriteFrames.{placed_bytes, placed_datagram};
 
@@ -45,7 +45,7 @@ impl PlacedBlock {
             number: self.block.number,
             address: u32::from(station) + 65536 * u32::from(self.block.block.register()),
             length: self.bytes().len(),
-            newest: true,
+            last_sent: true,
         }
     }
 }
@@ -55,7 +55,7 @@ impl PlacedBlock {
 fn write_datagrams(out: &mut [u8], serial: u64, blocks: &[PlacedBlock])
     requires exact { length out.old ≡ placed_bytes blocks.now }
     requires size { 2 + placed_bytes blocks.now ≤ MAX_ETHERCAT }
-    ensures { out.new ≡ datagrams_text serial (map placed_datagram blocks.now) }
+    ensures { out.new ≡ sent_datagrams_text serial (map placed_datagram blocks.now) }
 {
     if let [first, rest @ ..] = blocks {
         let bytes = first.bytes();
@@ -100,7 +100,7 @@ impl WriteFrame {
     ghost use Rattle.hc_frames.specs.Sizes.{frame_bytes};
     ghost use Rattle.hc_events.specs.Sendings.{has_room};
     ghost use Rattle.hc_events.specs.declared.sending.TheConstants.{FRAME_BLOCKS};
-    ghost use Rattle.hc_sendings.specs.WriteFrames.{LEAST_BLOCK, joined, no_blocks, placed_text};
+    ghost use Rattle.hc_sendings.specs.WriteFrames.{LEAST_BLOCK, block_joined, no_blocks, placed_text};
 
     /// No block yet. It takes all the memory that it will need: `AllocError` where that was refused.
     pub fn new(alloc: Global) -> Result<WriteFrame, AllocError>
@@ -129,11 +129,11 @@ impl WriteFrame {
         2 + self.bytes + BESIDE_DATA_BYTES as u16 + length <= MAX_ETHERCAT
     }
 
-    /// A block of 8 bytes at least, for which there is room, joins the frame after the others. It takes no memory.
+    /// A block of 8 bytes at leastjoins, where there is room, the frame after the others. It takes no memory.
     pub fn join(&mut self, block: PlacedBlock)
         requires least { LEAST_BLOCK ≤ length block.block.block.bytes }
         requires room { has_room self.old.bytes (length block.block.block.bytes) ≡ true }
-        ensures { self.new ≡ joined block self.old }
+        ensures { self.new ≡ block_joined block self.old }
     {
         self.bytes += BESIDE_DATA_BYTES as u16 + block.bytes().len() as u16;
         self.blocks.push_reserved(block);
@@ -170,6 +170,7 @@ impl WriteFrame {
 
     /// Writes the frame to the front of `out`, and answers its size in bytes. `serial` is below 2^40. `Room` with the size
     /// needed where `out` is shorter; `out` is then as it was. It takes no memory.
+    #[inline(always)]
     pub fn write_into(&self, out: &mut [u8], serial: u64) -> Result<usize, Room>
         requires serial { serial < 2 ^ 40 }
         ensures { Builds out.old out.new result (placed_text serial self.now.blocks) (frame_bytes self.now.bytes) }

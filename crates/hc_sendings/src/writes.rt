@@ -22,7 +22,7 @@ pub struct AwaitedBlock {
     /// The number of data bytes that it was sent with.
     pub length: usize,
     /// No later write of the block was sent, and its slave wasn't forgotten since.
-    pub newest: bool,
+    pub last_sent: bool,
 }
 
 /// Whether two are of one block.
@@ -44,7 +44,7 @@ fn written_again(block: &AwaitedBlock, again: &[PlacedBlock]) -> AwaitedBlock
     ensures { result ≡ written_again (map awaited_block again.now) block.now }
 {
     AwaitedBlock {
-        newest: block.newest && !is_among(block, again),
+        last_sent: block.last_sent && !is_among(block, again),
         ..*block
     }
 }
@@ -54,7 +54,7 @@ fn forgotten(block: &AwaitedBlock, station: u16) -> AwaitedBlock
     ensures { result ≡ block_forgotten station block.now }
 {
     AwaitedBlock {
-        newest: block.newest && block.station != station,
+        last_sent: block.last_sent && block.station != station,
         ..*block
     }
 }
@@ -78,10 +78,10 @@ fn forget_blocks(blocks: &mut [AwaitedBlock], station: u16)
 }
 
 /// Whether one of the blocks is the newest.
-pub(crate) fn any_newest(blocks: &[AwaitedBlock]) -> bool
-    ensures { result ≡ list_any (λ block. block.newest) blocks.now }
+pub(crate) fn any_last_sent(blocks: &[AwaitedBlock]) -> bool
+    ensures { result ≡ list_any (λ block. block.last_sent) blocks.now }
 {
-    blocks.iter().any(|block| block.newest)
+    blocks.iter().any(|block| block.last_sent)
 }
 
 /// Puts these blocks in place of those that are in a list with room for them.
@@ -176,7 +176,7 @@ impl Write {
     {
         if self.is_awaited {
             write_again(&mut self.blocks, again);
-            self.is_awaited = any_newest(&self.blocks);
+            self.is_awaited = any_last_sent(&self.blocks);
         }
     }
 
@@ -186,7 +186,7 @@ impl Write {
     {
         if self.is_awaited {
             forget_blocks(&mut self.blocks, station);
-            self.is_awaited = any_newest(&self.blocks);
+            self.is_awaited = any_last_sent(&self.blocks);
         }
     }
 

@@ -1,11 +1,11 @@
 //! Writes the frames that were planned, each byte once.
 ghost use Rattle.std.specs.Prelude.{◌≡◌, ◌+◌, ◌^◌, ◌<◌, ◌≤◌, ◌++◌, ℕ, All, IfOk, List, OnOk, length, map, replicate};
 ghost use Rattle.hc_records.specs.declared.limits.TheConstants.{TASKS};
-ghost use Rattle.hc_frames.specs.FrameText.{datagrams_text};
+ghost use Rattle.hc_frames.specs.FrameText.{sent_datagrams_text};
 ghost use Rattle.hc_frames.specs.Sizes.{frame_bytes};
 ghost use Rattle.hc_frames.specs.declared.limits.TheConstants.{MAX_ETHERCAT};
 ghost use Rattle.hc_sendings.specs.Parts.{padding_bytes};
-ghost use Rattle.hc_sendings.specs.Texts.{carried_by, carried_bytes, text_of};
+ghost use Rattle.hc_sendings.specs.Texts.{datagram_with_data, carried_bytes, frame_text_of};
 
 use hc_events::sending::{Named, Sending};
 use hc_frames::building::{add_datagram_of, add_head, build_datagram_of, build_head};
@@ -15,7 +15,7 @@ use hc_records::task::Task;
 use hc_registers::fmmu::logical_address;
 use std::alloc::{AllocError, Global};
 
-/// Where the data stand with which datagrams are sent.
+/// Where the data are with which datagrams are sent.
 pub trait SentData {
     /// The data of each datagram, by its task and its number in the task.
     ghost bytes: { Self → ℕ → ℕ → List ℕ };
@@ -44,7 +44,7 @@ fn write_datagrams<D: SentData>(out: &mut [u8], serial: u64, datagrams: &[Named]
     requires known { All (λ named. named.0 < TASKS) datagrams.now }
     requires exact { length out.old ≡ carried_bytes (D.bytes sent.now) datagrams.now }
     requires size { 2 + carried_bytes (D.bytes sent.now) datagrams.now ≤ MAX_ETHERCAT }
-    ensures { out.new ≡ datagrams_text serial (map (carried_by (D.bytes sent.now)) datagrams.now) }
+    ensures { out.new ≡ sent_datagrams_text serial (map (datagram_with_data (D.bytes sent.now)) datagrams.now) }
 {
     if let [(task, number), rest @ ..] = datagrams {
         let bytes = sent.bytes_of(*task, *number);
@@ -63,7 +63,7 @@ pub fn write_frame<D: SentData>(out: &mut [u8], frame: &Sending, sent: &D)
     requires known { All (λ named. named.0 < TASKS) frame.now.datagrams }
     requires size { 2 + carried_bytes (D.bytes sent.now) frame.now.datagrams ≤ MAX_ETHERCAT }
     requires exact { length out.old ≡ frame_bytes (carried_bytes (D.bytes sent.now) frame.now.datagrams) }
-    ensures { out.new ≡ text_of (D.bytes sent.now) frame.now }
+    ensures { out.new ≡ frame_text_of (D.bytes sent.now) frame.now }
 {
     let datagrams = frame.datagrams();
     let size = carried_bytes(datagrams, sent);
@@ -83,7 +83,7 @@ fn add_datagrams<D: SentData>(
 ) -> Result<(), AllocError>
     requires known { All (λ named. named.0 < TASKS) datagrams.now }
     requires size { 2 + carried_bytes (D.bytes sent.now) datagrams.now ≤ MAX_ETHERCAT }
-    ensures { OnOk result (text.new.items ≡ text.old.items ++ datagrams_text serial (map (carried_by (D.bytes sent.now)) datagrams.now)) }
+    ensures { OnOk result (text.new.items ≡ text.old.items ++ sent_datagrams_text serial (map (datagram_with_data (D.bytes sent.now)) datagrams.now)) }
 {
     if let [(task, number), rest @ ..] = datagrams {
         let bytes = sent.bytes_of(*task, *number);
@@ -94,7 +94,7 @@ fn add_datagrams<D: SentData>(
     Ok(())
 }
 
-/// Adds the zeros behind so many bytes of datagrams, up to the least frame.
+/// Adds the zeros after so many bytes of datagrams, up to the least frame.
 fn add_padding(text: &mut Vec<u8>, size: usize) -> Result<(), AllocError>
     requires { size ≤ MAX_ETHERCAT }
     ensures { OnOk result (text.new.items ≡ text.old.items ++ replicate (padding_bytes size) 0) }
@@ -116,7 +116,7 @@ pub fn frame_text<D: SentData>(
     requires serial { frame.now.serial < 2 ^ 40 }
     requires known { All (λ named. named.0 < TASKS) frame.now.datagrams }
     requires size { 2 + carried_bytes (D.bytes sent.now) frame.now.datagrams ≤ MAX_ETHERCAT }
-    ensures { IfOk result (λ text. text ≡ text_of (D.bytes sent.now) frame.now) }
+    ensures { IfOk result (λ text. text ≡ frame_text_of (D.bytes sent.now) frame.now) }
 {
     let datagrams = frame.datagrams();
     let size = carried_bytes(datagrams, sent);

@@ -4,13 +4,13 @@ use Rattle.std.proofs.Math.Nat.{mul-le-mul_left}
 use Rattle.std.proofs.lemmas.Bool.Decides.{nat_tests}
 use Rattle.std.proofs.lemmas.Grind.{common_steps}
 use borrow.Author.Tests.{leb-false}
-use Rattle.hc_text.specs.Numbers.{digit_of, spelt, spelt_within}
+use Rattle.hc_text.specs.Numbers.{digit_of, spelt_number, spelt_within}
 
 -- more digits never make less
-spelt_grows : (base n : ℕ) (digits : List ℕ) → 1 ≤ base → n ≤ spelt base n digits
+spelt_grows : (base n : ℕ) (digits : List ℕ) → 1 ≤ base → n ≤ spelt_number base n digits
 spelt_grows base n [] low = omega arith
 spelt_grows base n (b ∷ bs) low =
-    let more : n * base + digit_of b ≤ spelt base (n * base + digit_of b) bs = spelt_grows base (n * base + digit_of b) bs low in
+    let more : n * base + digit_of b ≤ spelt_number base (n * base + digit_of b) bs = spelt_grows base (n * base + digit_of b) bs low in
     let grows : n * 1 ≤ n * base = mul-le-mul_left n low in
     omega arith
 
@@ -19,7 +19,7 @@ goes_on base most n b bs small = grind (arith, nat_tests, common_steps)
 
 overflows : (base most n : ℕ) (bs : List ℕ) → 1 ≤ base → most < n → spelt_within base most n bs ≡ None
 overflows base most n bs low large =
-    let grows : n ≤ spelt base n bs = spelt_grows base n bs low in
+    let grows : n ≤ spelt_number base n bs = spelt_grows base n bs low in
     grind (arith, nat_tests, common_steps, grows)
 
 above : (b : Bool) (n : ℕ) → None ≡ cond b (Some n) None → b ≡ false

@@ -8,8 +8,8 @@ use Rattle.std.proofs.lemmas.List.Quantifiers.{position-Some}
 use Rattle.std.proofs.lemmas.List.Splits.{slice_split_first}
 use Rattle.std.proofs.lemmas.Option.{cond_some}
 use Rattle.std.proofs.lemmas.Bool.{eqb-true, ltb-true, ltb-false}
-use Rattle.hc_text.specs.Lines.{bytes_of, lines_from, parts_at, text_of}
-use Rattle.hc_text.specs.Cutting.{CutsLine, bytes_after, joined, lines_after, parts_after}
+use Rattle.hc_text.specs.Lines.{line_part_bytes, lines_from, parts_at, text_of_lines}
+use Rattle.hc_text.specs.Cutting.{CutsLine, bytes_after, part_joined, lines_after, parts_after}
 
 -- the front part ends at the first such byte
 pub cut_at_byte : (byte : ℕ) (text : List ℕ) (i : ℕ) → position (λ b. b == byte) text ≡ Some i
@@ -19,7 +19,7 @@ cut_at_byte byte text i found =
     let inside : position_or_len (λ b. b == byte) text < length text = ltb-true _ _ within in
     rw (take_rest text (i + 1), ← same) (slice_split_first (λ b. b == byte) text 0 inside)
 
--- that byte stands between the front part and what follows
+-- that byte is between the front part and what follows
 pub whole_at_byte : (byte : ℕ) (text : List ℕ) (i : ℕ) → position (λ b. b == byte) text ≡ Some i
     → take i text ++ byte ∷ take (length text - (i + 1)) (drop (i + 1) text) ≡ text
 whole_at_byte byte text i found =
@@ -47,34 +47,34 @@ not_found false i e = refl
 pub uncut_by_byte : (byte : ℕ) (text : List ℕ) → position (λ b. b == byte) text ≡ None → parts_at byte text ≡ text ∷ []
 uncut_by_byte byte text none = uncut (λ b. b == byte) text (ltb-false _ _ (not_found _ _ none))
 
-text_of_split : (part : List ℕ) (x : ℕ) (b : Bool) (parts : List (List ℕ)) → text_of part (cond b ([] ∷ parts) (onto_first x parts)) ≡ strip_carriage_return part
+text_of_split : (part : List ℕ) (x : ℕ) (b : Bool) (parts : List (List ℕ)) → text_of_lines part (cond b ([] ∷ parts) (onto_first x parts)) ≡ strip_carriage_return part
 text_of_split part x true parts = refl
 text_of_split part x false [] = refl
 text_of_split part x false (p ∷ parts) = refl
 
 -- a part that something follows isn't the last
-pub text_of_some : (part : List ℕ) (byte : ℕ) (text : List ℕ) → text_of part (parts_at byte text) ≡ strip_carriage_return part
+pub text_of_some : (part : List ℕ) (byte : ℕ) (text : List ℕ) → text_of_lines part (parts_at byte text) ≡ strip_carriage_return part
 text_of_some part byte [] = refl
 text_of_some part byte (x ∷ xs) = text_of_split part x (x == byte) (parts_at byte xs)
 
-bytes_of_split : (part : List ℕ) (x : ℕ) (b : Bool) (parts : List (List ℕ)) → bytes_of part (cond b ([] ∷ parts) (onto_first x parts)) ≡ part ++ 10 ∷ []
+bytes_of_split : (part : List ℕ) (x : ℕ) (b : Bool) (parts : List (List ℕ)) → line_part_bytes part (cond b ([] ∷ parts) (onto_first x parts)) ≡ part ++ 10 ∷ []
 bytes_of_split part x true parts = refl
 bytes_of_split part x false [] = refl
 bytes_of_split part x false (p ∷ parts) = refl
 
-bytes_of_some : (part : List ℕ) (byte : ℕ) (text : List ℕ) → bytes_of part (parts_at byte text) ≡ part ++ 10 ∷ []
+bytes_of_some : (part : List ℕ) (byte : ℕ) (text : List ℕ) → line_part_bytes part (parts_at byte text) ≡ part ++ 10 ∷ []
 bytes_of_some part byte [] = refl
 bytes_of_some part byte (x ∷ xs) = bytes_of_split part x (x == byte) (parts_at byte xs)
 
-whole_line : (part : List ℕ) (rest : Option (List ℕ)) → bytes_of part (parts_after 10 rest) ++ bytes_after rest ≡ joined 10 part rest
+whole_line : (part : List ℕ) (rest : Option (List ℕ)) → line_part_bytes part (parts_after 10 rest) ++ bytes_after rest ≡ part_joined 10 part rest
 whole_line part None = append-nil part
 whole_line part (Some text) = ap (λ bytes. bytes ++ text) (bytes_of_some part 10 text) ∙ append_assoc part (10 ∷ []) text
 
 -- a part, as the text of the first line
-pub cuts_line : (input part text : List ℕ) (rest : Option (List ℕ)) → parts_at 10 input ≡ part ∷ parts_after 10 rest → joined 10 part rest ≡ input
-    → text ≡ text_of part (parts_after 10 rest) → CutsLine input text rest
+pub cuts_line : (input part text : List ℕ) (rest : Option (List ℕ)) → parts_at 10 input ≡ part ∷ parts_after 10 rest → part_joined 10 part rest ≡ input
+    → text ≡ text_of_lines part (parts_after 10 rest) → CutsLine input text rest
 cuts_line input part text rest parts whole is = record {
-  bytes = bytes_of part (parts_after 10 rest);
+  bytes = line_part_bytes part (parts_after 10 rest);
   whole = whole_line part rest ∙ whole;
-  lines = λ number. ap (lines_from number) parts ∙ ap (λ t. record { number = number; text = t; bytes = bytes_of part (parts_after 10 rest) } ∷ lines_after (number + 1) rest) (sym is);
+  lines = λ number. ap (lines_from number) parts ∙ ap (λ t. record { number = number; text = t; bytes = line_part_bytes part (parts_after 10 rest) } ∷ lines_after (number + 1) rest) (sym is);
 }

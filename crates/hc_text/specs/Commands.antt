@@ -6,7 +6,7 @@ use Rattle.hc_text.specs.declared.commands.Command.TheVariants as command
 use Rattle.hc_text.specs.EditWords.{edit_in}
 use Rattle.hc_text.specs.MemoryWords.{peek_in, poke_in}
 use Rattle.hc_text.specs.PostWords.{post_in}
-use Rattle.hc_text.specs.ShortCommands.{alone_in, arrive_in, place_in, read_in, regs_in, show_in, view_in}
+use Rattle.hc_text.specs.ShortCommands.{alone_in, arrive_in, place_command, read_in, regs_in, show_in, view_in}
 use Rattle.hc_text.specs.TaskWords.{cycle_in, send_in}
 
 -- the command that a name and its arguments spell: those of the simulated line, and the edits
@@ -43,5 +43,5 @@ command_in name arguments =
     if bytes_eq name (codes "layout") then alone_in command.Layout arguments
     else (if bytes_eq name (codes "regs") then regs_in arguments
     else (if bytes_eq name (codes "show") then show_in arguments
-    else (if bytes_eq name (codes "place") then place_in arguments
+    else (if bytes_eq name (codes "place") then place_command arguments
     else event_in name arguments)))

@@ -8,10 +8,10 @@ abbrev pub parts_after : ℕ → Option (List ℕ) → List (List ℕ)
 parts_after byte None = []
 parts_after byte (Some text) = parts_at byte text
 
--- a part, and what follows it behind a byte
-abbrev pub joined : ℕ → List ℕ → Option (List ℕ) → List ℕ
-joined byte part None = part
-joined byte part (Some text) = part ++ byte ∷ text
+-- a part, and what follows it after a byte
+abbrev pub part_joined : ℕ → List ℕ → Option (List ℕ) → List ℕ
+part_joined byte part None = part
+part_joined byte part (Some text) = part ++ byte ∷ text
 
 -- how much is left to cut
 abbrev pub left_in : Option (List ℕ) → ℕ
@@ -23,7 +23,7 @@ abbrev pub bytes_after : Option (List ℕ) → List ℕ
 bytes_after None = []
 bytes_after (Some text) = text
 
--- the lines that follow, the first of which has this number
+-- the lines that follow, from this number on
 abbrev pub lines_after : ℕ → Option (List ℕ) → List Line
 lines_after number rest = lines_from number (parts_after 10 rest)
 

@@ -4,31 +4,31 @@ use Rattle.std.specs.List.{list_any, slice_split}
 use Rattle.std.specs.Str.{bytes_eq}
 use Rattle.std.specs.Str.Lines.{strip_carriage_return}
 
--- what stands between bytes of this value
+-- what is between bytes of this value
 abbrev pub parts_at : ℕ → List ℕ → List (List ℕ)
 parts_at byte text = slice_split (λ b. b == byte) text
 
--- a line of an input: its number, its text, and its bytes as they stand, with the line feed
+-- a line of an input: its number, its text, and its bytes as they are, with the line feed
 pub record Line : Type 0 where
   pub number : ℕ
   pub text : List ℕ
   pub bytes : List ℕ
 
 -- the text and the bytes of a part: a line feed ends it where another part follows, and a carriage return before that is dropped
-abbrev pub text_of : List ℕ → List (List ℕ) → List ℕ
-text_of part [] = part
-text_of part (next ∷ parts) = strip_carriage_return part
+abbrev pub text_of_lines : List ℕ → List (List ℕ) → List ℕ
+text_of_lines part [] = part
+text_of_lines part (next ∷ parts) = strip_carriage_return part
 
--- the bytes of a part as a line: the part, and behind it a line feed where another part follows
-abbrev pub bytes_of : List ℕ → List (List ℕ) → List ℕ
-bytes_of part [] = part
-bytes_of part (next ∷ parts) = part ++ 10 ∷ []
+-- the bytes of a part as a line: the part, and after it a line feed where another part follows
+abbrev pub line_part_bytes : List ℕ → List (List ℕ) → List ℕ
+line_part_bytes part [] = part
+line_part_bytes part (next ∷ parts) = part ++ 10 ∷ []
 
--- the lines of these parts, the first of which has this number
+-- the lines of these parts, from this number on
 abbrev pub lines_from : ℕ → List (List ℕ) → List Line
 lines_from number [] = []
 lines_from number (part ∷ parts) =
-    record { number = number; text = text_of part parts; bytes = bytes_of part parts } ∷ lines_from (number + 1) parts
+    record { number = number; text = text_of_lines part parts; bytes = line_part_bytes part parts } ∷ lines_from (number + 1) parts
 
 -- the lines of an input, counted from 1; the last may lack its line feed
 abbrev pub lines_of : List ℕ → List Line
@@ -38,12 +38,12 @@ lines_of input = lines_from 1 (parts_at 10 input)
 abbrev pub is_mark : Line → Bool
 is_mark line = bytes_eq line.text (codes "%%")
 
--- the bytes before the first such line, as they stand
+-- the bytes before the first such line, as they are
 abbrev pub project_text : List Line → List ℕ
 project_text [] = []
 project_text (line ∷ lines) = if is_mark line then [] else line.bytes ++ project_text lines
 
--- the lines behind it
+-- the lines after it
 abbrev pub command_lines : List Line → List Line
 command_lines [] = []
 command_lines (line ∷ lines) = if is_mark line then lines else command_lines lines
@@ -56,7 +56,7 @@ closed_text lines = if list_any is_mark lines then Some (project_text lines) els
 abbrev pub is_word : List ℕ → Bool
 is_word part = not (length part == 0)
 
--- the words of a line: what stands between its spaces and isn't empty
+-- the words of a line: what is between its spaces and isn't empty
 abbrev pub words_of : List ℕ → List (List ℕ)
 words_of text = filter is_word (parts_at 32 text)
 

@@ -11,7 +11,7 @@ use Rattle.hc_text.specs.Numbers.{bytes_in, number_in}
 abbrev pub poke_within : Poking → Option Poking
 poke_within p = if nat_le (p.at + length p.part) MEMORY_BYTES then Some p else None
 
--- `poke` has a station address, an address and bytes, of which all lie in memory
+-- `poke` has a station address, an address and bytes that all lie in memory
 abbrev pub poking_in : List (List ℕ) → Option Poking
 poking_in [] = None
 poking_in (station ∷ []) = None
@@ -25,7 +25,7 @@ poking_in (station ∷ address ∷ bytes ∷ other ∷ words) = None
 abbrev pub poke_in : List (List ℕ) → Option Command
 poke_in arguments = option_map command.Poke (poking_in arguments)
 
--- 1 to 1,486 bytes, of which all lie in memory
+-- 1 to 1,486 bytes that all lie in memory
 abbrev pub peek_within : Peeking → Option Peeking
 peek_within p = if nat_le 1 p.count && nat_le p.count MAX_DATA && nat_le (p.at + p.count) MEMORY_BYTES then Some p else None
 

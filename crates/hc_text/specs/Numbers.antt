@@ -15,17 +15,17 @@ abbrev pub all_digits : ℕ → List ℕ → Bool
 all_digits base [] = true
 all_digits base (b ∷ bs) = nat_lt (digit_of b) base && all_digits base bs
 
--- the number that digits spell behind those of n
-abbrev pub spelt : ℕ → ℕ → List ℕ → ℕ
-spelt base n [] = n
-spelt base n (b ∷ bs) = spelt base (n * base + digit_of b) bs
+-- the number that digits spell after those of n
+abbrev pub spelt_number : ℕ → ℕ → List ℕ → ℕ
+spelt_number base n [] = n
+spelt_number base n (b ∷ bs) = spelt_number base (n * base + digit_of b) bs
 
 -- the same where they are digits and it is at most `most`
 abbrev pub spelt_within : ℕ → ℕ → ℕ → List ℕ → Option ℕ
 spelt_within base most n digits =
-    if all_digits base digits && nat_le (spelt base n digits) most then Some (spelt base n digits) else None
+    if all_digits base digits && nat_le (spelt_number base n digits) most then Some (spelt_number base n digits) else None
 
--- the number of digits, of which there is at least one
+-- the number of digits, at least one
 abbrev pub digits_number : ℕ → ℕ → List ℕ → Option ℕ
 digits_number base most digits = if length digits == 0 then None else spelt_within base most 0 digits
 

@@ -24,7 +24,7 @@ hex_address n =
 abbrev pub hex_bytes : List ℕ → List ℕ
 hex_bytes bytes = flat_map hex_byte bytes
 
--- a byte of a register block, behind a space
+-- a byte of a register block, after a space
 abbrev pub spaced_byte : ℕ → List ℕ
 spaced_byte b = codes " " ++ hex_byte b
 

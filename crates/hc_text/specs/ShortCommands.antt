@@ -24,10 +24,10 @@ show_in (task ∷ datagram ∷ []) =
 show_in (task ∷ datagram ∷ other ∷ words) = None
 
 -- `place` has the number of a variable
-abbrev pub place_in : List (List ℕ) → Option Command
-place_in [] = None
-place_in (number ∷ []) = option_map command.Place (number_in 4294967295 number)
-place_in (number ∷ other ∷ words) = None
+abbrev pub place_command : List (List ℕ) → Option Command
+place_command [] = None
+place_command (number ∷ []) = option_map command.Place (number_in 4294967295 number)
+place_command (number ∷ other ∷ words) = None
 
 -- `arrive` has the bytes of a frame, or any others
 abbrev pub arrive_in : List (List ℕ) → Option Command

@@ -41,9 +41,9 @@ impl From<AllocError> for Unread {
 }
 
 /// All that a reader has left, at most `MOST_INPUT` bytes. It takes at most `MOST_INPUT` + 1 turns, whatever
-/// the reader does; an interrupted turn is taken again and counts as one. `Unread::TooLong` where more
-/// bytes came, `Unread::Failed` where a read failed or the turns ended before the input did, and
-/// `Unread::Memory` where a growth was refused. After a refusal the reader stands behind what was read of
+/// the reader does; an interrupted turn is taken again and counts as one. `Unread::TooLong` where more bytes
+/// came, `Unread::Failed` where a read failed or the turns ended before the input did, and
+/// `Unread::Memory` where a growth was refused. After a refusal the reader is after what was read of
 /// it, which is lost.
 pub fn read_all<R: Read>(alloc: Global, input: &mut R) -> Result<Vec<u8>, Unread>
     ensures bytes { IfOk result (λ bytes. IfSome (R.remaining input.old) (λ all. bytes.items ≡ all)) }

@@ -3,23 +3,24 @@ ghost use Rattle.std.specs.Prelude.{◌≡◌, ◌≤◌, ◌<◌, ◌+◌, ◌=
 ghost use Rattle.std.specs.List.{position};
 ghost use Rattle.std.specs.Option.{option_copied};
 ghost use Rattle.std.specs.Str.Lines.{strip_carriage_return};
-ghost use Rattle.hc_text.specs.Lines.{closed_text, command_lines, lines_of, parts_at, project_text, text_of};
-ghost use Rattle.hc_text.specs.Cutting.{CutsLine, bytes_after, joined, left_in, lines_after, parts_after};
+ghost use Rattle.hc_text.specs.Lines.{closed_text, command_lines, lines_of, parts_at, project_text, text_of_lines};
+ghost use Rattle.hc_text.specs.Cutting.{CutsLine, bytes_after, part_joined, left_in, lines_after, parts_after};
 ghost use Rattle.hc_text.specs.declared.input.TheConstants.{MOST_INPUT};
 
 /// The line that ends the project text.
 const MARK: &[u8] = b"%%";
 
+/// The place of the first byte with this value; none if there is none.
 fn find_byte(text: &[u8], byte: u8) -> Option<usize>
     ensures { result ≡ position (λ b. b == byte) text.now }
 {
     text.iter().position(|b| *b == byte)
 }
 
-/// What stands before the first such byte, and what follows it; none where there is no such byte.
+/// What is before the first such byte, and what follows it; none where there is no such byte.
 pub fn split_at_byte(text: &[u8], byte: u8) -> (&[u8], Option<&[u8]>)
     ensures parts { parts_at byte text.now ≡ result.0.now ∷ parts_after byte (option_copied result.1) }
-    ensures whole { joined byte result.0.now (option_copied result.1) ≡ text.now }
+    ensures whole { part_joined byte result.0.now (option_copied result.1) ≡ text.now }
     ensures shorter { left_in (option_copied result.1) ≤ length text.now }
 {
     match find_byte(text, byte) {
@@ -28,6 +29,7 @@ pub fn split_at_byte(text: &[u8], byte: u8) -> (&[u8], Option<&[u8]>)
     }
 }
 
+/// The part without a carriage return at its end, if it has one.
 fn strip_carriage_return(part: &[u8]) -> &[u8]
     ensures { result.now ≡ strip_carriage_return part.now }
 {
@@ -41,7 +43,7 @@ fn strip_carriage_return(part: &[u8]) -> &[u8]
 /// The text of a line, from its part and what follows the part's line feed.
 #[tactic(auto, using(crate::proofs::Parts::text_of_some))]
 fn text_of<'a>(part: &'a [u8], rest: Option<&[u8]>) -> &'a [u8]
-    ensures { result.now ≡ text_of part.now (parts_after 10 (option_copied rest.entry)) }
+    ensures { result.now ≡ text_of_lines part.now (parts_after 10 (option_copied rest.entry)) }
 {
     match rest {
         None => part,
@@ -49,7 +51,7 @@ fn text_of<'a>(part: &'a [u8], rest: Option<&[u8]>) -> &'a [u8]
     }
 }
 
-/// The text of the first line, and what follows the line; none behind the last line.
+/// The text of the first line, and what follows the line; none after the last line.
 pub fn split_line(input: &[u8]) -> (&[u8], Option<&[u8]>)
     ensures line { CutsLine input.now result.0.now (option_copied result.1) }
     ensures shorter { left_in (option_copied result.1) ≤ length input.now }
@@ -61,22 +63,23 @@ pub fn split_line(input: &[u8]) -> (&[u8], Option<&[u8]>)
 /// Lines cut at the mark.
 #[derive(Debug, Drop)]
 pub struct Sections<'a> {
-    /// The project text: the bytes before the mark, as they stand; all where there is no mark.
+    /// The project text: the bytes before the mark, as they are; all where there is no mark.
     pub project: &'a [u8],
-    /// The lines behind the mark; none where nothing follows it.
+    /// The lines after the mark; none where nothing follows it.
     pub commands: Option<&'a [u8]>,
     /// The number of the first of them.
     pub first: u32,
 }
 
-/// Cuts lines, the first of which has a number, at the first line `%%`; none where no line is that.
+/// Cuts lines, from a number on, at the first line `%%`; none where no line is that.
 pub fn split_at_mark(lines: Option<&[u8]>, number: u32) -> Option<Sections<'_>>
     requires { number + left_in (option_copied lines) ≤ MOST_INPUT + 2 }
     ensures project { option_map (λ sections. sections.project.now) result ≡ closed_text (lines_after number (option_copied lines.entry)) }
     ensures commands { IfSome result (λ sections. lines_after sections.first (option_copied sections.commands) ≡ command_lines (lines_after number (option_copied lines.entry))) }
     ensures few { IfSome result (λ sections. sections.first + left_in (option_copied sections.commands) ≤ MOST_INPUT + 2) }
     ensures shorter { IfSome result (λ sections. left_in (option_copied sections.commands) < left_in (option_copied lines.entry)) }
-    ensures unmarked { IfNone result ((project_text (lines_after number (option_copied lines.entry)) ≡ bytes_after (option_copied lines.entry)) × (command_lines (lines_after number (option_copied lines.entry)) ≡ [])) }
+    ensures unmarked { IfNone result (project_text (lines_after number (option_copied lines.entry)) ≡ bytes_after (option_copied lines.entry)) }
+    ensures uncommanded { IfNone result (command_lines (lines_after number (option_copied lines.entry)) ≡ []) }
 {
     let input = lines?;
     let mut next = number;

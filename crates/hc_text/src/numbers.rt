@@ -18,7 +18,7 @@ fn digit_of(byte: u8) -> u8
     }
 }
 
-/// A number with one more digit behind it, where it is at most `most`.
+/// A number with one more digit after it, where it is at most `most`.
 fn with_digit(number: u64, base: u64, digit: u64, most: u64) -> Option<u64>
     ensures { result ≡ (if nat_le (number * base + digit) most then Some (number * base + digit) else None) }
 {
@@ -26,7 +26,7 @@ fn with_digit(number: u64, base: u64, digit: u64, most: u64) -> Option<u64>
     if number <= most { Some(number) } else { None }
 }
 
-/// The number that digits of a base spell, of which there is at least one, where it is at most `most`.
+/// The number that digits of a base, at least one, spell, where it is at most `most`.
 fn digits_number(digits: &[u8], base: u64, most: u64) -> Option<u64>
     requires low { 2 ≤ base }
     requires high { base ≤ 16 }

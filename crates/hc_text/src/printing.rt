@@ -49,7 +49,7 @@ pub fn push_bytes(bytes: &[u8], out: &mut String) -> Result<(), AllocError>
     Ok(())
 }
 
-/// Adds a byte of a register block, behind a space.
+/// Adds a byte of a register block, after a space.
 fn push_spaced_byte(byte: u8, out: &mut String) -> Result<(), AllocError>
     ensures { OnOk result (string_bytes out.new ≡ string_bytes out.old ++ spaced_byte byte) }
 {
@@ -57,7 +57,7 @@ fn push_spaced_byte(byte: u8, out: &mut String) -> Result<(), AllocError>
     push_byte(byte, out)
 }
 
-/// Adds the bytes of a register block, each behind a space. `AllocError` where a growth was refused;
+/// Adds the bytes of a register block, each after a space. `AllocError` where a growth was refused;
 /// `out` may then have a front of them.
 pub fn push_spaced_bytes(bytes: &[u8], out: &mut String) -> Result<(), AllocError>
     ensures { OnOk result (string_bytes out.new ≡ string_bytes out.old ++ spaced_bytes bytes.now) }

@@ -1,5 +1,5 @@
 //! Adding to room that a text has, for which no growth is needed: a text whose room was taken before
-//! something is changed is finished behind the change.
+//! something is changed is finished after the change.
 ghost use Rattle.std.specs.Prelude.{◌≡◌, ◌≤◌, ◌<◌, ◌+◌, ◌*◌, false, [], ◌∷◌, ◌++◌, decimal, length, string_bytes};
 ghost use Rattle.std.specs.Fmt.{digit_glyph};
 ghost use Rattle.hc_text.specs.Printing.{hex_byte, hex_bytes};
@@ -34,7 +34,7 @@ pub fn add_number(number: u64, out: &mut String)
     add_text(digits.format(number), out);
 }
 
-/// Adds a byte as two lower-case hexadecimal digits, for which there is room. It takes no memory.
+/// Adds a byte as two lower-case hexadecimal digits; there is room. It takes no memory.
 pub fn add_byte(byte: u8, out: &mut String)
     requires { string_len out.old + 2 ≤ string_capacity out.old }
     ensures bytes { string_bytes out.new ≡ string_bytes out.old ++ hex_byte byte }
@@ -63,8 +63,8 @@ fn add_digit(digit: u8, out: &mut String)
     };
 }
 
-/// Adds bytes as two lower-case hexadecimal digits each, without spaces, for which there is room. It takes
-/// no memory.
+/// Adds bytes as two lower-case hexadecimal digits each, without spaces; there is room. It takes no
+/// memory.
 pub fn add_bytes(bytes: &[u8], out: &mut String)
     requires { string_len out.old + 2 * length bytes.now ≤ string_capacity out.old }
     ensures bytes { string_bytes out.new ≡ string_bytes out.old ++ hex_bytes bytes.now }

@@ -6,8 +6,8 @@ ghost use Rattle.hc_text.specs.Lines.{sole, words_of};
 use crate::lines::split_at_byte;
 use std::alloc::{AllocError, Global};
 
-/// The words of a line: what stands between its spaces and isn't empty. `AllocError` where a growth
-/// was refused.
+/// The words of a line: what is between its spaces and isn't empty. `AllocError` where a growth was
+/// refused.
 pub fn split_words<'a>(alloc: Global, line: &'a [u8]) -> Result<Vec<&'a [u8]>, AllocError>
     ensures { IfOk result (λ words. map (λ word. word.now) words.items ≡ words_of line.now) }
 {

@@ -4,6 +4,7 @@
 use hc_program::engine::run_hotline;
 use std::process::ExitCode;
 
+/// Runs the commands of standard input, prints their answers, and ends with the run's exit status.
 fn main(rt: HostRuntime) -> ExitCode {
     let mut input = rt.stdin();
     let mut output = rt.stdout();

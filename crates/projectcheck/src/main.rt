@@ -4,6 +4,7 @@
 use hc_program::checking::run_projectcheck;
 use std::process::ExitCode;
 
+/// Checks the project text of standard input, prints what it found, and ends with the check's exit status.
 fn main(rt: HostRuntime) -> ExitCode {
     let mut input = rt.stdin();
     let mut output = rt.stdout();

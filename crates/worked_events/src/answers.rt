@@ -17,7 +17,7 @@ const GOOD: Back = (Lrw, 0x0100_0000, b"\0\x34\x0a", 3);
 pub const ARRIVAL: &[u8] =
     b"\xff\xff\xff\xff\xff\xff\x02\0\0\0\0\x04\x88\xa4\x0f\x10\x0c\x04\0\0\0\x01\x03\0\0\0\x02\x34\x0a\x03\0";
 
-/// With nothing posted the task is sent with data of zeros, so behind the 10 bytes of the datagram's head there are
+/// With nothing posted the task is sent with data of zeros, so after the 10 bytes of the datagram's head there are
 /// 34 zeros up to 60 bytes. The answer is good once; another counter, also a higher one, leaves what was read.
 pub const UNPOSTED: &[Row] = &[
     (
@@ -51,7 +51,7 @@ pub const UNPOSTED: &[Row] = &[
 ];
 
 /// A post of one byte, as many as the task has outputs, is sent in the datagram's first byte, before two of inputs,
-/// the counter and 29 zeros. What is read are the data of the good answer, and those still behind one with the
+/// the counter and 29 zeros. What is read are the data of the good answer, and those still after one with the
 /// counter 2; a good one for the same frame comes too late then.
 pub const POSTED: &[Row] = &[
     (Post(0, 0, &[2, 0]), Wanted::Refused(CoreFault::PostLength)),
@@ -187,6 +187,7 @@ const ANSWERS: &[Case] = &[
     (AXIS, &[Blocks(4), Sends(1000), Rows(LAST_OF_MANY)]),
 ];
 
+/// A good answer to a sending is read once. Stale answers, other counters and other frames change nothing that is read.
 #[test]
 fn an_answer_is_read_once(rt: HostRuntime) -> Result<(), Fail> {
     assert_eq!(rt; first_wrong_case(rt.alloc(), ANSWERS)?, None);

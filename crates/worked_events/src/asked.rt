@@ -13,7 +13,7 @@ use std::alloc::{AllocError, Global};
 /// A datagram that comes back: its command, its address, its data and its working counter.
 pub type Back = (Command, u32, &'static [u8], u16);
 
-/// A frame: its serial, the number of bytes of its datagrams, the bytes behind its head, and how many zeros
+/// A frame: its serial, the number of bytes of its datagrams, the bytes after its head, and how many zeros
 /// follow them.
 pub type Text = (u16, u8, &'static [u8], usize);
 
@@ -82,13 +82,13 @@ fn are_zeros(bytes: &[u8]) -> bool {
     true
 }
 
-/// Whether bytes are these ones and so many zeros behind them.
+/// Whether bytes are these ones and so many zeros after them.
 fn are_padded(bytes: &[u8], front: &[u8], zeros: usize) -> bool {
     if bytes.len() != front.len().saturating_add(zeros) {
         return false;
     }
-    let (own, behind) = bytes.split_at(front.len());
-    own == front && are_zeros(behind)
+    let (own, after_it) = bytes.split_at(front.len());
+    own == front && are_zeros(after_it)
 }
 
 /// Whether bytes are a frame's.
@@ -96,8 +96,8 @@ pub fn is_text(bytes: &[u8], text: &Text) -> bool {
     if bytes.len() < 16 {
         return false;
     }
-    let (head, behind) = bytes.split_at(16);
-    head == head_of(text.0, text.1).as_slice() && are_padded(behind, text.2, text.3)
+    let (head, after_it) = bytes.split_at(16);
+    head == head_of(text.0, text.1).as_slice() && are_padded(after_it, text.2, text.3)
 }
 
 /// Whether frames are these.
@@ -214,7 +214,8 @@ pub fn answer(driven: &mut Driven, alloc: Global, asked: Asked) -> Result<Answer
     }
 }
 
-/// Whether a row's edit is told as the row wants where it is prepared, and leaves the core as it was.
+/// Whether a row's edit is reported as the row wants where it is prepared, and leaves the core as it
+/// was.
 fn is_prepared(driven: &mut Driven, alloc: Global, row: &Row) -> Result<bool, AllocError> {
     let Some(edit) = edit_of(alloc, row.0)? else {
         return Ok(false);

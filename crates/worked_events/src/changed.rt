@@ -1,4 +1,4 @@
-//! Every cut of an answer, and every answer of which one byte has another value.
+//! Every cut of an answer, and every answer with another value in one byte.
 use crate::answers::{ANSWERED, ARRIVAL, INDEX_ALONE, POSTED, THREE_EPOCHS};
 use crate::asked::Asked::{Post, Remap, Send};
 use crate::asked::{Row, Wanted, answer, first_wrong, holds, is_wanted};
@@ -34,7 +34,7 @@ enum Meaning {
 /// the same; a header of another length doesn't fit the bytes that came, unless its type is another one first; a
 /// command that there is, and an address, are another sending's; the length has a bit for a frame that circulates and
 /// one that promises more.
-fn told(at: usize, value: u8) -> Meaning {
+fn answer_given(at: usize, value: u8) -> Meaning {
     match at {
         0..=6 | 24 | 25 => Meaning::Inputs,
         7..=10 | 18..=21 => Meaning::Stale,
@@ -78,9 +78,9 @@ fn is_one(answer: &Answer, outcome: Outcome) -> bool {
     }
 }
 
-/// Whether the answer to a frame is that which is told.
-fn is_told(answer: &Answer, told: Meaning) -> bool {
-    match told {
+/// Whether the answer to a frame is that which is reported.
+fn is_answered_so(answer: &Answer, answer_given: Meaning) -> bool {
+    match answer_given {
         Meaning::Refused(fault) => matches!(answer, Answer::Refused(found) if *found == fault),
         Meaning::Stale => matches!(answer, Answer::Stale),
         Meaning::Inputs => is_wanted(answer, &ANSWERED),
@@ -113,14 +113,14 @@ fn reads(driven: &mut Driven, alloc: Global, data: Option<&[u8]>) -> Result<bool
     Ok(shows(&driven.put(alloc, Event::Read(0))?, data))
 }
 
-/// Whether the answer to a frame that arrives is that which is told.
+/// Whether the answer to a frame that arrives is that which is reported.
 fn is_answered(
     driven: &mut Driven,
     alloc: Global,
     frame: &[u8],
-    told: Meaning,
+    answer_given: Meaning,
 ) -> Result<bool, AllocError> {
-    Ok(is_told(&driven.put(alloc, Event::Arrive(frame))?, told))
+    Ok(is_answered_so(&driven.put(alloc, Event::Arrive(frame))?, answer_given))
 }
 
 /// Whether nothing is read, nothing is owed, and the next serial is 5.
@@ -128,14 +128,14 @@ fn awaits_still(driven: &mut Driven, alloc: Global) -> Result<bool, AllocError> 
     Ok(reads(driven, alloc, None)? && driven.core.owed() == 0 && driven.core.next_serial() == 5)
 }
 
-/// Whether a frame that is no answer is answered as told, and leaves all as it was.
+/// Whether a frame that is no answer is answered as given, and leaves all as it was.
 fn is_left_out(
     driven: &mut Driven,
     alloc: Global,
     frame: &[u8],
-    told: Meaning,
+    answer_given: Meaning,
 ) -> Result<bool, AllocError> {
-    Ok(is_answered(driven, alloc, frame, told)? && awaits_still(driven, alloc)?)
+    Ok(is_answered(driven, alloc, frame, answer_given)? && awaits_still(driven, alloc)?)
 }
 
 /// The answer to a serial, with another value of a byte. The serial's bytes are 10 and 11, the index is 17.
@@ -171,35 +171,46 @@ fn is_edited(driven: &mut Driven, alloc: Global) -> Result<bool, AllocError> {
     ))
 }
 
-/// Whether an epoch begins, in which nothing was read, and the task is sent in it.
+/// Whether an epoch begins, where nothing was read, and the task is sent in it.
 fn begins_anew(driven: &mut Driven, alloc: Global) -> Result<bool, AllocError> {
     Ok(is_edited(driven, alloc)? && is_sent(driven, alloc)?)
 }
 
-/// Whether a frame that is the answer is answered as told, and its data are read then where its counter is good.
+/// Whether a frame that is the answer is answered as given, and its data are read then where its counter is
+/// good.
 fn is_taken(
     driven: &mut Driven,
     alloc: Global,
     frame: &[u8],
-    told: Meaning,
+    answer_given: Meaning,
 ) -> Result<bool, AllocError> {
-    let data = match told {
+    let data = match answer_given {
         Meaning::Inputs => frame.get(26..29),
         _ => None,
     };
-    Ok(is_answered(driven, alloc, frame, told)? && reads(driven, alloc, data)?)
+    Ok(is_answered(driven, alloc, frame, answer_given)? && reads(driven, alloc, data)?)
 }
 
-/// Whether the answer with another value of a byte is answered as told, and leaves what it should: one that answers
-/// nothing with the serial 4, one that answers with a serial and an epoch of its own.
+/// Whether the answer with another value of a byte is answered as given, and leaves what it should: one that
+/// answers nothing with the serial 4, one that answers with a serial and an epoch of its own.
 fn holds_of(driven: &mut Driven, alloc: Global, at: usize, value: u8) -> Result<bool, AllocError> {
     if !leaves_an_answer(at) {
-        return is_left_out(driven, alloc, &changed(4, at, value), told(at, value));
+        return is_left_out(
+            driven,
+            alloc,
+            &changed(4, at, value),
+            answer_given(at, value),
+        );
     }
     let serial = driven.core.next_serial();
     Ok(
         begins_anew(driven, alloc)?
-            && is_taken(driven, alloc, &changed(serial, at, value), told(at, value))?,
+            && is_taken(
+                driven,
+                alloc,
+                &changed(serial, at, value),
+                answer_given(at, value),
+            )?,
     )
 }
 
@@ -216,16 +227,16 @@ fn held(driven: &mut Driven, alloc: Global, at: usize, old: u8) -> Result<u32, A
 
 /// Whether the unchanged frame is the answer, or came too late, since an epoch began.
 fn ends_well(driven: &mut Driven, alloc: Global, at: usize) -> Result<bool, AllocError> {
-    let told = if leaves_an_answer(at) {
+    let answer_given = if leaves_an_answer(at) {
         Meaning::Stale
     } else {
         Meaning::Inputs
     };
-    is_answered(driven, alloc, ARRIVAL, told)
+    is_answered(driven, alloc, ARRIVAL, answer_given)
 }
 
 /// How many of a byte's other values hold on a line that awaits the answer; none where it doesn't, or the unchanged
-/// frame behind them all is something else than it should.
+/// frame after them all is something else than it should.
 fn held_of(driven: &mut Driven, alloc: Global, at: usize, old: u8) -> Result<u32, AllocError> {
     if first_wrong_at(driven, alloc, AWAITING)?.is_some() {
         return Ok(0);
@@ -244,7 +255,7 @@ fn held_at(alloc: Global, at: usize, old: u8) -> Result<u32, Fail> {
     Ok(held_of(&mut driven, alloc, at, old)?)
 }
 
-/// The first byte of which not each of 255 other values holds; none where all do.
+/// The first byte where not each of 255 other values holds; none where all do.
 fn first_unheld(alloc: Global) -> Result<Option<usize>, Fail> {
     let mut at = 0_usize;
     for byte in ARRIVAL {
@@ -264,7 +275,8 @@ fn every_changed_answer(rt: HostRuntime) -> Result<(), Fail> {
     Ok(())
 }
 
-/// Why an answer of which only so many bytes came can't be read: the least datagram ends with the byte 27.
+/// Why an answer can't be read when only so many of its bytes came: the least datagram ends with the byte
+/// 27.
 fn cut_fault(size: usize) -> CoreFault {
     if size < 28 {
         CoreFault::Short
@@ -281,8 +293,8 @@ fn cut(size: usize) -> &'static [u8] {
 /// Whether each cut of the awaited answer is refused and leaves all as it was, and the whole one is answered.
 fn cuts_hold(driven: &mut Driven, alloc: Global) -> Result<bool, AllocError> {
     for size in 0..SIZE {
-        let told = Meaning::Refused(cut_fault(size));
-        if !is_left_out(driven, alloc, cut(size), told)? {
+        let answer_given = Meaning::Refused(cut_fault(size));
+        if !is_left_out(driven, alloc, cut(size), answer_given)? {
             return Ok(false);
         }
     }
@@ -301,6 +313,7 @@ fn cuts_hold_of_axis(alloc: Global) -> Result<bool, Fail> {
     Ok(cuts_hold_of(&mut driven, alloc)?)
 }
 
+/// Each cut of an awaited answer is refused and changes nothing, and the whole answer is taken afterwards.
 #[test]
 fn every_cut_answer(rt: HostRuntime) -> Result<(), Fail> {
     assert!(rt; cuts_hold_of_axis(rt.alloc())?);
@@ -310,8 +323,8 @@ fn every_cut_answer(rt: HostRuntime) -> Result<(), Fail> {
 /// Whether each cut of the answer is refused.
 fn refuses_cuts(driven: &mut Driven, alloc: Global) -> Result<bool, AllocError> {
     for size in 0..SIZE {
-        let told = Meaning::Refused(cut_fault(size));
-        if !is_answered(driven, alloc, cut(size), told)? {
+        let answer_given = Meaning::Refused(cut_fault(size));
+        if !is_answered(driven, alloc, cut(size), answer_given)? {
             return Ok(false);
         }
     }
@@ -321,10 +334,10 @@ fn refuses_cuts(driven: &mut Driven, alloc: Global) -> Result<bool, AllocError> 
 /// Whether each answer with another value of a byte is refused that can't be read.
 fn refuses_at(driven: &mut Driven, alloc: Global, at: usize) -> Result<bool, AllocError> {
     for value in 0..=255_u8 {
-        let told = told(at, value);
+        let answer_given = answer_given(at, value);
         let frame = changed(4, at, value);
-        if matches!(told, Meaning::Refused(_)) && frame.as_slice() != ARRIVAL {
-            if !is_answered(driven, alloc, &frame, told)? {
+        if matches!(answer_given, Meaning::Refused(_)) && frame.as_slice() != ARRIVAL {
+            if !is_answered(driven, alloc, &frame, answer_given)? {
                 return Ok(false);
             }
         }
@@ -375,14 +388,16 @@ fn first_disturbed_of(alloc: Global, rows: &[Row]) -> Result<Option<usize>, Fail
     Ok(first_disturbed_written(&mut driven, alloc, rows)?)
 }
 
+/// Frames that can't be read are refused between posts, sendings and answers, and change none of the answers.
 #[test]
-fn refused_frames_stand_between_answers(rt: HostRuntime) -> Result<(), Fail> {
+fn refused_frames_come_between_answers(rt: HostRuntime) -> Result<(), Fail> {
     assert_eq!(rt; first_disturbed_of(rt.alloc(), POSTED)?, None);
     Ok(())
 }
 
+/// Frames that can't be read are refused between edits, and change none of the answers over three epochs.
 #[test]
-fn refused_frames_stand_between_edits(rt: HostRuntime) -> Result<(), Fail> {
+fn refused_frames_come_between_edits(rt: HostRuntime) -> Result<(), Fail> {
     assert_eq!(rt; first_disturbed_of(rt.alloc(), THREE_EPOCHS)?, None);
     Ok(())
 }
@@ -410,8 +425,9 @@ fn last_disturbed_is_answered(alloc: Global) -> Result<bool, Fail> {
     Ok(last_is_answered(&mut driven, alloc)?)
 }
 
+/// Frames that can't be read are refused between many sendings, and the last sending is still answered.
 #[test]
-fn refused_frames_stand_between_sendings(rt: HostRuntime) -> Result<(), Fail> {
+fn refused_frames_come_between_sendings(rt: HostRuntime) -> Result<(), Fail> {
     assert!(rt; last_disturbed_is_answered(rt.alloc())?);
     Ok(())
 }

@@ -1,4 +1,4 @@
-//! Every answer to a frame of three register writes of which one byte has another value.
+//! Every answer to a frame of three register writes with another value in one byte.
 use crate::asked::Back;
 use crate::driven::Driven;
 use crate::lines::{opened_axis, write_one};
@@ -38,7 +38,7 @@ enum Meaning {
 
 /// What the answer is where a byte of a datagram has another value, by the fields of the datagram: command, index, four
 /// bytes of address, two of length, two of interrupt, data, two of working counter.
-fn field_told(datagram: usize, at: usize, data: usize, value: u8) -> Meaning {
+fn field_answered(datagram: usize, at: usize, data: usize, value: u8) -> Meaning {
     match at {
         0 if value == 1 || value == 2 || value == 12 => Meaning::Stale,
         0 => Meaning::Refused(CoreFault::UnknownCommand),
@@ -54,7 +54,7 @@ fn field_told(datagram: usize, at: usize, data: usize, value: u8) -> Meaning {
 /// The same by the byte of the frame: destination and the source's first byte are anyone's; of the source's other bytes the
 /// last one is also each datagram's index; then come EtherType, length and type. A length of 28 or 48 ends with the first or the
 /// second datagram, which promises that another follows.
-fn told(at: usize, value: u8) -> Meaning {
+fn answer_given(at: usize, value: u8) -> Meaning {
     match at {
         0..=6 => Meaning::AllDone,
         7..=10 => Meaning::Stale,
@@ -64,9 +64,9 @@ fn told(at: usize, value: u8) -> Meaning {
         14 => Meaning::Refused(CoreFault::BadLength),
         15 if (0x11..=0x17).contains(&value) => Meaning::Refused(CoreFault::BadLength),
         15 => Meaning::Refused(CoreFault::BadType),
-        16..=43 => field_told(0, at.saturating_sub(16), 16, value),
-        44..=63 => field_told(1, at.saturating_sub(44), 8, value),
-        _ => field_told(2, at.saturating_sub(64), 16, value),
+        16..=43 => field_answered(0, at.saturating_sub(16), 16, value),
+        44..=63 => field_answered(1, at.saturating_sub(44), 8, value),
+        _ => field_answered(2, at.saturating_sub(64), 16, value),
     }
 }
 
@@ -87,9 +87,9 @@ fn with_missed(number: usize) -> [Outcome; 3] {
     }
 }
 
-/// Whether the answer to a frame is that which is told.
-fn is_told(answer: &Answer, told: Meaning) -> bool {
-    match told {
+/// Whether the answer to a frame is that which is reported.
+fn is_answered_so(answer: &Answer, answer_given: Meaning) -> bool {
+    match answer_given {
         Meaning::Refused(fault) => matches!(answer, Answer::Refused(found) if *found == fault),
         Meaning::LeftOut => matches!(answer, Answer::Refused(_) | Answer::Stale),
         Meaning::Stale => matches!(answer, Answer::Stale),
@@ -99,8 +99,8 @@ fn is_told(answer: &Answer, told: Meaning) -> bool {
 }
 
 /// How many blocks are owed after it.
-fn owed_after(told: Meaning) -> u32 {
-    match told {
+fn owed_after(answer_given: Meaning) -> u32 {
+    match answer_given {
         Meaning::AllDone => 0,
         Meaning::OneMissed(_) => 1,
         _ => 3,
@@ -108,8 +108,8 @@ fn owed_after(told: Meaning) -> u32 {
 }
 
 /// Whether an answer ends what is awaited.
-fn is_answer(told: Meaning) -> bool {
-    matches!(told, Meaning::AllDone | Meaning::OneMissed(_))
+fn is_answer(answer_given: Meaning) -> bool {
+    matches!(answer_given, Meaning::AllDone | Meaning::OneMissed(_))
 }
 
 /// The axis is forgotten, its first block is written and answered, and the other three are sent in a frame with the serial
@@ -135,7 +135,8 @@ fn changed(alloc: Global, serial: u64, at: usize, value: u8) -> Result<Vec<u8>, 
     Ok(frame)
 }
 
-/// Whether the answer with another value of a byte is answered as told, and leaves as many blocks owed as it should.
+/// Whether the answer with another value of a byte is answered as given, and leaves as many blocks owed as it
+/// should.
 fn holds_of(
     driven: &mut Driven,
     alloc: Global,
@@ -145,8 +146,8 @@ fn holds_of(
 ) -> Result<bool, AllocError> {
     let frame = changed(alloc, serial, at, value)?;
     let answer = driven.put(alloc, Event::Arrive(frame.as_slice()))?;
-    let told = told(at, value);
-    Ok(is_told(&answer, told) && driven.core.owed() == owed_after(told))
+    let answer_given = answer_given(at, value);
+    Ok(is_answered_so(&answer, answer_given) && driven.core.owed() == owed_after(answer_given))
 }
 
 /// The serial of a frame that waits for its answer: the one that was sent, unless it was answered; then another is sent.
@@ -173,7 +174,7 @@ fn held(driven: &mut Driven, alloc: Global, at: usize, old: u8) -> Result<u32, A
             if holds_of(driven, alloc, serial, at, value)? {
                 held = held.saturating_add(1);
             }
-            sent = if is_answer(told(at, value)) {
+            sent = if is_answer(answer_given(at, value)) {
                 None
             } else {
                 Some(serial)
@@ -183,7 +184,7 @@ fn held(driven: &mut Driven, alloc: Global, at: usize, old: u8) -> Result<u32, A
     Ok(held)
 }
 
-/// The byte of an answer with an index; 0 behind its end.
+/// The byte of an answer with an index; 0 after its end.
 fn byte_of(frame: &[u8], at: usize) -> u8 {
     match frame.get(at) {
         Some(byte) => *byte,
@@ -191,15 +192,15 @@ fn byte_of(frame: &[u8], at: usize) -> u8 {
     }
 }
 
-/// Whether each other value of a byte holds, on an axis that just opened. Bytes of the serial and the index are those of the
-/// serial 1: the first block has the serial 0.
+/// Whether each other value of a byte holds, on an axis that just opened. Bytes of the serial and the index are the serial
+/// 1's: the first block has the serial 0.
 fn holds_at(alloc: Global, at: usize) -> Result<bool, Fail> {
     let mut driven = opened_axis(alloc)?;
     let old = byte_of(back(alloc, 1, THREE)?.as_slice(), at);
     Ok(held(&mut driven, alloc, at, old)? == 255)
 }
 
-/// The first byte of which not each of 255 other values holds; none where all do.
+/// The first byte where not each of 255 other values holds; none where all do.
 fn first_unheld(alloc: Global) -> Result<Option<usize>, Fail> {
     for at in 0..SIZE {
         if !holds_at(alloc, at)? {

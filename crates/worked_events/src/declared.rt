@@ -59,6 +59,8 @@ const DECLARED: &[Row] = &[
 /// The axis, programmed.
 const LINES: &[Case] = &[(AXIS, &[Blocks(4), Rows(DECLARED)])];
 
+/// A group that is declared while an axis runs begins an epoch, and no block is owed. Blocks are owed once the group is
+/// connected.
 #[test]
 fn a_declared_group_leaves_what_runs(rt: HostRuntime) -> Result<(), Fail> {
     assert_eq!(rt; first_wrong_case(rt.alloc(), LINES)?, None);

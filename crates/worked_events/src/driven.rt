@@ -58,7 +58,11 @@ fn served_or_again(core: &mut Core, alloc: Global, event: Event<'_>) -> Answer
 }
 
 /// What an edit would be answered, by its preparing; none where it names another number of blocks than it moves.
-fn told_before(core: &mut Core, alloc: Global, edit: &Edit) -> Result<Option<Answer>, EditFault> {
+fn answered_before(
+    core: &mut Core,
+    alloc: Global,
+    edit: &Edit,
+) -> Result<Option<Answer>, EditFault> {
     let ready = core.prepare(alloc, edit)?;
     let report = ready.edit().report();
     if ready.edit().blocks().len() != report.moved as usize {
@@ -78,7 +82,7 @@ pub struct Driven {
 }
 
 impl Driven {
-    /// The answer to the next event. Want of memory where a growth was refused twice, and to an event that may not be
+    /// The answer to the next event. `Memory` where a growth was refused twice, and for an event that may not be
     /// asked of a core.
     pub fn put(&mut self, alloc: Global, event: Event<'_>) -> Result<Answer, AllocError> {
         if !is_asked(event) {
@@ -91,12 +95,12 @@ impl Driven {
         Ok(answer)
     }
 
-    /// What an edit would be answered, if its preparing leaves the core as it was. Want of memory where a growth was
+    /// What an edit would be answered, if its preparing leaves the core as it was. `Memory` where a growth was
     /// refused.
     pub fn prepared(&mut self, alloc: Global, edit: &Edit) -> Result<Option<Answer>, AllocError> {
         let left = left_by(&self.core);
-        let answer = match told_before(&mut self.core, alloc, edit) {
-            Ok(told) => told,
+        let answer = match answered_before(&mut self.core, alloc, edit) {
+            Ok(answer_given) => answer_given,
             Err(EditFault::Memory) => return Err(AllocError),
             Err(fault) => Some(Answer::Refused(CoreFault::from(fault))),
         };

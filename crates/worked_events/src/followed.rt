@@ -1,6 +1,6 @@
-//! A copy of what tasks see that follows a core at work: behind each event it shows what the core's reads answer.
+//! A copy of what tasks see that follows a core at work: after each event it shows what the core's reads answer.
 ghost use Rattle.std.specs.Prelude.{IfOk};
-ghost use Rattle.hc_publish.specs.Told.{IsOpening};
+ghost use Rattle.hc_publish.specs.ChangesSince.{IsOpening};
 
 use crate::asked::{Row, holds};
 use crate::driven::Driven;
@@ -63,8 +63,8 @@ fn follows(copy: &mut Shown, core: &mut Core, alloc: Global) -> Result<bool, All
     shows_all(copy, core, alloc)
 }
 
-/// The number of the first row behind which the copy shows something else, or that isn't answered as it wants; none
-/// where all are well.
+/// The number of the first row after which the copy shows something else, or whose answer isn't as it should be;
+/// none where all are well.
 fn first_lost(
     driven: &mut Driven,
     copy: &mut Shown,
@@ -148,6 +148,7 @@ fn first_lost_case(alloc: Global, cases: &[Case]) -> Result<Option<(usize, At)>,
     Ok(None)
 }
 
+/// A copy that takes in the changes after each event shows what the core's reads answer.
 #[test]
 fn a_copy_shows_what_is_read(rt: HostRuntime) -> Result<(), Fail> {
     assert_eq!(rt; first_lost_case(rt.alloc(), values::LINES)?, None);

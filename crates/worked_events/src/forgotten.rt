@@ -133,6 +133,7 @@ const LINES: &[Case] = &[
     ),
 ];
 
+/// A forgotten slave owes all its blocks again, and an earlier write to it confirms nothing.
 #[test]
 fn forgotten_slaves_are_written_again(rt: HostRuntime) -> Result<(), Fail> {
     assert_eq!(rt; first_wrong_case(rt.alloc(), LINES)?, None);

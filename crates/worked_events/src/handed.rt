@@ -18,6 +18,7 @@ fn is_posted(core: &mut Core, task: u8, bytes: &[u8]) -> bool
     bytes.len() != usize::from(size) || core.post(task, epoch, bytes).is_ok()
 }
 
+/// The core accepts a post for the plan's epoch with as many bytes as the task has outputs.
 #[test]
 fn a_post_of_a_task_s_size_in_the_present_epoch_is_accepted(rt: HostRuntime) -> Result<(), Fail> {
     let mut driven = opened(rt.alloc(), AXIS)?;

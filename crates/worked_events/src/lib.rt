@@ -3,6 +3,8 @@
 #![tactic(auto)]
 
 #[cfg(test)]
+mod answer_given;
+#[cfg(test)]
 mod answers;
 #[cfg(test)]
 mod asked;
@@ -34,8 +36,6 @@ mod shared;
 mod stages;
 #[cfg(test)]
 mod texts;
-#[cfg(test)]
-mod told;
 #[cfg(test)]
 mod values;
 #[cfg(test)]

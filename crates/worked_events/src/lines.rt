@@ -86,7 +86,7 @@ fn area(
     })
 }
 
-/// The axis as it stands in the text above.
+/// The axis as it is in the text above.
 fn axis(alloc: Global) -> Result<Items<Group>, AllocError> {
     let mut areas = Items::new(alloc);
     areas.push(area(alloc, 2, Dir::Out, 0x1600, 1, 2)?)?;
@@ -169,7 +169,7 @@ pub fn opened_wide(alloc: Global, areas: &[(u8, u16)]) -> Result<Driven, Fail> {
     Ok(opened_project(alloc, Project::checked(alloc, groups))?)
 }
 
-/// Sets the working counter of a register write's frame to 1: it stands behind the 16 bytes of the frame's
+/// Sets the working counter of a register write's frame to 1: it is after the 16 bytes of the frame's
 /// head, the datagram's 10 and its data, whose number is the byte 22.
 fn answer_write(frame: &mut [u8]) {
     if frame.len() > 26 {
@@ -189,11 +189,11 @@ pub fn write_one(driven: &mut Driven, alloc: Global) -> Result<bool, AllocError>
     };
     let mut frame = text.into_vec();
     answer_write(frame.as_mut_slice());
-    let told = driven.put(alloc, Event::Arrive(frame.as_slice()))?;
-    Ok(matches!(told, Answer::WriteDone))
+    let answer_given = driven.put(alloc, Event::Arrive(frame.as_slice()))?;
+    Ok(matches!(answer_given, Answer::WriteDone))
 }
 
-/// Writes the owed blocks one after another, each answered, and tells how many there were. Twice as many blocks
+/// Writes the owed blocks one after another, each answered, and says how many there were. Twice as many blocks
 /// as any row has are enough.
 pub fn write_all(driven: &mut Driven, alloc: Global) -> Result<u32, AllocError> {
     let mut written = 0_u32;

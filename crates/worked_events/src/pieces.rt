@@ -29,7 +29,7 @@ use std::test::Fail;
 
 /// The text of a frame, written over other bytes.
 fn filled(alloc: Global, core: &Core, frame: &Sending) -> Result<Items<u8>, AllocError>
-    requires { CanBeFilled core.now.past frame.now }
+    requires { CanBeFilled core.now.history frame.now }
 {
     let mut text = Vec::from_elem(alloc, 0xaa, frame.size())?;
     core.fill(frame, &mut text);
@@ -38,7 +38,7 @@ fn filled(alloc: Global, core: &Core, frame: &Sending) -> Result<Items<u8>, Allo
 
 /// The texts of frames.
 fn all_filled(alloc: Global, core: &Core, frames: &[Sending]) -> Result<Vec<Items<u8>>, AllocError>
-    requires { All (CanBeFilled core.now.past) frames.now }
+    requires { All (CanBeFilled core.now.history) frames.now }
 {
     let mut texts = Vec::new(alloc);
     for frame in frames {
@@ -49,7 +49,7 @@ fn all_filled(alloc: Global, core: &Core, frames: &[Sending]) -> Result<Vec<Item
 
 /// A task's part of frames, written over other bytes.
 fn part(alloc: Global, core: &Core, frames: &[Sending], task: u8) -> Result<Vec<u8>, AllocError>
-    requires frames { All (CanBeFilled core.now.past) frames.now }
+    requires frames { All (CanBeFilled core.now.history) frames.now }
     requires few { length frames.now ≤ SETUP_SERIAL }
 {
     let mut part = Vec::from_elem(alloc, 0xaa, core.part_size(frames, task))?;
@@ -57,7 +57,7 @@ fn part(alloc: Global, core: &Core, frames: &[Sending], task: u8) -> Result<Vec<
     Ok(part)
 }
 
-/// Whether the parts of two tasks have these sizes, and are a frame where they stand one behind the other.
+/// Whether the parts of two tasks have these sizes, and are a frame where they are one after the other.
 fn are_parts(
     alloc: Global,
     core: &Core,
@@ -66,7 +66,7 @@ fn are_parts(
     sizes: (usize, usize),
     text: &Text,
 ) -> Result<bool, AllocError>
-    requires frames { All (CanBeFilled core.now.past) frames.now }
+    requires frames { All (CanBeFilled core.now.history) frames.now }
     requires few { length frames.now ≤ SETUP_SERIAL }
 {
     let mut first = part(alloc, core, frames, tasks.0)?;
@@ -87,7 +87,7 @@ const SHARED_TEXT: Text = (
 /// Whether frames are that one, as a whole and by the parts of the two tasks. The first part has the 16 bytes of the
 /// frame's head and the datagram's 14, the second one the datagram's 13 and the 17 zeros that fill 60 bytes.
 fn are_shared(alloc: Global, core: &Core, frames: &[Sending]) -> Result<bool, AllocError>
-    requires frames { All (CanBeFilled core.now.past) frames.now }
+    requires frames { All (CanBeFilled core.now.history) frames.now }
     requires few { length frames.now ≤ SETUP_SERIAL }
 {
     let texts = all_filled(alloc, core, frames)?;
@@ -111,7 +111,7 @@ fn is_sent_in_pieces(alloc: Global, core: &mut Core) -> Result<bool, CoreFault> 
 const BEFORE: &[Stage] = &[Blocks(4), Rows(TO_TASK_1), Blocks(2)];
 
 /// Its answer is awaited, and the next frame has the next serial.
-const BEHIND: &[Row] = &[
+const AFTER: &[Row] = &[
     (
         Comes(6, &[FIRST, SECOND]),
         Wanted::Answered(&[FIRST_INPUTS, SECOND_INPUTS]),
@@ -123,22 +123,23 @@ const BEHIND: &[Row] = &[
     ),
 ];
 
-/// The first of these rows that doesn't hold once the tasks were sent in pieces; one behind them all where they
+/// The first of these rows that doesn't hold once the tasks were sent in pieces; one after them all where they
 /// weren't.
-fn first_wrong_behind(alloc: Global, driven: &mut Driven) -> Result<Option<usize>, CoreFault> {
+fn first_wrong_after(alloc: Global, driven: &mut Driven) -> Result<Option<usize>, CoreFault> {
     let wrong = first_wrong_at(driven, alloc, BEFORE)?;
     if wrong.is_some() || !is_sent_in_pieces(alloc, &mut driven.core)? {
-        return Ok(Some(BEHIND.len()));
+        return Ok(Some(AFTER.len()));
     }
-    Ok(first_wrong(driven, alloc, BEHIND)?)
+    Ok(first_wrong(driven, alloc, AFTER)?)
 }
 
 /// The same from the axis' opening on.
 fn wrong_in_pieces(alloc: Global) -> Result<Option<usize>, Fail> {
     let mut driven = opened_axis(alloc)?;
-    Ok(first_wrong_behind(alloc, &mut driven)?)
+    Ok(first_wrong_after(alloc, &mut driven)?)
 }
 
+/// Tasks that are proposed, filled part by part and committed are sent as one frame, and its answer is awaited.
 #[test]
 fn tasks_are_sent_in_pieces(rt: HostRuntime) -> Result<(), Fail> {
     assert_eq!(rt; wrong_in_pieces(rt.alloc())?, None);
@@ -163,6 +164,7 @@ fn unproposed_at_opening(alloc: Global) -> Result<[Option<CoreFault>; 3], Fail> 
     ])
 }
 
+/// A proposal is refused with `Unprogrammed` while blocks are owed, and with `NoSuchTask` for a task over 7.
 #[test]
 fn nothing_is_proposed_while_blocks_are_owed(rt: HostRuntime) -> Result<(), Fail> {
     let owed = Some(CoreFault::Unprogrammed(4));
@@ -173,7 +175,7 @@ fn nothing_is_proposed_while_blocks_are_owed(rt: HostRuntime) -> Result<(), Fail
     Ok(())
 }
 
-/// A datagram by its task and its number, and the frame in which it is shown.
+/// A datagram by its task and its number, and the frame where it is shown.
 type Shown = (u8, u8, Option<Text>);
 
 /// Though blocks are owed, the axis' datagram is shown with the first serial and with what was posted. The task has no
@@ -225,7 +227,7 @@ fn posted(core: &mut Core) -> [Result<(), CoreFault>; 4] {
     ]
 }
 
-/// What posts are answered, and the first datagram that isn't shown as it should behind them.
+/// What posts are answered, and the first datagram that isn't shown as it should after them.
 fn posted_and_shown(alloc: Global) -> Result<([Result<(), CoreFault>; 4], Option<usize>), Fail> {
     let mut driven = opened_axis(alloc)?;
     let posted = posted(&mut driven.core);
@@ -240,6 +242,7 @@ const POSTED: [Result<(), CoreFault>; 4] = [
     Ok(()),
 ];
 
+/// A preview shows a task's datagram with the next serial and the posted outputs, also while blocks are owed.
 #[test]
 fn a_posted_datagram_is_shown(rt: HostRuntime) -> Result<(), Fail> {
     assert_eq!(rt; posted_and_shown(rt.alloc())?, (POSTED, None));
@@ -254,14 +257,21 @@ const FIRST_WRITE: Text = (
     26,
 );
 
-/// What a write into so many bytes of 0xaa is answered, and whether the frame that writes the first block stands at
-/// their front, or all are as they were; behind the frame they are.
+/// What a write into so many bytes of 0xaa is answered, and whether the frame that writes the first block is at
+/// their front, or all are as they were; after the frame they are.
 fn written(core: &mut Core, out: &mut [u8]) -> (Result<usize, CoreFault>, bool) {
     out.fill(0xaa);
-    let told = core.write_into(out);
-    let (front, behind) = out.split_at(if told.is_ok() { 60.min(out.len()) } else { 0 });
-    let holds = told.is_err() || is_text(front, &FIRST_WRITE);
-    (told, holds && behind.iter().all(|byte| *byte == 0xaa))
+    let answer_given = core.write_into(out);
+    let (front, after_it) = out.split_at(if answer_given.is_ok() {
+        60.min(out.len())
+    } else {
+        0
+    });
+    let holds = answer_given.is_err() || is_text(front, &FIRST_WRITE);
+    (
+        answer_given,
+        holds && after_it.iter().all(|byte| *byte == 0xaa),
+    )
 }
 
 /// Two writes, the first into too few bytes; then the number of owed blocks and the next serial.
@@ -278,22 +288,25 @@ fn written_at_opening(alloc: Global) -> Result<Written, Fail> {
 /// A frame has 60 bytes at least. Refused for room a write uses no serial. What was sent is owed until it is answered.
 #[test]
 fn a_block_is_written_into_a_slice(rt: HostRuntime) -> Result<(), Fail> {
-    let told = [(Err(CoreFault::Room(60)), true), (Ok(60), true)];
-    assert_eq!(rt; written_at_opening(rt.alloc())?, (told, 4, 1));
+    let answer_given = [(Err(CoreFault::Room(60)), true), (Ok(60), true)];
+    assert_eq!(rt; written_at_opening(rt.alloc())?, (answer_given, 4, 1));
     Ok(())
 }
 
 /// The same of the frame that writes all blocks.
 fn all_written(core: &mut Core, out: &mut [u8]) -> (Result<SentWrites, CoreFault>, bool) {
     out.fill(0xaa);
-    let told = core.write_all_into(out);
-    let size = match told {
+    let answer_given = core.write_all_into(out);
+    let size = match answer_given {
         Ok(sent) => sent.size,
         Err(_) => 0,
     };
-    let (front, behind) = out.split_at(size.min(out.len()));
-    let holds = told.is_err() || is_text(front, &FOUR);
-    (told, holds && behind.iter().all(|byte| *byte == 0xaa))
+    let (front, after_it) = out.split_at(size.min(out.len()));
+    let holds = answer_given.is_err() || is_text(front, &FOUR);
+    (
+        answer_given,
+        holds && after_it.iter().all(|byte| *byte == 0xaa),
+    )
 }
 
 /// Two frames of writes, the first into too few bytes; then the number of owed blocks and the next serial.
@@ -314,8 +327,8 @@ fn all_blocks_are_written_into_a_slice(rt: HostRuntime) -> Result<(), Fail> {
         size: 112,
         blocks: 4,
     };
-    let told = [(Err(CoreFault::Room(112)), true), (Ok(sent), true)];
-    assert_eq!(rt; all_written_at_opening(rt.alloc())?, (told, 4, 1));
+    let answer_given = [(Err(CoreFault::Room(112)), true), (Ok(sent), true)];
+    assert_eq!(rt; all_written_at_opening(rt.alloc())?, (answer_given, 4, 1));
     Ok(())
 }
 
@@ -326,6 +339,7 @@ fn unwritten(alloc: Global) -> Result<Result<usize, CoreFault>, Fail> {
     Ok(driven.core.write_into(&mut [0; 64]))
 }
 
+/// A write is refused with `NothingOwed` once no block is owed.
 #[test]
 fn no_block_is_left_to_write(rt: HostRuntime) -> Result<(), Fail> {
     assert_eq!(rt; unwritten(rt.alloc())?, Err(CoreFault::NothingOwed));
@@ -360,12 +374,12 @@ fn are_wanted(answers: &[Answer], wanted: &[Wanted]) -> bool {
 
 /// Whether the first of four blocks is written, and no task is sent meanwhile.
 fn runs_a_write(alloc: Global, core: &mut Core) -> Result<bool, AllocError> {
-    let told = answers(alloc, core, Event::SendWrite, Event::SendTasks(&[0]))?;
+    let answer_given = answers(alloc, core, Event::SendWrite, Event::SendTasks(&[0]))?;
     let wanted = [
         Wanted::WriteSent(FIRST_WRITE),
         Wanted::Refused(CoreFault::Unprogrammed(4)),
     ];
-    Ok(are_wanted(&told, &wanted))
+    Ok(are_wanted(&answer_given, &wanted))
 }
 
 /// Whether its answer is taken, and a post.
@@ -376,8 +390,8 @@ fn runs_an_arrival(alloc: Global, core: &mut Core) -> Result<bool, AllocError> {
         epoch: 0,
         bytes: &[2],
     };
-    let told = answers(alloc, core, Event::Arrive(came.as_slice()), post)?;
-    Ok(are_wanted(&told, &[Wanted::WriteDone, Wanted::Posted]))
+    let answer_given = answers(alloc, core, Event::Arrive(came.as_slice()), post)?;
+    Ok(are_wanted(&answer_given, &[Wanted::WriteDone, Wanted::Posted]))
 }
 
 /// Whether the outputs move to task 1, and nothing is read of the inputs.
@@ -387,9 +401,9 @@ fn runs_an_edit(alloc: Global, core: &mut Core) -> Result<bool, AllocError> {
         area: 0,
         task: 1,
     };
-    let told = answers(alloc, core, Event::Edit(&edit), Event::Read(0))?;
+    let answer_given = answers(alloc, core, Event::Edit(&edit), Event::Read(0))?;
     let wanted = [Wanted::Edited(1, 2, 2), Wanted::Image(1, &[None])];
-    Ok(are_wanted(&told, &wanted))
+    Ok(are_wanted(&answer_given, &wanted))
 }
 
 /// Whether a core is left as one that was asked them one by one: three blocks are owed, one serial is used, the
@@ -418,6 +432,7 @@ fn is_run(alloc: Global) -> Result<bool, Fail> {
     Ok(runs(alloc, &mut driven.core)?)
 }
 
+/// A list of events of all six kinds is answered, and leaves the core, as the events one by one would.
 #[test]
 fn lists_of_events_are_answered(rt: HostRuntime) -> Result<(), Fail> {
     assert!(rt; is_run(rt.alloc())?);

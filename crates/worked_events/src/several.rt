@@ -76,8 +76,8 @@ const THREE_LEFT: &[Row] = &[
 ];
 
 /// Frames with a datagram less, and with two of them in another order, answer nothing and use up nothing. Each block is
-/// done by its own counter: that of the second is 0, so it is owed still, and the frame that writes it is that of a single
-/// write. Its counter is 2 then, which is no confirmation either.
+/// done by its own counter: the second's is 0, so it is owed still, and the frame that writes it is a single write's. Its
+/// counter is 2 then, which is no confirmation either.
 const ONE_MISSED: &[Row] = &[
     (
         Comes(
@@ -159,8 +159,8 @@ const FORGOTTEN: &[Row] = &[
     (Send(&[0]), Wanted::Refused(CoreFault::Unprogrammed(4))),
 ];
 
-/// The tool comes, and its two blocks are owed behind that of the axis' input, which gave way by a byte. One frame
-/// carries the blocks of both slaves, and each is confirmed by its own counter.
+/// The tool comes, and its two blocks are owed after the block of the axis' input, which gave way by a byte. One
+/// frame carries the blocks of both slaves, and each is confirmed by its own counter.
 const TOOL_COMES: &[Row] = &[
     (Connect(5), Wanted::Edited(1, 1, 3)),
     (
@@ -197,6 +197,7 @@ const LINES: &[Case] = &[
     (TOOL_CHANGER, &[Blocks(4), Rows(TOOL_COMES)]),
 ];
 
+/// One frame writes several owed blocks, and each block is confirmed by its own counter.
 #[test]
 fn one_frame_writes_several_blocks(rt: HostRuntime) -> Result<(), Fail> {
     assert_eq!(rt; first_wrong_case(rt.alloc(), LINES)?, None);

@@ -21,7 +21,7 @@ pub const SECOND: Back = (Lrw, 0x0200_0000, b"\x02", 2);
 /// The same, though no slave has written it.
 const UNWRITTEN: Back = (Lrw, 0x0200_0000, b"\x02", 1);
 
-/// What they are told to be.
+/// What they are reported to be.
 pub const FIRST_INPUTS: Outcome = Inputs {
     task: 0,
     datagram: 0,
@@ -33,14 +33,14 @@ pub const SECOND_INPUTS: Outcome = Inputs {
     datagram: 0,
 };
 
-/// What leads to the two tasks; the two moved blocks are written behind it, with the serials 4 and 5.
+/// What leads to the two tasks; the two moved blocks are written after it, with the serials 4 and 5.
 pub const TO_TASK_1: &[Row] = &[
     (Post(0, 0, &[2]), Wanted::Posted),
     (Move(1001, 0, 1), Wanted::Edited(1, 2, 2)),
 ];
 
 /// The two tasks share a frame of 14 and 13 bytes, 0x1b together; the first datagram says by bit 15 of its length
-/// that another follows. Behind the outputs stand the counter's 2 bytes and 17 zeros up to 60. Each datagram has a
+/// that another follows. After the outputs are the counter's 2 bytes and 17 zeros up to 60. Each datagram has a
 /// counter of its own.
 const TOGETHER: &[Row] = &[
     (
@@ -95,7 +95,7 @@ const SENT_AGAIN: &[Row] = &[
     (Comes(7, &[FIRST, SECOND]), Wanted::Stale),
 ];
 
-/// The datagrams stand in the order in which the tasks are given, in the frame and in its answer.
+/// The datagrams are in the order in which the tasks are given, in the frame and in its answer.
 const TURNED: &[Row] = &[
     (
         Send(&[1, 0]),
@@ -160,6 +160,7 @@ pub const SHARED: &[Case] = &[(
     ],
 )];
 
+/// Two tasks share a frame, and each of its datagrams is answered by its own counter.
 #[test]
 fn tasks_share_a_frame(rt: HostRuntime) -> Result<(), Fail> {
     assert_eq!(rt; first_wrong_case(rt.alloc(), SHARED)?, None);
@@ -189,7 +190,7 @@ fn are_sized(answer: &Answer, sizes: &[Sized]) -> bool {
     true
 }
 
-/// Slaves with outputs of so many bytes each, by task and bytes; tasks; and the frames in which they are sent.
+/// Slaves with outputs of so many bytes each, by task and bytes; tasks; and the frames where they are sent.
 type Wide = (&'static [(u8, u16)], &'static [u8], &'static [Sized]);
 
 /// Whether tasks are sent in such frames, once every block is written.
@@ -209,7 +210,7 @@ fn is_sent_in(alloc: Global, row: &Wide) -> Result<bool, Fail> {
     Ok(sends_in(&mut driven, alloc, row.1, row.2)?)
 }
 
-/// Two tasks of 737 bytes each, with 12 beside them, have the 1,498 bytes that a header can tell, 0x5da, and the type
+/// Two tasks of 737 bytes each, with 12 beside them, have the 1,498 bytes that a header can give, 0x5da, and the type
 /// in the highest four bits. With a byte more each has a frame of its own, of 750 = 0x2ee and 749 = 0x2ed.
 ///
 /// A datagram joins no other frame than the one just before it, though an older one has room: 712 bytes are 0x2c8,
@@ -251,6 +252,7 @@ fn first_unsent(alloc: Global) -> Result<Option<usize>, Fail> {
     Ok(None)
 }
 
+/// A datagram joins the frame of the one before it if both fit, and begins a frame otherwise.
 #[test]
 fn wide_tasks_share_frames_with_their_neighbours(rt: HostRuntime) -> Result<(), Fail> {
     assert_eq!(rt; first_unsent(rt.alloc())?, None);

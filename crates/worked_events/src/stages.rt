@@ -1,8 +1,8 @@
 //! What a line is put through, one stage after another.
+use crate::answer_given::{Update, are_answered};
 use crate::asked::{Row, first_unprepared, first_wrong};
 use crate::driven::Driven;
 use crate::lines::{opened, write_all};
-use crate::told::{News, are_told};
 use hc_events::answer::Answer;
 use hc_events::event::Event;
 use std::alloc::{AllocError, Global};
@@ -17,22 +17,22 @@ pub enum Stage {
     Sends(u32),
     /// Each row's event is answered as it wants.
     Rows(&'static [Row]),
-    /// Each row's edit is prepared, and told as the row wants; none is carried out.
+    /// Each row's edit is prepared, and reported as the row wants; none is carried out.
     Prepared(&'static [Row]),
-    /// The changes since they were taken last tell just this.
-    Told(&'static [News]),
+    /// The changes since they were taken last say just this.
+    AnswerGiven(&'static [Update]),
 }
 
-/// The number of a stage and that of a row in it, from 0.
+/// The number of a stage and of a row in it, from 0.
 pub type At = (usize, usize);
 
-/// Sends task 0, and tells whether that was accepted.
+/// Sends task 0, and says whether that was accepted.
 pub fn is_sent(driven: &mut Driven, alloc: Global) -> Result<bool, AllocError> {
     let answer = driven.put(alloc, Event::SendTasks(&[0]))?;
     Ok(matches!(answer, Answer::Sent(_)))
 }
 
-/// Sends task 0 so many times, and tells whether each was accepted.
+/// Sends task 0 so many times, and says whether each was accepted.
 fn send_times(driven: &mut Driven, alloc: Global, times: u32) -> Result<bool, AllocError> {
     for _ in 0..times {
         if !is_sent(driven, alloc)? {
@@ -53,7 +53,7 @@ pub fn first_wrong_row(
         Stage::Sends(times) => send_times(driven, alloc, times)?,
         Stage::Rows(rows) => return first_wrong(driven, alloc, rows),
         Stage::Prepared(rows) => return first_unprepared(driven, alloc, rows),
-        Stage::Told(news) => are_told(&driven.core.take_changes(alloc), news),
+        Stage::AnswerGiven(updates) => are_answered(&driven.core.take_changes(alloc), updates),
     };
     Ok(if holds { None } else { Some(0) })
 }

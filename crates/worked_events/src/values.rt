@@ -1,4 +1,4 @@
-//! The values of output variables as they are sent: what was posted, where the variables stand now.
+//! The values of output variables as they are sent: what was posted, where the variables are now.
 use crate::asked::Asked::{Comes, Connect, Disconnect, Move, Post, Read, Remap, Send, Write};
 use crate::asked::{Row, Wanted};
 use crate::lines::AXIS;
@@ -192,8 +192,8 @@ slave = [
 "#;
 
 /// The first slave's byte is in task 1 for a while, and then in task 0 again: the post of task 0 in between says
-/// nothing of it, that of task 1 does. Each move touches both tasks, of one span each, and moves both FMMUs: one
-/// to another task, the other by a byte.
+/// nothing of it, the post of task 1 does. Each move touches both tasks, of one span each, and moves both FMMUs:
+/// one to another task, the other by a byte.
 const THERE_AND_BACK: &[Row] = &[
     (Post(0, 0, &[0x11, 0x22]), Wanted::Posted),
     (Move(1001, 0, 1), Wanted::Edited(1, 2, 2)),
@@ -349,7 +349,7 @@ pub const LINES: &[Case] = &[
 
 /// A growth that is refused once changes nothing: the event is asked again.
 #[test]
-fn values_are_sent_where_their_variables_stand(rt: HostRuntime) -> Result<(), Fail> {
+fn values_are_sent_where_their_variables_are(rt: HostRuntime) -> Result<(), Fail> {
     assert_eq!(rt; first_wrong_case(rt.alloc(), LINES)?, None);
     Ok(())
 }

@@ -9,12 +9,12 @@ use hc_frames::Command::{Apwr, Fpwr, Lrw};
 use std::test::Fail;
 
 /// The four register blocks of the axis are written, the first owed one each time: for each area its sync
-/// manager's block, then its FMMU's. A frame has 10 bytes before the 8 or 16 bytes of a block and 2 behind: the
-/// command 5, the serial as index, the station 1001 = 0x03e9, the block's register and its length. The block of
-/// a sync manager: physical start address, 1 or 2 bytes, control 0x64 for outputs and 0x20 for inputs, status,
-/// activate. That of an FMMU: logical start address, bytes, first and last bit, physical start address and bit, 1
-/// for reading or 2 for writing, activate. The inputs, 12 bits, stand behind the one byte of outputs. Zeros fill
-/// 60 bytes: behind 16 and 10 bytes and the block's 8 there are 26, and 18 behind 16. No task is sent before the
+/// manager's block, then its FMMU's. A frame has 10 bytes before the 8 or 16 bytes of a block and 2 after: the
+/// command 5, the serial as index, the station 1001 = 0x03e9, the block's register and its length. The block of a
+/// sync manager: physical start address, 1 or 2 bytes, control 0x64 for outputs and 0x20 for inputs, status,
+/// activate. An FMMU's: logical start address, bytes, first and last bit, physical start address and bit, 1 for
+/// reading or 2 for writing, activate. The inputs, 12 bits, are after the one byte of outputs. Zeros fill 60
+/// bytes: after 16 and 10 bytes and the block's 8 there are 26, and 18 after 16. No task is sent before the
 /// fourth answer, and then nothing is owed.
 const WRITES: &[Row] = &[
     (Send(&[0]), Wanted::Refused(CoreFault::Unprogrammed(4))),
@@ -188,10 +188,10 @@ const TOOL_COMES: &[Row] = &[
     (Send(&[0]), Wanted::Refused(CoreFault::Unprogrammed(3))),
 ];
 
-/// The axis' output area is emptied: its own two blocks change, and the FMMU blocks of all that stands behind it. Its
-/// PDO comes back while the write of its first block is under way: every other block is known to have what it now
-/// needs. The tool goes, and the input moves up by a byte; it comes again, and the input is where it was, but nothing
-/// is known of the tool.
+/// The axis' output area is emptied: its own two blocks change, and the FMMU blocks of all that is after it. Its PDO
+/// comes back while the write of its first block is under way: every other block is known to have what it now needs.
+/// The tool goes, and the input moves up by a byte; it comes again, and the input is where it was, but nothing is
+/// known of the tool.
 const EMPTIED: &[Row] = &[
     (Remap(1001, 0, &[]), Wanted::Edited(2, 1, 4)),
     (Send(&[0]), Wanted::Refused(CoreFault::Unprogrammed(4))),
@@ -224,6 +224,7 @@ const LINES: &[Case] = &[
     ),
 ];
 
+/// A block is owed until its newest write is answered with counter 1, and owed again once an edit changes it.
 #[test]
 fn blocks_are_owed_until_they_are_confirmed(rt: HostRuntime) -> Result<(), Fail> {
     assert_eq!(rt; first_wrong_case(rt.alloc(), LINES)?, None);

@@ -1,4 +1,4 @@
-//! Two thousand drawn edits on a plan of 16 slaves, of which 48 more are declared among them: behind each of them the
+//! Two thousand drawn edits on a plan of 16 slaves; 48 more are declared among them: after each of them the
 //! boundaries of its tasks equal those of the plain fold over the tasks' lists.
 ghost use Rattle.std.specs.Prelude.{All, IfOk};
 ghost use Rattle.hc_records.specs.Laws.{IsPackable};
@@ -55,7 +55,7 @@ fn list_of(alloc: Global, widths: &Widths) -> Result<Vec<(Key, u16)>, AllocError
     Ok(list)
 }
 
-/// Whether the boundaries are `Key::START` and, behind the first of these keys, the others.
+/// Whether the boundaries are `Key::START` and, after the first of these keys, the others.
 fn are_starts(starts: &[Key], keys: &[Key]) -> bool {
     match (starts, keys) {
         ([first, later @ ..], [_, others @ ..]) => *first == Key::START && later == others,
@@ -97,8 +97,8 @@ fn has_folded(alloc: Global, plan: &Plan, line: &Line) -> Result<bool, AllocErro
     Ok(true)
 }
 
-/// How many of 2,000 edits a plan accepts, if behind each of them its boundaries are those of the fold, and one is
-/// refused for its datagrams just where the fold over the lists that it would leave has too many; else none.
+/// How many of 2,000 edits a plan accepts, if after each of them its boundaries are the fold's, and one is refused
+/// for its datagrams just where the fold over the lists that it would leave has too many; else none.
 fn accepted(plan: &mut Plan, alloc: Global) -> Result<Option<usize>, AllocError> {
     let mut drawing = Drawing::begin();
     let mut count = 0_usize;
@@ -118,6 +118,7 @@ fn accepted(plan: &mut Plan, alloc: Global) -> Result<Option<usize>, AllocError>
     Ok(Some(count))
 }
 
+/// More than 800 of 2,000 drawn edits are accepted, and after each the tasks' boundaries equal the fold over their lists.
 #[test]
 fn boundaries_are_those_of_the_fold(rt: HostRuntime) -> Result<(), Fail> {
     let mut plan = plan(rt.alloc())?;

@@ -70,8 +70,8 @@ group = [
 /// The four blocks of the gripper.
 const FOUR: &[(u16, u8)] = &[(1001, 0), (1001, 1), (1001, 2), (1001, 3)];
 
-/// A declared group is absent until it is connected, and stands behind the others then. What it has is taken from then
-/// on, present or not.
+/// A declared group is absent until it is connected, and is after the others then. What it has is taken from then on,
+/// present or not.
 const DECLARED: &[Step] = &[
     Connect(100, Ok((1, 1, 2, FOUR))),
     Declare(FEEDER, Ok((2, 0, 0, &[]))),
@@ -89,6 +89,7 @@ const DECLARED: &[Step] = &[
     Connect(300, Err(EditFault::UnknownAlias)),
 ];
 
+/// A declared group is absent until it is connected. Its alias, stations and variables are taken from its declaration on.
 #[test]
 fn a_declared_group_comes_when_it_is_connected(rt: HostRuntime) -> Result<(), Fail> {
     assert_eq!(rt; first_wrong_of(rt.alloc(), GRIPPER, DECLARED)?, None);
@@ -128,7 +129,7 @@ fn fault_of(plan: &mut Plan, alloc: Global, alias: u16) -> Result<Option<EditFau
     Ok(plan.apply(alloc, &edit).err())
 }
 
-/// The last of 2,048 slaves is declared, and comes, and no other one is declared behind it.
+/// The last of 2,048 slaves is declared, and comes, and no other one is declared after it.
 #[test]
 fn as_many_slaves_are_declared_as_a_line_may_have(rt: HostRuntime) -> Result<(), Fail> {
     let alloc = rt.alloc();
@@ -143,7 +144,7 @@ fn as_many_slaves_are_declared_as_a_line_may_have(rt: HostRuntime) -> Result<(),
     Ok(())
 }
 
-/// The last of 512 groups is declared, and no other one behind it.
+/// The last of 512 groups is declared, and no other one after it.
 #[test]
 fn as_many_groups_are_declared_as_a_line_may_have(rt: HostRuntime) -> Result<(), Fail> {
     let alloc = rt.alloc();
@@ -156,7 +157,7 @@ fn as_many_groups_are_declared_as_a_line_may_have(rt: HostRuntime) -> Result<(),
     Ok(())
 }
 
-/// A group that is none by itself is told so, before what it takes is looked at.
+/// A group that is none by itself is reported so, before what it takes is looked at.
 #[test]
 fn a_group_is_judged_by_itself_first(rt: HostRuntime) -> Result<(), Fail> {
     let alloc = rt.alloc();

@@ -1,5 +1,5 @@
-//! Edits that are drawn from a fixed seed, on a plan of 16 slaves, of which 48 more are declared among them: what each makes
-//! of the line, and the edit itself. The tests of this crate and the exchanges of `worked_program` run them.
+//! Edits that are drawn from a fixed seed, on a plan of 16 slaves; 48 more are declared among them: what each makes of the
+//! line, and the edit itself. The tests of this crate and the exchanges of `worked_program` run them.
 ghost use Rattle.std.specs.Prelude.{◌<◌, IsTrue};
 
 use hc_plan::plan::Plan;
@@ -90,7 +90,7 @@ impl Line {
         self.declared < 16 && number / 1024 % 4 == 0 && number / 128 % 8 == 5
     }
 
-    /// The line behind the edit that a number draws: a group is declared, comes or goes, an area gets other bits, or it
+    /// The line after the edit that a number draws: a group is declared, comes or goes, an area gets other bits, or it
     /// moves.
     fn edited(&self, number: usize) -> Line {
         let mut next = *self;

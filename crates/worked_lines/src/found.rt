@@ -1,4 +1,4 @@
-//! What a plan looks up behind edits.
+//! What a plan looks up after edits.
 use crate::opened::plan_of;
 use hc_groups::index::Index;
 use hc_plan::plan::Plan;
@@ -40,7 +40,7 @@ group = [
 ]
 "#;
 
-/// A group, whether it comes or goes, the station addresses of the line behind it, and how many blocks they have.
+/// A group, whether it comes or goes, the station addresses of the line after it, and how many blocks they have.
 type Row = (u16, bool, &'static [u16], u32);
 
 const ROWS: &[Row] = &[
@@ -64,8 +64,8 @@ fn finds_slaves(plan: &Plan, stations: &[u16]) -> bool {
     plan.station(position).is_none() && plan.position(8) == Err(EditFault::UnknownStation)
 }
 
-/// Whether behind a row's edit a plan finds the row's slaves and blocks.
-fn finds_behind(plan: &mut Plan, alloc: Global, row: &Row) -> Result<bool, EditFault> {
+/// Whether after a row's edit a plan finds the row's slaves and blocks.
+fn finds_after(plan: &mut Plan, alloc: Global, row: &Row) -> Result<bool, EditFault> {
     let edit = if row.1 {
         Edit::Connect(row.0)
     } else {
@@ -75,11 +75,12 @@ fn finds_behind(plan: &mut Plan, alloc: Global, row: &Row) -> Result<bool, EditF
     Ok(finds_slaves(plan, row.2) && plan.blocks() == row.3 && plan.nth_block(row.3).is_none())
 }
 
+/// After each edit of a mixed line its plan finds the right slaves, in order, and their blocks.
 #[test]
-fn a_mixed_line_is_found_behind_each_edit(rt: HostRuntime) -> Result<(), Fail> {
+fn a_mixed_line_is_found_after_each_edit(rt: HostRuntime) -> Result<(), Fail> {
     let mut plan = plan_of(rt.alloc(), MIXED)?;
     for row in ROWS {
-        assert!(rt; finds_behind(&mut plan, rt.alloc(), row)?);
+        assert!(rt; finds_after(&mut plan, rt.alloc(), row)?);
     }
     Ok(())
 }
@@ -91,6 +92,7 @@ fn group_of(alloc: Global, plan: &Plan, alias: u16) -> Result<Option<usize>, All
     Ok(index.of(groups).group(alias))
 }
 
+/// A declared group is found by its alias; an alias that no group has finds none.
 #[test]
 fn a_group_is_found_by_its_alias(rt: HostRuntime) -> Result<(), Fail> {
     let plan = plan_of(rt.alloc(), MIXED)?;

@@ -261,7 +261,7 @@ fn first_wrong_line(alloc: Global) -> Result<Option<(usize, usize)>, Fail> {
 
 /// A growth that is refused once changes nothing: the edit is asked again.
 #[test]
-fn edits_tell_what_they_change(rt: HostRuntime) -> Result<(), Fail> {
+fn edits_say_what_they_change(rt: HostRuntime) -> Result<(), Fail> {
     assert_eq!(rt; first_wrong_line(rt.alloc())?, None);
     Ok(())
 }
@@ -291,16 +291,17 @@ const ANSWERS: [Answer; 7] = [
 /// Whether an answer is that which it is to be.
 fn is_answer(answer: &Result<Report, EditFault>, wanted: &Answer) -> bool {
     match (answer, wanted) {
-        (Ok(report), Ok(told)) => {
-            (report.epoch, report.recut, report.swap.places()) == (told.0, told.1, told.2)
-                && report.blocks.as_slice() == told.3
+        (Ok(report), Ok(answer_given)) => {
+            (report.epoch, report.recut, report.swap.places())
+                == (answer_given.0, answer_given.1, answer_given.2)
+                && report.blocks.as_slice() == answer_given.3
         }
         (Err(fault), Err(other)) => fault == other,
         _ => false,
     }
 }
 
-/// Whether the edits, given as a list, are answered so. Want of memory for one of them is the answer to it alone.
+/// Whether the edits, given as a list, are answered so. `Memory` for one of them is the answer to it alone.
 fn are_answered(plan: &mut Plan, alloc: Global) -> Result<bool, AllocError> {
     let answers = plan.run(alloc, &EDITS)?;
     for (answer, wanted) in answers.iter().zip(&ANSWERS) {
@@ -314,6 +315,8 @@ fn are_answered(plan: &mut Plan, alloc: Global) -> Result<bool, AllocError> {
     Ok(answers.len() == ANSWERS.len())
 }
 
+/// A list of edits is answered edit by edit, in order. An edit that is answered `Memory` leaves the others to their own
+/// answers.
 #[test]
 fn a_list_of_edits_is_answered_in_its_order(rt: HostRuntime) -> Result<(), Fail> {
     let mut plan = plan_of(rt.alloc(), ONE_GROUP)?;

@@ -53,9 +53,9 @@ fn is_done(
     edit: &Edit,
     prepared: &PreparedEdit,
 ) -> Result<bool, Fail> {
-    let told = format!(in alloc; "{:?}", prepared.report())?;
+    let answer_given = format!(in alloc; "{:?}", prepared.report())?;
     let report = plan.apply(alloc, edit)?;
-    Ok(format!(in alloc; "{report:?}")? == told && has_blocks(plan, prepared.blocks()))
+    Ok(format!(in alloc; "{report:?}")? == answer_given && has_blocks(plan, prepared.blocks()))
 }
 
 /// Whether an edit by which these slaves leave is prepared, which leaves the plan with all that it keeps, and is
@@ -67,6 +67,7 @@ fn is_prepared(plan: &mut Plan, alloc: Global, edit: &Edit, gone: Gone) -> Resul
     Ok(is_left && prepared.gone() == gone && is_done(plan, alloc, edit, &prepared)?)
 }
 
+/// An edit that is prepared and let go leaves its plan as it was, and can be carried out afterwards.
 #[test]
 fn a_prepared_edit_leaves_its_plan(rt: HostRuntime) -> Result<(), Fail> {
     let alloc = rt.alloc();

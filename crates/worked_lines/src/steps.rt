@@ -12,16 +12,16 @@ use std::test::Fail;
 
 /// The epoch, how many spans are recut and variables get another place, and the blocks that move, by station address
 /// and number.
-pub type Told = (u32, u32, u32, &'static [(u16, u8)]);
+pub type AnswerGiven = (u32, u32, u32, &'static [(u16, u8)]);
 
 /// What an edit is answered.
-pub type Answer = Result<Told, EditFault>;
+pub type Answer = Result<AnswerGiven, EditFault>;
 
 /// A datagram: its address, length, expected counter and offset.
 pub type Wanted = (u32, u16, u16, u16);
 
 /// A place: its task, datagram, first bit, bits and direction.
-pub type Stands = (u8, u8, u16, u8, Dir);
+pub type IsPlaced = (u8, u8, u16, u8, Dir);
 
 /// A step.
 #[derive(Clone, Copy)]
@@ -39,7 +39,7 @@ pub enum Step {
     /// The bytes of outputs and of inputs of a task.
     Part(u8, (u16, u16)),
     /// The place of a variable.
-    At(u32, Option<Stands>),
+    At(u32, Option<IsPlaced>),
     /// A slave's block with a number, at its register.
     Block(u16, u8, u16, &'static [u8]),
 }
@@ -69,19 +69,20 @@ fn is_same_table(one: &Places, other: &Places) -> bool {
     has_same_tasks(one, other)
 }
 
-/// Whether a report tells this, and its swap leads from a table to another.
-fn tells(
+/// Whether a report gives this, and its swap leads from a table to another.
+fn says(
     alloc: Global,
     report: &Report,
-    told: &Told,
+    answer_given: &AnswerGiven,
     table: &mut Places,
     new: &Places,
 ) -> Result<bool, AllocError> {
     table.swap(alloc, &report.swap)?;
     Ok(
-        (report.epoch, report.recut, report.swap.places()) == (told.0, told.1, told.2)
-            && report.moved as usize == told.3.len()
-            && report.blocks.as_slice() == told.3
+        (report.epoch, report.recut, report.swap.places())
+            == (answer_given.0, answer_given.1, answer_given.2)
+            && report.moved as usize == answer_given.3.len()
+            && report.blocks.as_slice() == answer_given.3
             && is_same_table(table, new),
     )
 }
@@ -110,7 +111,13 @@ fn is_answered(plan: &mut Plan, alloc: Global, edit: &Edit, answer: &Answer) -> 
     let mut table = plan.places().copied(alloc)?;
     match (applied(plan, alloc, edit, &table), answer) {
         (Err(EditFault::Memory), _) => Err(Fail::from(EditFault::Memory)),
-        (Ok(report), Ok(told)) => Ok(tells(alloc, &report, told, &mut table, plan.places())?),
+        (Ok(report), Ok(answer_given)) => Ok(says(
+            alloc,
+            &report,
+            answer_given,
+            &mut table,
+            plan.places(),
+        )?),
         (Err(fault), Err(other)) => Ok(fault == *other && is_same_table(&table, plan.places())),
         _ => Ok(false),
     }
@@ -135,7 +142,7 @@ pub fn has_datagrams(plan: &Plan, task: u8, datagrams: &[Wanted]) -> bool {
 }
 
 /// Whether a variable has a place, or none.
-fn is_at(plan: &Plan, number: u32, wanted: Option<Stands>) -> bool {
+fn is_at(plan: &Plan, number: u32, wanted: Option<IsPlaced>) -> bool {
     let Some(variable) = VarId::new(number) else {
         return false;
     };
@@ -147,7 +154,7 @@ fn is_at(plan: &Plan, number: u32, wanted: Option<Stands>) -> bool {
     }
 }
 
-/// Whether a slave's block at a number has these bytes and stands at a register.
+/// Whether a slave's block at a number has these bytes and is at a register.
 pub fn has_block(plan: &Plan, station: u16, number: u8, register: u16, bytes: &[u8]) -> bool {
     match plan.block(station, number) {
         Some(block) => block.register() == register && block.bytes() == bytes,

@@ -107,8 +107,8 @@ type Line = (
     Option<(&'static [Wanted], (u16, u16))>,
 );
 
-/// One bit more than a datagram holds begins another, and so does an area that doesn't fit any more. Inputs stand
-/// behind all outputs, and a slave counts in each datagram of its areas. A task has 16 datagrams, and no seventeenth.
+/// One bit more than a datagram holds begins another, and so does an area that doesn't fit any more. Inputs are after
+/// all outputs, and a slave counts in each datagram of its areas. A task has 16 datagrams, and no seventeenth.
 const LINES: &[Line] = &[
     (
         &[&[(Dir::Out, 8 * 1485)], &[(Dir::Out, 8)], &[(Dir::Out, 1)]],
@@ -207,6 +207,7 @@ fn first_unpacked(alloc: Global) -> Result<Option<usize>, Refused> {
     Ok(None)
 }
 
+/// Lines of given area widths have the datagrams and bytes that were worked out by hand, or are refused with too many.
 #[test]
 fn areas_fill_datagrams(rt: HostRuntime) -> Result<(), Fail> {
     assert_eq!(rt; first_unpacked(rt.alloc())?, None);

@@ -42,6 +42,7 @@ fn fed<R: Threads + Wait + Sync>(
     Ok((end, output.is_empty()))
 }
 
+/// An input of the greatest length is run; one byte more ends the run with status 4, and nothing is printed.
 #[test]
 fn one_byte_too_long(rt: HostRuntime) -> Result<(), Fail> {
     let most = fed(&rt, rt.alloc(), MOST_INPUT)?;
@@ -52,6 +53,7 @@ fn one_byte_too_long(rt: HostRuntime) -> Result<(), Fail> {
     Ok(())
 }
 
+/// A reader that is interrupted forever ends the run with status 4 after 4,194,305 calls, and nothing is printed.
 #[test]
 fn reading_ends_after_its_turns(rt: HostRuntime) -> Result<(), Fail> {
     let mut input = Interrupted { calls: 0 };
@@ -86,7 +88,7 @@ fn halted<R: Threads + Wait + Sync>(
     Ok(Printed { end, text: output })
 }
 
-/// At how many of the calls, from the first on, a failing read ends a run over a text, and one behind the last
+/// At how many of the calls, from the first on, a failing read ends a run over a text, and one after the last
 /// read doesn't.
 pub fn reads_failed<R: Threads + Wait + Sync>(
     rt: &R,
@@ -109,6 +111,7 @@ pub fn reads_failed<R: Threads + Wait + Sync>(
     Ok(20)
 }
 
+/// A run ends when a read fails, at whichever call. A failure after the last read changes nothing.
 #[test]
 fn each_read_fails_once(rt: HostRuntime) -> Result<(), Fail> {
     let text = joined(rt.alloc(), ONE_SLAVE, FIRST_COMMANDS)?;
@@ -131,6 +134,7 @@ fn reads_interrupted<R: Threads + Wait + Sync>(
     Ok(8)
 }
 
+/// A read that is interrupted is tried again, and the output is the same.
 #[test]
 fn an_interrupted_read_is_taken_again(rt: HostRuntime) -> Result<(), Fail> {
     let text = joined(rt.alloc(), ONE_SLAVE, FIRST_COMMANDS)?;
@@ -159,6 +163,7 @@ fn stuttered<R: Threads + Wait + Sync>(
     })
 }
 
+/// A write that is interrupted is tried again, and the output is the same.
 #[test]
 fn an_interrupted_write_is_taken_again(rt: HostRuntime) -> Result<(), Fail> {
     let text = joined(rt.alloc(), ONE_SLAVE, FIRST_COMMANDS)?;
@@ -181,6 +186,7 @@ fn interrupted<R: Threads + Wait + Sync>(
     Ok((end, output.calls))
 }
 
+/// A writer that is interrupted forever ends the run with status 4 after 4,194,306 calls.
 #[test]
 fn writing_ends_after_its_interruptions(rt: HostRuntime) -> Result<(), Fail> {
     assert!(rt; interrupted(&rt, rt.alloc())? == (broken(Broken::Unwritten), 4_194_306));
@@ -232,6 +238,8 @@ pub fn writes_cut<R: Threads + Wait + Sync>(
     Ok(160)
 }
 
+/// A run ends with status 4 when a write fails or takes nothing, at whichever call, after it printed the beginning of its
+/// output.
 #[test]
 fn each_write_fails_in_turn(rt: HostRuntime) -> Result<(), Fail> {
     let text = joined(rt.alloc(), ONE_SLAVE, FIRST_COMMANDS)?;
@@ -283,6 +291,7 @@ pub fn writes_falter<R: Threads + Wait + Sync>(
     Ok(80)
 }
 
+/// One failed write ends the run, even if later writes would succeed.
 #[test]
 fn a_failed_write_is_not_tried_again(rt: HostRuntime) -> Result<(), Fail> {
     let text = joined(rt.alloc(), ONE_SLAVE, FIRST_COMMANDS)?;
@@ -307,6 +316,8 @@ fn is_cut<R: Threads + Wait + Sync>(
     Ok(true)
 }
 
+/// The line of a bad command or a project fault is printed as far as the writer takes it. The run ends with status 4 unless
+/// that is all of it.
 #[test]
 fn a_refusal_is_cut_too(rt: HostRuntime) -> Result<(), Fail> {
     let command = is_cut(&rt, rt.alloc(), "%%\nfoo\n", "line 2: bad command\n", 2)?;

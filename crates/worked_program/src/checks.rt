@@ -1,9 +1,9 @@
-//! What `projectcheck` tells of a text that is spoilt in one piece: the fault, and where it is.
+//! What `projectcheck` says of a text that is spoilt in one piece: the fault, and where it is.
 use hc_program::checking::run_projectcheck;
 use std::alloc::Global;
 use std::test::Fail;
 
-/// A line in which every key of the format stands; a case turns one piece of it or two.
+/// A line where every key of the format is; a case turns one piece of it or two.
 const LINE: &str = r#"[[slave]]
 station = 1001
 [[slave.area]]
@@ -36,7 +36,7 @@ alias = 200
 slave = [{ station = 2002 }]
 "#;
 
-/// Cases, a line each: a piece of the text, what stands in its place, the exit status, and the lines that are printed.
+/// Cases, a line each: a piece of the text, what is in its place, the exit status, and the lines that are printed.
 const CASES: &str = r#"station = 1001 -> station = 1001 => 0 ok
 station = 1001 -> station = => 3 project fault 1 NotToml; at line 2 column 10
 station = 1001 ->  => 3 project fault 2 MissingField; at slave[0].station
@@ -62,8 +62,8 @@ phys = 0x1180 -> phys = 0x1101 => 3 project fault 7 OverlappingAreas; at slave[0
 [0x1600] -> [0x1601, 0x1600, 0x1601] => 3 project fault 9 UnknownPdo; at slave[0].area[0].assigned[2] station 1001 first slave[0].area[0].assigned[0] station 1001
 index = 0x1601 -> index = 0x1600 => 3 project fault 9 UnknownPdo; at slave[0].area[0].pdo[1].index station 1001 first slave[0].area[0].pdo[0].index station 1001"#;
 
-/// What is printed of the line with a change, on one line behind the exit status.
-fn told(alloc: Global, change: &str) -> Result<String, Fail> {
+/// What is printed of the line with a change, on one line after the exit status.
+fn answer_given(alloc: Global, change: &str) -> Result<String, Fail> {
     let (from, to) = change.split_once(" -> ").ok_or("no change")?;
     let (front, back) = LINE.split_once(from).ok_or("no such piece")?;
     let text = format!(in alloc; "{front}{to}{back}")?;
@@ -75,17 +75,18 @@ fn told(alloc: Global, change: &str) -> Result<String, Fail> {
     Ok(format!(in alloc; "{status} {lines}")?)
 }
 
-/// The first case of which something else is told.
+/// The first case with another answer.
 fn mistold<'a>(alloc: Global, cases: &'a str) -> Result<Option<&'a str>, Fail> {
     for case in cases.lines() {
         let (change, wanted) = case.split_once(" => ").ok_or("nothing wanted")?;
-        if told(alloc, change)?.as_str() != wanted {
+        if answer_given(alloc, change)?.as_str() != wanted {
             return Ok(Some(case));
         }
     }
     Ok(None)
 }
 
+/// Each fault of a project text is printed with its place and its exit status.
 #[test]
 fn each_fault_has_its_place(rt: HostRuntime) -> Result<(), Fail> {
     assert_eq!(rt; mistold(rt.alloc(), CASES)?, None);

@@ -1,4 +1,4 @@
-//! Runs in which groups are declared.
+//! Runs where groups are declared.
 use crate::printed::ONE_IN_GROUP;
 use crate::rows::{Run, first_wrong};
 use std::test::Fail;
@@ -16,7 +16,7 @@ pdo = [{ index = 5, entries = [[3, 8]] }]
 %%
 "#;
 
-/// A group that is declared stands behind the others, absent until it is connected. What it has is taken from then on.
+/// A group that is declared is after the others, absent until it is connected. What it has is taken from then on.
 const FEEDER_TEXT: &str = "epoch 1 recut 1 moved 4
 epoch 2 recut 0 moved 0
 none
@@ -34,7 +34,7 @@ refused 33 VariableTaken
 epoch 3
 ";
 
-/// Documents that declare no group. Most have a higher fault beside the one that is told.
+/// Documents that declare no group. Most have a higher fault beside the one that is reported.
 const NO_GROUPS: &[&str] = &[
     "%%\ndeclare\ngroup = [\n%%\ndeclare\ndeclare\n%%\n",
     "declare\ngroup = [{ slave = [{ station = 0 }] }]\n%%\n",
@@ -60,7 +60,7 @@ const NO_GROUPS: &[&str] = &[
     "declare\n%%\nlayout\n",
 ];
 
-/// What is told of them. The run goes on, and nothing is declared.
+/// What is said of them. The run goes on, and nothing is declared.
 const NO_GROUPS_TEXT: &str = "declare fault 1 NotToml
 declare fault 1 NotToml
 declare fault 2 MissingField
@@ -204,12 +204,14 @@ const LIMITS: &[Run] = &[
     ),
 ];
 
+/// Runs that declare groups print what was worked out by hand; text that declares no group is refused and changes nothing.
 #[test]
 fn groups_are_declared(rt: HostRuntime) -> Result<(), Fail> {
     assert_eq!(rt; first_wrong(&rt, rt.alloc(), RUNS)?, None);
     Ok(())
 }
 
+/// Slaves and groups are declared up to their limits, and one more is refused.
 #[test]
 fn slaves_and_groups_are_declared_up_to_the_limits(rt: HostRuntime) -> Result<(), Fail> {
     assert_eq!(rt; first_wrong(&rt, rt.alloc(), LIMITS)?, None);

@@ -81,7 +81,7 @@ const SAME: &str = "%%\nremap 1001 1 0x1a00\nremap 1001 1 0x1a00\nremap 1001 1 6
 const SAME_TEXT: &str =
     "epoch 1 recut 0 moved 0\nepoch 2 recut 0 moved 0\nepoch 3 recut 0 moved 0\n";
 
-/// PDOs stand in the order of a remap.
+/// PDOs are in the order of a remap.
 const TURNED: &str = "%%\nplace 3\nremap 1001 0 0x1a01 0x1a00\nplace 3\nplace 2\n";
 
 /// What that prints.
@@ -145,7 +145,7 @@ sm 0 at 0x0800: 00 10 01 00 64 00 01 00
 fmmu 0 at 0x0600: 00 00 00 02 01 00 00 00 00 10 00 02 01 00 00 00
 ";
 
-/// A seventeenth datagram is refused; a crowded task leaves those before it.
+/// A seventeenth datagram is refused; a task over the limit leaves those before it.
 const RUNS: &[Run] = &[
     (&[ONE_IN_GROUP, COMES_AND_GOES], 0, &[COMES_AND_GOES_TEXT]),
     (&[ONE_SLAVE, NO_BITS], 0, &[NO_BITS_TEXT]),
@@ -183,6 +183,7 @@ const RUNS: &[Run] = &[
     ),
 ];
 
+/// Runs that edit the line print what was worked out by hand. A seventeenth datagram is refused.
 #[test]
 fn edits_change_the_line(rt: HostRuntime) -> Result<(), Fail> {
     assert_eq!(rt; first_wrong(&rt, rt.alloc(), RUNS)?, None);

@@ -1,5 +1,5 @@
 //! Runs that write register blocks, send tasks, take what comes back, and read. Each frame was worked out from the
-//! tables of the standard (ETG.1000.4, 5.3 and 5.4) and from where the areas of the one slave stand.
+//! tables of the standard (ETG.1000.4, 5.3 and 5.4) and from where the areas of the one slave are.
 use crate::printed::ONE_SLAVE;
 use crate::rows::{Run, first_wrong};
 use std::test::Fail;
@@ -169,7 +169,8 @@ sent 5: ffffffffffff02000000000588a41c100505e90310061000000000000001020000038011
 write done
 ";
 
-/// Two tasks share frames, one of which is sent again; then in the other order, which an answer has to keep.
+/// Two tasks share frames, and one frame is sent again; then in the other order, which an answer has to
+/// keep.
 const SHARED: &str = "send 0 1
 arrive ffffffffffff02000000000688a41b100c060000000102800000340a01000c060000000201000000020100
 send 0 1
@@ -339,6 +340,7 @@ const RUNS: &[Run] = &[
     ),
 ];
 
+/// Runs that write blocks, send tasks and take frames print the answers that were worked out from the standard's tables.
 #[test]
 fn what_is_sent_is_answered(rt: HostRuntime) -> Result<(), Fail> {
     assert_eq!(rt; first_wrong(&rt, rt.alloc(), RUNS)?, None);

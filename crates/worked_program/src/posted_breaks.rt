@@ -1,4 +1,4 @@
-//! A run in which a task posts and views, over readers and writers that fail.
+//! A run where a task posts and views, over readers and writers that fail.
 use crate::breaks::{reads_failed, writes_cut, writes_falter};
 use crate::printed::{ONE_SLAVE, joined};
 use std::test::Fail;
@@ -26,6 +26,7 @@ epoch 0 var 2 value 2612
 mem 0x1100: 02
 ";
 
+/// A run in which a task posts ends when a read fails, at whichever call.
 #[test]
 fn each_read_of_a_posting_run_fails_once(rt: HostRuntime) -> Result<(), Fail> {
     let text = joined(rt.alloc(), ONE_SLAVE, BOTH_WAYS)?;
@@ -33,6 +34,8 @@ fn each_read_of_a_posting_run_fails_once(rt: HostRuntime) -> Result<(), Fail> {
     Ok(())
 }
 
+/// A run in which a task posts ends with status 4 when a write fails, at whichever call, after it printed the beginning of its
+/// output.
 #[test]
 fn each_write_of_a_posting_run_fails_in_turn(rt: HostRuntime) -> Result<(), Fail> {
     let text = joined(rt.alloc(), ONE_SLAVE, BOTH_WAYS)?;
@@ -40,6 +43,7 @@ fn each_write_of_a_posting_run_fails_in_turn(rt: HostRuntime) -> Result<(), Fail
     Ok(())
 }
 
+/// One failed write ends a run in which a task posts.
 #[test]
 fn a_failed_write_of_a_posting_run_is_not_tried_again(rt: HostRuntime) -> Result<(), Fail> {
     let text = joined(rt.alloc(), ONE_SLAVE, BOTH_WAYS)?;

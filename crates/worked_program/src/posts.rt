@@ -102,8 +102,8 @@ epoch 3 recut 1 moved 3
 taken 0 refused 1
 ";
 
-/// Which of several refusals is told: a task over 7 before all, then the first value that is refused, for its first
-/// reason; and the largest numbers.
+/// Which of several refusals is reported: a task over 7 before all, then the first value that is refused, for its
+/// first reason; and the largest numbers.
 const JUDGED: &str = "%%
 post 8 1=2
 post 255 9=1
@@ -154,6 +154,7 @@ const RUNS: &[Run] = &[
     ),
 ];
 
+/// Runs with posts print what was worked out by hand: refusals, posts that wait over an edit, and four posts at most.
 #[test]
 fn tasks_post(rt: HostRuntime) -> Result<(), Fail> {
     assert_eq!(rt; first_wrong(&rt, rt.alloc(), RUNS)?, None);

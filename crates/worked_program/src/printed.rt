@@ -91,7 +91,7 @@ impl Printed {
     }
 }
 
-/// Whether a text has a line of a command for which a growth was refused.
+/// Whether a text has a line of a command that was refused a growth.
 fn has_memory_line(text: &[u8]) -> bool {
     text.windows(18)
         .any(|part| part == b"refused 28 Memory\n".as_slice())
@@ -128,7 +128,7 @@ pub fn ends_as<R: Threads + Wait + Sync>(
     Ok(run.is(status, text))
 }
 
-/// A project text and commands behind it.
+/// A project text and commands after it.
 pub fn joined(alloc: Global, project: &str, commands: &str) -> Result<String, AllocError> {
     let mut input = String::new(alloc);
     input.push_str(project)?;

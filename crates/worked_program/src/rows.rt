@@ -125,7 +125,7 @@ fn push_piece(text: &mut String, piece: &str) -> Result<(), Fail> {
     Ok(())
 }
 
-/// The pieces one behind another.
+/// The pieces one after another.
 pub fn written(alloc: Global, pieces: &[&str]) -> Result<String, Fail> {
     let mut text = String::new(alloc);
     for piece in pieces {

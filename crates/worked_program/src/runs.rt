@@ -60,7 +60,7 @@ fmmu 0 at 0x0600: 00 00 00 01 02 00 06 00 00 10 00 02 01 00 00 00
 const ABSENT_GROUP: &str =
     "slave = [{ station = 5 }]\ngroup = [{ alias = 100, slave = [{ station = 6 }] }]\n";
 
-/// Three PDOs, two of which are assigned, the later one first, and one in a group that is absent.
+/// Three PDOs: two are assigned, the later one first, and one is in a group that is absent.
 const SOME_ASSIGNED: &str = r#"[[slave]]
 station = 1
 [[slave.area]]
@@ -91,7 +91,7 @@ assigned = [7]
 pdo = [{ index = 7, entries = [[24, 1]] }]
 "#;
 
-/// Refused commands, behind which the run goes on.
+/// Refused commands; the run goes on after them.
 const REFUSED: &str =
     "%%\nregs 5\nregs 6\nregs 7\nregs 0\nshow 8 0\nshow 255 255\nshow 7 15\nshow 0 16\nlayout\n";
 
@@ -106,7 +106,7 @@ none
 epoch 0
 ";
 
-/// Where variables stand, and some that don't.
+/// Where variables are, and some that don't.
 const PLACES: &str = "var 1 task 0 datagram 0 bit 0 bits 2 dir out
 var 2 task 0 datagram 0 bit 8 bits 12 dir in
 none
@@ -114,7 +114,7 @@ none
 none
 ";
 
-/// Variables behind earlier bits, and some that aren't assigned or present.
+/// Variables after earlier bits, and some that aren't assigned or present.
 const LATER_PLACES: &str = "var 21 task 3 datagram 0 bit 5 bits 64 dir out
 none
 var 23 task 3 datagram 0 bit 0 bits 1 dir out
@@ -172,6 +172,7 @@ const RUNS: &[Run] = &[
     ),
 ];
 
+/// Runs of each printing command print what was worked out by hand, and go on after refused commands.
 #[test]
 fn commands_print_what_they_ask_for(rt: HostRuntime) -> Result<(), Fail> {
     assert_eq!(rt; first_wrong(&rt, rt.alloc(), RUNS)?, None);

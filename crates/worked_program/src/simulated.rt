@@ -112,7 +112,7 @@ group = [{ alias = 10, slave = [{ station = 11 }] }, { alias = 20, slave = [{ st
 ";
 
 /// The others keep their memory over an edit, wherever a group comes or goes.
-const KEPT: &str = "%%
+const UNCHANGED: &str = "%%
 peek 21 0x1000 1
 peek 24 0x1000 1
 connect 20
@@ -136,7 +136,7 @@ name
 ";
 
 /// What they print.
-const KEPT_TEXT: &str = "refused 6 Absent
+const UNCHANGED_TEXT: &str = "refused 6 Absent
 refused 5 UnknownStation
 epoch 1 recut 0 moved 0
 poked
@@ -180,7 +180,7 @@ const RUNS: &[Run] = &[
     (&[ONE_IN_GROUP, COMES_AGAIN], 0, &[COMES_AGAIN_TEXT]),
     (&[ONE_SLAVE, MEMORIES], 0, &[MEMORIES_TEXT]),
     (&[TWO_SLAVES, OVERWRITTEN], 0, &[OVERWRITTEN_TEXT]),
-    (&[TWO_GROUPS, KEPT], 0, &[KEPT_TEXT]),
+    (&[TWO_GROUPS, UNCHANGED], 0, &[UNCHANGED_TEXT]),
     (&[ONE_SLAVE, LAST_BYTE], 0, &[LAST_BYTE_TEXT]),
     (
         &["%%\nscan\nname\nprogram\ncycle 0 7\n"],
@@ -189,6 +189,8 @@ const RUNS: &[Run] = &[
     ),
 ];
 
+/// Runs along the simulated line print what was worked out by hand. Slaves keep their memory over an edit, and groups that come
+/// again are fresh.
 #[test]
 fn frames_go_along_the_line(rt: HostRuntime) -> Result<(), Fail> {
     assert_eq!(rt; first_wrong(&rt, rt.alloc(), RUNS)?, None);

@@ -1,4 +1,4 @@
-//! Values that are posted where variables stand, and where they go from there.
+//! Values that are posted where variables are, and where they go from there.
 use crate::printed::ONE_SLAVE;
 use crate::rows::{Run, first_wrong};
 use std::test::Fail;
@@ -49,7 +49,7 @@ refused 4 NotAnswered
     "written 2 owed 0\n",
 ];
 
-/// A variable of 64 bits that begins at bit 5, behind one of a bit and gaps; another one is the first of the task's second
+/// A variable of 64 bits that begins at bit 5, after one of a bit and gaps; another one is the first of the task's second
 /// datagram.
 const WIDE: &str = r#"[[slave]]
 station = 1
@@ -101,6 +101,7 @@ const RUNS: &[Run] = &[
     (&[WIDE, WIDE_VALUES], 0, WIDE_TEXT),
 ];
 
+/// A posted value goes with its variable to another task, and is lost when the variable loses its place.
 #[test]
 fn values_go_with_their_variables(rt: HostRuntime) -> Result<(), Fail> {
     assert_eq!(rt; first_wrong(&rt, rt.alloc(), RUNS)?, None);

@@ -1,4 +1,4 @@
-//! What tasks view behind what the master accepted, and posts that are taken.
+//! What tasks view after what the master accepted, and posts that are taken.
 use crate::printed::{ONE_IN_GROUP, ONE_SLAVE};
 use crate::rows::{Run, first_wrong};
 use std::test::Fail;
@@ -133,6 +133,7 @@ const RUNS: &[Run] = &[
     ),
 ];
 
+/// Tasks view the values of good answers once they are published, and the refusals in their order.
 #[test]
 fn tasks_view_what_is_published(rt: HostRuntime) -> Result<(), Fail> {
     assert_eq!(rt; first_wrong(&rt, rt.alloc(), RUNS)?, None);

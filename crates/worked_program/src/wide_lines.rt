@@ -96,8 +96,8 @@ sm 0 at 0x0800: 00 10 2c 01 64 00 01 00
 fmmu 0 at 0x0600: e8 03 00 01 2c 01 00 07 00 10 00 02 01 00 00 00
 ";
 
-/// Inputs stand behind the common end of outputs.
-const INPUTS_BEHIND: &str = "epoch 1 recut 1 moved 4
+/// Inputs are after the common end of outputs.
+const INPUTS_AFTER: &str = "epoch 1 recut 1 moved 4
 epoch 2 recut 6 moved 9
 epoch 2
 task 0 parts 4300 1500
@@ -206,7 +206,7 @@ const RUNS: &[Run] = &[
             "%%\nconnect 10\nconnect 20\nlayout\ndisconnect 10\nlayout\n",
         ],
         0,
-        &[INPUTS_BEHIND],
+        &[INPUTS_AFTER],
     ),
     (
         &[
@@ -225,6 +225,7 @@ const RUNS: &[Run] = &[
     ),
 ];
 
+/// Edits of wide slaves move areas from one datagram to another, as worked out by hand.
 #[test]
 fn areas_go_from_datagram_to_datagram(rt: HostRuntime) -> Result<(), Fail> {
     assert_eq!(rt; first_wrong(&rt, rt.alloc(), RUNS)?, None);

@@ -162,7 +162,7 @@ const NO_COMMANDS: &[&str] = &[
     "peek 7 0x2fff 2",
 ];
 
-/// The first of the lines that is a command behind one that is; none where none is.
+/// The first of the lines that is a command after one that is; none where none is.
 fn first_command<R: Threads + Wait + Sync>(
     rt: &R,
     alloc: Global,
@@ -182,6 +182,7 @@ fn first_command<R: Threads + Wait + Sync>(
     Ok(None)
 }
 
+/// None of the lines that are no command is taken for one.
 #[test]
 fn lines_that_are_no_command(rt: HostRuntime) -> Result<(), Fail> {
     assert_eq!(rt; first_command(&rt, rt.alloc())?, None);
@@ -321,6 +322,7 @@ const RUNS: &[Run] = &[
     (&["%%\r\n\r\n"], 0, &[]),
 ];
 
+/// Lines and words are parted as the format says, and project text that isn't UTF-8 is refused with `NotToml`.
 #[test]
 fn lines_and_words(rt: HostRuntime) -> Result<(), Fail> {
     assert_eq!(rt; first_wrong(&rt, rt.alloc(), RUNS)?, None);

@@ -29,7 +29,7 @@ fn handed_back(sender: &mut PostSender, buffer: PostBuffer) -> Option<PostBuffer
     }
 }
 
-/// Whether a full ring hands a buffer of another ring back. Given back to it behind its own four the buffer finds no place
+/// Whether a full ring hands a buffer of another ring back. Given back to it after its own four the buffer finds no place
 /// among the spares, and is dropped.
 fn takes_no_fifth(
     sender: &mut PostSender,
@@ -55,7 +55,7 @@ fn hands_back(alloc: Global) -> Result<bool, AllocError> {
     })
 }
 
-/// Whether a buffer is held for the epoch 70 behind three posts, and a buffer of another ring is posted as the fourth.
+/// Whether a buffer is held for the epoch 70 after three posts, and a buffer of another ring is posted as the fourth.
 fn fills(sender: &mut PostSender, other: &mut PostSender) -> bool {
     if sender.hold(70, 3).is_err() {
         return false;
@@ -89,10 +89,11 @@ fn keeps_held(alloc: Global) -> Result<bool, AllocError> {
     let (mut other, _) = post_ring(alloc)?;
     let is_begun = all_done(&mut sender, &mut receiver, &THREE_POSTS);
     let is_full = fills(&mut sender, &mut other);
-    let is_kept = all_done(&mut sender, &mut receiver, &HELD_LAST);
-    Ok(is_begun && is_full && is_kept)
+    let is_unchanged = all_done(&mut sender, &mut receiver, &HELD_LAST);
+    Ok(is_begun && is_full && is_unchanged)
 }
 
+/// A ring with four posts takes no fifth one: it hands the buffer back, and a held buffer stays held.
 #[test]
 fn a_full_ring_takes_no_fifth_post(rt: HostRuntime) -> Result<(), Fail> {
     let alloc = rt.alloc();
@@ -112,6 +113,7 @@ fn begins_anew(buffer: &mut PostBuffer) -> bool {
     is_empty && is_largest && is_filled && is_anew
 }
 
+/// A new buffer is empty. It takes the largest image, and has only zeros once it is begun again.
 #[test]
 fn a_buffer_begins_anew(rt: HostRuntime) -> Result<(), Fail> {
     let (mut sender, _) = post_ring(rt.alloc())?;

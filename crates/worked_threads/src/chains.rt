@@ -1,6 +1,6 @@
 //! Chains of one, two and four segments, and that their threads run at once.
 use crate::gates::{Counts, Holds, Meets, Open};
-use crate::pieces::{frame_of, put, stands};
+use crate::pieces::{frame_of, is_placed, put};
 use hc_lend::Gate;
 use hc_rings::FrameBox;
 use hc_segment::{ChainFault, Segment, SlaveMachine, chain};
@@ -66,7 +66,7 @@ fn bytes_of(
     Ok(bytes)
 }
 
-/// What is left of the frames and of segments of this size where each segment begins once the one in front of it is done.
+/// What is left of the frames and of segments of this size where each segment begins once the one before it is done.
 fn left_in_turn<G: Gate>(alloc: Global, size: u8, gate: &G) -> Result<Vec<u8>, AllocError> {
     let mut segments = segments_of(alloc, size)?;
     let mut frames = frames_of(alloc)?;
@@ -112,6 +112,7 @@ fn counts_of_segments(alloc: Global) -> Result<[usize; 3], AllocError> {
     ])
 }
 
+/// A chain of one, two or four segments leaves the frames and machines that one segment of eight slaves leaves.
 #[test]
 fn chains_are_one_segment(rt: HostRuntime) -> Result<(), Fail> {
     let alloc = rt.alloc();
@@ -127,8 +128,8 @@ fn chains_are_one_segment(rt: HostRuntime) -> Result<(), Fail> {
     Ok(())
 }
 
-/// A body that begins with a segment once the one in front of it is done gives the frames and machines that `chain` gives;
-/// the gate alone tells.
+/// A body that begins with a segment once the one before it is done gives the frames and machines that `chain` gives; the
+/// gate alone gives.
 #[test]
 fn segments_run_at_once(rt: HostRuntime) -> Result<(), Fail> {
     let alloc = rt.alloc();
@@ -156,7 +157,7 @@ const PAIRS: [(usize, usize); 12] = [
     (3, 2),
 ];
 
-/// The first pair of segments of which the one that is held doesn't see the other one begin.
+/// The first pair of segments where the held one doesn't see the other one begin.
 fn first_unseen<R: Threads + Wait + Sync>(
     rt: &R,
     alloc: Global,
@@ -196,12 +197,12 @@ fn each_segment_calls_the_gate_once(rt: HostRuntime) -> Result<(), Fail> {
     Ok(())
 }
 
-/// Whether each machine's mapped byte is one more than that of the machine before it; the first has this one.
+/// Whether each machine's mapped byte is one more than in the machine before it; the first has this one.
 fn bytes_ascend(segments: &[Segment], first: u8) -> bool {
     let mut wanted = first;
     for segment in segments {
         for machine in segment.machines() {
-            if !stands(machine.memory(), 0x1000, &[wanted]) {
+            if !is_placed(machine.memory(), 0x1000, &[wanted]) {
                 return false;
             }
             wanted = wanted.wrapping_add(1);
@@ -216,7 +217,7 @@ fn is_answered(out: &[FrameBox]) -> bool {
     match out {
         [frame] => {
             let wanted = [100, 101, 102, 103, 104, 105, 106, 107, 24, 0];
-            frame.bytes().len() == 64 && stands(frame.bytes(), 26, &wanted)
+            frame.bytes().len() == 64 && is_placed(frame.bytes(), 26, &wanted)
         }
         _ => false,
     }
@@ -230,7 +231,7 @@ fn one_frame(alloc: Global) -> Result<Vec<FrameBox>, AllocError> {
     Ok(frames)
 }
 
-/// Whether the frame and the machines are as they are to be behind a chain; and where it is refused, the machines as before.
+/// Whether the frame and the machines are as they are to be after a chain; and where it is refused, the machines as before.
 fn is_whole(answer: &Result<Vec<FrameBox>, ChainFault>, segments: &[Segment]) -> bool {
     match answer {
         Ok(out) => is_answered(out.as_slice()) && bytes_ascend(segments, 1),

@@ -5,8 +5,6 @@ mod at_once;
 #[cfg(test)]
 mod changer;
 #[cfg(test)]
-mod crowded;
-#[cfg(test)]
 mod docking;
 #[cfg(test)]
 mod dropped;
@@ -26,6 +24,8 @@ mod lines;
 mod loops;
 #[cfg(test)]
 mod often;
+#[cfg(test)]
+mod over_limit;
 #[cfg(test)]
 mod posting;
 #[cfg(test)]

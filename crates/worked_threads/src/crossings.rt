@@ -23,6 +23,7 @@ fn post_all(mut sender: PostSender) -> bool {
     true
 }
 
+/// Posts the post with this number once a buffer is free, and answers whether it could; gives up after `TURNS` turns.
 fn post_waiting(sender: &mut PostSender, number: u32) -> bool {
     for _ in 0..TURNS {
         if let Ok(mut buffer) = sender.buffer() {
@@ -76,6 +77,7 @@ fn sees_end(receiver: &mut PostReceiver) -> bool {
     false
 }
 
+/// All 500 posts go from one thread to another, whole and in order.
 #[test]
 fn posts_go_from_thread_to_thread(rt: HostRuntime) -> Result<(), Fail> {
     let (sender, receiver) = post_ring(rt.alloc())?;
@@ -106,6 +108,7 @@ fn send_all(mut sender: FrameSender, frames: Vec<FrameBox>) -> bool {
     true
 }
 
+/// Sends a frame once the ring has a place, and answers whether it could; gives up after `TURNS` turns.
 fn send_waiting(sender: &mut FrameSender, frame: FrameBox) -> bool {
     let mut frame = frame;
     for _ in 0..TURNS {
@@ -139,6 +142,7 @@ fn takes_frame_waiting(receiver: &mut FrameReceiver, number: u32) -> bool {
     false
 }
 
+/// All 12 frames go from one thread to another, whole and in order, through a ring for three.
 #[test]
 fn frames_go_from_thread_to_thread(rt: HostRuntime) -> Result<(), Fail> {
     let frames = numbered_frames(rt.alloc())?;

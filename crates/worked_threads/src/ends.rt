@@ -1,4 +1,4 @@
-//! What a receiver tells of the end of a ring. It is proved here that no `take` is in vain before it.
+//! What a receiver says of the end of a ring. It is proved here that no `take` is in vain before it.
 ghost use Rattle.std.specs.Prelude.{◌≡◌, IfSome};
 ghost use Rattle.hc_rings.specs.Ring.{taken, posted, ArePostEnds, EndCameAfter};
 ghost use Rattle.hc_rings.specs.Finished.{all_posted, IsEndOf};
@@ -23,7 +23,7 @@ pub fn take_what_is_left(receiver: &mut PostReceiver) -> Option<u32>
     Some(count)
 }
 
-/// How many posts are left at the opening, behind two posts, and behind a taking; none where one of them fails.
+/// How many posts are left at the opening, after two posts, and after a taking; none where one of them fails.
 fn counts_left(sender: &mut PostSender, receiver: &mut PostReceiver) -> Option<[u32; 3]>
     requires { ArePostEnds sender.old receiver.old }
 {
@@ -99,8 +99,10 @@ fn finishes_alone(alloc: Global) -> Result<bool, AllocError> {
     Ok(sender.finish().is_some())
 }
 
+/// Both ends know how many posts are left: beside one another, and after the sender has finished. A sender without a receiver
+/// can't finish.
 #[test]
-fn the_ends_tell_what_is_left(rt: HostRuntime) -> Result<(), Fail> {
+fn the_ends_say_what_is_left(rt: HostRuntime) -> Result<(), Fail> {
     let alloc = rt.alloc();
     let found = (
         left_beside(alloc)?,

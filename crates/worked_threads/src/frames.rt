@@ -1,6 +1,7 @@
 //! Rings of frames.
-ghost use Rattle.std.specs.Prelude.{◌≡◌, ◌≤◌, ℕ, List, [], ◌∷◌, ◌++◌, length, slice_set, IsTrue, OnOk};
-ghost use Rattle.hc_rings.specs.Frames.{frames_sent, frames_taken, AreFrameEnds, SameFrameReceiver, SameFrameSender};
+ghost use Rattle.std.specs.Prelude.{◌≡◌, ◌≤◌, [], length, slice_set, IsTrue, OnOk};
+ghost use Rattle.hc_rings.specs.Frames.{AreFrameEnds, SameFrameReceiver, SameFrameSender};
+ghost use Rattle.worked_threads.specs.Frames.{PassesMarked};
 
 use hc_rings::{FrameBox, FrameReceiver, FrameSender, LARGEST_FRAME, frame_ring};
 use std::alloc::{AllocError, Global};
@@ -59,7 +60,7 @@ fn is_changed(frame: &mut FrameBox) -> bool {
     is_same
 }
 
-/// Whether a frame that was handed back is sent behind the first two, and all three come in order.
+/// Whether a frame that was handed back is sent after the first two, and all three come in order.
 fn come_in_order(sender: &mut FrameSender, receiver: &mut FrameReceiver, back: FrameBox) -> bool
     requires { AreFrameEnds sender.old receiver.old }
 {
@@ -115,8 +116,7 @@ fn mark(frame: &mut [u8])
 
 /// Takes a frame, marks it in its box and sends it on.
 fn pass_on(from: &mut FrameReceiver, to: &mut FrameSender) -> bool
-    ensures { IsTrue result → (frame : List ℕ) × (frames_taken from.new ≡ frames_taken from.old ++ frame ∷ [])
-        × (frames_sent to.new ≡ frames_sent to.old ++ slice_set frame 6 2 ∷ []) }
+    ensures { IsTrue result → PassesMarked from.old from.new to.old to.new }
 {
     let Some(mut frame) = from.take() else {
         return false;
@@ -136,6 +136,7 @@ fn is_marked(alloc: Global) -> Result<[bool; 4], AllocError> {
     Ok([early, sent, passed, marked])
 }
 
+/// Frames go through a ring in order. A full ring hands a frame back, and a passed frame comes marked.
 #[test]
 fn frames_go_in_order(rt: HostRuntime) -> Result<(), Fail> {
     let alloc = rt.alloc();

@@ -11,7 +11,7 @@ impl Gate for Open {
     fn begun(&self, _worker: usize) {}
 }
 
-/// The worker `holder` is held until the worker `other` has begun, for at most 1,000,000 turns, each of which yields.
+/// The worker `holder` is held until the worker `other` has begun, for at most 1,000,000 turns, and yields in each.
 #[derive(Drop)]
 pub struct Holds {
     holder: usize,
@@ -55,7 +55,7 @@ impl Gate for Holds {
     }
 }
 
-/// Each worker is held until all have begun, for at most 1,000,000 turns, each of which yields.
+/// Each worker is held until all have begun, for at most 1,000,000 turns, and yields in each.
 #[derive(Drop)]
 pub struct Meets {
     workers: u64,

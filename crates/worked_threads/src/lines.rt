@@ -1,5 +1,5 @@
 //! Frames that go through a segment, step by step.
-use crate::pieces::{Piece, frame_of, put, stand, stands};
+use crate::pieces::{Piece, are_placed, frame_of, is_placed, put};
 use hc_segment::{Segment, SlaveMachine};
 use std::alloc::{AllocError, Global};
 
@@ -16,7 +16,7 @@ pub fn segment_of(alloc: Global, aliases: &[u16]) -> Result<Segment, AllocError>
 pub enum Step {
     /// Bytes are written into the memory of the machine at this position, from an address on.
     Put(usize, usize, &'static [u8]),
-    /// Bytes stand in the memory of the machine at this position, from an address on.
+    /// Bytes are in the memory of the machine at this position, from an address on.
     Kept(usize, usize, &'static [u8]),
     /// A frame of one datagram with this command, address and data passes, and comes back with such an address, and with these
     /// data and working counter.
@@ -31,10 +31,10 @@ pub fn put_in(segment: &mut Segment, position: usize, at: usize, bytes: &[u8]) -
     position < machines.len() && put(machines[position].memory_mut(), at, bytes)
 }
 
-/// Whether bytes stand in the memory of a machine.
-pub fn is_kept(machines: &[SlaveMachine], position: usize, at: usize, bytes: &[u8]) -> bool {
+/// Whether bytes are in the memory of a machine.
+pub fn is_unchanged(machines: &[SlaveMachine], position: usize, at: usize, bytes: &[u8]) -> bool {
     match machines.get(position) {
-        Some(machine) => stands(machine.memory(), at, bytes),
+        Some(machine) => is_placed(machine.memory(), at, bytes),
         None => false,
     }
 }
@@ -64,7 +64,7 @@ fn is_passed(
     }
     let mut frame = frame_of(command, addresses.0, bytes);
     pass(segment, is_whole, &mut frame);
-    stands(&frame, 18, &addresses.1.to_le_bytes()) && stands(&frame, 26, back)
+    is_placed(&frame, 18, &addresses.1.to_le_bytes()) && is_placed(&frame, 26, back)
 }
 
 /// Whether a frame comes back with these pieces.
@@ -75,14 +75,14 @@ fn comes_back(segment: &mut Segment, is_whole: bool, sent: &[u8], pieces: &[Piec
     let mut frame = [0; 64];
     frame[..sent.len()].copy_from_slice(sent);
     pass(segment, is_whole, &mut frame[..sent.len()]);
-    stand(&frame[..sent.len()], pieces)
+    are_placed(&frame[..sent.len()], pieces)
 }
 
 /// Whether that comes of it.
 fn is_met(segment: &mut Segment, is_whole: bool, step: &Step) -> bool {
     match step {
         Step::Put(position, at, bytes) => put_in(segment, *position, *at, *bytes),
-        Step::Kept(position, at, bytes) => is_kept(segment.machines(), *position, *at, *bytes),
+        Step::Kept(position, at, bytes) => is_unchanged(segment.machines(), *position, *at, *bytes),
         Step::Pass(command, address, bytes, address_back, back) => is_passed(
             segment,
             is_whole,
@@ -95,7 +95,7 @@ fn is_met(segment: &mut Segment, is_whole: bool, step: &Step) -> bool {
     }
 }
 
-/// The number of the first step of which that doesn't come.
+/// The number of the first step where that doesn't come.
 fn first_missed(segment: &mut Segment, is_whole: bool, steps: &[Step]) -> Option<usize> {
     for (number, step) in steps.iter().enumerate() {
         if !is_met(segment, is_whole, step) {
@@ -108,7 +108,7 @@ fn first_missed(segment: &mut Segment, is_whole: bool, steps: &[Step]) -> Option
 /// The aliases of machines, and what is done with them.
 pub type Run = (&'static [u16], &'static [Step]);
 
-/// The numbers of the first run and of its step of which that doesn't come: through the segment, or else through each of its
+/// The numbers of the first run and of its step where that doesn't come: through the segment, or else through each of its
 /// machines.
 fn first_wrong(
     alloc: Global,

@@ -30,7 +30,7 @@ fn send_epoch(sender: &mut ImageSender, epoch: u32)
     sender.send();
 }
 
-/// Whether an image is whole: that of an epoch as it was sent, or the blank one.
+/// Whether an image is whole: an epoch's as it was sent, or the blank one.
 fn is_whole(image: &TaskImage) -> bool {
     let byte = (image.epoch() % 251) as u8;
     if image.epoch() == 0 {
@@ -75,6 +75,7 @@ fn watch(mut receiver: ImageReceiver) -> (bool, u32) {
     (true, epoch)
 }
 
+/// A thread that looks while 2,000 images are sent sees each one whole, none older than the one before, and the last one.
 #[test]
 fn images_go_from_thread_to_thread(rt: HostRuntime) -> Result<(), Fail> {
     let (sender, receiver) = open(rt.alloc(), 4, 2)?;
@@ -89,6 +90,7 @@ fn shown(receiver: &ImageReceiver) -> (u32, Option<u8>) {
     (image.epoch(), image.bytes().last().copied())
 }
 
+/// A look shows the last image that was sent. Without a look the one before stays.
 #[test]
 fn a_look_shows_the_newest(rt: HostRuntime) -> Result<(), Fail> {
     let (mut sender, mut receiver) = open(rt.alloc(), 4, 2)?;
@@ -108,6 +110,7 @@ fn a_look_shows_the_newest(rt: HostRuntime) -> Result<(), Fail> {
     Ok(())
 }
 
+/// A receiver sees the last image after the sender is dropped.
 #[test]
 fn an_end_goes_on_alone(rt: HostRuntime) -> Result<(), Fail> {
     let (mut sender, mut receiver) = open(rt.alloc(), 4, 2)?;
@@ -120,6 +123,7 @@ fn an_end_goes_on_alone(rt: HostRuntime) -> Result<(), Fail> {
     Ok(())
 }
 
+/// What a receiver sees is what the sender sent, also after the receiver was moved.
 #[test]
 fn what_was_seen_was_sent(rt: HostRuntime) -> Result<(), Fail> {
     let (mut sender, receiver) = open(rt.alloc(), 4, 2)?;

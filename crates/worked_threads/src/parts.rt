@@ -54,6 +54,7 @@ fn is_stamped<R: Threads + Sync>(rt: &R, lengths: &[u32], wanted: &[u8]) -> bool
     &*bytes == wanted
 }
 
+/// Each part of a slice is worked on once, also an empty one, and with no parts nothing is.
 #[test]
 fn each_part_is_worked_on(rt: HostRuntime) {
     let are_stamped = [
@@ -93,7 +94,7 @@ fn copy_each<R: Threads + Sync>(rt: &R, bytes: &mut [u8], lengths: &[u32], words
     each_at_once(rt, Parts::of(bytes, lengths), &Copies { words }, &Open);
 }
 
-/// Whether no part is left before three are handed out, one of them empty, and whether none is behind them; and the bytes,
+/// Whether no part is left before three are handed out, one of them empty, and whether none is after them; and the bytes,
 /// once each part was filled with its number.
 fn handed_out() -> (bool, bool, [u8; 5]) {
     let mut bytes = [0; 5];
@@ -109,6 +110,7 @@ fn handed_out() -> (bool, bool, [u8; 5]) {
     (is_empty_first, is_empty_last, bytes)
 }
 
+/// Parts are handed out in order with their own lengths, and the bytes are what was left in each.
 #[test]
 fn parts_are_cut_and_handed_out(rt: HostRuntime) {
     let mut cut = [9; 5];

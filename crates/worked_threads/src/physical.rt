@@ -1,6 +1,6 @@
 //! Registers by position and by station.
 use crate::lines::Step::{Frame, Kept, Pass, Put};
-use crate::lines::{Run, first_wrongs, is_kept, put_in, segment_of};
+use crate::lines::{Run, first_wrongs, is_unchanged, put_in, segment_of};
 use hc_frames::building::build_alias_read;
 use std::alloc::{AllocError, Global};
 use std::test::Fail;
@@ -96,15 +96,16 @@ fn are_given_back(alloc: Global) -> Result<bool, AllocError> {
     let mut segment = segment_of(alloc, &[1, 2])?;
     let are_put = put_in(&mut segment, 0, 0x1000, &[9]) && put_in(&mut segment, 1, 0x1000, &[9]);
     let machines = segment.into_machines();
-    let are_kept = [
-        is_kept(&machines, 0, 0x12, &[1, 0]),
-        is_kept(&machines, 0, 0x1000, &[9]),
-        is_kept(&machines, 1, 0x12, &[2, 0]),
-        is_kept(&machines, 1, 0x1000, &[9]),
+    let are_unchanged = [
+        is_unchanged(&machines, 0, 0x12, &[1, 0]),
+        is_unchanged(&machines, 0, 0x1000, &[9]),
+        is_unchanged(&machines, 1, 0x12, &[2, 0]),
+        is_unchanged(&machines, 1, 0x1000, &[9]),
     ];
-    Ok(are_put && machines.len() == 2 && are_kept == [true; 4])
+    Ok(are_put && machines.len() == 2 && are_unchanged == [true; 4])
 }
 
+/// Registers are read by position and written by position and station address, as worked out by hand.
 #[test]
 fn registers_are_read_and_written(rt: HostRuntime) -> Result<(), Fail> {
     let alloc = rt.alloc();

@@ -1,10 +1,10 @@
-//! Frames of one datagram, and bytes that stand in frames and memories.
+//! Frames of one datagram, and bytes that are in frames and memories.
 ghost use Rattle.std.specs.Prelude.{◌≤◌, length};
 
-/// Bytes that are to stand from a place on.
+/// Bytes that are to be from a place on.
 pub type Piece = (usize, &'static [u8]);
 
-/// A frame of one datagram with the serial 0: 64 bytes, of which those behind the working counter are 0.
+/// A frame of one datagram with the serial 0: 64 bytes; those after the working counter are 0.
 pub fn frame_of(command: u8, address: u32, bytes: &[u8]) -> [u8; 64]
     requires { length bytes.now ≤ 36 }
 {
@@ -20,18 +20,18 @@ pub fn frame_of(command: u8, address: u32, bytes: &[u8]) -> [u8; 64]
     frame
 }
 
-/// Whether bytes stand from a place on.
-pub fn stands(bytes: &[u8], at: usize, wanted: &[u8]) -> bool {
+/// Whether bytes are from a place on.
+pub fn is_placed(bytes: &[u8], at: usize, wanted: &[u8]) -> bool {
     match bytes.get(at..) {
         Some(rest) => rest.starts_with(wanted),
         None => false,
     }
 }
 
-/// Whether each of the pieces stands at its place.
-pub fn stand(bytes: &[u8], pieces: &[Piece]) -> bool {
+/// Whether each of the pieces is at its place.
+pub fn are_placed(bytes: &[u8], pieces: &[Piece]) -> bool {
     for (at, wanted) in pieces {
-        if !stands(bytes, *at, *wanted) {
+        if !is_placed(bytes, *at, *wanted) {
             return false;
         }
     }

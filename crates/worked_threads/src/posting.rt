@@ -92,7 +92,7 @@ pub enum Taking {
     Four([u8; 3]),
     /// It finds no post.
     Nothing,
-    /// It tells how many posts are left, where it sees that the sender is gone.
+    /// It says how many posts are left, where it sees that the sender is gone.
     Left(Option<u32>),
 }
 

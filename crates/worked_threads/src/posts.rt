@@ -146,6 +146,7 @@ fn first_wrong(alloc: Global) -> Result<Option<usize>, AllocError> {
     Ok(None)
 }
 
+/// Posts come out of a ring as they were posted, in order, also after the sender is dropped.
 #[test]
 fn posts_come_as_they_were_posted(rt: HostRuntime) -> Result<(), Fail> {
     assert_eq!(rt; first_wrong(rt.alloc())?, None);

@@ -123,7 +123,7 @@ fn push_slaves(text: &mut String, first: u32, slaves: u32, task: u32) -> Result<
 }
 
 /// A line with so many such slaves in task 5, as many in task 7, and sixteen in task 2.
-pub fn crowded(alloc: Global, slaves: u32) -> Result<Project, AllocError> {
+pub fn over_limit(alloc: Global, slaves: u32) -> Result<Project, AllocError> {
     let mut text = String::new(alloc);
     push_slaves(&mut text, 1000, slaves, 7)?;
     push_slaves(&mut text, 2000, slaves, 5)?;

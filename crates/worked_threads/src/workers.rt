@@ -81,6 +81,7 @@ impl PartWork for AfterGate<'_> {
     }
 }
 
+/// Each of eight workers calls the gate once, and before its work.
 #[test]
 fn each_worker_begins_once_and_before_its_work(rt: HostRuntime) {
     let gate = Counts::of_none();

@@ -29,6 +29,7 @@ impl SeatHolding {
     ghost use types.Logic.{sem};
     ghost use Rattle.hc_c.specs.LendingEnd.{LendsEnd};
 
+    /// A handle without a task's end: a null pointer.
     fn nothing(alloc: Global) -> SeatHolding
         ensures { result.value ≡ None }
     {
@@ -38,6 +39,7 @@ impl SeatHolding {
         }
     }
 
+    /// A handle of the task's end, from its place in memory.
     fn of(own: Unboxed<TaskEnd, Global>) -> SeatHolding
         ensures { result.value ≡ Some own.value }
     {
@@ -48,6 +50,7 @@ impl SeatHolding {
         }
     }
 
+    /// The task end's place in memory. The handle must hold an end.
     fn into_unboxed(self) -> Unboxed<TaskEnd, Global>
         requires { IsSome self.value }
         ensures { self.value ≡ Some result.value }

@@ -35,7 +35,7 @@ fn make_ends(alloc: Global) -> Result<(OwnerEnd, Box<TaskEnd>), AllocError>
 
 /// Opens a task's seat in place of what the handle held: `DONE`, or why it is refused.
 fn open_seat(alloc: Global, ends: &mut OwnerEnds, task: u8, seat: &mut SeatHandle) -> u8
-    ensures told { (TASKS ≤ task → result ≡ core_fault_number NoSuchTask) × (task < TASKS → (result ≡ DONE) ⊎ (result ≡ MEMORY)) }
+    ensures answer_given { (TASKS ≤ task → result ≡ core_fault_number NoSuchTask) × (task < TASKS → (result ≡ DONE) ⊎ (result ≡ MEMORY)) }
     ensures opened { result ≡ DONE → IfSome seat.new.holding.value (OpensSeat task ends.old ends.new) }
     ensures open { result ≡ DONE → IsSome seat.new.holding.value }
     ensures unchanged { result ≢ DONE → (ends.new ≡ ends.old) × (seat.new.holding.value ≡ seat.old.holding.value) }
@@ -46,7 +46,7 @@ fn open_seat(alloc: Global, ends: &mut OwnerEnds, task: u8, seat: &mut SeatHandl
     let Ok((owner, end)) = make_ends(alloc) else {
         return MEMORY;
     };
-    ends.by_task[usize::from(task)] = Some(owner);
+    ends.place(task, owner);
     drop(seat.take(alloc));
     *seat = SeatHandle::of(end);
     DONE
@@ -64,7 +64,8 @@ pub extern "C" fn zangjulf_seat_open(
 ) -> u8
     ensures opened { result ≡ DONE → IfSome handle.old.holding.value (λ old. IfSome handle.new.holding.value (λ new. IfSome seat.new.holding.value (OpensLineSeat task old new))) }
     ensures open { result ≡ DONE → IsSome handle.new.holding.value × IsSome seat.new.holding.value }
-    ensures told { IfSome handle.old.holding.value (λ old. result ≢ BUSY → (TASKS ≤ task → result ≡ core_fault_number NoSuchTask) × (task < TASKS → (result ≡ DONE) ⊎ (result ≡ MEMORY))) }
+    ensures answer_given { IfSome handle.old.holding.value (λ old. result ≢ BUSY → task < TASKS → (result ≡ DONE) ⊎ (result ≡ MEMORY)) }
+    ensures no_task { IfSome handle.old.holding.value (λ old. result ≢ BUSY → TASKS ≤ task → result ≡ core_fault_number NoSuchTask) }
     ensures unchanged { result ≢ DONE → (handle.new.holding.value ≡ handle.old.holding.value) × (seat.new.holding.value ≡ seat.old.holding.value) }
     ensures closed { handle.old.holding.value ≡ None → result ≡ CLOSED }
 {

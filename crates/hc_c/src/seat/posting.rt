@@ -1,10 +1,9 @@
 //! A task's thread posts at its seat.
 ghost use Rattle.std.specs.Prelude.{◌≡◌, ◌≢◌, ◌≤◌, ◌⊎◌, ◌++◌, ◌∷◌, [], IfSome, None, is_some, length};
 ghost use Rattle.hc_rings.specs.declared.post_buffer.TheConstants.{LARGEST_IMAGE};
-ghost use Rattle.hc_rings.specs.declared.posts.TheConstants.{SPARE_BUFFERS};
 ghost use Rattle.hc_rings.specs.Post.{post_of};
-ghost use Rattle.hc_rings.specs.Ring.{PostsEach, SameSender, held, posted};
-ghost use Rattle.hc_c.specs.Numbers.{number_of};
+ghost use Rattle.hc_rings.specs.Ring.{FourWait, PostsEach, SameSender, held, posted};
+ghost use Rattle.hc_c.specs.Numbers.{refusal_number};
 ghost use Rattle.hc_c.specs.SeatRoom.{image_room};
 ghost use Rattle.hc_c.specs.Seats.{Posts, PostsNothing, at_hand, seat_fault};
 ghost use Rattle.hc_c.specs.declared.numbers.TheConstants.{CLOSED, NO_SPARE};
@@ -34,10 +33,10 @@ fn refusal(image: &TaskImage, epoch: u32, bytes: &[u8]) -> Option<CoreFault>
 /// Posts outputs for an epoch: `DONE`, or `NO_SPARE`.
 fn post_bytes(posts: &mut PostSender, epoch: u32, bytes: &[u8]) -> u8
     requires { length bytes.now ≤ LARGEST_IMAGE }
-    ensures told { (result ≡ DONE) ⊎ (result ≡ NO_SPARE) }
+    ensures answer_given { (result ≡ DONE) ⊎ (result ≡ NO_SPARE) }
     ensures posted { result ≡ DONE → posted posts.new ≡ posted posts.old ++ post_of epoch bytes.now ∷ [] }
     ensures refused { result ≢ DONE → posted posts.new ≡ posted posts.old }
-    ensures spare { PostsEach posts.old → result ≡ NO_SPARE → SPARE_BUFFERS ≤ length (posted posts.old) }
+    ensures waiting { PostsEach posts.old → result ≡ NO_SPARE → FourWait posts.new }
     ensures ring { SameSender posts.old posts.new }
     ensures each { PostsEach posts.old → PostsEach posts.new }
 {
@@ -51,16 +50,17 @@ fn post_bytes(posts: &mut PostSender, epoch: u32, bytes: &[u8]) -> u8
     }
 }
 
-/// The seat posts all outputs of its task for an epoch, which is that of the image at hand. The post waits until the owner takes
+/// The seat posts all outputs of its task for the epoch of the image at hand. The post waits until the owner takes
 /// it. `DONE`; fault 15 where the image at hand is of another epoch; fault 16 where it has another number of output bytes;
-/// `NO_SPARE` where four posts of the seat wait; `CLOSED` where the seat is closed, or the owner's end of it is gone. Unless it
-/// is done nothing is posted. It waits for nobody and takes no memory.
+/// `NO_SPARE` where four posts of the seat wait, as far as it has seen what was taken; `CLOSED` where the seat is closed, or
+/// the owner's end of it is gone. Unless it is done nothing is posted. It waits for nobody and takes no memory.
 #[unsafe(no_mangle)]
 pub extern "C" fn zangjulf_seat_post(seat: &mut SeatHandle, epoch: u32, bytes: &[u8]) -> u8
-    ensures told { IfSome seat.old.holding.value (λ old. result ≢ CLOSED → result ≢ NO_SPARE → result ≡ number_of (seat_fault (at_hand old) epoch bytes.now)) }
+    ensures answer_given { IfSome seat.old.holding.value (λ old. result ≢ CLOSED → result ≢ NO_SPARE → result ≡ refusal_number (seat_fault (at_hand old) epoch bytes.now)) }
     ensures posted { result ≡ DONE → IfSome seat.old.holding.value (λ old. IfSome seat.new.holding.value (Posts epoch bytes.now old)) }
     ensures refused { result ≢ DONE → IfSome seat.old.holding.value (λ old. IfSome seat.new.holding.value (PostsNothing old)) }
-    ensures spare { result ≡ NO_SPARE → IfSome seat.old.holding.value (λ old. (seat_fault (at_hand old) epoch bytes.now ≡ None) × (SPARE_BUFFERS ≤ length (posted old.posts))) }
+    ensures spare { result ≡ NO_SPARE → IfSome seat.old.holding.value (λ old. seat_fault (at_hand old) epoch bytes.now ≡ None) }
+    ensures waiting { result ≡ NO_SPARE → IfSome seat.new.holding.value (λ new. FourWait new.posts) }
     ensures held { is_some seat.new.holding.value ≡ is_some seat.old.holding.value }
     ensures closed { seat.old.holding.value ≡ None → result ≡ CLOSED }
 {

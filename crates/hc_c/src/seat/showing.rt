@@ -1,13 +1,14 @@
 //! The owner shows each seat what its task reads.
-ghost use Rattle.std.specs.Prelude.{◌≡◌, ◌≢◌, ◌+◌, ◌≤◌, ◌<◌, IfSome, None, length, take};
+ghost use Rattle.std.specs.Prelude.{◌≡◌, ◌≢◌, ◌+◌, ◌≤◌, ◌<◌, IfSome, None, false, length, take};
 ghost use Rattle.std.specs.Option.{option_copied};
 ghost use Rattle.hc_records.specs.declared.limits.TheConstants.{MOST_DATAGRAMS, TASKS};
 ghost use Rattle.hc_records.specs.Image.{datagram_count, task_places};
 ghost use Rattle.hc_events.specs.Points.{line_of};
 ghost use Rattle.hc_mail.specs.Images.{image_in, with_outputs};
-ghost use Rattle.hc_c.specs.Embedded.{past_of};
+ghost use Rattle.hc_c.specs.Embedded.{embedded_history};
 ghost use Rattle.hc_c.specs.Pieces.{HaveLengths};
 ghost use Rattle.hc_c.specs.Reads.{image_size};
+ghost use Rattle.hc_c.specs.SeatEnds.{has_seat_from};
 ghost use Rattle.hc_c.specs.SeatImages.{ShowsAll, ShowsEnd, Shows, sent_from, with_slot, with_slots};
 ghost use Rattle.hc_c.specs.Seats.{ShowsLine};
 ghost use Rattle.hc_c.specs.declared.numbers.TheConstants.{BUSY, CLOSED};
@@ -35,15 +36,15 @@ fn add_slot(images: &mut ImageSender, slot: Option<&[u8]>, serial: Option<u64>, 
     }
 }
 
-/// The image's next datagrams are these of a task, the first of which has this number. A task has 16 datagrams at most, so deep
-/// is this recursion.
+/// The image's next datagrams are these of a task, from this number on. A task has 16 datagrams at most, so deep is this
+/// recursion.
 fn add_slots(core: &Core, task: u8, number: u8, datagrams: &[Datagram], images: &mut ImageSender)
     requires task { task < TASKS }
     requires few { number + length datagrams.now ≤ MOST_DATAGRAMS }
-    requires lengths { HaveLengths (line_of core.now.past) task number datagrams.now }
+    requires lengths { HaveLengths (line_of core.now.history) task number datagrams.now }
     requires bytes { length (image_in images.old.own).bytes + image_size datagrams.now ≤ (image_in images.old.own).room.0 }
     requires room { length (image_in images.old.own).serials + length datagrams.now ≤ (image_in images.old.own).room.1 }
-    ensures own { image_in images.new.own ≡ with_slots core.now.past task number datagrams.now (image_in images.old.own) }
+    ensures own { image_in images.new.own ≡ with_slots core.now.history task number datagrams.now (image_in images.old.own) }
     ensures same { images.new.place ≡ images.old.place }
 {
     let Some((first, rest)) = datagrams.split_first() else {
@@ -75,11 +76,11 @@ fn add_outputs(
     size: usize,
     images: &mut ImageSender,
 )
-    requires count { number + length datagrams.now ≡ datagram_count (task_places task (line_of core.now.past)) }
+    requires count { number + length datagrams.now ≡ datagram_count (task_places task (line_of core.now.history)) }
     requires few { number + length datagrams.now ≤ MOST_DATAGRAMS }
-    requires lengths { HaveLengths (line_of core.now.past) task number datagrams.now }
+    requires lengths { HaveLengths (line_of core.now.history) task number datagrams.now }
     requires room { length (image_in images.old.own).outputs + image_size datagrams.now ≤ (image_in images.old.own).room.0 }
-    ensures own { image_in images.new.own ≡ with_outputs (take size (sent_from core.now.past task number datagrams.now)) (image_in images.old.own) }
+    ensures own { image_in images.new.own ≡ with_outputs (take size (sent_from core.now.history task number datagrams.now)) (image_in images.old.own) }
     ensures same { images.new.place ≡ images.old.place }
 {
     let Some((_, rest)) = datagrams.split_first() else {
@@ -94,7 +95,7 @@ fn add_outputs(
 /// Shows a task's seat what the task reads, and its outputs.
 fn show_end(core: &Core, task: u8, end: &mut OwnerEnd)
     requires { task < TASKS }
-    ensures { Shows core.now.past task end.old end.new }
+    ensures { Shows core.now.history task end.old end.new }
 {
     let plan = core.plan();
     let places = plan.places();
@@ -107,34 +108,40 @@ fn show_end(core: &Core, task: u8, end: &mut OwnerEnd)
     images.send();
 }
 
-/// Shows the seat of each task, the first of which has this number. There are eight tasks, so deep is this recursion.
-fn show_all(core: &Core, task: u8, ends: &mut [Option<OwnerEnd>])
-    requires { task + length ends.old ≤ TASKS }
-    ensures { ShowsAll core.now.past task ends.old ends.new }
+/// Shows the seat of each task from this number on; no task after so many has one. There are eight tasks, so deep is this
+/// recursion.
+fn show_all(core: &Core, task: u8, count: u8, ends: &mut [Option<OwnerEnd>])
+    requires tasks { task + length ends.old ≤ TASKS }
+    requires none { has_seat_from count ends.old ≡ false }
+    ensures shown { ShowsAll core.now.history task ends.old ends.new }
+    ensures none { has_seat_from count ends.new ≡ false }
 {
+    if count == 0 {
+        return;
+    }
     let Some((first, rest)) = ends.split_first_mut() else {
         return;
     };
     if let Some(end) = first {
         show_end(core, task, end);
     }
-    show_all(core, task + 1, rest);
+    show_all(core, task + 1, count - 1, rest);
 }
 
-/// Shows the seat of each task what the task reads now, as `zangjulf_read` tells it, and its outputs, as they would be sent now.
+/// Shows the seat of each task what the task reads now, as `zangjulf_read` gives it, and its outputs, as they would be sent now.
 /// `DONE`; `BUSY` or `CLOSED`, and nothing is shown. It waits for nobody and takes no memory.
 #[unsafe(no_mangle)]
 pub extern "C" fn zangjulf_show(handle: &mut Handle) -> u8
     ensures shown { result ≡ DONE → IfSome handle.old.holding.value (λ old. IfSome handle.new.holding.value (ShowsLine old)) }
     ensures unchanged { result ≢ DONE → handle.new.holding.value ≡ handle.old.holding.value }
     ensures closed { handle.old.holding.value ≡ None → result ≡ CLOSED }
-    ensures told { IfSome handle.old.holding.value (λ old. result ≢ BUSY → result ≡ DONE) }
+    ensures answer_given { IfSome handle.old.holding.value (λ old. result ≢ BUSY → result ≡ DONE) }
 {
     if let Err(number) = handle.begin_change() {
         return number;
     }
     let own = handle.holding.line_mut();
-    show_all(&own.core, 0, &mut own.ends.by_task);
+    show_all(&own.core, 0, own.ends.used, &mut own.ends.by_task);
     own.calls.end_change();
     DONE
 }

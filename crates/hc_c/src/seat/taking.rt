@@ -1,8 +1,9 @@
 //! The owner takes what tasks posted at their seats.
-ghost use Rattle.std.specs.Prelude.{◌≡◌, ◌≢◌, ◌+◌, ◌^◌, ◌<◌, ◌≤◌, IfSome, None, length};
+ghost use Rattle.std.specs.Prelude.{◌≡◌, ◌≢◌, ◌+◌, ◌^◌, ◌<◌, ◌≤◌, IfSome, None, false, length};
 ghost use Rattle.hc_records.specs.declared.limits.TheConstants.{TASKS};
 ghost use Rattle.hc_events.specs.Steps.{answer_to, entries_after};
 ghost use Rattle.hc_rings.specs.declared.posts.TheConstants.{POSTS_WAITING};
+ghost use Rattle.hc_c.specs.SeatEnds.{has_seat_from};
 ghost use Rattle.hc_c.specs.TakenPosts.{TakesAll, TakesEnd, TakesFrom, TakesPosts, event_of, is_posted};
 ghost use Rattle.hc_c.specs.declared.numbers.TheConstants.{BUSY, CLOSED};
 
@@ -13,7 +14,7 @@ use hc_core::keeping::Core;
 use hc_records::limits::TASKS;
 use hc_rings::{POSTS_WAITING, PostBuffer, PostReceiver};
 
-/// Of which tasks' seats posts were taken, as C is told it: bit t is task t's.
+/// The tasks whose seats had posts that were taken, as C gets them: bit t is task t's.
 #[repr(C)]
 #[derive(Clone, Copy)]
 pub struct TakenPosts {
@@ -25,8 +26,8 @@ pub struct TakenPosts {
 
 /// Hands the core a task's post, and answers whether it was accepted.
 fn is_accepted(core: &mut Core, task: u8, post: &PostBuffer) -> bool
-    ensures core { core.new ≡ record core.old { past = entries_after core.old.past (event_of task post.now) } }
-    ensures told { is_posted (answer_to core.old.past (event_of task post.now)) ≡ result }
+    ensures core { core.new ≡ record core.old { history = entries_after core.old.history (event_of task post.now) } }
+    ensures answer_given { is_posted (answer_to core.old.history (event_of task post.now)) ≡ result }
 {
     match core.post(task, post.epoch(), post.bytes()) {
         Ok(()) => true,
@@ -62,20 +63,27 @@ fn take_end(core: &mut Core, task: u8, end: &mut Option<OwnerEnd>) -> (bool, boo
     }
 }
 
-/// Hands the core what waits of each task's seat, the first of which has this number. There are eight, so deep is this recursion.
-fn take_all(core: &mut Core, task: u8, ends: &mut [Option<OwnerEnd>]) -> TakenPosts
-    requires { task + length ends.old ≤ TASKS }
+/// Hands the core what waits of each task's seat from this number on; no task after so many has one. There are eight, so deep is
+/// this recursion.
+fn take_all(core: &mut Core, task: u8, count: u8, ends: &mut [Option<OwnerEnd>]) -> TakenPosts
+    requires tasks { task + length ends.old ≤ TASKS }
+    requires none { has_seat_from count ends.old ≡ false }
     ensures taken { TakesAll task core.old core.new ends.old ends.new result.accepted result.refused }
     ensures below { (result.accepted < 2 ^ length ends.old) × (result.refused < 2 ^ length ends.old) }
+    ensures none { has_seat_from count ends.new ≡ false }
 {
+    let none = TakenPosts {
+        accepted: 0,
+        refused: 0,
+    };
+    if count == 0 {
+        return none;
+    }
     let Some((first, rest)) = ends.split_first_mut() else {
-        return TakenPosts {
-            accepted: 0,
-            refused: 0,
-        };
+        return none;
     };
     let (accepted, refused) = take_end(core, task, first);
-    let others = take_all(core, task + 1, rest);
+    let others = take_all(core, task + 1, count - 1, rest);
     TakenPosts {
         accepted: u8::from(accepted) + 2 * others.accepted,
         refused: u8::from(refused) + 2 * others.refused,
@@ -83,14 +91,14 @@ fn take_all(core: &mut Core, task: u8, ends: &mut [Option<OwnerEnd>]) -> TakenPo
 }
 
 /// The owner takes the posts that wait, at most four of each task's seat, and hands each to the core as `zangjulf_post` does: task
-/// 0's first, and those of a task in the order in which they were posted. One that was made for another epoch than the present
-/// one is refused, and leaves nothing. `DONE`, and `taken` tells of which tasks posts were accepted and refused; `BUSY` or
+/// 0's first, and those of a task in the order in which they were posted. One that was made for another epoch than the present one
+/// is refused, and leaves nothing. `DONE`, and `taken` says which tasks' posts were accepted and which refused; `BUSY` or
 /// `CLOSED`, and `taken` is as it was. Each buffer goes back to its seat. What is posted meanwhile may be left for the next call.
 /// It waits for nobody and takes no memory.
 #[unsafe(no_mangle)]
 pub extern "C" fn zangjulf_take_posts(handle: &mut Handle, taken: &mut TakenPosts) -> u8
     ensures taken { result ≡ DONE → IfSome handle.old.holding.value (λ old. IfSome handle.new.holding.value (TakesPosts taken.new old)) }
-    ensures told { IfSome handle.old.holding.value (λ old. result ≢ BUSY → result ≡ DONE) }
+    ensures answer_given { IfSome handle.old.holding.value (λ old. result ≢ BUSY → result ≡ DONE) }
     ensures unchanged { result ≢ DONE → (handle.new.holding.value ≡ handle.old.holding.value) × (taken.new ≡ taken.old) }
     ensures closed { handle.old.holding.value ≡ None → result ≡ CLOSED }
 {
@@ -98,7 +106,7 @@ pub extern "C" fn zangjulf_take_posts(handle: &mut Handle, taken: &mut TakenPost
         return number;
     }
     let own = handle.holding.line_mut();
-    *taken = take_all(&mut own.core, 0, &mut own.ends.by_task);
+    *taken = take_all(&mut own.core, 0, own.ends.used, &mut own.ends.by_task);
     own.calls.end_change();
     DONE
 }

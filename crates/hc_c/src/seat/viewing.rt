@@ -2,17 +2,17 @@
 ghost use Rattle.std.specs.Prelude.{◌≡◌, ◌≢◌, ◌+◌, ◌*◌, ◌^◌, ◌<◌, ◌≤◌, ◌++◌, IfSome, None, Option, drop, is_some, length, map};
 ghost use Rattle.hc_records.specs.declared.limits.TheConstants.{MOST_DATAGRAMS};
 ghost use Rattle.hc_mail.specs.Images.{image_in};
-ghost use Rattle.hc_c.specs.Lists.{put};
+ghost use Rattle.hc_c.specs.Lists.{put_first};
 ghost use Rattle.hc_c.specs.Reads.{fit_number, mask_of};
 ghost use Rattle.hc_c.specs.SeatRoom.{image_room};
-ghost use Rattle.hc_c.specs.Seats.{LooksOn, TellsImage, at_hand, serials_told};
+ghost use Rattle.hc_c.specs.Seats.{LooksOn, GivesImage, at_hand, serials_answered};
 ghost use Rattle.hc_c.specs.declared.numbers.TheConstants.{CLOSED};
 
 use crate::numbers::{CLOSED, DONE, ROOM};
 use crate::seat::handle::SeatHandle;
 use hc_mail::image::TaskImage;
 
-/// An image that a seat views, as C is told it.
+/// An image that a seat views, as C gets it.
 #[repr(C)]
 #[derive(Clone, Copy)]
 pub struct SeatView {
@@ -34,10 +34,10 @@ fn put_front(bytes: &[u8], out: &mut [u8])
     out[..bytes.len()].copy_from_slice(bytes);
 }
 
-/// Tells the serial of each datagram, 0 where it has no data, as many as there is room for. A task has 16 datagrams at most, so
+/// Gives the serial of each datagram, 0 where it has no data, as many as there is room for. A task has 16 datagrams at most, so
 /// deep is this recursion.
 fn put_serials(serials: &[Option<u64>], out: &mut [u64])
-    ensures { out.new ≡ put (serials_told serials.now) out.old }
+    ensures { out.new ≡ put_first (serials_answered serials.now) out.old }
 {
     let Some((serial, rest)) = serials.split_first() else {
         return;
@@ -61,11 +61,11 @@ fn mask(serials: &[Option<u64>]) -> u16
     }
 }
 
-/// Tells an image: `DONE`, or `ROOM` where `out` is too short.
-fn tell_image(image: &TaskImage, out: &mut [u8], serials: &mut [u64], view: &mut SeatView) -> u8
+/// Gives an image: `DONE`, or `ROOM` where `out` is too short.
+fn give_image(image: &TaskImage, out: &mut [u8], serials: &mut [u64], view: &mut SeatView) -> u8
     requires { image.now.room ≡ image_room }
     ensures number { result ≡ fit_number (length image.now.bytes) (length out.old) }
-    ensures told { result ≡ DONE → TellsImage image.now view.new out.old out.new serials.old serials.new }
+    ensures answer_given { result ≡ DONE → GivesImage image.now view.new out.old out.new serials.old serials.new }
     ensures untouched { result ≢ DONE → out.new ≡ out.old }
     ensures unwritten { result ≢ DONE → (serials.new ≡ serials.old) × (view.new ≡ view.old) }
 {
@@ -84,10 +84,10 @@ fn tell_image(image: &TaskImage, out: &mut [u8], serials: &mut [u64], view: &mut
     DONE
 }
 
-/// Tells the outputs of an image: `DONE`, or `ROOM` where `out` is too short.
-fn tell_outputs(image: &TaskImage, out: &mut [u8]) -> u8
+/// Gives the outputs of an image: `DONE`, or `ROOM` where `out` is too short.
+fn give_outputs(image: &TaskImage, out: &mut [u8]) -> u8
     ensures number { result ≡ fit_number (length image.now.outputs) (length out.old) }
-    ensures told { result ≡ DONE → out.new ≡ image.now.outputs ++ drop (length image.now.outputs) out.old }
+    ensures answer_given { result ≡ DONE → out.new ≡ image.now.outputs ++ drop (length image.now.outputs) out.old }
     ensures untouched { result ≢ DONE → out.new ≡ out.old }
 {
     let outputs = image.outputs();
@@ -99,9 +99,9 @@ fn tell_outputs(image: &TaskImage, out: &mut [u8]) -> u8
 }
 
 /// The seat takes the newest image that was shown, or keeps the one at hand where none is newer: never an older one. `DONE`: the
-/// image's bytes stand at the front of `out`, each datagram's at its offset, zeros where it has no data; `serials` has of each
+/// image's bytes are at the front of `out`, each datagram's at its offset, zeros where it has no data; `serials` has of each
 /// datagram, in their order, the serial of the sending that its data answer, 0 where it has none, as many as there is room for;
-/// and `view` tells the rest. `ROOM` where `out` is shorter than the image, which 23,776 bytes never are: the image is at hand.
+/// and `view` gives the rest. `ROOM` where `out` is shorter than the image, which 23,776 bytes never are: the image is at hand.
 /// `CLOSED` where the seat is closed. With these two `out`, `serials` and `view` are as they were. Before anything was shown the
 /// image at hand is of epoch 0 and has no datagram. It waits for nobody and takes no memory.
 #[unsafe(no_mangle)]
@@ -113,7 +113,7 @@ pub extern "C" fn zangjulf_seat_view(
 ) -> u8
     ensures looked { IfSome seat.old.holding.value (λ old. IfSome seat.new.holding.value (LooksOn old)) }
     ensures number { IfSome seat.new.holding.value (λ new. result ≡ fit_number (length (at_hand new).bytes) (length out.old)) }
-    ensures told { result ≡ DONE → IfSome seat.new.holding.value (λ new. TellsImage (at_hand new) view.new out.old out.new serials.old serials.new) }
+    ensures answer_given { result ≡ DONE → IfSome seat.new.holding.value (λ new. GivesImage (at_hand new) view.new out.old out.new serials.old serials.new) }
     ensures untouched { result ≢ DONE → out.new ≡ out.old }
     ensures unwritten { result ≢ DONE → (serials.new ≡ serials.old) × (view.new ≡ view.old) }
     ensures held { is_some seat.new.holding.value ≡ is_some seat.old.holding.value }
@@ -124,22 +124,22 @@ pub extern "C" fn zangjulf_seat_view(
     }
     let end = seat.holding.end_mut();
     end.images.look();
-    tell_image(end.images.image(), out, serials, view)
+    give_image(end.images.image(), out, serials, view)
 }
 
-/// The outputs of the image at hand, as they were to be sent when it was shown. `DONE`: they stand at the front of `out`. `ROOM`
+/// The outputs of the image at hand, as they were to be sent when it was shown. `DONE`: they are at the front of `out`. `ROOM`
 /// where `out` is shorter, or `CLOSED` where the seat is closed; `out` is then as it was. Nothing changes. It takes no memory.
 #[unsafe(no_mangle)]
 pub extern "C" fn zangjulf_seat_outputs(seat: &mut SeatHandle, out: &mut [u8]) -> u8
     ensures number { IfSome seat.old.holding.value (λ old. result ≡ fit_number (length (at_hand old).outputs) (length out.old)) }
-    ensures told { result ≡ DONE → IfSome seat.old.holding.value (λ old. out.new ≡ (at_hand old).outputs ++ drop (length (at_hand old).outputs) out.old) }
+    ensures answer_given { result ≡ DONE → IfSome seat.old.holding.value (λ old. out.new ≡ (at_hand old).outputs ++ drop (length (at_hand old).outputs) out.old) }
     ensures untouched { result ≢ DONE → out.new ≡ out.old }
-    ensures kept { seat.new.holding.value ≡ seat.old.holding.value }
+    ensures unchanged { seat.new.holding.value ≡ seat.old.holding.value }
     ensures closed { seat.old.holding.value ≡ None → result ≡ CLOSED }
 {
     if !seat.is_open() {
         return CLOSED;
     }
     let end = seat.holding.end_mut();
-    tell_outputs(end.images.image(), out)
+    give_outputs(end.images.image(), out)
 }

@@ -19,20 +19,20 @@ bare_slave slave = (slave.station, map bare slave.areas)
 
 -- a change of areas that keeps what is bare
 
-areas-kept : (n : ℕ) (change : Area → Area) → ((area : Area) → bare (change area) ≡ bare area) → (areas : List Area) → map bare (changed_at n change areas) ≡ map bare areas
-areas-kept n change keeps [] = refl
-areas-kept zero change keeps (area ∷ areas) = ap (λ (first : Area). first ∷ map bare areas) (keeps area)
-areas-kept (suc n) change keeps (area ∷ areas) = ap (λ (rest : List Area). bare area ∷ rest) (areas-kept n change keeps areas)
+areas-unchanged : (n : ℕ) (change : Area → Area) → ((area : Area) → bare (change area) ≡ bare area) → (areas : List Area) → map bare (changed_at n change areas) ≡ map bare areas
+areas-unchanged n change stays [] = refl
+areas-unchanged zero change stays (area ∷ areas) = ap (λ (first : Area). first ∷ map bare areas) (stays area)
+areas-unchanged (suc n) change stays (area ∷ areas) = ap (λ (rest : List Area). bare area ∷ rest) (areas-unchanged n change stays areas)
 
 slave-by : (here : Bool) (slave : Slave) (areas : List Area) → map bare areas ≡ map bare slave.areas → bare_slave (cond here (record slave { areas = areas }) slave) ≡ bare_slave slave
 slave-by here slave areas same = search rules
 
-slave-kept : (station area : ℕ) (change : Area → Area) → ((a : Area) → bare (change a) ≡ bare a) → (slave : Slave) → bare_slave (with_area station area change slave) ≡ bare_slave slave
-slave-kept station area change keeps slave = slave-by (slave.station == station) slave (changed_at area change slave.areas) (areas-kept area change keeps slave.areas)
+slave-unchanged : (station area : ℕ) (change : Area → Area) → ((a : Area) → bare (change a) ≡ bare a) → (slave : Slave) → bare_slave (with_area station area change slave) ≡ bare_slave slave
+slave-unchanged station area change stays slave = slave-by (slave.station == station) slave (changed_at area change slave.areas) (areas-unchanged area change stays slave.areas)
 
-slaves-kept : (change : Slave → Slave) → ((slave : Slave) → bare_slave (change slave) ≡ bare_slave slave) → (slaves : List Slave) → map bare_slave (map change slaves) ≡ map bare_slave slaves
-slaves-kept change keeps [] = refl
-slaves-kept change keeps (slave ∷ slaves) = search (rules, slaves-kept change keeps slaves)
+slaves-unchanged : (change : Slave → Slave) → ((slave : Slave) → bare_slave (change slave) ≡ bare_slave slave) → (slaves : List Slave) → map bare_slave (map change slaves) ≡ map bare_slave slaves
+slaves-unchanged change stays [] = refl
+slaves-unchanged change stays (slave ∷ slaves) = search (rules, slaves-unchanged change stays slaves)
 
 -- and of groups
 
@@ -42,13 +42,13 @@ KeepsBare change = (declared : Declared) → map bare_slave (change declared).gr
 presence-by : (here : Bool) (declared : Declared) (present : Bool) → map bare_slave (cond here (record declared { present = present }) declared).group.slaves ≡ map bare_slave declared.group.slaves
 presence-by here declared present = search rules
 
-groups-kept : (change : Declared → Declared) → KeepsBare change → (groups : List Declared) → map bare_slave (declared_slaves (map change groups)) ≡ map bare_slave (declared_slaves groups)
-groups-kept change keeps [] = refl
-groups-kept change keeps (declared ∷ groups) = search (rules, map-append, groups-kept change keeps groups)
+groups-unchanged : (change : Declared → Declared) → KeepsBare change → (groups : List Declared) → map bare_slave (declared_slaves (map change groups)) ≡ map bare_slave (declared_slaves groups)
+groups-unchanged change stays [] = refl
+groups-unchanged change stays (declared ∷ groups) = search (rules, map-append, groups-unchanged change stays groups)
 
-pub edit-keeps : (groups : List Declared) (edit : Edit) → declares edit ≡ false → map bare_slave (declared_slaves (groups_after groups edit)) ≡ map bare_slave (declared_slaves groups)
-edit-keeps groups (Connect alias) changes = groups-kept (with_presence alias true) (λ declared. presence-by (declared.group.alias == alias) declared true) groups
-edit-keeps groups (Disconnect alias) changes = groups-kept (with_presence alias false) (λ declared. presence-by (declared.group.alias == alias) declared false) groups
-edit-keeps groups (Remap station area pdos) changes = search (rules, groups-kept, slaves-kept, slave-kept)
-edit-keeps groups (Move station area task) changes = search (rules, groups-kept, slaves-kept, slave-kept)
-edit-keeps groups (Declare group) changes = cc
+pub edit-stays : (groups : List Declared) (edit : Edit) → declares edit ≡ false → map bare_slave (declared_slaves (groups_after groups edit)) ≡ map bare_slave (declared_slaves groups)
+edit-stays groups (Connect alias) changes = groups-unchanged (with_presence alias true) (λ declared. presence-by (declared.group.alias == alias) declared true) groups
+edit-stays groups (Disconnect alias) changes = groups-unchanged (with_presence alias false) (λ declared. presence-by (declared.group.alias == alias) declared false) groups
+edit-stays groups (Remap station area pdos) changes = search (rules, groups-unchanged, slaves-unchanged, slave-unchanged)
+edit-stays groups (Move station area task) changes = search (rules, groups-unchanged, slaves-unchanged, slave-unchanged)
+edit-stays groups (Declare group) changes = cc

@@ -20,16 +20,16 @@ use Rattle.hc_records.proofs.lemmas.Lines.{RanksBelow, line-ascends}
 use Rattle.hc_records.proofs.lemmas.Slaves.{line-inside}
 use Rattle.hc_registers.specs.Blocks.{LineBlock, fmmu_block, line_blocks, mapping_of, same_block, sync_manager_block}
 use Rattle.hc_registers.specs.Ranked.{moved_ranked, ranked}
-use Rattle.hc_changes.specs.Candidates.{DifferAt, LineArea, blocks_of, candidates, is_candidate, line_areas, moved_of}
+use Rattle.hc_changes.specs.MaybeMovedAreas.{DifferAt, LineArea, line_area_blocks, maybe_moved_areas, is_maybe_moved, line_areas, moved_of}
 use Rattle.hc_changes.specs.Compared.{counterpart, differing_of, unlike}
 use Rattle.hc_changes.proofs.lemmas.Bare.{bare}
 use Rattle.hc_changes.proofs.lemmas.Blocks.{blocks-of-areas, ranked_by}
-use Rattle.hc_changes.proofs.lemmas.Lists.{contains-behind, contains-first, contains-flat_map, contains-unfiltered, flat_map-piece, found-among}
-use Rattle.hc_changes.proofs.lemmas.Moved.{moved-told}
+use Rattle.hc_changes.proofs.lemmas.Lists.{contains-after_it, contains-first, contains-flat_map, contains-unfiltered, flat_map-piece, found-among}
+use Rattle.hc_changes.proofs.lemmas.Moved.{moved-answer_given}
 use Rattle.hc_changes.proofs.lemmas.OneProject.{AreOfOneProject, at-own, edit-one-project, one-index, own-at}
-use Rattle.hc_changes.proofs.lemmas.Others.{IsAreaOf, StandAlike, area-stands, line-area, member-found}
+use Rattle.hc_changes.proofs.lemmas.Others.{IsAreaOf, AreAlike, area-is_placed, line-area, member-found}
 
--- the area of a line that stands where another does
+-- the area of a line that is where another does
 
 pub area-found : (line : List Member) (found was : LineArea) → AllPairs RanksBelow line → IsAreaOf line was → was.member.rank ≡ found.member.rank → was.index ≡ found.index → counterpart line found ≡ Some was
 area-found line found was ranks of rank index =
@@ -70,7 +70,7 @@ one-of-two a b x at = search rules
 same-parts : (a b : LineBlock) → same_block a b ≡ true → (a.station ≡ b.station) × (a.block.register ≡ b.block.register)
 same-parts a b same = search (rules, and_parts, eqb-true)
 
--- two blocks of which each was there or wasn't
+-- two blocks; each was there or wasn't
 
 iff : (p q : Bool) → (p ≡ true → q ≡ true) → (q ≡ true → p ≡ true) → p ≡ q
 iff p q to from = search rules
@@ -79,15 +79,15 @@ none-had : (p q : Bool) (a b : LineBlock) → (p ≡ true → false ≡ true) �
     → cond (not p) (a ∷ cond (not q) (b ∷ []) []) (cond (not q) (b ∷ []) []) ≡ a ∷ b ∷ []
 none-had p q a b first second = search rules
 
-both-kept : (x y : Bool) (a b : LineBlock)
+both-unchanged : (x y : Bool) (a b : LineBlock)
     → cond (not x) (a ∷ cond (not y) (b ∷ []) []) (cond (not y) (b ∷ []) []) ≡ cond x (cond y [] (b ∷ [])) (a ∷ cond y [] (b ∷ []))
-both-kept x y a b = search rules
+both-unchanged x y a b = search rules
 
 both-had : (p q x y : Bool) (a b : LineBlock) → p ≡ x → q ≡ y
     → cond (not p) (a ∷ cond (not q) (b ∷ []) []) (cond (not q) (b ∷ []) []) ≡ cond x (cond y [] (b ∷ [])) (a ∷ cond y [] (b ∷ []))
-both-had p q x y a b first second = search (rules, both-kept)
+both-had p q x y a b first second = search (rules, both-unchanged)
 
--- blocks of two lines of one project at one register of one slave are of areas that stand alike, and both are the first or both the second
+-- blocks of two lines of one project at one register of one slave are of areas that are alike, and both are the first or both the second
 module _ (old new : List Member) (one : AreOfOneProject old new) (inside : All (λ member. IsSlaveInside member.slave) old) where
   same-areas : (found was : LineArea) → IsAreaOf new found → IsAreaOf old was → found.member.slave.station ≡ was.member.slave.station
       → (was.member.rank ≡ found.member.rank) × (map bare was.member.slave.areas ≡ map bare found.member.slave.areas)
@@ -109,7 +109,7 @@ module _ (old new : List Member) (one : AreOfOneProject old new) (inside : All (
       sym (length-map was.member.slave.areas bare) ∙ ap length (same-areas found was of of' station).1 ∙ length-map found.member.slave.areas bare in
       omega arith
 
-  both-first : (found was : LineArea) → IsAreaOf new found → IsAreaOf old was → same_block (first_block found) (first_block was) ≡ true → StandAlike was found
+  both-first : (found was : LineArea) → IsAreaOf new found → IsAreaOf old was → same_block (first_block found) (first_block was) ≡ true → AreAlike was found
   both-first found was of of' same =
       let parts = same-parts (first_block found) (first_block was) same in
       let alike = same-areas found was of of' parts.0 in
@@ -125,7 +125,7 @@ module _ (old new : List Member) (one : AreOfOneProject old new) (inside : All (
             (own-at was.member.slave.areas (was.index, was.area) of'.own) manager);
       }
 
-  both-second : (found was : LineArea) → IsAreaOf new found → IsAreaOf old was → same_block (second_block new found) (second_block old was) ≡ true → StandAlike was found
+  both-second : (found was : LineArea) → IsAreaOf new found → IsAreaOf old was → same_block (second_block new found) (second_block old was) ≡ true → AreAlike was found
   both-second found was of of' same =
       let parts = same-parts (second_block new found) (second_block old was) same in
       record { rank = (same-areas found was of of' parts.0).0; index = omega arith }
@@ -147,22 +147,22 @@ module _ (old new : List Member) (one : AreOfOneProject old new) (inside : All (
       let some = Any-from_list_any (same_block block) (line_blocks old) is in
       let other : LineBlock = some.1 in
       let stood : Contains (line_blocks old) other = (some.0, some.2, some.3) in
-      let piece = flat_map-piece (blocks_of old) (line_areas old) other (subst (λ (blocks : List LineBlock). Contains blocks other) (blocks-of-areas old) stood) in
+      let piece = flat_map-piece (line_area_blocks old) (line_areas old) other (subst (λ (blocks : List LineBlock). Contains blocks other) (blocks-of-areas old) stood) in
       record {
         was = piece.element;
         of = line-area old piece.element piece.among;
         same = search (rules, one-of-two);
       }
 
-  any-from : (block : LineBlock) (was : LineArea) (other : LineBlock) → IsAreaOf old was → Contains (blocks_of old was) other → same_block block other ≡ true → list_any (same_block block) (line_blocks old) ≡ true
+  any-from : (block : LineBlock) (was : LineArea) (other : LineBlock) → IsAreaOf old was → Contains (line_area_blocks old was) other → same_block block other ≡ true → list_any (same_block block) (line_blocks old) ≡ true
   any-from block was other of own same =
-      let at = subst (λ (blocks : List LineBlock). Contains blocks other) (sym (blocks-of-areas old)) (contains-flat_map (blocks_of old) (line_areas old) was other (area-stands old was of) own) in
+      let at = subst (λ (blocks : List LineBlock). Contains blocks other) (sym (blocks-of-areas old)) (contains-flat_map (line_area_blocks old) (line_areas old) was other (area-is_placed old was of) own) in
       list_any_at (same_block block) (line_blocks old) at.0 other at.1 (subst (λ (b : LineBlock). same_block block b ≡ true) (sym at.2) same)
 
-  -- where no area stood, no block was one of the old line
+  -- where no area was, no block was one of the old line
   none-any : (found : LineArea) (block : LineBlock) → AllPairs RanksBelow old → counterpart old found ≡ None
-      → ((was : LineArea) → IsAreaOf old was → same_block block (first_block was) ≡ true → StandAlike was found)
-      → ((was : LineArea) → IsAreaOf old was → same_block block (second_block old was) ≡ true → StandAlike was found)
+      → ((was : LineArea) → IsAreaOf old was → same_block block (first_block was) ≡ true → AreAlike was found)
+      → ((was : LineArea) → IsAreaOf old was → same_block block (second_block old was) ≡ true → AreAlike was found)
       → list_any (same_block block) (line_blocks old) ≡ true → false ≡ true
   none-any found block ranks none first second is =
       let some = found-any block is in
@@ -170,8 +170,8 @@ module _ (old new : List Member) (one : AreOfOneProject old new) (inside : All (
       let there = area-found old found some.was ranks some.of alike.rank alike.index in
       cc
 
-  -- where one stood, it is the one that was found
-  alone : (found was other : LineArea) → AllPairs RanksBelow old → counterpart old found ≡ Some was → IsAreaOf old other → StandAlike other found → other ≡ was
+  -- where one was, it is the one that was found
+  alone : (found was other : LineArea) → AllPairs RanksBelow old → counterpart old found ≡ Some was → IsAreaOf old other → AreAlike other found → other ≡ was
   alone found was other ranks is of alike =
       let there = area-found old found other ranks of alike.rank alike.index in
       cc
@@ -197,20 +197,21 @@ module _ (old new : List Member) (one : AreOfOneProject old new) (inside : All (
       some.same
 
   compared-by : (found : LineArea) (was : Option LineArea) → AllPairs RanksBelow old → IsAreaOf new found → counterpart old found ≡ was
-      → moved_of old new found ≡ unlike (option_map_or (blocks_of old) was []) (blocks_of new found)
+      → moved_of old new found ≡ unlike (option_map_or (line_area_blocks old) was []) (line_area_blocks new found)
   compared-by found None ranks of is =
       none-had (list_any (same_block (first_block found)) (line_blocks old)) (list_any (same_block (second_block new found)) (line_blocks old)) (first_block found) (second_block new found)
       (none-any found (first_block found) ranks is (λ was of' own. both-first found was of of' own) (λ was of' own. absurd (never-first found was of of' own)))
       (none-any found (second_block new found) ranks is (λ was of' own. absurd (never-second found was of of' own)) (λ was of' own. both-second found was of of' own))
   compared-by found (Some was) ranks of is =
       let stood = (area-stood old found was is).of in
-      search (rules, both-had, iff, first-any, any-from, contains-first, second-any, contains-behind)
+      search (rules, both-had, iff, first-any, any-from, contains-first, second-any, contains-after_it)
 
 pub compared : (groups : List Declared) (edit : Edit) (found : LineArea) → lowest_fault (groups_of groups) ≡ None → Contains (line_areas (line_from 1 (groups_after groups edit))) found
     → moved_of (line_from 1 groups) (line_from 1 (groups_after groups edit)) found ≡ differing_of (line_from 1 groups) (line_from 1 (groups_after groups edit)) found
 compared groups edit found none at = search (rules, compared-by, edit-one-project, line-inside, line-ascends, line-area)
 
--- so the blocks that an edit moved are told by the candidates, each compared with the one that had its number
+-- so the blocks that an edit moved are given by the candidates, each compared with the one that had its
+-- number
 
 pub flat_map-among : {X Y : Type 0} (f g : X → List Y) (xs : List X) → All (λ x. f x ≡ g x) xs → flat_map f xs ≡ flat_map g xs
 flat_map-among f g [] all = refl
@@ -220,12 +221,12 @@ pub all-compared : (changed : ℕ → Bool) (groups : List Declared) (edit : Edi
     → DifferAt changed (line_from 1 groups) (line_from 1 (groups_after groups edit))
     → moved_ranked (line_from 1 groups) (line_from 1 (groups_after groups edit))
     ≡ flat_map (ranked_by (differing_of (line_from 1 groups) (line_from 1 (groups_after groups edit))))
-    (candidates changed (line_from 1 groups) (line_from 1 (groups_after groups edit)))
+    (maybe_moved_areas changed (line_from 1 groups) (line_from 1 (groups_after groups edit)))
 all-compared changed groups edit none none' differ =
     let old = line_from 1 groups in
     let new = line_from 1 (groups_after groups edit) in
-    moved-told changed (record { groups = groups; epoch = 0 }) (record { groups = groups_after groups edit; epoch = 0 }) none none' differ
-    ∙ flat_map-among (ranked_by (moved_of old new)) (ranked_by (differing_of old new)) (candidates changed old new)
-    (All-weaker (Contains (candidates changed old new)) (λ found. ranked_by (moved_of old new) found ≡ ranked_by (differing_of old new) found)
-    (λ found at. ap (map (ranked found.member.rank)) (compared groups edit found none (contains-unfiltered (is_candidate changed old new) (line_areas new) found at)))
-    (candidates changed old new) (All-contains_itself (candidates changed old new)))
+    moved-answer_given changed (record { groups = groups; epoch = 0 }) (record { groups = groups_after groups edit; epoch = 0 }) none none' differ
+    ∙ flat_map-among (ranked_by (moved_of old new)) (ranked_by (differing_of old new)) (maybe_moved_areas changed old new)
+    (All-weaker (Contains (maybe_moved_areas changed old new)) (λ found. ranked_by (moved_of old new) found ≡ ranked_by (differing_of old new) found)
+    (λ found at. ap (map (ranked found.member.rank)) (compared groups edit found none (contains-unfiltered (is_maybe_moved changed old new) (line_areas new) found at)))
+    (maybe_moved_areas changed old new) (All-contains_itself (maybe_moved_areas changed old new)))

@@ -1,4 +1,4 @@
--- How often a variable stands among the rows of candidates, and among the areas that a line's slaves carried.
+-- How often a variable is among the rows of candidates, and among the areas that a line's slaves carried.
 use Rattle.std.proofs.Common.{◌≡◌, ℕ, zero, suc, ◌+◌, ◌≤◌, ◌==◌, Bool, true, cond, List, [], ◌∷◌, Contains, Option, Some, None, length, refl, sym, ap, arith, if◌then◌else◌, rules}
 use Rattle.std.specs.Prelude.{All, filter, map, slice_index_or}
 use Rattle.std.specs.List.{flat_map}
@@ -18,13 +18,13 @@ use Rattle.hc_cuts.specs.Areas.{areas_by_rank}
 use Rattle.hc_places.specs.Found.{area_rows}
 use Rattle.hc_places.proofs.lemmas.Once.{declared-once, entry-names, line-declared, of_areas, of_row, once, own, rows-total, weight}
 use Rattle.hc_places.proofs.lemmas.Totals.{total, total-append, total-enumerate, total-filter, total-flat_map, total-less, total-map, total-same}
-use Rattle.hc_changes.specs.Candidates.{LineArea, candidate_of, line_areas}
+use Rattle.hc_changes.specs.MaybeMovedAreas.{LineArea, maybe_moved_of, line_areas}
 use Rattle.hc_changes.specs.Rows.{assigned_variables, rows_of, variables_by_rank}
 
--- how often a number stands
+-- how often a number is
 
-counted-by : {X : Type 0} (passes : Bool) (x : X) (kept : List X) → length (cond passes (x ∷ kept) kept) ≡ cond passes 1 0 + length kept
-counted-by passes x kept = search rules
+counted-by : {X : Type 0} (passes : Bool) (x : X) (unchanged : List X) → length (cond passes (x ∷ unchanged) unchanged) ≡ cond passes 1 0 + length unchanged
+counted-by passes x unchanged = search rules
 
 pub counted : {X : Type 0} (variable : ℕ) (xs : List (ℕ × X)) → length (filter (λ x. x.0 == variable) xs) ≡ total (λ x. own variable x.0) xs
 counted variable [] = refl
@@ -48,11 +48,11 @@ counted-some variable (x ∷ xs) (suc k, within, is) = let rest = counted-some v
 
 -- what a filter keeps is no more
 
-kept-less : (passes : Bool) (n : ℕ) → cond passes n 0 ≤ n
-kept-less passes n = search rules
+unchanged-less : (passes : Bool) (n : ℕ) → cond passes n 0 ≤ n
+unchanged-less passes n = search rules
 
 pub filtered-less : {X : Type 0} (f : X → ℕ) (test : X → Bool) (xs : List X) → total f (filter test xs) ≤ total f xs
-filtered-less f test xs = search (rules, total-filter, total-less, kept-less)
+filtered-less f test xs = search (rules, total-filter, total-less, unchanged-less)
 
 -- the rows of a line's areas
 
@@ -66,15 +66,15 @@ of_area variable found = weight variable found.area
 line-weight : (variable : ℕ) (line : List Member) → total (of_area variable) (line_areas line) ≡ total (λ (m : Member). of_areas variable m.slave) line
 line-weight variable line = search (rules, total-flat_map, total-same, total-map, total-enumerate)
 
-pub candidates-once : (groups : List Declared) → lowest_fault (groups_of groups) ≡ None → (variable : ℕ) (test : LineArea → Bool)
-    → total (of_row variable) (flat_map rows_of (map (candidate_of (line_from 1 groups)) (filter test (line_areas (line_from 1 groups))))) ≤ 1
-candidates-once groups none variable test =
+pub maybe_moved_areas-once : (groups : List Declared) → lowest_fault (groups_of groups) ≡ None → (variable : ℕ) (test : LineArea → Bool)
+    → total (of_row variable) (flat_map rows_of (map (maybe_moved_of (line_from 1 groups)) (filter test (line_areas (line_from 1 groups))))) ≤ 1
+maybe_moved_areas-once groups none variable test =
     let line = line_from 1 groups in
     let found = filter test (line_areas line) in
-    let flat = total-flat_map (of_row variable) rows_of (map (candidate_of line) found) in
-    let mapped = total-map (λ candidate. total (of_row variable) (rows_of candidate)) (candidate_of line) found in
-    let less = total-less (λ (f : LineArea). total (of_row variable) (rows_of (candidate_of line f))) (of_area variable)
-    (λ f. placed-rows variable f.area (candidate_of line f).place) found in
+    let flat = total-flat_map (of_row variable) rows_of (map (maybe_moved_of line) found) in
+    let mapped = total-map (λ maybe_moved. total (of_row variable) (rows_of maybe_moved)) (maybe_moved_of line) found in
+    let less = total-less (λ (f : LineArea). total (of_row variable) (rows_of (maybe_moved_of line f))) (of_area variable)
+    (λ f. placed-rows variable f.area (maybe_moved_of line f).place) found in
     let fewer = filtered-less (of_area variable) test (line_areas line) in
     let members = line-weight variable line in
     let declared = line-declared (of_areas variable) 1 groups in

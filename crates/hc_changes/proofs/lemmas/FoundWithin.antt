@@ -1,11 +1,11 @@
--- All candidates stand between the ranks of the slaves that change and of those between the boundaries of datagrams behind what is kept of them.
+-- All candidates are between the ranks of the slaves that change and of those between the boundaries of datagrams after what is kept of them.
 use Rattle.std.proofs.Common.{◌≡◌, ℕ, ◌+◌, ◌<◌, ◌≤◌, Bool, true, false, List, [], ◌∷◌, Contains, length, refl, sym, ap, subst, ◌∙◌, ⊎_elim, arith, rules}
 use Rattle.std.specs.Prelude.{All, slice_index_or}
 use Rattle.std.proofs.Math.Nat.{eq-or-lt_of_le}
 use Rattle.std.proofs.lemmas.Bool.{cases_lt, or_parts, false_from_ne_true}
 use Rattle.std.proofs.lemmas.List.Elements.{All-cons, All-contains, All-nil}
 use Rattle.std.proofs.lemmas.Grind.{common_steps}
-use Rattle.hc_places.proofs.lemmas.Loads.{dir-out}
+use Rattle.hc_places.proofs.lemmas.DatagramUses.{dir-out}
 use Rattle.hc_records.specs.declared.keys.Key.{Key}
 use Rattle.hc_records.specs.declared.keys.TheConstants.Key.{START, END}
 use Rattle.hc_records.specs.declared.limits.TheConstants.{TASKS}
@@ -22,22 +22,22 @@ use Rattle.hc_records.proofs.lemmas.Lists.{All-unmap}
 use Rattle.hc_records.proofs.lemmas.Packed.{area_of, packed-areas}
 use Rattle.hc_records.proofs.lemmas.TaskLists.{project-list}
 use Rattle.hc_cuts.specs.Inputs.{has_inputs}
-use Rattle.hc_cuts.specs.Keeping.{is_kept_up_to}
-use Rattle.hc_cuts.specs.Starts.{Kept}
-use Rattle.hc_cuts.specs.Areas.{areas_at, areas_by_rank, list_by}
-use Rattle.hc_cuts.specs.LineKeeping.{Before, StandsBefore}
-use Rattle.hc_cuts.specs.Kept.{starts_by}
+use Rattle.hc_cuts.specs.Keeping.{is_unchanged_up_to}
+use Rattle.hc_cuts.specs.Starts.{TaskCuts}
+use Rattle.hc_cuts.specs.Areas.{areas_of_rank, areas_by_rank, list_by}
+use Rattle.hc_cuts.specs.LineKeeping.{Before, IsKnownBefore}
+use Rattle.hc_cuts.specs.TaskCuts.{starts_by}
 use Rattle.hc_cuts.specs.Recut.{is_touched_by}
-use Rattle.hc_cuts.proofs.lemmas.Told.{task-listed}
-use Rattle.hc_changes.specs.Candidates.{is_recut}
-use Rattle.hc_changes.specs.inner.Found.{HoldChanged, HoldRanks, HoldRecut, IsCandidateTest, LieWithin, area_by, areas_found, rank_found, station_at}
+use Rattle.hc_cuts.proofs.lemmas.AnswerGiven.{task-listed}
+use Rattle.hc_changes.specs.MaybeMovedAreas.{is_recut}
+use Rattle.hc_changes.specs.inner.Found.{HoldChanged, HoldRanks, HoldRecut, IsMaybeMovedTest, LieWithin, area_by, areas_found, rank_found, ranked_station}
 use Rattle.hc_cuts.specs.LineChange.{changes}
 use Rattle.hc_changes.specs.EditedLine.{EditedLine, IsEditedLine}
-use Rattle.hc_changes.proofs.lemmas.Finding.{unrecut-none, untouched-kept}
+use Rattle.hc_changes.proofs.lemmas.Finding.{unrecut-none, untouched-unchanged}
 use Rattle.hc_changes.proofs.lemmas.FoundRanks.{above-none, task-below}
 use Rattle.hc_changes.proofs.lemmas.Recut.{recut-unkept}
-use Rattle.hc_changes.proofs.lemmas.Standing.{placed-below, placed-between}
-use Rattle.hc_changes.proofs.lemmas.Lists.{contains-behind, contains-first}
+use Rattle.hc_changes.proofs.lemmas.Placing.{placed-below, placed-between}
+use Rattle.hc_changes.proofs.lemmas.Lists.{contains-after_it, contains-first}
 use Rattle.hc_changes.proofs.lemmas.Tables.{state_of}
 
 -- where the task has no inputs, each of its areas is an output
@@ -57,12 +57,12 @@ placed-out list placed none among =
 
 -- the ranks of areas up to which their datagrams aren't kept, among the first datagrams of a task
 
-abbrev pub kept_in : EditedLine → ℕ → ℕ → Key → Bool
-kept_in it task datagram key = is_kept_up_to (task_list task (line_from 1 it.old)) (task_list task (line_from 1 it.new)) datagram key
+abbrev pub unchanged_in : EditedLine → ℕ → ℕ → Key → Bool
+unchanged_in it task datagram key = is_unchanged_up_to (task_list task (line_from 1 it.old)) (task_list task (line_from 1 it.new)) datagram key
 
 abbrev pub HoldFirst : EditedLine → ℕ → ℕ → ℕ → ℕ → Type 0
 HoldFirst it task count low high =
-    (placed : Placed) → Contains (task_places task (line_from 1 it.new)) placed → placed.datagram < count → placed.key.rank < 65536 → kept_in it task placed.datagram placed.key ≡ false
+    (placed : Placed) → Contains (task_places task (line_from 1 it.new)) placed → placed.datagram < count → placed.key.rank < 65536 → unchanged_in it task placed.datagram placed.key ≡ false
     → (low ≤ placed.key.rank) × (placed.key.rank ≤ high)
 
 -- a boundary that is there is read alike, whatever stands for others
@@ -75,17 +75,17 @@ pub record IsUnkeptIn (it : EditedLine) (task number : ℕ) (starts : List Key) 
   pub next : is_before key (slice_index_or starts (number + 1) END) ≡ true
   pub below : is_before key END ≡ true
   pub output : inputs ≡ false → key.dir ≡ Out
-  pub unkept : kept_in it task number key ≡ false
+  pub unkept : unchanged_in it task number key ≡ false
 
--- so the next datagram's areas are held by ranks among which those of the ones before stand, and those of its own
+-- so the next datagram's areas are held by ranks among which those of the ones before are, and those of its own
 pub held-next : (it : EditedLine) (task count low high wide_low wide_high : ℕ) (starts : List Key) (inputs : Bool) → IsEditedLine it → starts ≡ starts_by task (areas_by_rank it.new)
     → inputs ≡ has_inputs (list_by task (areas_by_rank it.new))
     → HoldRanks wide_low wide_high low high
     → ((key : Key) → key.rank < 65536 → IsUnkeptIn it task count starts inputs key → (wide_low ≤ key.rank) × (key.rank ≤ wide_high))
     → HoldFirst it task count low high → HoldFirst it task (count + 1) wide_low wide_high
-held-next it task count low high wide_low wide_high starts inputs is stand told wider own hold placed among below narrow unkept =
+held-next it task count low high wide_low wide_high starts inputs is are_placed answer_given wider own hold placed among below narrow unkept =
     let list = task_list task (line_from 1 it.new) in
-    let keys : START ∷ later_keys list ≡ starts = ap (λ (l : List Keyed). START ∷ later_keys l) (task-listed task it.new) ∙ sym stand in
+    let keys : START ∷ later_keys list ≡ starts = ap (λ (l : List Keyed). START ∷ later_keys l) (task-listed task it.new) ∙ sym are_placed in
     let lies = placed-between list placed (project-list (state_of it.new) task is.is_project) among in
     ⊎_elim
     (λ same. own placed.key narrow
@@ -93,18 +93,18 @@ held-next it task count low high wide_low wide_high starts inputs is stand told 
       from = subst (λ (n : ℕ). is_within (slice_index_or starts n END) placed.key ≡ true) same (subst (λ (all : List Key). is_within (slice_index_or all placed.datagram END) placed.key ≡ true) keys lies.1);
       next = search rules;
       below = placed-below list placed (project-list (state_of it.new) task is.is_project) among;
-      output = λ none. placed-out list placed (ap has_inputs (task-listed task it.new) ∙ sym told ∙ none) among;
-      unkept = subst (λ (n : ℕ). kept_in it task n placed.key ≡ false) same unkept;
+      output = λ none. placed-out list placed (ap has_inputs (task-listed task it.new) ∙ sym answer_given ∙ none) among;
+      unkept = subst (λ (n : ℕ). unchanged_in it task n placed.key ≡ false) same unkept;
     }))
     (λ under. let before = hold placed among under narrow unkept in (omega (arith, before, wider), omega (arith, before, wider)))
     (eq-or-lt_of_le {n = placed.datagram} {m = count} (omega arith))
 
 -- an area that isn't before the key until which its datagram is kept, nor before the datagram's first key, isn't before the higher of the two
 pub from-higher : (it : EditedLine) (task number : ℕ) (starts : List Key) (inputs : Bool) (until from key : Key) → IsUnkeptIn it task number starts inputs key
-    → ((k : Key) → is_before k END ≡ true → is_before k until ≡ kept_in it task number k)
+    → ((k : Key) → is_before k END ≡ true → is_before k until ≡ unchanged_in it task number k)
     → ((k : Key) → is_within (slice_index_or starts number END) k ≡ true → is_within until k ≡ true → is_within from k ≡ true)
     → is_within from key ≡ true
-from-higher it task number starts inputs until from key is tells above = search (rules, within-else)
+from-higher it task number starts inputs until from key is shows above = search (rules, within-else)
 
 within-before : (a b c : Key) → is_within a b ≡ true → is_before b c ≡ true → is_before a c ≡ true
 within-before a b c low high = before-else a c (by (is_within c a) refl)
@@ -120,24 +120,24 @@ none-unkept it task number starts inputs from key is low none = search (rules, w
 
 pub recut-held : (it : EditedLine) (task count low high : ℕ) (starts : List Key) → IsEditedLine it → starts ≡ starts_by task (areas_by_rank it.new) → length starts ≤ count
     → HoldFirst it task count low high → HoldRecut it task low high
-recut-held it task count low high starts is stand all hold found of narrow recut =
+recut-held it task count low high starts is are_placed all hold found of narrow recut =
     let list = task_list task (line_from 1 it.new) in
     let own = recut-unkept (line_from 1 it.old) (line_from 1 it.new) found recut in
     let placed = own.placed in
-    let among : Contains (task_places task (line_from 1 it.new)) placed = subst (λ (t : ℕ). Contains (task_places t (line_from 1 it.new)) placed) of own.stands in
-    let unkept : kept_in it task placed.datagram placed.key ≡ false = subst (λ (t : ℕ). kept_in it t placed.datagram placed.key ≡ false) of own.unkept in
-    let keys : START ∷ later_keys list ≡ starts = ap (λ (l : List Keyed). START ∷ later_keys l) (task-listed task it.new) ∙ sym stand in
+    let among : Contains (task_places task (line_from 1 it.new)) placed = subst (λ (t : ℕ). Contains (task_places t (line_from 1 it.new)) placed) of own.is_placed in
+    let unkept : unchanged_in it task placed.datagram placed.key ≡ false = subst (λ (t : ℕ). unchanged_in it t placed.datagram placed.key ≡ false) of own.unkept in
+    let keys : START ∷ later_keys list ≡ starts = ap (λ (l : List Keyed). START ∷ later_keys l) (task-listed task it.new) ∙ sym are_placed in
     let lies = placed-between list placed (project-list (state_of it.new) task is.is_project) among in
     let many = ap length keys in
     let below : placed.datagram < count = let low = lies.0 in omega (arith, low, many, all) in
     let rank : placed.key.rank ≡ found.member.rank = ap (λ (key : Key). key.rank) own.key in
     subst (λ (r : ℕ). (low ≤ r) × (r ≤ high)) rank (hold placed among below (omega (arith, rank, narrow)) unkept)
 
-pub untouched-held : (it : EditedLine) (before : Before) (cuts : List Kept) → IsCandidateTest it before cuts → (task low high : ℕ) (some : Bool) → some ≡ false
-    → ((old new : List (List Area)) → StandsBefore old new before → some ≡ is_touched_by task old new) → HoldRecut it task low high
-untouched-held it before cuts test task low high some none tells found of narrow recut =
-    let kept : is_recut (line_from 1 it.old) (line_from 1 it.new) found ≡ false =
-    untouched-kept it before cuts test found some none (λ old new stands. tells old new stands ∙ ap (λ (t : ℕ). is_touched_by t old new) (sym of)) in
+pub untouched-held : (it : EditedLine) (before : Before) (cuts : List TaskCuts) → IsMaybeMovedTest it before cuts → (task low high : ℕ) (some : Bool) → some ≡ false
+    → ((old new : List (List Area)) → IsKnownBefore old new before → some ≡ is_touched_by task old new) → HoldRecut it task low high
+untouched-held it before cuts test task low high some none shows found of narrow recut =
+    let unmoved : is_recut (line_from 1 it.old) (line_from 1 it.new) found ≡ false =
+    untouched-unchanged it before cuts test found some none (λ old new is_placed. shows old new is_placed ∙ ap (λ (t : ℕ). is_touched_by t old new) (sym of)) in
     cc
 
 -- wider ranks hold them too
@@ -148,21 +148,21 @@ recut-wider it task low high wide_low wide_high wider hold found of narrow recut
 pub changed-wider : (it : EditedLine) (low high wide_low wide_high : ℕ) → HoldRanks wide_low wide_high low high → HoldChanged it low high → HoldChanged it wide_low wide_high
 changed-wider it low high wide_low wide_high wider hold rank changed = search rules
 
--- so all candidates stand between the ranks that hold those of all tasks
+-- so all candidates are between the ranks that hold those of all tasks
 
 none-found : (it : EditedLine) (station rank index : ℕ) (areas : List Area) → changes it.change rank ≡ false
     → ((i : ℕ) (area : Area) → Contains areas area → is_recut (line_from 1 it.old) (line_from 1 it.new) (area_by station rank i area) ≡ false) → areas_found it station rank index areas ≡ []
 unfolding areas_found
-none-found it station rank index [] unchanged kept = refl
-none-found it station rank index (area ∷ areas) unchanged kept =
-    search (rules, unrecut-none, contains-first, contains-behind, none-found it station rank (index + 1) areas unchanged (λ i other at. kept i other (contains-behind other area areas at)))
+none-found it station rank index [] unchanged unmoved = refl
+none-found it station rank index (area ∷ areas) unchanged unmoved =
+    search (rules, unrecut-none, contains-first, contains-after_it, none-found it station rank (index + 1) areas unchanged (λ i other at. unmoved i other (contains-after_it other area areas at)))
 
 rank-none : (it : EditedLine) (rank low high : ℕ) → IsEditedLine it → HoldChanged it low high → ((task : ℕ) → task < TASKS → HoldRecut it task low high) → (low ≤ rank → rank ≤ high → ⊥) → rank < 65536
     → rank_found it rank ≡ []
 unfolding rank_found
 rank-none it rank low high is changed recut out narrow =
-    let areas = areas_at (areas_by_rank it.new) rank in
-    let station = station_at it.old rank in
+    let areas = areas_of_rank (areas_by_rank it.new) rank in
+    let station = ranked_station it.old rank in
     none-found it station rank 0 areas (false_from_ne_true (changes it.change rank) (λ among. let own = changed rank among in out own.0 own.1))
     (λ i area (k, within, at).
     let task : area.task < TASKS = task-below it.new rank k areas area is.is_project refl within (sym at) in

@@ -1,10 +1,10 @@
--- Where no task needs more than 16 datagrams, each area of a project's line stands in one of them.
+-- Where no task needs more than 16 datagrams, each area of a project's line is in one of them.
 use Rattle.std.proofs.Common.{◌≡◌, ℕ, ◌+◌, ◌≤◌, false, None, arith, rules}
 use Rattle.std.specs.Prelude.{All, nat_lt}
 use Rattle.std.proofs.lemmas.Bool.{ltb-false}
 use Rattle.std.proofs.lemmas.List.Elements.{All-contains}
 use Rattle.hc_records.specs.declared.limits.TheConstants.{MOST_DATAGRAMS}
-use Rattle.hc_records.specs.Edits.{crowded_task}
+use Rattle.hc_records.specs.Edits.{over_limit_task}
 use Rattle.hc_records.specs.Image.{datagram_count, task_places, tasks}
 use Rattle.hc_records.specs.Keys.{same_key}
 use Rattle.hc_records.specs.Laws.{LiesInside}
@@ -20,21 +20,21 @@ use Rattle.hc_records.proofs.lemmas.KeyOrder.{same_key-same}
 use Rattle.hc_records.proofs.lemmas.Packable.{project-packable}
 use Rattle.hc_places.specs.Found.{SuitsPlace}
 use Rattle.hc_places.proofs.lemmas.Rows.{task-suits}
-use Rattle.hc_changes.specs.Candidates.{LineArea, candidate_of, key_of, line_areas}
-use Rattle.hc_changes.specs.Rows.{StandsInside}
+use Rattle.hc_changes.specs.MaybeMovedAreas.{LineArea, maybe_moved_of, line_area_key, line_areas}
+use Rattle.hc_changes.specs.Rows.{IsInside}
 use Rattle.hc_changes.proofs.lemmas.ByRank.{area-named}
 use Rattle.hc_changes.proofs.lemmas.Lists.{found-among}
 use Rattle.hc_changes.proofs.lemmas.Others.{IsAreaOf, line-area}
 use Rattle.hc_changes.proofs.lemmas.Places.{area-inside}
 use Rattle.hc_changes.proofs.lemmas.Widths.{all-contained}
 
-stands-inside : (state : State) → lowest_fault (groups_of state.groups) ≡ None → crowded_task (line state) ≡ None → (found : LineArea) → IsAreaOf (line state) found
-    → StandsInside (candidate_of (line state) found)
-stands-inside state none fits found of placed is =
+is_placed-inside : (state : State) → lowest_fault (groups_of state.groups) ≡ None → over_limit_task (line state) ≡ None → (found : LineArea) → IsAreaOf (line state) found
+    → IsInside (maybe_moved_of (line state) found)
+is_placed-inside state none fits found of placed is =
     let task = found.area.task in
     let places = task_places task (line state) in
     let inside : IsAreaInside found.area = area-inside state none found of in
-    let stood = found-among (λ (p : Placed). same_key p.key (key_of found)) places placed is in
+    let stood = found-among (λ (p : Placed). same_key p.key (line_area_key found)) places placed is in
     let test = λ (t : ℕ). nat_lt MOST_DATAGRAMS (datagram_count (task_places t (line state))) in
     let few = ltb-false MOST_DATAGRAMS (datagram_count places) (each-task (λ t. test t ≡ false) (found-none test tasks fits) task inside.task) in
     let number : placed.datagram + 1 ≤ datagram_count places =
@@ -44,8 +44,8 @@ stands-inside state none fits found of placed is =
     let bits = suits.bits in
     record { task = inside.task; datagram = omega (arith, few, number); inside = omega (arith, lies, bits); offers = suits.offers }
 
-pub candidates-inside : (state : State) → lowest_fault (groups_of state.groups) ≡ None → crowded_task (line state) ≡ None
-    → All (λ found. StandsInside (candidate_of (line state) found)) (line_areas (line state))
-candidates-inside state none fits =
-    all-contained (λ (found : LineArea). StandsInside (candidate_of (line state) found)) (line_areas (line state))
-    (λ found at. stands-inside state none fits found (line-area (line state) found at))
+pub maybe_moved_areas-inside : (state : State) → lowest_fault (groups_of state.groups) ≡ None → over_limit_task (line state) ≡ None
+    → All (λ found. IsInside (maybe_moved_of (line state) found)) (line_areas (line state))
+maybe_moved_areas-inside state none fits =
+    all-contained (λ (found : LineArea). IsInside (maybe_moved_of (line state) found)) (line_areas (line state))
+    (λ found at. is_placed-inside state none fits found (line-area (line state) found at))

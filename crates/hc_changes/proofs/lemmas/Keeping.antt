@@ -38,9 +38,9 @@ slaves-same : (change : Slave → Slave) → ((slave : Slave) → offered (chang
 slaves-same change same [] = refl
 slaves-same change same (slave ∷ slaves) = search (rules, slaves-same change same slaves)
 
-area-keeps : (station index : ℕ) (change : Area → Area) → ((area : Area) → pdo_names (change area).offered ≡ pdo_names area.offered) → (groups : List Declared)
+area-stays : (station index : ℕ) (change : Area → Area) → ((area : Area) → pdo_names (change area).offered ≡ pdo_names area.offered) → (groups : List Declared)
     → variables_by_rank (map (with_slaves (with_area station index change)) groups) ≡ variables_by_rank groups
-area-keeps station index change same = search (rules, groups-same, slaves-same, slave-by, areas-same)
+area-stays station index change same = search (rules, groups-same, slaves-same, slave-by, areas-same)
 
-pub edit-keeps : (groups : List Declared) (edit : Edit) → declares edit ≡ false → variables_by_rank (groups_after groups edit) ≡ variables_by_rank groups
-edit-keeps groups edit changes = search (rules, groups-same, presence-by, area-keeps)
+pub edit-stays : (groups : List Declared) (edit : Edit) → declares edit ≡ false → variables_by_rank (groups_after groups edit) ≡ variables_by_rank groups
+edit-stays groups edit changes = search (rules, groups-same, presence-by, area-stays)

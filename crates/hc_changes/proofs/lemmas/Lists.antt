@@ -8,14 +8,14 @@ use Rattle.hc_records.proofs.lemmas.Lists.{AllPairs-head, AllPairs-tail}
 
 -- elements that give nothing may be left out
 
-kept-by : (passes : Bool) {X Y : Type 0} (f : X → List Y) (x : X) (xs kept : List X) → (passes ≡ false → f x ≡ []) → flat_map f xs ≡ flat_map f kept
-    → f x ++ flat_map f xs ≡ flat_map f (cond passes (x ∷ kept) kept)
-kept-by passes f x xs kept nothing rest = search rules
+unchanged-by : (passes : Bool) {X Y : Type 0} (f : X → List Y) (x : X) (xs unchanged : List X) → (passes ≡ false → f x ≡ []) → flat_map f xs ≡ flat_map f unchanged
+    → f x ++ flat_map f xs ≡ flat_map f (cond passes (x ∷ unchanged) unchanged)
+unchanged-by passes f x xs unchanged nothing rest = search rules
 
-pub flat_map-kept : {X Y : Type 0} (f : X → List Y) (test : X → Bool) (xs : List X) → All (λ x. test x ≡ false → f x ≡ []) xs → flat_map f xs ≡ flat_map f (filter test xs)
-flat_map-kept f test [] all = refl
-flat_map-kept f test (x ∷ xs) all =
-    search (rules, kept-by, All-head, All-tail, flat_map-kept f test xs (All-tail (λ y. test y ≡ false → f y ≡ []) x xs all))
+pub flat_map-unchanged : {X Y : Type 0} (f : X → List Y) (test : X → Bool) (xs : List X) → All (λ x. test x ≡ false → f x ≡ []) xs → flat_map f xs ≡ flat_map f (filter test xs)
+flat_map-unchanged f test [] all = refl
+flat_map-unchanged f test (x ∷ xs) all =
+    search (rules, unchanged-by, All-head, All-tail, flat_map-unchanged f test xs (All-tail (λ y. test y ≡ false → f y ≡ []) x xs all))
 
 pub filter-flat_map : {X Y : Type 0} (test : Y → Bool) (f : X → List Y) (xs : List X) → filter test (flat_map f xs) ≡ flat_map (λ x. filter test (f x)) xs
 filter-flat_map test f [] = refl
@@ -30,23 +30,23 @@ map-flat_map g f (x ∷ xs) = map-append g (f x) (flat_map f xs) ∙ ap (λ (ys 
 pub contains-first : {X : Type 0} (x : X) (xs : List X) → Contains (x ∷ xs) x
 contains-first x xs = (0, omega arith, refl)
 
-pub contains-behind : {X : Type 0} (x y : X) (xs : List X) → Contains xs x → Contains (y ∷ xs) x
-contains-behind x y xs (k, within, is) = (suc k, omega arith, is)
+pub contains-after_it : {X : Type 0} (x y : X) (xs : List X) → Contains xs x → Contains (y ∷ xs) x
+contains-after_it x y xs (k, within, is) = (suc k, omega arith, is)
 
-first-passing : {X : Type 0} (passes : Bool) (x y : X) (kept : List X) → passes ≡ true → y ≡ x → Contains (cond passes (y ∷ kept) kept) x
-first-passing passes x y kept own is = search rules
+first-passing : {X : Type 0} (passes : Bool) (x y : X) (unchanged : List X) → passes ≡ true → y ≡ x → Contains (cond passes (y ∷ unchanged) unchanged) x
+first-passing passes x y unchanged own is = search rules
 
-later-passing : {X : Type 0} (passes : Bool) (x y : X) (kept : List X) → Contains kept x → Contains (cond passes (y ∷ kept) kept) x
-later-passing true x y kept at = contains-behind x y kept at
-later-passing false x y kept at = at
+later-passing : {X : Type 0} (passes : Bool) (x y : X) (unchanged : List X) → Contains unchanged x → Contains (cond passes (y ∷ unchanged) unchanged) x
+later-passing true x y unchanged at = contains-after_it x y unchanged at
+later-passing false x y unchanged at = at
 
 pub contains-filtered : {X : Type 0} (test : X → Bool) (xs : List X) (x : X) → Contains xs x → test x ≡ true → Contains (filter test xs) x
 contains-filtered test [] x (k, within, is) passes = absurd (omega arith)
 contains-filtered test (y ∷ ys) x (zero, within, is) passes = first-passing (test y) x y (filter test ys) (ap test is ∙ passes) is
 contains-filtered test (y ∷ ys) x (suc k, within, is) passes = search (rules, later-passing, contains-filtered test ys x (k, omega arith, is) passes)
 
-unfiltered-by : {X : Type 0} (passes : Bool) (x y : X) (kept ys : List X) → Contains (cond passes (y ∷ kept) kept) x → (Contains kept x → Contains ys x) → Contains (y ∷ ys) x
-unfiltered-by passes x y kept ys at rest = search (rules, contains-behind)
+unfiltered-by : {X : Type 0} (passes : Bool) (x y : X) (unchanged ys : List X) → Contains (cond passes (y ∷ unchanged) unchanged) x → (Contains unchanged x → Contains ys x) → Contains (y ∷ ys) x
+unfiltered-by passes x y unchanged ys at rest = search (rules, contains-after_it)
 
 pub contains-unfiltered : {X : Type 0} (test : X → Bool) (xs : List X) (x : X) → Contains (filter test xs) x → Contains xs x
 contains-unfiltered test [] x at = at
@@ -68,7 +68,7 @@ flat_map-piece f [] y (k, within, is) = absurd (omega arith)
 flat_map-piece f (x ∷ xs) y at =
     ⊎_elim
     (λ own. record { element = x; among = contains-first x xs; own = own })
-    (λ behind. let piece = flat_map-piece f xs y behind in record { element = piece.element; among = contains-behind piece.element x xs piece.among; own = piece.own })
+    (λ after_it. let piece = flat_map-piece f xs y after_it in record { element = piece.element; among = contains-after_it piece.element x xs piece.among; own = piece.own })
     (Contains-append_cases (f x) (flat_map f xs) y at)
 
 -- what is found is contained, and passes the test
@@ -77,13 +77,13 @@ pub record IsFound {X : Type 0} (test : X → Bool) (xs : List X) (x : X) : Type
   pub passes : test x ≡ true
 
 found-by : {X : Type 0} (here : Bool) (test : X → Bool) (x y : X) (ys : List X) → test y ≡ here → cond here (Some y) (find test ys) ≡ Some x → (find test ys ≡ Some x → IsFound test ys x) → IsFound test (y ∷ ys) x
-found-by here test x y ys passes is later = search (rules, contains-behind)
+found-by here test x y ys passes is later = search (rules, contains-after_it)
 
 pub found-among : {X : Type 0} (test : X → Bool) (xs : List X) (x : X) → find test xs ≡ Some x → IsFound test xs x
 found-among test [] x is = cc
 found-among test (y ∷ ys) x is = found-by (test y) test x y ys refl is (found-among test ys x)
 
--- of elements of which no two pass, the one that does is found
+-- among elements where at most one passes, that one is found
 
 here-or-later : {X : Type 0} (here : Bool) (x y : X) (rest : Option X) → (here ≡ true → ⊥) → rest ≡ Some x → cond here (Some y) rest ≡ Some x
 here-or-later here x y rest never later = search rules

@@ -20,24 +20,24 @@ use Rattle.hc_records.proofs.lemmas.Lines.{RanksBelow, line-ascends}
 use Rattle.hc_records.proofs.lemmas.Packed.{area_of, packed-areas}
 use Rattle.hc_records.proofs.lemmas.TaskLists.{project-list}
 use Rattle.hc_registers.specs.Blocks.{LineBlock, RegisterBlock, fmmu_block, line_blocks, mapping_at, numbered, same_block, same_bytes, sync_manager_block}
-use Rattle.hc_cuts.specs.Keeping.{is_kept_up_to}
+use Rattle.hc_cuts.specs.Keeping.{is_unchanged_up_to}
 use Rattle.hc_registers.specs.Ranked.{RankedBlock, moved_ranked, ranked}
-use Rattle.hc_changes.specs.Candidates.{DifferAt, LineArea, blocks_of, candidates, is_candidate, is_recut, key_of, line_areas, moved_of, place_of}
+use Rattle.hc_changes.specs.MaybeMovedAreas.{DifferAt, LineArea, line_area_blocks, maybe_moved_areas, is_maybe_moved, is_recut, line_area_key, line_areas, moved_of, line_area_place}
 use Rattle.hc_changes.proofs.lemmas.Blocks.{blocks-of-areas, flat_map-alike, ranked-of-areas, ranked_by}
-use Rattle.hc_changes.proofs.lemmas.Lists.{contains-flat_map, filter-flat_map, flat_map-kept, found-among}
-use Rattle.hc_changes.proofs.lemmas.Others.{IsAreaOf, area-stands, contains-mapped, line-area, map-piece, others-stand}
-use Rattle.hc_changes.proofs.lemmas.Standing.{kept-place}
+use Rattle.hc_changes.proofs.lemmas.Lists.{contains-flat_map, filter-flat_map, flat_map-unchanged, found-among}
+use Rattle.hc_changes.proofs.lemmas.Others.{IsAreaOf, area-is_placed, contains-mapped, line-area, map-piece, others-are_placed}
+use Rattle.hc_changes.proofs.lemmas.Placing.{unchanged-place}
 use Rattle.hc_changes.proofs.lemmas.Widths.{listed-wide, wide-listed}
 use Rattle.hc_records.specs.Area.{width}
 use Rattle.hc_records.proofs.lemmas.Spans.{filter-drops}
 
--- an area that stands nowhere stood nowhere
+-- an area that is nowhere was nowhere
 
-none-twice : (found : LineArea) (old new : List Member) → AllPairs RanksBelow old → IsAreaOf old found → IsAreaOf new found → place_of new found ≡ None
-    → (was : Option Placed) → place_of old found ≡ was → was ≡ None
+none-twice : (found : LineArea) (old new : List Member) → AllPairs RanksBelow old → IsAreaOf old found → IsAreaOf new found → line_area_place new found ≡ None
+    → (was : Option Placed) → line_area_place old found ≡ was → was ≡ None
 none-twice found old new ranks of of' none None is = refl
 none-twice found old new ranks of of' none (Some placed) is =
-    let key = key_of found in
+    let key = line_area_key found in
     let task = found.area.task in
     let stood = found-among (λ (p : Placed). same_key p.key key) (packed opening (task_list task old)) placed is in
     let listed : Contains (task_list task old) (placed.key, placed.bits) =
@@ -52,20 +52,20 @@ none-twice found old new ranks of of' none (Some placed) is =
     let own : same_key here.0.key key ≡ true = subst (λ (k : Key). same_key here.0.key k ≡ true) same (same_key-refl here.0.key) in
     cc
 
--- an area that isn't recut stands where it stood
+-- an area that isn't recut is where it was
 
 place-by : (found : LineArea) (old new : List Member) → AllPairs RanksBelow old → IsTaskList (task_list found.area.task old) → IsTaskList (task_list found.area.task new)
-    → IsAreaOf old found → IsAreaOf new found → (place : Option Placed) → place_of new found ≡ place
-    → option_map_or (λ placed. not (is_kept_up_to (task_list found.area.task old) (task_list found.area.task new) placed.datagram placed.key)) place false ≡ false
-    → place_of old found ≡ place
-place-by found old new ranks list list' of of' None is still = none-twice found old new ranks of of' is (place_of old found) refl
+    → IsAreaOf old found → IsAreaOf new found → (place : Option Placed) → line_area_place new found ≡ place
+    → option_map_or (λ placed. not (is_unchanged_up_to (task_list found.area.task old) (task_list found.area.task new) placed.datagram placed.key)) place false ≡ false
+    → line_area_place old found ≡ place
+place-by found old new ranks list list' of of' None is still = none-twice found old new ranks of of' is (line_area_place old found) refl
 place-by found old new ranks list list' of of' (Some placed) is still =
-    kept-place (task_list found.area.task old) (task_list found.area.task new) (key_of found) placed list list' is
-    (not-false (is_kept_up_to (task_list found.area.task old) (task_list found.area.task new) placed.datagram placed.key) still)
+    unchanged-place (task_list found.area.task old) (task_list found.area.task new) (line_area_key found) placed list list' is
+    (not-false (is_unchanged_up_to (task_list found.area.task old) (task_list found.area.task new) placed.datagram placed.key) still)
 
 pub same-place : (found : LineArea) (old new : List Member) → AllPairs RanksBelow old → IsTaskList (task_list found.area.task old) → IsTaskList (task_list found.area.task new)
-    → IsAreaOf old found → IsAreaOf new found → is_recut old new found ≡ false → place_of old found ≡ place_of new found
-same-place found old new ranks list list' of of' still = place-by found old new ranks list list' of of' (place_of new found) refl still
+    → IsAreaOf old found → IsAreaOf new found → is_recut old new found ≡ false → line_area_place old found ≡ line_area_place new found
+same-place found old new ranks list list' of of' still = place-by found old new ranks list list' of of' (line_area_place new found) refl still
 
 -- so its blocks were blocks of the old line
 
@@ -74,7 +74,7 @@ blocks_at found place =
     numbered found.member.slave.station (2 * found.index)
     (sync_manager_block found.area ∷ fmmu_block found.index found.area (option_map (mapping_at found.area.task) place) ∷ [])
 
-same-blocks : (found : LineArea) (old new : List Member) → place_of old found ≡ place_of new found → blocks_of old found ≡ blocks_of new found
+same-blocks : (found : LineArea) (old new : List Member) → line_area_place old found ≡ line_area_place new found → line_area_blocks old found ≡ line_area_blocks new found
 same-blocks found old new same = ap (blocks_at found) same
 
 pub same_bytes-refl : (block : RegisterBlock) → same_bytes block block ≡ true
@@ -87,43 +87,43 @@ pub had : (blocks : List LineBlock) (block : LineBlock) → Contains blocks bloc
 had blocks block at = search (rules, list_any_at, same_block-refl)
 
 stood-all : (found : LineArea) (old : List Member) → Contains (line_areas old) found
-    → All (λ block. not (list_any (same_block block) (line_blocks old)) ≡ false) (blocks_of old found)
+    → All (λ block. not (list_any (same_block block) (line_blocks old)) ≡ false) (line_area_blocks old found)
 stood-all found old at = search (rules, All-weaker, not_from_true, had, blocks-of-areas, contains-flat_map, All-contains_itself)
 
--- an area that isn't a candidate stood where it stands
-unchanged-stand : (changed : ℕ → Bool) (old new : State) → lowest_fault (groups_of old.groups) ≡ None → lowest_fault (groups_of new.groups) ≡ None → DifferAt changed (line old) (line new)
-    → (found : LineArea) → Contains (line_areas (line new)) found → is_candidate changed (line old) (line new) found ≡ false
-    → IsAreaOf (line old) found × (place_of (line old) found ≡ place_of (line new) found)
-unchanged-stand changed old new was is differ found at other =
+-- an area that isn't a candidate was where it is
+unchanged-are_placed : (changed : ℕ → Bool) (old new : State) → lowest_fault (groups_of old.groups) ≡ None → lowest_fault (groups_of new.groups) ≡ None → DifferAt changed (line old) (line new)
+    → (found : LineArea) → Contains (line_areas (line new)) found → is_maybe_moved changed (line old) (line new) found ≡ false
+    → IsAreaOf (line old) found × (line_area_place (line old) found ≡ line_area_place (line new) found)
+unchanged-are_placed changed old new was is differ found at other =
     let parts = or_parts (changed found.member.rank) (is_recut (line old) (line new) found) other in
-    search (rules, line-area, others-stand, line-ascends, same-place, project-list)
+    search (rules, line-area, others-are_placed, line-ascends, same-place, project-list)
 
 unmoved : (changed : ℕ → Bool) (old new : State) → lowest_fault (groups_of old.groups) ≡ None → lowest_fault (groups_of new.groups) ≡ None → DifferAt changed (line old) (line new)
-    → (found : LineArea) → Contains (line_areas (line new)) found → is_candidate changed (line old) (line new) found ≡ false → moved_of (line old) (line new) found ≡ []
+    → (found : LineArea) → Contains (line_areas (line new)) found → is_maybe_moved changed (line old) (line new) found ≡ false → moved_of (line old) (line new) found ≡ []
 unmoved changed old new was is differ found at other =
-    let stood = unchanged-stand changed old new was is differ found at other in
-    filter-drops (λ block. not (list_any (same_block block) (line_blocks (line old)))) (blocks_of (line new) found)
+    let stood = unchanged-are_placed changed old new was is differ found at other in
+    filter-drops (λ block. not (list_any (same_block block) (line_blocks (line old)))) (line_area_blocks (line new) found)
     (subst (λ (blocks : List LineBlock). All (λ block. not (list_any (same_block block) (line_blocks (line old))) ≡ false) blocks)
-    (same-blocks found (line old) (line new) stood.1) (stood-all found (line old) (area-stands (line old) found stood.0)))
+    (same-blocks found (line old) (line new) stood.1) (stood-all found (line old) (area-is_placed (line old) found stood.0)))
 
-ranked-kept : (passes : Bool) (rank : ℕ) (block : LineBlock) (kept : List LineBlock) (rest : List RankedBlock) → rest ≡ map (ranked rank) kept
-    → cond passes (ranked rank block ∷ rest) rest ≡ map (ranked rank) (cond passes (block ∷ kept) kept)
-ranked-kept passes rank block kept rest is = search rules
+ranked-unchanged : (passes : Bool) (rank : ℕ) (block : LineBlock) (unchanged : List LineBlock) (rest : List RankedBlock) → rest ≡ map (ranked rank) unchanged
+    → cond passes (ranked rank block ∷ rest) rest ≡ map (ranked rank) (cond passes (block ∷ unchanged) unchanged)
+ranked-unchanged passes rank block unchanged rest is = search rules
 
 filter-ranked : (test : LineBlock → Bool) (rank : ℕ) (blocks : List LineBlock) → filter (λ block. test block.found) (map (ranked rank) blocks) ≡ map (ranked rank) (filter test blocks)
 filter-ranked test rank [] = refl
-filter-ranked test rank (block ∷ blocks) = search (rules, ranked-kept, filter-ranked test rank blocks)
+filter-ranked test rank (block ∷ blocks) = search (rules, ranked-unchanged, filter-ranked test rank blocks)
 
-pub moved-told : (changed : ℕ → Bool) (old new : State) → lowest_fault (groups_of old.groups) ≡ None → lowest_fault (groups_of new.groups) ≡ None → DifferAt changed (line old) (line new)
-    → moved_ranked (line old) (line new) ≡ flat_map (ranked_by (moved_of (line old) (line new))) (candidates changed (line old) (line new))
-moved-told changed old new was is differ =
+pub moved-answer_given : (changed : ℕ → Bool) (old new : State) → lowest_fault (groups_of old.groups) ≡ None → lowest_fault (groups_of new.groups) ≡ None → DifferAt changed (line old) (line new)
+    → moved_ranked (line old) (line new) ≡ flat_map (ranked_by (moved_of (line old) (line new))) (maybe_moved_areas changed (line old) (line new))
+moved-answer_given changed old new was is differ =
     let test : LineBlock → Bool = λ block. not (list_any (same_block block) (line_blocks (line old))) in
     let ranked_test : RankedBlock → Bool = λ block. test block.found in
     let moved = ranked_by (moved_of (line old) (line new)) in
     ap (filter ranked_test) (ranked-of-areas (line new))
-    ∙ filter-flat_map ranked_test (ranked_by (blocks_of (line new))) (line_areas (line new))
-    ∙ flat_map-alike (λ (found : LineArea). filter ranked_test (ranked_by (blocks_of (line new)) found)) moved
-    (λ found. filter-ranked test found.member.rank (blocks_of (line new) found)) (line_areas (line new))
-    ∙ flat_map-kept moved (is_candidate changed (line old) (line new)) (line_areas (line new))
-    (All-weaker (Contains (line_areas (line new))) (λ found. is_candidate changed (line old) (line new) found ≡ false → moved found ≡ [])
+    ∙ filter-flat_map ranked_test (ranked_by (line_area_blocks (line new))) (line_areas (line new))
+    ∙ flat_map-alike (λ (found : LineArea). filter ranked_test (ranked_by (line_area_blocks (line new)) found)) moved
+    (λ found. filter-ranked test found.member.rank (line_area_blocks (line new) found)) (line_areas (line new))
+    ∙ flat_map-unchanged moved (is_maybe_moved changed (line old) (line new)) (line_areas (line new))
+    (All-weaker (Contains (line_areas (line new))) (λ found. is_maybe_moved changed (line old) (line new) found ≡ false → moved found ≡ [])
     (λ found at other. ap (map (ranked found.member.rank)) (unmoved changed old new was is differ found at other)) (line_areas (line new)) (All-contains_itself (line_areas (line new))))

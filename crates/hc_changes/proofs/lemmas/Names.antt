@@ -1,4 +1,4 @@
--- The variables that an area's assigned PDOs carry are those of its rows, and the area offers each of them.
+-- The variables that an area's assigned PDOs carry are its rows', and the area offers each of them.
 use Rattle.std.proofs.Common.{◌≡◌, ℕ, zero, suc, ◌+◌, ◌<◌, ◌≤◌, ◌==◌, List, [], ◌∷◌, ◌++◌, Contains, Option, Some, None, refl, sym, ap, subst, ◌∙◌, arith, rules}
 use Rattle.std.specs.Prelude.{find, map}
 use Rattle.std.specs.List.{cons_option}
@@ -8,19 +8,19 @@ use Rattle.std.proofs.lemmas.List.Elements.{All-contains}
 use Rattle.std.proofs.lemmas.List.Sums.{sum_by-cons}
 use Rattle.hc_records.specs.declared.records.Area.{Area}
 use Rattle.hc_records.specs.declared.records.Pdo.{Pdo}
-use Rattle.hc_records.specs.Area.{Entry, assigned_entries, bits_of, entries_at, width}
+use Rattle.hc_records.specs.Area.{Entry, assigned_entries, entry_bits, entries_at, width}
 use Rattle.hc_records.specs.Image.{variables_from}
 use Rattle.hc_records.specs.Limits.{IsEntryInside}
 use Rattle.hc_records.specs.Packing.{Placed}
 use Rattle.hc_records.specs.Project.{entry_names, pdo_names}
 use Rattle.hc_records.proofs.lemmas.Entries.{HasEntryWidths}
 use Rattle.hc_places.specs.Found.{area_rows}
-use Rattle.hc_places.specs.Table.{Row}
+use Rattle.hc_places.specs.Table.{VariableRow}
 use Rattle.hc_changes.specs.Rows.{area_variables_of}
-use Rattle.hc_changes.proofs.lemmas.Lists.{contains-behind, contains-first, contains-flat_map, flat_map-piece, found-among}
+use Rattle.hc_changes.proofs.lemmas.Lists.{contains-after_it, contains-first, contains-flat_map, flat_map-piece, found-among}
 use Rattle.hc_changes.proofs.lemmas.Others.{contains-mapped, map-piece}
 
--- the rows of an area are those of its variables
+-- the rows of an area are its variables'
 
 name-front : (name : Option ℕ) (bit bits : ℕ) (rest : List (ℕ × (ℕ × ℕ))) (names : List ℕ) → map (λ found. found.0) rest ≡ names
     → map (λ found. found.0) (option_map_or (λ v. (v, (bit, bits)) ∷ []) name [] ++ rest) ≡ cons_option name names
@@ -33,14 +33,14 @@ from-names bit (entry ∷ entries) = search (rules, name-front, from-names (bit 
 row-names : (task : ℕ) (area : Area) (placed : Placed) → map (λ row. row.0) (area_rows task area placed) ≡ area_variables_of area
 row-names task area placed = search (rules, map-map, from-names)
 
-pub row-named : (task : ℕ) (area : Area) (placed : Placed) (row : Row) → Contains (area_rows task area placed) row → Contains (area_variables_of area) row.0
+pub row-named : (task : ℕ) (area : Area) (placed : Placed) (row : VariableRow) → Contains (area_rows task area placed) row → Contains (area_variables_of area) row.0
 row-named task area placed row at =
-    subst (λ (names : List ℕ). Contains names row.0) (row-names task area placed) (contains-mapped (λ (r : Row). r.0) (area_rows task area placed) row at)
+    subst (λ (names : List ℕ). Contains names row.0) (row-names task area placed) (contains-mapped (λ (r : VariableRow). r.0) (area_rows task area placed) row at)
 
 pub named-row : (task : ℕ) (area : Area) (placed : Placed) (variable : ℕ) → Contains (area_variables_of area) variable
-    → (row : Row) × Contains (area_rows task area placed) row × (row.0 ≡ variable)
+    → (row : VariableRow) × Contains (area_rows task area placed) row × (row.0 ≡ variable)
 named-row task area placed variable at =
-    map-piece (λ (r : Row). r.0) (area_rows task area placed) variable
+    map-piece (λ (r : VariableRow). r.0) (area_rows task area placed) variable
     (subst (λ (names : List ℕ). Contains names variable) (sym (row-names task area placed)) at)
 
 -- what a filtered map contains
@@ -50,7 +50,7 @@ here-mapped made y rest is = search rules
 
 later-mapped : {Y : Type 0} (made : Option Y) (y : Y) (rest : List Y) → Contains rest y → Contains (cons_option made rest) y
 later-mapped None y rest at = at
-later-mapped (Some z) y rest at = contains-behind y z rest at
+later-mapped (Some z) y rest at = contains-after_it y z rest at
 
 contains-named : (entries : List Entry) (entry : Entry) (variable : ℕ) → Contains entries entry → entry.0 ≡ Some variable → Contains (entry_names entries) variable
 contains-named [] entry variable (k, within, is) name = absurd (omega arith)
@@ -66,10 +66,10 @@ record HasName (entries : List Entry) (variable : ℕ) : Type 0 where
 
 named-by : (made : Option ℕ) (e : Entry) (entries : List Entry) (variable : ℕ) → e.0 ≡ made → Contains (cons_option made (entry_names entries)) variable
     → (Contains (entry_names entries) variable → HasName entries variable) → HasName (e ∷ entries) variable
-named-by None e entries variable is at later = search (rules, contains-behind)
+named-by None e entries variable is at later = search (rules, contains-after_it)
 named-by (Some v) e entries variable is (zero, within, same) later =
     record { entry = e; among = contains-first e entries; name = is ∙ ap (λ (n : ℕ). Some n) same }
-named-by (Some v) e entries variable is (suc k, within, same) later = search (rules, contains-behind)
+named-by (Some v) e entries variable is (suc k, within, same) later = search (rules, contains-after_it)
 
 named-entry : (entries : List Entry) (variable : ℕ) → Contains (entry_names entries) variable → HasName entries variable
 named-entry [] variable (k, within, is) = absurd (omega arith)
@@ -90,7 +90,7 @@ carried-offered area variable at =
 
 -- and an area that carries one has a width
 
-bits-most : (entries : List Entry) (entry : Entry) → Contains entries entry → entry.1 ≤ bits_of entries
+bits-most : (entries : List Entry) (entry : Entry) → Contains entries entry → entry.1 ≤ entry_bits entries
 bits-most [] entry (k, within, is) = absurd (omega arith)
 bits-most (e ∷ entries) entry (zero, within, is) =
     let sum = sum_by-cons (λ (x : Entry). x.1) e entries in

@@ -18,10 +18,10 @@ use Rattle.hc_records.proofs.lemmas.Finds.{mapped-some}
 use Rattle.hc_records.proofs.lemmas.Limits.{project-inside}
 use Rattle.hc_records.proofs.lemmas.Lines.{declared_slaves}
 use Rattle.hc_records.proofs.lemmas.Lists.{get-back, get-front}
-use Rattle.hc_changes.proofs.lemmas.Bare.{bare_slave, edit-keeps}
-use Rattle.hc_changes.proofs.lemmas.Lists.{contains-behind}
+use Rattle.hc_changes.proofs.lemmas.Bare.{bare_slave, edit-stays}
+use Rattle.hc_changes.proofs.lemmas.Lists.{contains-after_it}
 
--- elements that differ pairwise stand at one index each
+-- elements that differ pairwise are at one index each
 
 not-below : {X : Type 0} (f : X → ℕ) (xs : List X) (i j : ℕ) (a b : X) → AllPairs (λ x y. f x ≢ f y) xs → slice_get xs i ≡ Some a → slice_get xs j ≡ Some b → f a ≡ f b → i < j → i ≡ j
 not-below f xs i j a b apart first second same below = search (rules, get_or_from_slice_get, slice_get_within)
@@ -33,7 +33,7 @@ one-index f xs i j a b apart first second same = elim (cases_order i j) [
   | inr (inr above) ↦ sym (not-below f xs j i b a apart second first (sym same) above)
 ]
 
--- an element of a numbered list stands at its number
+-- an element of a numbered list is at its number
 
 numbered-at : {X : Type 0} (first : ℕ) (xs : List X) (e : ℕ × X) → Contains (enumerate_from first xs) e → (i : ℕ) × (e.0 ≡ first + i) × (slice_get xs i ≡ Some e.1)
 numbered-at first [] e (k, within, is) = absurd (omega arith)
@@ -52,7 +52,7 @@ own-at xs e at =
 at-numbered : {X : Type 0} (first : ℕ) (xs : List X) (i : ℕ) (x : X) → slice_get xs i ≡ Some x → Contains (enumerate_from first xs) (first + i, x)
 at-numbered first [] i x is = cc
 at-numbered {X} first (y ∷ ys) zero x is = search rules
-at-numbered {X} first (y ∷ ys) (suc i) x is = search (rules, contains-behind, at-numbered (first + 1) ys i x is)
+at-numbered {X} first (y ∷ ys) (suc i) x is = search (rules, contains-after_it, at-numbered (first + 1) ys i x is)
 
 pub at-own : {X : Type 0} (xs : List X) (i : ℕ) (x : X) → slice_get xs i ≡ Some x → Contains (enumerate_from 0 xs) (i, x)
 at-own xs i x is =
@@ -63,7 +63,7 @@ at-own xs i x is =
 pub record IsDeclaredAt (first : ℕ) (slaves : List Slave) (member : Member) : Type 0 where
   pub index : ℕ
   pub rank : member.rank ≡ first + index
-  pub stands : slice_get slaves index ≡ Some member.slave
+  pub is_placed : slice_get slaves index ≡ Some member.slave
 
 members-declared : (first : ℕ) (slaves : List Slave) (member : Member) → Contains (members_from first slaves) member → IsDeclaredAt first slaves member
 members-declared first [] member (k, within, is) = absurd (omega arith)
@@ -71,7 +71,7 @@ members-declared first (slave ∷ slaves) member (zero, within, is) = search rul
 members-declared first (slave ∷ slaves) member (suc k, within, is) =
     let rest = members-declared (first + 1) slaves member (k, omega arith, is) in
     let rank = rest.rank in
-    record { index = suc rest.index; rank = omega arith; stands = rest.stands }
+    record { index = suc rest.index; rank = omega arith; is_placed = rest.is_placed }
 
 present-declared : (present : Bool) (first : ℕ) (slaves : List Slave) (member : Member) → Contains (members_from first (if present then slaves else [])) member → IsDeclaredAt first slaves member
 present-declared present first slaves member at = search (rules, members-declared)
@@ -86,15 +86,15 @@ line-declared first (declared ∷ groups) member at =
     record {
       index = here.index;
       rank = here.rank;
-      stands = get-front slaves (declared_slaves groups) here.index (slice_get_within slaves here.index member.slave here.stands) ∙ here.stands;
+      is_placed = get-front slaves (declared_slaves groups) here.index (slice_get_within slaves here.index member.slave here.is_placed) ∙ here.is_placed;
     })
-    (λ behind. let there = line-declared next groups member behind in
+    (λ after_it. let there = line-declared next groups member after_it in
     let rank = there.rank in
     let back : length slaves + there.index - length slaves ≡ there.index = omega arith in
     record {
       index = length slaves + there.index;
       rank = omega arith;
-      stands = get-back slaves (declared_slaves groups) (length slaves + there.index) (omega arith) ∙ ap (slice_get (declared_slaves groups)) back ∙ there.stands;
+      is_placed = get-back slaves (declared_slaves groups) (length slaves + there.index) (omega arith) ∙ ap (slice_get (declared_slaves groups)) back ∙ there.is_placed;
     })
     (Contains-append_cases (members_from first (if declared.present then slaves else [])) (line_from next groups) member at)
 
@@ -104,39 +104,39 @@ pub record AreOfOneProject (old new : List Member) : Type 0 where
   pub ranks : (a b : Member) → Contains old a → Contains new b → a.slave.station ≡ b.slave.station → a.rank ≡ b.rank
 
 -- the declared slave at an index is the same before and after, but for what an edit changes
-kept-at : (olds news : List Slave) (i : ℕ) (slave : Slave) → map bare_slave news ≡ map bare_slave olds → slice_get news i ≡ Some slave
+unchanged-at : (olds updates : List Slave) (i : ℕ) (slave : Slave) → map bare_slave updates ≡ map bare_slave olds → slice_get updates i ≡ Some slave
     → (before : Slave) × (slice_get olds i ≡ Some before) × (bare_slave before ≡ bare_slave slave)
-kept-at olds news i slave same at =
+unchanged-at olds updates i slave same at =
     mapped-some bare_slave (slice_get olds i) (bare_slave slave)
-    (sym (slice_get-map bare_slave olds i) ∙ ap (λ (l : List (ℕ × List Area)). slice_get l i) (sym same) ∙ slice_get-map bare_slave news i ∙ ap (option_map bare_slave) at)
+    (sym (slice_get-map bare_slave olds i) ∙ ap (λ (l : List (ℕ × List Area)). slice_get l i) (sym same) ∙ slice_get-map bare_slave updates i ∙ ap (option_map bare_slave) at)
 
-same-one-project : (groups news : List Declared) → map bare_slave (declared_slaves news) ≡ map bare_slave (declared_slaves groups) → lowest_fault (groups_of groups) ≡ None
-    → AreOfOneProject (line_from 1 groups) (line_from 1 news)
+same-one-project : (groups updates : List Declared) → map bare_slave (declared_slaves updates) ≡ map bare_slave (declared_slaves groups) → lowest_fault (groups_of groups) ≡ None
+    → AreOfOneProject (line_from 1 groups) (line_from 1 updates)
 same-one-project groups after same none =
     let olds = declared_slaves groups in
-    let news = declared_slaves after in
+    let updates = declared_slaves after in
     record {
       alike = λ a b at at' alike.
           let first = line-declared 1 groups a at in
           let second = line-declared 1 after b at' in
-          let before = kept-at olds news second.index b.slave same second.stands in
+          let before = unchanged-at olds updates second.index b.slave same second.is_placed in
           let index : first.index ≡ second.index = (let one = first.rank in let two = second.rank in omega arith) in
           let here : a.slave ≡ before.0 = cc in
           ap bare_slave here ∙ before.2;
       ranks = λ a b at at' alike.
           let first = line-declared 1 groups a at in
           let second = line-declared 1 after b at' in
-          let before = kept-at olds news second.index b.slave same second.stands in
+          let before = unchanged-at olds updates second.index b.slave same second.is_placed in
           let station : a.slave.station ≡ before.0.station = alike ∙ sym (ap (λ (p : ℕ × List Area). p.0) before.2) in
-          let index = one-index (λ (slave : Slave). slave.station) olds first.index second.index a.slave before.0 (project-inside (groups_of groups) none).stations first.stands before.1 station in
+          let index = one-index (λ (slave : Slave). slave.station) olds first.index second.index a.slave before.0 (project-inside (groups_of groups) none).stations first.is_placed before.1 station in
           first.rank ∙ ap (λ (i : ℕ). 1 + i) index ∙ sym second.rank;
     }
 
 -- a declared group leaves the line as it was
 pub edit-one-project : (groups : List Declared) (edit : Edit) → lowest_fault (groups_of groups) ≡ None → AreOfOneProject (line_from 1 groups) (line_from 1 (groups_after groups edit))
-edit-one-project groups (Connect alias) none = same-one-project groups (groups_after groups (Connect alias)) (edit-keeps groups (Connect alias) refl) none
-edit-one-project groups (Disconnect alias) none = same-one-project groups (groups_after groups (Disconnect alias)) (edit-keeps groups (Disconnect alias) refl) none
-edit-one-project groups (Remap station area pdos) none = same-one-project groups (groups_after groups (Remap station area pdos)) (edit-keeps groups (Remap station area pdos) refl) none
-edit-one-project groups (Move station area task) none = same-one-project groups (groups_after groups (Move station area task)) (edit-keeps groups (Move station area task) refl) none
+edit-one-project groups (Connect alias) none = same-one-project groups (groups_after groups (Connect alias)) (edit-stays groups (Connect alias) refl) none
+edit-one-project groups (Disconnect alias) none = same-one-project groups (groups_after groups (Disconnect alias)) (edit-stays groups (Disconnect alias) refl) none
+edit-one-project groups (Remap station area pdos) none = same-one-project groups (groups_after groups (Remap station area pdos)) (edit-stays groups (Remap station area pdos) refl) none
+edit-one-project groups (Move station area task) none = same-one-project groups (groups_after groups (Move station area task)) (edit-stays groups (Move station area task) refl) none
 edit-one-project groups (Declare group) none =
     subst (AreOfOneProject (line_from 1 groups)) (sym (line-absent 1 groups group)) (same-one-project groups groups refl none)

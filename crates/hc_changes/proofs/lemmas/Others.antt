@@ -1,4 +1,4 @@
--- The areas of a slave that didn't change stand in both lines.
+-- The areas of a slave that didn't change are in both lines.
 use Rattle.std.proofs.Common.{◌≡◌, ℕ, ◌<◌, ◌==◌, zero, suc, Bool, true, false, List, [], ◌∷◌, Contains, Some, refl, ap, subst, ◌∙◌, arith, rules}
 use Rattle.std.specs.Prelude.{AllPairs, find, map, option_map}
 use Rattle.std.specs.List.{enumerate_from}
@@ -9,15 +9,15 @@ use Rattle.hc_records.specs.Line.{Member}
 use Rattle.hc_records.proofs.lemmas.Finds.{mapped-some}
 use Rattle.hc_records.proofs.lemmas.Lines.{RanksBelow}
 use Rattle.hc_records.proofs.lemmas.Lists.{AllPairs-weaker}
-use Rattle.hc_changes.specs.Candidates.{DifferAt, LineArea, areas_of, line_areas, slave_of}
-use Rattle.hc_changes.proofs.lemmas.Lists.{contains-behind, contains-first, contains-flat_map, find-only, flat_map-piece, found-among}
+use Rattle.hc_changes.specs.MaybeMovedAreas.{DifferAt, LineArea, areas_of, line_areas, slave_of}
+use Rattle.hc_changes.proofs.lemmas.Lists.{contains-after_it, contains-first, contains-flat_map, find-only, flat_map-piece, found-among}
 
 -- what a mapped list contains
 
 pub map-piece : {X Y : Type 0} (f : X → Y) (xs : List X) (y : Y) → Contains (map f xs) y → (x : X) × Contains xs x × (f x ≡ y)
 map-piece f [] y (k, within, is) = absurd (omega arith)
 map-piece f (x ∷ xs) y (zero, within, is) = (x, contains-first x xs, is)
-map-piece f (x ∷ xs) y (suc k, within, is) = search (rules, contains-behind, map-piece f xs y (k, omega arith, is))
+map-piece f (x ∷ xs) y (suc k, within, is) = search (rules, contains-after_it, map-piece f xs y (k, omega arith, is))
 
 pub contains-mapped : {X Y : Type 0} (f : X → Y) (xs : List X) (x : X) → Contains xs x → Contains (map f xs) (f x)
 contains-mapped f xs x h3 = grind (arith, common_steps)
@@ -37,13 +37,13 @@ member-found line member ranks at =
 member-same : (a b : Member) → a.rank ≡ b.rank → a.slave ≡ b.slave → a ≡ b
 member-same a b rank slave = search rules
 
--- an area of a line is one of its slave's, which stands in the line
+-- an area of a line is one of its slave's, which is in the line
 pub record IsAreaOf (line : List Member) (found : LineArea) : Type 0 where
   pub member : Contains line found.member
   pub own : Contains (enumerate_from 0 found.member.slave.areas) (found.index, found.area)
 
--- two areas, each of its own line, stand at one index of slaves with one rank
-pub record StandAlike (a b : LineArea) : Type 0 where
+-- two areas, each of its own line, are at one index of slaves with one rank
+pub record AreAlike (a b : LineArea) : Type 0 where
   pub rank : a.member.rank ≡ b.member.rank
   pub index : a.index ≡ b.index
 
@@ -55,16 +55,16 @@ line-area line found at =
     let own = map-piece make (enumerate_from 0 member.slave.areas) found piece.own in
     subst (λ (f : LineArea). IsAreaOf line f) own.2 (record { member = piece.among; own = own.1 })
 
-pub area-stands : (line : List Member) (found : LineArea) → IsAreaOf line found → Contains (line_areas line) found
-area-stands line found of =
+pub area-is_placed : (line : List Member) (found : LineArea) → IsAreaOf line found → Contains (line_areas line) found
+area-is_placed line found of =
     let make : ℕ × Area → LineArea = λ e. record { member = found.member; index = e.0; area = e.1 } in
     contains-flat_map areas_of line found.member found of.member
     (contains-mapped make (enumerate_from 0 found.member.slave.areas) (found.index, found.area) of.own)
 
--- so an area of a slave that didn't change stood in the old line
-pub others-stand : (changed : ℕ → Bool) (old new : List Member) → AllPairs RanksBelow new → DifferAt changed old new
+-- so an area of a slave that didn't change was in the old line
+pub others-are_placed : (changed : ℕ → Bool) (old new : List Member) → AllPairs RanksBelow new → DifferAt changed old new
     → (found : LineArea) → Contains (line_areas new) found → changed found.member.rank ≡ false → Contains (line_areas old) found
-others-stand changed old new ranks differ found at unchanged =
+others-are_placed changed old new ranks differ found at unchanged =
     let of = line-area new found at in
     let member = found.member in
     let here : slave_of new member.rank ≡ Some member.slave = ap (option_map (λ (m : Member). m.slave)) (member-found new member ranks of.member) in
@@ -72,4 +72,4 @@ others-stand changed old new ranks differ found at unchanged =
     let before = mapped-some (λ (m : Member). m.slave) (find (λ (m : Member). m.rank == member.rank) old) member.slave there in
     let stood = found-among (λ (m : Member). m.rank == member.rank) old before.0 before.1 in
     let same : before.0 ≡ member = member-same before.0 member (eqb-true before.0.rank member.rank stood.passes) before.2 in
-    area-stands old found (record { member = subst (λ (m : Member). Contains old m) same stood.among; own = of.own })
+    area-is_placed old found (record { member = subst (λ (m : Member). Contains old m) same stood.among; own = of.own })

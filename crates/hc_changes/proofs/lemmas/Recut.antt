@@ -22,8 +22,8 @@ use Rattle.hc_records.proofs.lemmas.Cuts.{count-later_keys}
 use Rattle.hc_records.proofs.lemmas.Greatest.{greatest-all}
 use Rattle.hc_records.proofs.lemmas.KeyOrder.{same_key-refl, same_key-same}
 use Rattle.hc_records.proofs.lemmas.TaskLists.{project-list}
-use Rattle.hc_cuts.specs.Keeping.{begins_at, is_kept_up_to}
-use Rattle.hc_changes.specs.Candidates.{LineArea, is_recut, key_of, place_of}
+use Rattle.hc_cuts.specs.Keeping.{begins_at, is_unchanged_up_to}
+use Rattle.hc_changes.specs.MaybeMovedAreas.{LineArea, is_recut, line_area_key, line_area_place}
 use Rattle.hc_changes.proofs.lemmas.Lists.{found-among}
 use Rattle.hc_changes.proofs.lemmas.Tables.{no-length, untouched-lists}
 
@@ -47,9 +47,9 @@ pub own-counted : (list : List Keyed) (datagram : ℕ) → IsTaskList list → d
 own-counted [] datagram is low = absurd (omega arith)
 own-counted (area ∷ areas) datagram is low = let count = count-later_keys area areas is.packable in omega arith
 
-own-kept : (list : List Keyed) (datagram : ℕ) (key : Key) → IsTaskList list → touched list list ≡ [] → datagram < datagram_count (packed opening list)
-    → is_kept_up_to list list datagram key ≡ true
-own-kept list datagram key is none low =
+own-unchanged : (list : List Keyed) (datagram : ℕ) (key : Key) → IsTaskList list → touched list list ≡ [] → datagram < datagram_count (packed opening list)
+    → is_unchanged_up_to list list datagram key ≡ true
+own-unchanged list datagram key is none low =
     let found = span-at START (later_keys list) datagram (own-counted list datagram is low) in
     let span : Interval = found.0 in
     ap (λ (s : Option Interval). option_map_or (λ t. is_settled list list (t.0, key) && begins_at list datagram t.0) s false) found.1
@@ -58,8 +58,8 @@ own-kept list datagram key is none low =
 
 -- so an area of a task that no edit touched isn't recut
 
-unrecut-by : (old new : List Keyed) (placed : Option Placed) → ((p : Placed) → placed ≡ Some p → is_kept_up_to old new p.datagram p.key ≡ true)
-    → option_map_or (λ p. not (is_kept_up_to old new p.datagram p.key)) placed false ≡ false
+unrecut-by : (old new : List Keyed) (placed : Option Placed) → ((p : Placed) → placed ≡ Some p → is_unchanged_up_to old new p.datagram p.key ≡ true)
+    → option_map_or (λ p. not (is_unchanged_up_to old new p.datagram p.key)) placed false ≡ false
 unrecut-by old new placed each = search rules
 
 pub untouched-areas : (old new : State) (found : LineArea) → lowest_fault (groups_of old.groups) ≡ None → lowest_fault (groups_of new.groups) ≡ None
@@ -70,31 +70,31 @@ untouched-areas old new found was is none =
     let after = task_list task (line new) in
     let same : before ≡ after = untouched-lists old new task was is none in
     let nothing : touched after after ≡ [] = ap (λ (list : List Keyed). touched list after) (sym same) ∙ no-length (touched before after) none in
-    unrecut-by before after (place_of (line new) found)
+    unrecut-by before after (line_area_place (line new) found)
     (λ placed at.
-    let here = found-among (λ (p : Placed). same_key p.key (key_of found)) (packed opening after) placed at in
+    let here = found-among (λ (p : Placed). same_key p.key (line_area_key found)) (packed opening after) placed at in
     let counted : placed.datagram + 1 ≤ datagram_count (packed opening after) =
     All-contains (λ (p : Placed). p.datagram + 1 ≤ datagram_count (packed opening after)) (packed opening after) placed (greatest-all (λ (p : Placed). p.datagram + 1) 0 (packed opening after)) here.among in
-    ap (λ (list : List Keyed). is_kept_up_to list after placed.datagram placed.key) same
-    ∙ own-kept after placed.datagram placed.key (project-list new task is) nothing (omega arith))
+    ap (λ (list : List Keyed). is_unchanged_up_to list after placed.datagram placed.key) same
+    ∙ own-unchanged after placed.datagram placed.key (project-list new task is) nothing (omega arith))
 
--- a recut area of a line stands in a datagram that wasn't kept up to it
+-- a recut area of a line is in a datagram that wasn't kept up to it
 pub record IsUnkeptAt (old new : List Member) (found : LineArea) : Type 0 where
   pub placed : Placed
-  pub stands : Contains (task_places found.area.task new) placed
-  pub key : placed.key ≡ key_of found
-  pub unkept : is_kept_up_to (task_list found.area.task old) (task_list found.area.task new) placed.datagram placed.key ≡ false
+  pub is_placed : Contains (task_places found.area.task new) placed
+  pub key : placed.key ≡ line_area_key found
+  pub unkept : is_unchanged_up_to (task_list found.area.task old) (task_list found.area.task new) placed.datagram placed.key ≡ false
 
-unkept-by : (old new : List Member) (found : LineArea) (place : Option Placed) → place_of new found ≡ place
-    → option_map_or (λ placed. not (is_kept_up_to (task_list found.area.task old) (task_list found.area.task new) placed.datagram placed.key)) place false ≡ true → IsUnkeptAt old new found
+unkept-by : (old new : List Member) (found : LineArea) (place : Option Placed) → line_area_place new found ≡ place
+    → option_map_or (λ placed. not (is_unchanged_up_to (task_list found.area.task old) (task_list found.area.task new) placed.datagram placed.key)) place false ≡ true → IsUnkeptAt old new found
 unkept-by old new found None at is = cc
 unkept-by old new found (Some placed) at is =
-    let here = found-among (λ (p : Placed). same_key p.key (key_of found)) (task_places found.area.task new) placed at in
+    let here = found-among (λ (p : Placed). same_key p.key (line_area_key found)) (task_places found.area.task new) placed at in
     record {
       placed = placed;
-      stands = here.among;
-      key = same_key-same placed.key (key_of found) here.passes;
-      unkept = not-true-false (is_kept_up_to (task_list found.area.task old) (task_list found.area.task new) placed.datagram placed.key) is;
+      is_placed = here.among;
+      key = same_key-same placed.key (line_area_key found) here.passes;
+      unkept = not-true-false (is_unchanged_up_to (task_list found.area.task old) (task_list found.area.task new) placed.datagram placed.key) is;
     }
   where
     not-true-false : (b : Bool) → not b ≡ true → b ≡ false
@@ -102,4 +102,4 @@ unkept-by old new found (Some placed) at is =
     not-true-false false is = refl
 
 pub recut-unkept : (old new : List Member) (found : LineArea) → is_recut old new found ≡ true → IsUnkeptAt old new found
-recut-unkept old new found is = unkept-by old new found (place_of new found) refl is
+recut-unkept old new found is = unkept-by old new found (line_area_place new found) refl is

@@ -1,4 +1,4 @@
--- An area stands in its task's list exactly where it has a width.
+-- An area is in its task's list exactly where it has a width.
 use Rattle.std.proofs.Common.{◌≡◌, ℕ, ◌==◌, ◌<◌, true, List, Contains, Option, Some, refl, sym, ap, subst, ◌∙◌, rules}
 use Rattle.std.specs.Prelude.{All, AllPairs, filter, find, nat_lt, ◌&&◌}
 use Rattle.std.specs.List.{enumerate_from}
@@ -16,7 +16,7 @@ use Rattle.hc_records.proofs.lemmas.KeyOrder.{same_dir-refl}
 use Rattle.hc_records.proofs.lemmas.Lines.{RanksBelow}
 use Rattle.hc_records.proofs.lemmas.Lists.{AllPairs-numbers, AllPairs-weaker}
 use Rattle.hc_records.proofs.lemmas.Tasks.{listed, task-list-all}
-use Rattle.hc_changes.specs.Candidates.{LineArea, key_of}
+use Rattle.hc_changes.specs.MaybeMovedAreas.{LineArea, line_area_key}
 use Rattle.hc_changes.proofs.lemmas.Lists.{contains-filtered, contains-flat_map, find-only}
 use Rattle.hc_changes.proofs.lemmas.Others.{IsAreaOf, contains-mapped, member-found, never-both}
 
@@ -27,14 +27,14 @@ by-dir In task line member area at own = search (rules, Contains-append_right, c
 
 -- an area with a width is in the list of its task
 pub wide-listed : (line : List Member) (found : LineArea) → IsAreaOf line found → nat_lt 0 (width found.area) ≡ true
-    → Contains (task_list found.area.task line) (key_of found, width found.area)
+    → Contains (task_list found.area.task line) (line_area_key found, width found.area)
 wide-listed line found of wide =
     let area = found.area in
     let e : ℕ × Area = (found.index, area) in
     let own = enumerate_from 0 found.member.slave.areas in
     let belonging : belongs area.task area.dir area ≡ true = search (rules, and_from, eq-eqb, same_dir-refl) in
-    let kept = contains-filtered (λ (x : ℕ × Area). belongs area.task area.dir x.1) own e of.own belonging in
-    let made = contains-mapped (listed area.dir found.member.rank) (filter (λ (x : ℕ × Area). belongs area.task area.dir x.1) own) e kept in
+    let unchanged = contains-filtered (λ (x : ℕ × Area). belongs area.task area.dir x.1) own e of.own belonging in
+    let made = contains-mapped (listed area.dir found.member.rank) (filter (λ (x : ℕ × Area). belongs area.task area.dir x.1) own) e unchanged in
     contains-mapped keyed (task_areas area.task line) (listed area.dir found.member.rank e)
     (by-dir area.dir area.task line found.member (listed area.dir found.member.rank e) of.member made)
 
@@ -65,21 +65,21 @@ one-area areas a b at at' same =
 
 -- and an area in the list of its task has a width
 pub listed-wide : (line : List Member) (found : LineArea) (task : ℕ) (area : Keyed) → AllPairs RanksBelow line → IsAreaOf line found → Contains (task_list task line) area
-    → area.0 ≡ key_of found → nat_lt 0 (width found.area) ≡ true
+    → area.0 ≡ line_area_key found → nat_lt 0 (width found.area) ≡ true
 listed-wide line found task area ranks of at same =
-    All-contains (λ (k : Keyed). k.0 ≡ key_of found → nat_lt 0 (width found.area) ≡ true) (task_list task line) area
-    (task-list-all (λ (k : Keyed). k.0 ≡ key_of found → nat_lt 0 (width found.area) ≡ true) task line
+    All-contains (λ (k : Keyed). k.0 ≡ line_area_key found → nat_lt 0 (width found.area) ≡ true) (task_list task line) area
+    (task-list-all (λ (k : Keyed). k.0 ≡ line_area_key found → nat_lt 0 (width found.area) ≡ true) task line
     (λ dir. all-contained
-    (λ (member : Member). All (λ e. belongs task dir e.1 ≡ true → (keyed (listed dir member.rank e)).0 ≡ key_of found → nat_lt 0 (width found.area) ≡ true) (enumerate_from 0 member.slave.areas))
+    (λ (member : Member). All (λ e. belongs task dir e.1 ≡ true → (keyed (listed dir member.rank e)).0 ≡ line_area_key found → nat_lt 0 (width found.area) ≡ true) (enumerate_from 0 member.slave.areas))
     line
     (λ member there. all-contained
-    (λ (e : ℕ × Area). belongs task dir e.1 ≡ true → (keyed (listed dir member.rank e)).0 ≡ key_of found → nat_lt 0 (width found.area) ≡ true)
+    (λ (e : ℕ × Area). belongs task dir e.1 ≡ true → (keyed (listed dir member.rank e)).0 ≡ line_area_key found → nat_lt 0 (width found.area) ≡ true)
     (enumerate_from 0 member.slave.areas)
     (λ e own belonging key. own-width member dir e there own belonging key))))
     at same
   where
     own-width : (member : Member) (dir : Dir) (e : ℕ × Area) → Contains line member → Contains (enumerate_from 0 member.slave.areas) e → belongs task dir e.1 ≡ true
-        → (keyed (listed dir member.rank e)).0 ≡ key_of found → nat_lt 0 (width found.area) ≡ true
+        → (keyed (listed dir member.rank e)).0 ≡ line_area_key found → nat_lt 0 (width found.area) ≡ true
     own-width member dir e there own belonging key =
         let rank : member.rank ≡ found.member.rank = ap (λ (k : Key). k.rank) key in
         let index : e.0 ≡ found.index = ap (λ (k : Key). k.area) key in

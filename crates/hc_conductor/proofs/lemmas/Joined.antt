@@ -7,10 +7,10 @@ use Rattle.hc_rings.specs.Post.{Post}
 use Rattle.hc_rings.specs.Ring.{taken}
 use Rattle.hc_rings.proofs.lemmas.Same.{ends-still, sender-same}
 use Rattle.hc_conductor.specs.Taking.{AreTaken, AreTakenFrom}
-use Rattle.hc_conductor.specs.Together.{AreJoined, EachRing, IsWhole}
+use Rattle.hc_conductor.specs.Together.{AreJoined, EachRing, LostNoBuffer}
 
--- a ring of which no buffer was lost
-pub whole-joined : (ss : List PostSender) (rs : List PostReceiver) → EachRing IsWhole ss rs → EachRing AreJoined ss rs
+-- a ring that lost no buffer
+pub whole-joined : (ss : List PostSender) (rs : List PostReceiver) → EachRing LostNoBuffer ss rs → EachRing AreJoined ss rs
 whole-joined [] [] each = tt
 whole-joined (s ∷ ss) (r ∷ rs) each =
     let back = each.0.back in

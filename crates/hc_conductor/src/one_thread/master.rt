@@ -12,7 +12,7 @@ pub struct Master {
 
 impl Model for Master {
     ghost use Rattle.hc_conductor.specs.contracts.seat.TaskSeat as seat;
-    ghost use Rattle.hc_conductor.specs.Mastered.{Stands, mastering_in};
+    ghost use Rattle.hc_conductor.specs.Mastered.{IsSoundMaster, mastering_in};
     ghost use Rattle.hc_conductor.specs.Mastering.{Mastering};
     ghost use Rattle.hc_rings.specs.contracts.posts.PostReceiver as receiver;
     ghost use Rattle.std.specs.Coded.{codes};
@@ -23,5 +23,5 @@ impl Model for Master {
 
     ghost view = { mastering_in };
 
-    ghost invariant = { Stands };
+    ghost invariant = { IsSoundMaster };
 }

@@ -2,9 +2,9 @@
 ghost use Rattle.std.specs.Prelude.{◌≡◌, [], IfErr, IfOk, OnOk, replicate};
 ghost use Rattle.hc_records.specs.declared.limits.TheConstants.{TASKS};
 ghost use Rattle.hc_events.specs.Accepted.{just_opened};
-ghost use Rattle.hc_publish.specs.Told.{just_told};
+ghost use Rattle.hc_publish.specs.ChangesSince.{just_answered};
 ghost use Rattle.hc_conductor.specs.Openings.{IsOpenFault, IsOpenable};
-ghost use Rattle.hc_conductor.specs.Mastering.{past_of, shown, waiting};
+ghost use Rattle.hc_conductor.specs.Mastering.{master_history, master_shown, waiting};
 
 use crate::one_thread::master::Master;
 use hc_publish::faults::OpenFault;
@@ -16,8 +16,8 @@ use std::sync::Wait;
 /// task of the opening line that needs more than 16 datagrams; `Memory` where a growth was refused; `NoSeat` where a
 /// seat was. The project is then dropped.
 pub fn open<R: Wait>(rt: &R, alloc: Global, project: Project) -> Result<Master, OpenFault>
-    ensures core { IfOk result (λ master. master.conductor.core ≡ record { past = just_opened project; taken = just_opened project }) }
-    ensures shown { IfOk result (λ master. shown master ≡ just_told project) }
+    ensures core { IfOk result (λ master. master.conductor.core ≡ record { history = just_opened project; taken = just_opened project }) }
+    ensures shown { IfOk result (λ master. master_shown master ≡ just_answered project) }
     ensures waiting { IfOk result (λ master. waiting master ≡ replicate TASKS []) }
     ensures openable { OnOk result (IsOpenable project) }
     ensures refused { IfErr result (IsOpenFault project) }

@@ -1,13 +1,12 @@
-//! The values that a task posts, put where their variables stand.
-ghost use Rattle.std.specs.Prelude.{◌≡◌, ℕ, ◌+◌, ◌*◌, ◌^◌, ◌<◌, ◌≤◌, IfOk, MatchResult, None, OnOk, Some, length, nat_le};
+//! The values that a task posts, put where their variables are.
+ghost use Rattle.std.specs.Prelude.{◌≡◌, ℕ, ◌+◌, ◌*◌, ◌^◌, ◌<◌, ◌≤◌, IfOk, None, OnOk, Some, length, nat_le};
 ghost use Rattle.std.specs.List.{fold};
 ghost use Rattle.hc_bits.specs.Bits.{AreBytes, bit_of};
 ghost use Rattle.hc_records.specs.declared.records.Dir.TheVariants.{Out};
-ghost use Rattle.hc_publish.specs.Told.{table_shown};
-ghost use Rattle.hc_images.specs.Values.{image_bit};
-ghost use Rattle.hc_conductor.specs.Views.{task_of, told_to};
-ghost use Rattle.hc_conductor.specs.Posting.{HoldsOutputs, first_refused, set_bit, setting_refused};
-ghost use Rattle.hc_conductor.specs.Viewing.{numbered_place};
+ghost use Rattle.hc_images.specs.Values.{table_image_bit};
+ghost use Rattle.hc_conductor.specs.Views.{view_task, view_table};
+ghost use Rattle.hc_conductor.specs.Posting.{BytesHoldOutputs, first_refused, set_bit, setting_refused, IsRefusedBy};
+ghost use Rattle.hc_conductor.specs.Viewing.{viewed_place};
 
 use crate::one_thread::refusals::PostRefusal;
 use crate::view::TaskView;
@@ -24,14 +23,14 @@ pub struct Setting {
     pub value: u64,
 }
 
-// Where the variable with a number stands.
+/// The place of the variable with a number, if it has one in the view; 0 is no variable's number.
 fn numbered_place(view: &TaskView, number: u32) -> Option<Place>
-    ensures { result ≡ numbered_place (table_shown (told_to view.now)) number }
+    ensures { result ≡ viewed_place (view_table view.now) number }
 {
     view.place(VarId::new(number)?)
 }
 
-// Whether a value has more bits than these, 1 to 64.
+/// Whether a value needs more than `bits` bits, at most 64.
 fn is_too_wide(value: u64, bits: u8) -> bool
     requires { bits ≤ 64 }
     ensures { result ≡ nat_le (2 ^ bits) value }
@@ -39,10 +38,11 @@ fn is_too_wide(value: u64, bits: u8) -> bool
     bits < 64 && (1 << bits) <= value
 }
 
-// The place of the variable, where the view's task may post the value.
+/// The place of a setting's variable. `NoSuchVariable` if it has no place in the line, `IsInput` if it is an input, `OtherTask`
+/// if it lies in another task, `TooWide` if the value has too many bits. The first of these decides.
 fn place_for(view: &TaskView, task: u8, setting: &Setting) -> Result<Place, PostRefusal>
-    ensures judged { MatchResult result (λ place. setting_refused (table_shown (told_to view.now)) task setting.now ≡ None) (λ refusal. setting_refused (table_shown (told_to view.now)) task setting.now ≡ Some refusal) }
-    ensures place { IfOk result (λ place. numbered_place (table_shown (told_to view.now)) setting.now.variable ≡ Some place) }
+    ensures judged { IsRefusedBy (setting_refused (view_table view.now) task setting.now) result }
+    ensures place { IfOk result (λ place. viewed_place (view_table view.now) setting.now.variable ≡ Some place) }
     ensures own { IfOk result (λ place. (place.dir ≡ Out) × (place.task ≡ task)) }
     ensures fits { IfOk result (λ place. setting.now.value < 2 ^ place.bits) }
 {
@@ -61,10 +61,10 @@ fn place_for(view: &TaskView, task: u8, setting: &Setting) -> Result<Place, Post
     Ok(place)
 }
 
-// The bit of its task's image at which a place of the view's task begins.
+/// The bit of the task's image at which a place of the task begins.
 fn first_bit(view: &TaskView, place: Place) -> usize
-    requires { place.task ≡ task_of view.now }
-    ensures { result ≡ image_bit (table_shown (told_to view.now)) place 0 }
+    requires { place.task ≡ view_task view.now }
+    ensures { result ≡ table_image_bit (view_table view.now) place 0 }
 {
     let offset = match view.datagram(place.datagram) {
         Some(datagram) => datagram.offset,
@@ -73,17 +73,17 @@ fn first_bit(view: &TaskView, place: Place) -> usize
     8 * usize::from(offset) + usize::from(place.bit)
 }
 
-// Puts a value where its variable stands.
+/// Writes a value to the bits of its variable. The errors are those of `place_for`.
 fn put_setting(
     view: &TaskView,
     task: u8,
     setting: &Setting,
     bytes: &mut [u8],
 ) -> Result<(), PostRefusal>
-    requires task { task ≡ task_of view.now }
-    requires holds { HoldsOutputs (table_shown (told_to view.now)) task (length bytes.old) }
-    ensures judged { MatchResult result (λ _. setting_refused (table_shown (told_to view.now)) task setting.now ≡ None) (λ refusal. setting_refused (table_shown (told_to view.now)) task setting.now ≡ Some refusal) }
-    ensures bits { OnOk result ((k : ℕ) → bit_of bytes.new k ≡ set_bit (table_shown (told_to view.now)) k (bit_of bytes.old k) setting.now) }
+    requires task { task ≡ view_task view.now }
+    requires holds { BytesHoldOutputs (view_table view.now) task (length bytes.old) }
+    ensures judged { IsRefusedBy (setting_refused (view_table view.now) task setting.now) result }
+    ensures bits { OnOk result ((k : ℕ) → bit_of bytes.new k ≡ set_bit (view_table view.now) k (bit_of bytes.old k) setting.now) }
     ensures all_bytes { OnOk result (AreBytes bytes.new) }
 {
     let place = place_for(view, task, setting)?;
@@ -96,17 +96,18 @@ fn put_setting(
     Ok(())
 }
 
-// Puts values where their variables stand, one after another, up to the first that is refused.
+/// Writes values to the bits of their variables, one after another. The first one that is refused ends it with its error, as
+/// `place_for` has it.
 pub(crate) fn put_settings(
     view: &TaskView,
     task: u8,
     settings: &[Setting],
     bytes: &mut [u8],
 ) -> Result<(), PostRefusal>
-    requires task { task ≡ task_of view.now }
-    requires holds { HoldsOutputs (table_shown (told_to view.now)) task (length bytes.old) }
-    ensures judged { MatchResult result (λ _. first_refused (table_shown (told_to view.now)) task settings.now ≡ None) (λ refusal. first_refused (table_shown (told_to view.now)) task settings.now ≡ Some refusal) }
-    ensures bits { OnOk result ((k : ℕ) → bit_of bytes.new k ≡ fold (set_bit (table_shown (told_to view.now)) k) (bit_of bytes.old k) settings.now) }
+    requires task { task ≡ view_task view.now }
+    requires holds { BytesHoldOutputs (view_table view.now) task (length bytes.old) }
+    ensures judged { IsRefusedBy (first_refused (view_table view.now) task settings.now) result }
+    ensures bits { OnOk result ((k : ℕ) → bit_of bytes.new k ≡ fold (set_bit (view_table view.now) k) (bit_of bytes.old k) settings.now) }
     ensures size { length bytes.new ≡ length bytes.old }
     ensures all_bytes { OnOk result (AreBytes bytes.new) }
 {

@@ -3,8 +3,8 @@ ghost use Rattle.std.specs.Prelude.{◌≡◌, [], replicate};
 ghost use Rattle.hc_records.specs.declared.limits.TheConstants.{TASKS};
 ghost use Rattle.hc_events.specs.Steps.{entries_after_all};
 ghost use Rattle.hc_conductor.specs.Conducting.{SameChanges};
-ghost use Rattle.hc_conductor.specs.Taking.{Counts, events_of_all};
-ghost use Rattle.hc_conductor.specs.Mastering.{past_of, waiting};
+ghost use Rattle.hc_conductor.specs.Taking.{CountsPosts, events_of_all};
+ghost use Rattle.hc_conductor.specs.Mastering.{master_history, waiting};
 
 use crate::one_thread::master::Master;
 use crate::taking::Taken;
@@ -14,8 +14,8 @@ impl Master {
     /// each one's posts in order. A post that the core refuses, since another epoch has begun, leaves nothing. It takes
     /// no memory.
     pub fn take(&mut self) -> Taken
-        ensures entries { past_of self.new ≡ entries_after_all (past_of self.old) (events_of_all 0 (waiting self.old)) }
-        ensures counts { Counts (past_of self.old) (events_of_all 0 (waiting self.old)) result }
+        ensures entries { master_history self.new ≡ entries_after_all (master_history self.old) (events_of_all 0 (waiting self.old)) }
+        ensures counts { CountsPosts (master_history self.old) (events_of_all 0 (waiting self.old)) result }
         ensures none { waiting self.new ≡ replicate TASKS [] }
         ensures changes { SameChanges self.old.conductor self.new.conductor }
     {

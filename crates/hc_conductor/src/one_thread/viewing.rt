@@ -1,13 +1,13 @@
 //! What tasks view.
 ghost use Rattle.std.specs.Prelude.{◌≡◌, ◌<◌, IfOk};
 ghost use Rattle.hc_records.specs.declared.limits.TheConstants.{TASKS};
-ghost use Rattle.hc_publish.specs.Told.{IsLegal, Told};
-ghost use Rattle.hc_publish.specs.Seats.{carried, note_origin};
-ghost use Rattle.hc_conductor.specs.Conducting.{TellsAll};
-ghost use Rattle.hc_conductor.specs.Seats.{held, known, seat_origin, sender, task_of};
+ghost use Rattle.hc_publish.specs.ChangesSince.{IsLegal, ChangesSince};
+ghost use Rattle.hc_publish.specs.Seats.{noted_changes, note_origin};
+ghost use Rattle.hc_conductor.specs.Conducting.{PublishesAll};
+ghost use Rattle.hc_conductor.specs.Seats.{seat_held, seat_known, task_seat_origin, sender, seat_task};
 ghost use Rattle.hc_conductor.specs.Views as views;
-ghost use Rattle.hc_conductor.specs.Mastering.{past_of, shown, waiting};
-ghost use Rattle.hc_conductor.specs.Viewing.{IsViewBehind, IsViewOf, value_told};
+ghost use Rattle.hc_conductor.specs.Mastering.{master_history, master_shown, waiting};
+ghost use Rattle.hc_conductor.specs.Viewing.{IsViewAfter, IsViewOf, value_answered};
 
 use crate::one_thread::master::Master;
 use crate::one_thread::refusals::NoEntry;
@@ -24,13 +24,13 @@ use hc_records::records::VarId;
 pub struct Viewed {
     /// The epoch that is shown.
     pub epoch: u32,
-    /// The variable's value in it, or why the task is told none.
+    /// The variable's value in it, or why the task gets none.
     pub value: Result<u64, ViewFault>,
 }
 
-// The value of the variable with a number, or why the task is told none.
+/// The value of the variable with a number in a view, or why the task has no value for it. `NoSuchVariable` for the number 0.
 fn value_in(view: &TaskView, number: u32) -> Result<u64, ViewFault>
-    ensures { result ≡ value_told (views.told_to view.now) (views.task_of view.now) number }
+    ensures { result ≡ value_answered (views.answered_to view.now) (views.view_task view.now) number }
 {
     match VarId::new(number) {
         Some(variable) => view.value(variable),
@@ -38,12 +38,12 @@ fn value_in(view: &TaskView, number: u32) -> Result<u64, ViewFault>
     }
 }
 
-// What a seat views of a variable in what a note carries, which it knows; and the seat again.
+/// The epoch and a variable's value in what a note carries, and the seat again. `NoEntry` if the seat gets no view.
 fn look(seat: TaskSeat, asked: (&Note, u32)) -> (TaskSeat, Result<Viewed, NoEntry>)
-    requires origin { note_origin asked.0.now ≡ seat_origin seat }
-    requires known { known seat ≡ carried asked.0.now }
-    ensures viewed { IfOk result.1 (IsViewOf (record { groups = (seat_origin seat).groups; changes = known seat }) (task_of seat) asked.entry.1) }
-    ensures same { (known result.0 ≡ known seat) × (seat_origin result.0 ≡ seat_origin seat) × (task_of result.0 ≡ task_of seat) }
+    requires origin { note_origin asked.0.now ≡ task_seat_origin seat }
+    requires known { seat_known seat ≡ noted_changes asked.0.now }
+    ensures viewed { IfOk result.1 (IsViewOf (record { groups = (task_seat_origin seat).groups; changes = seat_known seat }) (seat_task seat) asked.entry.1) }
+    ensures same { (seat_known result.0 ≡ seat_known seat) × (task_seat_origin result.0 ≡ task_seat_origin seat) × (seat_task result.0 ≡ seat_task seat) }
     ensures posts { sender result.0 ≡ sender seat }
 {
     let (note, number) = asked;
@@ -61,12 +61,12 @@ fn look(seat: TaskSeat, asked: (&Note, u32)) -> (TaskSeat, Result<Viewed, NoEntr
 
 impl Master {
     /// A task, 0 to 7, views the variable with a number in what is shown: the epoch, and the variable's value or why the
-    /// task is told none; 0 is no variable's number. Once all is published it is what the core's record tells.
+    /// task gets none; 0 is no variable's number. Once all is published it is what the core's record gives.
     /// `NoEntry` where the seat was given no view. It waits for nobody and takes no memory.
     pub fn view(&mut self, task: u8, number: u32) -> Result<Viewed, NoEntry>
         requires { task < TASKS }
-        ensures viewed { IfOk result (IsViewOf (shown self.old) task number) }
-        ensures behind { TellsAll self.old.conductor → IfOk result (IsViewBehind (past_of self.old) task number) }
+        ensures viewed { IfOk result (IsViewOf (master_shown self.old) task number) }
+        ensures after_it { PublishesAll self.old.conductor → IfOk result (IsViewAfter (master_history self.old) task number) }
         ensures conductor { self.new.conductor ≡ self.old.conductor }
         ensures waiting { waiting self.new ≡ waiting self.old }
     {

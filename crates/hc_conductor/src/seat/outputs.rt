@@ -4,8 +4,8 @@ ghost use Rattle.std.specs.Borrow.{sem};
 ghost use Rattle.hc_rings.specs.declared.posts.TheConstants.{POSTS_WAITING};
 ghost use Rattle.hc_rings.specs.Ring.{SameSender, known_places, known_spares};
 ghost use Rattle.hc_rings.specs.declared.posts.holding.PostFault.TheVariants.{Full, NoBuffer};
-ghost use Rattle.hc_conductor.specs.Outputs.{HoldsNone, HoldsOutputs, LendsHeld, LendsOutputs, SameSeat, blank_outputs};
-ghost use Rattle.hc_conductor.specs.Seats.{PostsEach, held, posted, sender, size_of};
+ghost use Rattle.hc_conductor.specs.Outputs.{HoldsNone, HoldsOutputs, SeatLendsHeld, SeatLendsOutputs, SameSeat, blank_outputs};
+ghost use Rattle.hc_conductor.specs.Seats.{SeatPostsEach, seat_held, seat_posted, sender, outputs_size};
 
 use super::TaskSeat;
 use hc_rings::{NoSpare, PostFault};
@@ -16,9 +16,9 @@ impl TaskSeat {
     /// no buffer is free: only after four posts that were made, and never where a spare is known. It waits for nobody and
     /// takes no memory.
     pub fn hold(&mut self) -> Result<(), NoSpare>
-        ensures held { OnOk result (HoldsOutputs self.old self.new (blank_outputs self.old) × IsSome (held self.new)) }
+        ensures held { OnOk result (HoldsOutputs self.old self.new (blank_outputs self.old) × IsSome (seat_held self.new)) }
         ensures none_held { OnErr result (HoldsNone self.old self.new) }
-        ensures posts_each { PostsEach self.old → OnErr result (POSTS_WAITING ≤ length (posted self.old)) }
+        ensures posts_each { SeatPostsEach self.old → OnErr result (POSTS_WAITING ≤ length (seat_posted self.old)) }
         ensures known { 0 < known_spares (sender self.old) → IsOk result }
         ensures places { known_places (sender self.new) ≡ known_places (sender self.old) }
     {
@@ -28,18 +28,18 @@ impl TaskSeat {
 
     /// Lends the outputs that are held, for writing. Their epoch stays, and so does the number of bytes.
     pub fn held_mut(&mut self) -> &mut [u8]
-        requires { IsSome (held self.old) }
-        ensures* lent { sem 𝓛 (LendsHeld self.entry result) }
-        ensures bytes { IfSome (held self.old) (λ post. result.now ≡ post.bytes) }
+        requires { IsSome (seat_held self.old) }
+        ensures* lent { sem 𝓛 (SeatLendsHeld self.entry result) }
+        ensures bytes { IfSome (seat_held self.old) (λ post. result.now ≡ post.bytes) }
     {
         self.posts.held_mut()
     }
 
-    // Holds zeros, and answers whether a buffer was found.
+    /// Holds zeros for the next post, and answers whether a buffer was free. If none was, four posts were made.
     fn holds_zeros(&mut self) -> bool
-        ensures held { result ≡ true → HoldsOutputs self.old self.new (blank_outputs self.old) × IsSome (held self.new) }
+        ensures held { result ≡ true → HoldsOutputs self.old self.new (blank_outputs self.old) × IsSome (seat_held self.new) }
         ensures no_spare { result ≡ false → HoldsNone self.old self.new }
-        ensures posts_each { PostsEach self.old → result ≡ false → POSTS_WAITING ≤ length (posted self.old) }
+        ensures posts_each { SeatPostsEach self.old → result ≡ false → POSTS_WAITING ≤ length (seat_posted self.old) }
     {
         self.hold().is_ok()
     }
@@ -50,12 +50,12 @@ impl TaskSeat {
     /// takes no memory.
     ///
     /// It is `hold` and `held_mut` in one call. Its proof is by hand, and a caller whose proof is generated learns nothing
-    /// of the seat behind it.
+    /// of the seat after it.
     pub fn outputs(&mut self) -> Result<&mut [u8], NoSpare>
-        ensures* lent { sem 𝓛 (LendsOutputs self.entry result) }
-        ensures zeros { IfOk result (λ bytes. bytes.now ≡ replicate (size_of self.old) 0) }
-        ensures none_held { OnErr result (held self.old ≡ None) }
-        ensures posts_each { PostsEach self.old → OnErr result (POSTS_WAITING ≤ length (posted self.old)) }
+        ensures* lent { sem 𝓛 (SeatLendsOutputs self.entry result) }
+        ensures zeros { IfOk result (λ bytes. bytes.now ≡ replicate (outputs_size self.old) 0) }
+        ensures none_held { OnErr result (seat_held self.old ≡ None) }
+        ensures posts_each { SeatPostsEach self.old → OnErr result (POSTS_WAITING ≤ length (seat_posted self.old)) }
     {
         if self.holds_zeros() {
             return Ok(self.held_mut());
@@ -63,18 +63,18 @@ impl TaskSeat {
         Err(NoSpare)
     }
 
-    /// Posts the outputs that are held as they were left, for the epoch for which they are held. `NoBuffer` exactly where
+    /// Posts the outputs that are held as they were left, for the epoch that they are held for. `NoBuffer` exactly where
     /// none are held; `Full` only after four posts that were made, and never where a place is known; the outputs then stay
     /// held. It waits for nobody and takes no memory.
     pub fn post(&mut self) -> Result<(), PostFault>
         ensures seat { SameSeat self.old self.new }
         ensures ring { SameSender (sender self.old) (sender self.new) }
-        ensures no_buffer { IsErrOf result NoBuffer ↔ (held self.old ≡ None) }
-        ensures ok { OnOk result (IfSome (held self.old) (λ post. posted self.new ≡ posted self.old ++ post ∷ []) × (held self.new ≡ None)) }
-        ensures err { OnErr result ((posted self.new ≡ posted self.old) × (held self.new ≡ held self.old)) }
-        ensures full_only_after_four { IsErrOf result Full → POSTS_WAITING ≤ length (posted self.old) }
+        ensures no_buffer { IsErrOf result NoBuffer ↔ (seat_held self.old ≡ None) }
+        ensures ok { OnOk result (IfSome (seat_held self.old) (λ post. seat_posted self.new ≡ seat_posted self.old ++ post ∷ []) × (seat_held self.new ≡ None)) }
+        ensures err { OnErr result ((seat_posted self.new ≡ seat_posted self.old) × (seat_held self.new ≡ seat_held self.old)) }
+        ensures full_only_after_four { IsErrOf result Full → POSTS_WAITING ≤ length (seat_posted self.old) }
         ensures full_where_no_place { IsErrOf result Full → known_places (sender self.old) ≤ 1 }
-        ensures posts_each { PostsEach self.old → PostsEach self.new }
+        ensures posts_each { SeatPostsEach self.old → SeatPostsEach self.new }
     {
         self.posts.post_held()
     }

@@ -3,12 +3,12 @@ ghost use Rattle.std.specs.Prelude.{◌≡◌, IfSome};
 ghost use Rattle.std.specs.Option.{option_copied};
 ghost use Rattle.hc_places.specs.Ranges.{IsDatagram};
 ghost use Rattle.hc_places.specs.Table.{datagram_in, part_in, place_in};
-ghost use Rattle.hc_publish.specs.Told.{data_shown, epoch_shown, table_shown};
+ghost use Rattle.hc_publish.specs.ChangesSince.{data_shown, epoch_shown};
 ghost use Rattle.hc_publish.specs.Values.{value_shown};
 ghost use Rattle.hc_conductor.specs.Seats as seats;
-ghost use Rattle.hc_conductor.specs.Seats.{epoch_of, known, seat_origin, size_of};
+ghost use Rattle.hc_conductor.specs.Seats.{seat_epoch, seat_known, task_seat_origin, outputs_size};
 ghost use Rattle.hc_conductor.specs.Views as views;
-ghost use Rattle.hc_conductor.specs.Views.{shown, task_of, told_to, view_origin};
+ghost use Rattle.hc_conductor.specs.Views.{view_shown, view_task, answered_to, task_view_origin, view_table};
 
 use super::TaskView;
 use crate::seat::TaskSeat;
@@ -20,30 +20,30 @@ use hc_records::records::VarId;
 impl TaskView {
     /// The epoch: the number of accepted edits that are shown.
     pub fn epoch(&self) -> u32
-        ensures { result ≡ epoch_shown (told_to self.now) }
+        ensures { result ≡ epoch_shown (answered_to self.now) }
     {
         self.view.epoch()
     }
 
     /// The bytes of the outputs, which come first, and of the inputs of the task's image.
     pub fn part(&self) -> (u16, u16)
-        ensures { result ≡ part_in (table_shown (told_to self.now)) (task_of self.now) }
+        ensures { result ≡ part_in (view_table self.now) (view_task self.now) }
     {
         self.view.part()
     }
 
     /// A datagram of the task by its number; none where the task has fewer. Its offset is where its data, and so its
-    /// outputs, stand in the bytes that `outputs` lends for the epoch.
+    /// outputs, are in the bytes that `outputs` lends for the epoch.
     pub fn datagram(&self, number: u8) -> Option<Datagram>
-        ensures datagram { result ≡ datagram_in (table_shown (told_to self.now)) (task_of self.now) number }
+        ensures datagram { result ≡ datagram_in (view_table self.now) (view_task self.now) number }
         ensures ranges { IfSome result IsDatagram }
     {
         self.view.datagram(number)
     }
 
-    /// Where a variable stands, of any task; none where it has no place in the line.
+    /// Where a variable is, of any task; none where it has no place in the line.
     pub fn place(&self, variable: VarId) -> Option<Place>
-        ensures { result ≡ place_in (table_shown (told_to self.now)) variable }
+        ensures { result ≡ place_in (view_table self.now) variable }
     {
         self.view.place(variable)
     }
@@ -51,7 +51,7 @@ impl TaskView {
     /// The bytes of a datagram of the task, lent from the published copy: those of its last good answer in the
     /// epoch, or none; none too where the line has no such datagram.
     pub fn inputs(&self, datagram: u8) -> Option<&[u8]>
-        ensures { option_copied result ≡ data_shown (told_to self.now) (task_of self.now) datagram }
+        ensures { option_copied result ≡ data_shown (answered_to self.now) (view_task self.now) datagram }
     {
         self.view.inputs(datagram)
     }
@@ -60,7 +60,7 @@ impl TaskView {
     /// that holds: `NoSuchVariable` where it has no place in the line, `IsOutput` where it is an output,
     /// `OtherTask` where it lies in another task, `NotAnswered` where its datagram has no good answer in the epoch.
     pub fn value(&self, variable: VarId) -> Result<u64, ViewFault>
-        ensures { result ≡ value_shown (told_to self.now) (task_of self.now) variable }
+        ensures { result ≡ value_shown (answered_to self.now) (view_task self.now) variable }
     {
         self.view.value(variable)
     }
@@ -68,12 +68,12 @@ impl TaskView {
     /// Gives the seat back, which has seen what the view showed: its next outputs are for that epoch. What it holds and
     /// posted is as it was.
     pub fn leave(self) -> TaskSeat
-        ensures known { known result ≡ shown self }
-        ensures origin { seat_origin result ≡ view_origin self }
-        ensures task { seats.task_of result ≡ task_of self }
-        ensures posts { seats.sender result ≡ views.sender self }
-        ensures epoch { epoch_of result ≡ epoch_shown (told_to self) }
-        ensures size { size_of result ≡ (part_in (table_shown (told_to self)) (task_of self)).0 }
+        ensures known { seat_known result ≡ view_shown self }
+        ensures origin { task_seat_origin result ≡ task_view_origin self }
+        ensures task { seats.seat_task result ≡ view_task self }
+        ensures posts { seats.sender result ≡ views.view_sender self }
+        ensures epoch { seat_epoch result ≡ epoch_shown (answered_to self) }
+        ensures size { outputs_size result ≡ (part_in (view_table self) (view_task self)).0 }
     {
         let TaskView { view, posts } = self;
         let epoch = view.epoch();

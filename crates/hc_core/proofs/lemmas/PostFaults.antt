@@ -6,7 +6,7 @@ use Rattle.hc_records.specs.Line.{Member}
 use Rattle.hc_records.specs.Lists.{lowest}
 use Rattle.hc_places.specs.Table.{part_in, table_of}
 use Rattle.hc_events.specs.declared.faults.CoreFault.TheVariants.{PostLength, StalePost}
-use Rattle.hc_events.specs.Entries.{Record}
+use Rattle.hc_events.specs.Entries.{History}
 use Rattle.hc_events.specs.Points.{epoch_of, line_of}
 use Rattle.hc_events.specs.Steps.{post_faults}
 
@@ -18,13 +18,13 @@ outputs-listed line other low = refl
 
 -- the three tests
 
-pub post-stale : (past : Record) (task epoch : ℕ) (bytes : List ℕ) → task < TASKS → epoch ≢ epoch_of past → lowest (post_faults past task epoch bytes) ≡ Some StalePost
-post-stale past task epoch bytes low other = search rules
+pub post-stale : (history : History) (task epoch : ℕ) (bytes : List ℕ) → task < TASKS → epoch ≢ epoch_of history → lowest (post_faults history task epoch bytes) ≡ Some StalePost
+post-stale history task epoch bytes low other = search rules
 
-pub post-length : (past : Record) (task epoch : ℕ) (bytes : List ℕ) → task < TASKS → epoch ≡ epoch_of past → length bytes ≢ output_length (task_places task (line_of past))
-    → lowest (post_faults past task epoch bytes) ≡ Some PostLength
-post-length past task epoch bytes low same other = search rules
+pub post-length : (history : History) (task epoch : ℕ) (bytes : List ℕ) → task < TASKS → epoch ≡ epoch_of history → length bytes ≢ output_length (task_places task (line_of history))
+    → lowest (post_faults history task epoch bytes) ≡ Some PostLength
+post-length history task epoch bytes low same other = search rules
 
-pub post-accepted : (past : Record) (task epoch : ℕ) (bytes : List ℕ) → task < TASKS → epoch ≡ epoch_of past → length bytes ≡ output_length (task_places task (line_of past))
-    → lowest (post_faults past task epoch bytes) ≡ None
-post-accepted past task epoch bytes low same fits = search rules
+pub post-accepted : (history : History) (task epoch : ℕ) (bytes : List ℕ) → task < TASKS → epoch ≡ epoch_of history → length bytes ≡ output_length (task_places task (line_of history))
+    → lowest (post_faults history task epoch bytes) ≡ None
+post-accepted history task epoch bytes low same fits = search rules

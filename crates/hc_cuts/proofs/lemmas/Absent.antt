@@ -1,4 +1,4 @@
--- A line with slaves behind its own that have no areas, as those of a declared group that isn't present.
+-- A line with slaves after its own that have no areas, as those of a declared group that isn't present.
 use Rattle.std.specs.Prelude.{map, replicate}
 use Rattle.std.proofs.Common.{◌≡◌, ℕ, ◌+◌, false, List, [], ◌∷◌, ◌++◌, length, refl, ap, ◌∙◌, append-nil, length-append}
 use Rattle.std.proofs.lemmas.Grind.{flat_map-append}
@@ -12,7 +12,7 @@ use Rattle.hc_records.specs.TaskList.{Keyed}
 use Rattle.hc_cuts.specs.Areas.{areas_by_rank, list_by, present_areas, rank_list}
 use Rattle.hc_cuts.specs.Room.{with_absent}
 use Rattle.hc_cuts.proofs.Lines.{absent-list, length-absent}
-use Rattle.hc_cuts.proofs.lemmas.Told.{rank_list-append}
+use Rattle.hc_cuts.proofs.lemmas.AnswerGiven.{rank_list-append}
 
 rank-absent : (task : ℕ) (dir : Dir) (rank count : ℕ) (line : List (List Area)) → rank_list task dir rank (with_absent count line) ≡ rank_list task dir rank line
 rank-absent task dir rank count line =
@@ -33,7 +33,7 @@ none-present : (slaves : List Slave) → map (λ slave. []) slaves ≡ replicate
 none-present [] = refl
 none-present (slave ∷ slaves) = ap (λ (rest : List (List Area)). [] ∷ rest) (none-present slaves)
 
--- its slaves stand behind those of the groups before it
+-- its slaves are after those of the groups before it
 pub ranks-absent : (groups : List Declared) (group : Group) → areas_by_rank (groups ++ record { group = group; present = false } ∷ []) ≡ with_absent (length group.slaves) (areas_by_rank groups)
 ranks-absent groups group =
     let own : Declared = record { group = group; present = false } in

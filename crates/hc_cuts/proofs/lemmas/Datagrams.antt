@@ -8,10 +8,10 @@ use Rattle.hc_records.specs.declared.records.Dir.{Dir}
 use Rattle.hc_records.specs.declared.records.Dir.TheVariants.{Out}
 use Rattle.hc_records.specs.declared.keys.Key.{Key}
 use Rattle.hc_records.specs.TaskList.{Keyed}
-use Rattle.hc_records.specs.Packing.{Front, Placed, behind, fits, opening, packed}
+use Rattle.hc_records.specs.Packing.{Front, Placed, front_with, fits, opening, packed}
 use Rattle.hc_records.specs.Image.{datagram_count, inside}
 use Rattle.hc_records.specs.Boundaries.{Interval, boundaries, spans}
-use Rattle.hc_records.specs.SpanLaws.{IsTaskList, areas_from, carried, seen_area}
+use Rattle.hc_records.specs.SpanLaws.{IsTaskList, areas_from, places_in_span, seen_area}
 use Rattle.hc_records.proofs.lemmas.Greatest.{greatest-all}
 use Rattle.hc_records.proofs.lemmas.Packed.{place}
 use Rattle.hc_records.proofs.lemmas.SpanCuts.{span-alone}
@@ -19,11 +19,11 @@ use Rattle.hc_records.proofs.lemmas.SpanDatagrams.{span-datagram}
 use Rattle.hc_records.proofs.lemmas.Spans.{filter-drops}
 use Rattle.hc_cuts.specs.Walk.{span_places}
 
--- an element that stands at an index is contained
+-- an element that is at an index is contained
 pub at-contained : {X : Type 0} (xs : List X) (i : ℕ) (x : X) → slice_get xs i ≡ Some x → Contains xs x
 at-contained xs i x is = (i, slice_get_within xs i x is, get_or_from_slice_get xs i x x is)
 
--- areas of one datagram are told by what is seen of them
+-- areas of one datagram are given by what is seen of them
 
 abbrev pub unseen : ℕ → Key × (ℕ × ℕ) → Placed
 unseen datagram seen = record { key = seen.0; bits = seen.1.0; datagram = datagram; bit = seen.1.1 }
@@ -37,7 +37,7 @@ pub inside-numbered : (datagram : ℕ) (areas : List Placed) → All (λ area. a
 inside-numbered datagram areas k d within =
     eqb-true _ datagram (filter_passes (λ (area : Placed). area.datagram == datagram) areas k d within)
 
--- no area lies in a datagram behind the last one
+-- no area lies in a datagram after the last one
 pub inside-none : (number : ℕ) (areas : List Placed) → datagram_count areas ≤ number → inside number areas ≡ []
 inside-none number areas few =
     filter-drops (λ area. area.datagram == number) areas
@@ -50,11 +50,11 @@ abbrev pub front_of : ℕ → ℕ → Dir → Front
 front_of datagram bit last = record { datagram = datagram; bit = bit; last = last }
 
 numbered-by : (fitting : Bool) (n bit : ℕ) (last : Dir) (area : Keyed) (areas : List Keyed)
-    → ((to : ℕ) (dir : Dir) → All (λ placed. placed.datagram ≡ n) (carried (front_of n to dir) areas))
-    → All (λ placed. placed.datagram ≡ n) (if fitting then place fitting (front_of n bit last) area ∷ carried (behind (place fitting (front_of n bit last) area)) areas else [])
+    → ((to : ℕ) (dir : Dir) → All (λ placed. placed.datagram ≡ n) (places_in_span (front_of n to dir) areas))
+    → All (λ placed. placed.datagram ≡ n) (if fitting then place fitting (front_of n bit last) area ∷ places_in_span (front_with (place fitting (front_of n bit last) area)) areas else [])
 numbered-by fitting n bit last area areas rest = grind arith
 
-carried-numbered : (n bit : ℕ) (last : Dir) (list : List Keyed) → All (λ placed. placed.datagram ≡ n) (carried (front_of n bit last) list)
+carried-numbered : (n bit : ℕ) (last : Dir) (list : List Keyed) → All (λ placed. placed.datagram ≡ n) (places_in_span (front_of n bit last) list)
 carried-numbered n bit last [] = All-nil (λ placed. placed.datagram ≡ n)
 carried-numbered n bit last (area ∷ areas) =
     numbered-by (fits (front_of n bit last) area) n bit last area areas (λ to dir. carried-numbered n to dir areas)
@@ -63,12 +63,12 @@ abbrev seen : List Placed → List (Key × (ℕ × ℕ))
 seen areas = map seen_area areas
 
 seen-by : (fitting : Bool) (n m bit : ℕ) (last : Dir) (area : Keyed) (areas : List Keyed)
-    → ((to : ℕ) (dir : Dir) → seen (carried (front_of n to dir) areas) ≡ seen (carried (front_of m to dir) areas))
-    → seen (if fitting then place fitting (front_of n bit last) area ∷ carried (behind (place fitting (front_of n bit last) area)) areas else [])
-    ≡ seen (if fitting then place fitting (front_of m bit last) area ∷ carried (behind (place fitting (front_of m bit last) area)) areas else [])
+    → ((to : ℕ) (dir : Dir) → seen (places_in_span (front_of n to dir) areas) ≡ seen (places_in_span (front_of m to dir) areas))
+    → seen (if fitting then place fitting (front_of n bit last) area ∷ places_in_span (front_with (place fitting (front_of n bit last) area)) areas else [])
+    ≡ seen (if fitting then place fitting (front_of m bit last) area ∷ places_in_span (front_with (place fitting (front_of m bit last) area)) areas else [])
 seen-by fitting n m bit last area areas rest = grind arith
 
-carried-seen : (n m bit : ℕ) (last : Dir) (list : List Keyed) → seen (carried (front_of n bit last) list) ≡ seen (carried (front_of m bit last) list)
+carried-seen : (n m bit : ℕ) (last : Dir) (list : List Keyed) → seen (places_in_span (front_of n bit last) list) ≡ seen (places_in_span (front_of m bit last) list)
 carried-seen n m bit last [] = refl
 carried-seen n m bit last (area ∷ areas) =
     seen-by (fits (front_of n bit last) area) n m bit last area areas (λ to dir. carried-seen n m to dir areas)

@@ -11,20 +11,20 @@ find-none test [] all = refl
 find-none test (x ∷ xs) all = rw (All-head (λ x. test x ≡ false) x xs all) (find-none test xs (All-tail (λ x. test x ≡ false) x xs all))
 
 -- an element, where it passes a test
-abbrev pub kept : {X : Type 0} → (X → Bool) → X → Option X
-kept test x = if test x then Some x else None
+abbrev pub unchanged : {X : Type 0} → (X → Bool) → X → Option X
+unchanged test x = if test x then Some x else None
 
 module _ {X : Type 0} (before same : X → Bool) (R : X → X → Type 0)
     (apart : (x : X) → before x ≡ true → same x ≡ false)
-    (behind : (x y : X) → R x y → before x ≡ false → same x ≡ false → same y ≡ false) where
-  here : (passes : Bool) (x : X) (xs : List X) → same x ≡ passes → before x ≡ false → All (R x) xs → find same (x ∷ xs) ≡ kept same x
+    (after_it : (x y : X) → R x y → before x ≡ false → same x ≡ false → same y ≡ false) where
+  here : (passes : Bool) (x : X) (xs : List X) → same x ≡ passes → before x ≡ false → All (R x) xs → find same (x ∷ xs) ≡ unchanged same x
   here true x xs test reached later = rw test refl
   here false x xs test reached later =
-      rw test (find-none same xs (λ k d within. behind x (slice_index_or xs k d) (later k d within) reached test))
+      rw test (find-none same xs (λ k d within. after_it x (slice_index_or xs k d) (later k d within) reached test))
 
   -- in an ordered list, the first element that isn't before a query is what is found, if it is the same as the query
   pub find-reached : (xs : List X) (i : ℕ) → AllPairs R xs → IsPartitionPoint (λ x. before x ≡ true) (λ x. before x ≡ false) xs i
-      → find same xs ≡ option_and_then (kept same) (slice_get xs i)
+      → find same xs ≡ option_and_then (unchanged same) (slice_get xs i)
   find-reached [] i pairs parts = refl
   find-reached (x ∷ xs) zero pairs parts = here (same x) x xs refl (parts.1 0 x (omega arith) (omega arith)) (AllPairs-head R x xs pairs)
   find-reached (x ∷ xs) (suc i) pairs parts =

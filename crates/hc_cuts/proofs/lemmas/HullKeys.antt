@@ -1,4 +1,4 @@
--- What tells hulls: a test has one pair of them, the touched keys have such a pair, and a key is taken in.
+-- What gives hulls: a test has one pair of them, the touched keys have such a pair, and a key is taken in.
 use Rattle.std.proofs.Common.{arith}
 use Rattle.std.proofs.Common.{◌≡◌, ◌⊎◌, inl, inr, Bool, true, false, List, [], ◌∷◌, ◌++◌, Option, Some, None, refl, sym, ap, subst, ◌∙◌, if◌then◌else◌}
 use Rattle.std.specs.Prelude.{All, filter, fold, map, ◌&&◌, ◌||◌}
@@ -18,14 +18,14 @@ use Rattle.hc_records.proofs.lemmas.KeyOrder.{same_dir-refl, same_key-refl, same
 use Rattle.hc_records.proofs.lemmas.Spans.{width-skip}
 use Rattle.hc_records.proofs.lemmas.VariablePlaces.{same_dir-same}
 use Rattle.hc_cuts.specs.declared.hulls.Hulls.{Hulls}
-use Rattle.hc_cuts.specs.Hulls.{AreHulls, IsHull, IsOf, Reaches, TakeIn, are_none, no_hulls}
+use Rattle.hc_cuts.specs.Hulls.{AreHulls, IsHull, IsOf, IsHullOf, TakeIn, are_none, no_hulls}
 
 -- one hull of one test
 
 both-within : (a b : Key) → is_within a b ≡ true → is_within b a ≡ true → a ≡ b
 both-within a b low high = grind arith
 
-interval-is : (test : Key → Bool) (dir : Dir) (i j : Interval) → Reaches test dir i → Reaches test dir j → i ≡ j
+interval-is : (test : Key → Bool) (dir : Dir) (i j : Interval) → IsHullOf test dir i → IsHullOf test dir j → i ≡ j
 interval-is test dir i j a b =
     ap (λ (k : Key). (k, i.1)) (both-within i.0 j.0 (a.least j.0 b.first) (b.least i.0 a.first))
     ∙ ap (λ (k : Key). (j.0, k)) (both-within i.1 j.1 (b.greatest i.1 a.last) (a.greatest j.1 b.last))
@@ -61,12 +61,12 @@ more-of test dir key other of = (of.0, ap (λ (b : Bool). b || same_key key othe
 own-of : (test : Key → Bool) (dir : Dir) (key : Key) → key.dir ≡ dir → IsOf (λ k. test k || same_key key k) dir key
 own-of test dir key here = (here, or_right (test key) (same_key key key) (same_key-refl key))
 
-least-by : (test : Key → Bool) (dir : Dir) (i : Interval) (key other : Key) → Reaches test dir i → other.dir ≡ dir → (test other ≡ true) ⊎ (same_key key other ≡ true)
+least-by : (test : Key → Bool) (dir : Dir) (i : Interval) (key other : Key) → IsHullOf test dir i → other.dir ≡ dir → (test other ≡ true) ⊎ (same_key key other ≡ true)
     → is_within (if is_before key i.0 then key else i.0) other ≡ true
 least-by test dir i key other is here (inl passes) = lesser-within (is_before key i.0) key i.0 other refl (inl (is.least other (here, passes)))
 least-by test dir i key other is here (inr same) = lesser-within (is_before key i.0) key i.0 other refl (inr same)
 
-greatest-by : (test : Key → Bool) (dir : Dir) (i : Interval) (key other : Key) → Reaches test dir i → other.dir ≡ dir → (test other ≡ true) ⊎ (same_key key other ≡ true)
+greatest-by : (test : Key → Bool) (dir : Dir) (i : Interval) (key other : Key) → IsHullOf test dir i → other.dir ≡ dir → (test other ≡ true) ⊎ (same_key key other ≡ true)
     → is_within other (if is_before i.1 key then key else i.1) ≡ true
 greatest-by test dir i key other is here (inl passes) = greater-within (is_before i.1 key) key i.1 other refl (inl (is.greatest other (here, passes)))
 greatest-by test dir i key other is here (inr same) = greater-within (is_before i.1 key) key i.1 other refl (inr same)

@@ -14,11 +14,11 @@ use Rattle.hc_bitsum.proofs.lemmas.Widths.{width-set}
 use Rattle.hc_cuts.specs.declared.hulls.Hulls.{Hulls}
 use Rattle.hc_cuts.specs.Hulls.{AreHulls, TakeIn, no_hulls}
 use Rattle.hc_cuts.specs.Repair.{AreOfBefore, DifferInside}
-use Rattle.hc_cuts.specs.Starts.{Kept, kept_empty}
+use Rattle.hc_cuts.specs.Starts.{TaskCuts, empty_task_cuts}
 use Rattle.hc_cuts.proofs.lemmas.HullKeys.{hulls-none}
 use Rattle.hc_cuts.proofs.lemmas.Repairs.{differ-inside}
 
--- a test that the keys pass at which the lists differ
+-- a test that the keys pass where the lists differ
 pub record Inside (before present : List Keyed) (hulls : Hulls) : Type 0 where
   pub test : Key → Bool
   pub are : AreHulls test hulls
@@ -46,34 +46,34 @@ inside-differs before present hulls inside = differ-inside inside.test hulls bef
 
 -- a task without areas holds a task's list, and is cut
 
--- a task of so many slaves whose boundaries are those of its areas
-pub record IsCutTask (slaves : ℕ) (kept : Kept) : Type 0 where
-  pub many : kept.tree.slaves ≡ slaves
-  pub holds : HoldsTaskList kept.tree
-  pub cut : kept.starts ++ END ∷ [] ≡ boundaries kept.tree.list
+-- a task of so many slaves whose boundaries are its areas'
+pub record IsCutTask (slaves : ℕ) (unchanged : TaskCuts) : Type 0 where
+  pub many : unchanged.tree.slaves ≡ slaves
+  pub holds : HoldsTaskList unchanged.tree
+  pub cut : unchanged.starts ++ END ∷ [] ≡ boundaries unchanged.tree.list
 
-pub begins : (slaves : ℕ) (kept : Kept) → kept ≡ kept_empty slaves → IsCutTask slaves kept
-begins slaves kept is = grind arith
+pub begins : (slaves : ℕ) (unchanged : TaskCuts) → unchanged ≡ empty_task_cuts slaves → IsCutTask slaves unchanged
+begins slaves unchanged is = grind arith
 
 -- its boundaries are those of before once widths are set
-pub were : (old new : Kept) (hulls : Hulls) → IsTaskList old.tree.list → old.starts ++ END ∷ [] ≡ boundaries old.tree.list → new.starts ≡ old.starts
+pub were : (old new : TaskCuts) (hulls : Hulls) → IsTaskList old.tree.list → old.starts ++ END ∷ [] ≡ boundaries old.tree.list → new.starts ≡ old.starts
     → DifferInside hulls old.tree.list new.tree.list → AreOfBefore new.starts hulls new.tree.list
 were old new hulls list cut starts inside = grind arith
 
 -- widths of a task set so far, with the hulls of their keys
-abbrev pub IsSet : ℕ → Kept → Kept → Hulls → Type 0
-IsSet slaves first kept hulls = record {
-  slaves : kept.tree.slaves ≡ slaves;
-  holds : HoldsTaskList kept.tree;
-  starts : kept.starts ≡ first.starts;
-  inside : Inside first.tree.list kept.tree.list hulls;
+abbrev pub IsSet : ℕ → TaskCuts → TaskCuts → Hulls → Type 0
+IsSet slaves first unchanged hulls = record {
+  slaves : unchanged.tree.slaves ≡ slaves;
+  holds : HoldsTaskList unchanged.tree;
+  starts : unchanged.starts ≡ first.starts;
+  inside : Inside first.tree.list unchanged.tree.list hulls;
 }
 
-pub set-same : (slaves : ℕ) (first now kept : Kept) (held hulls : Hulls) → kept ≡ now → hulls ≡ held → IsSet slaves first now held → IsSet slaves first kept hulls
-set-same slaves first now kept held hulls is are so_far =
-    subst (λ (k : Kept). IsSet slaves first k hulls) (sym is) (subst (λ (h : Hulls). IsSet slaves first now h) (sym are) so_far)
+pub set-same : (slaves : ℕ) (first now unchanged : TaskCuts) (held hulls : Hulls) → unchanged ≡ now → hulls ≡ held → IsSet slaves first now held → IsSet slaves first unchanged hulls
+set-same slaves first now unchanged held hulls is are so_far =
+    subst (λ (k : TaskCuts). IsSet slaves first k hulls) (sym is) (subst (λ (h : Hulls). IsSet slaves first now h) (sym are) so_far)
 
-pub set-more : (slaves : ℕ) (first now kept : Kept) (hulls held : Hulls) (key : Key) (bits : ℕ) → IsSet slaves first now hulls → kept.tree ≡ record now.tree { list = with_width key bits now.tree.list }
-    → kept.starts ≡ now.starts → HoldsTaskList kept.tree → TakeIn hulls held (same_key key) → IsSet slaves first kept held
-set-more slaves first now kept hulls held key bits so_far tree starts holds taken =
+pub set-more : (slaves : ℕ) (first now unchanged : TaskCuts) (hulls held : Hulls) (key : Key) (bits : ℕ) → IsSet slaves first now hulls → unchanged.tree ≡ record now.tree { list = with_width key bits now.tree.list }
+    → unchanged.starts ≡ now.starts → HoldsTaskList unchanged.tree → TakeIn hulls held (same_key key) → IsSet slaves first unchanged held
+set-more slaves first now unchanged hulls held key bits so_far tree starts holds taken =
     grind (arith, inside-more)

@@ -6,7 +6,7 @@ use Rattle.std.proofs.lemmas.List.Sums.{sum_by-cons}
 use Rattle.hc_records.specs.declared.records.Slave.{Slave}
 use Rattle.hc_records.specs.declared.records.Declared.{Declared}
 use Rattle.hc_records.specs.Boundaries.{is_touched_task, recut, touched, unsettled_spans}
-use Rattle.hc_records.specs.Edits.{crowded_task}
+use Rattle.hc_records.specs.Edits.{over_limit_task}
 use Rattle.hc_records.specs.Image.{tasks}
 use Rattle.hc_records.specs.Limits.{IsSlaveInside}
 use Rattle.hc_records.specs.Line.{State, groups_of, line_from}
@@ -18,27 +18,27 @@ use Rattle.hc_records.proofs.lemmas.Lines.{declared_slaves, each-group}
 use Rattle.hc_records.proofs.lemmas.Projects.{project-few}
 use Rattle.hc_records.proofs.lemmas.TaskLists.{project-list}
 use Rattle.hc_cuts.specs.Areas.{areas_by_rank, list_by, present_areas}
-use Rattle.hc_cuts.specs.Kept.{IsLine, crowded_from}
+use Rattle.hc_cuts.specs.TaskCuts.{IsProjectLine, over_limit_from}
 use Rattle.hc_cuts.specs.Recut.{recut_by, recut_from}
-use Rattle.hc_cuts.specs.Widths.{AreKept}
-use Rattle.hc_cuts.proofs.lemmas.Told.{length-present, task-listed}
+use Rattle.hc_cuts.specs.Widths.{AreBounded}
+use Rattle.hc_cuts.proofs.lemmas.AnswerGiven.{length-present, task-listed}
 
 -- a slave's areas, or none
 
-slave-kept : (present : Bool) (slave : Slave) → IsSlaveInside slave → AreKept (if present then slave.areas else [])
-slave-kept present slave inside = grind arith
+slave-unchanged : (present : Bool) (slave : Slave) → IsSlaveInside slave → AreBounded (if present then slave.areas else [])
+slave-unchanged present slave inside = grind arith
 
-group-kept : (present : Bool) (slaves : List Slave) → All IsSlaveInside slaves → All AreKept (map (λ slave. if present then slave.areas else []) slaves)
-group-kept present [] all = All-nil AreKept
-group-kept present (slave ∷ slaves) all =
-    grind (arith, All-cons, slave-kept, All-head, All-tail, group-kept present slaves (All-tail IsSlaveInside slave slaves all))
+group-unchanged : (present : Bool) (slaves : List Slave) → All IsSlaveInside slaves → All AreBounded (map (λ slave. if present then slave.areas else []) slaves)
+group-unchanged present [] all = All-nil AreBounded
+group-unchanged present (slave ∷ slaves) all =
+    grind (arith, All-cons, slave-unchanged, All-head, All-tail, group-unchanged present slaves (All-tail IsSlaveInside slave slaves all))
 
-groups-kept : (groups : List Declared) → All (λ declared. All IsSlaveInside declared.group.slaves) groups → All AreKept (areas_by_rank groups)
-groups-kept [] all = All-nil AreKept
-groups-kept (declared ∷ groups) all =
-    All-append AreKept (present_areas declared) (areas_by_rank groups)
-    (group-kept declared.present declared.group.slaves (All-head (λ d. All IsSlaveInside d.group.slaves) declared groups all))
-    (groups-kept groups (All-tail (λ d. All IsSlaveInside d.group.slaves) declared groups all))
+groups-unchanged : (groups : List Declared) → All (λ declared. All IsSlaveInside declared.group.slaves) groups → All AreBounded (areas_by_rank groups)
+groups-unchanged [] all = All-nil AreBounded
+groups-unchanged (declared ∷ groups) all =
+    All-append AreBounded (present_areas declared) (areas_by_rank groups)
+    (group-unchanged declared.present declared.group.slaves (All-head (λ d. All IsSlaveInside d.group.slaves) declared groups all))
+    (groups-unchanged groups (All-tail (λ d. All IsSlaveInside d.group.slaves) declared groups all))
 
 -- as many as are declared
 ranks-declared : (groups : List Declared) → length (areas_by_rank groups) ≡ length (declared_slaves groups)
@@ -50,23 +50,23 @@ ranks-declared (declared ∷ groups) =
     ∙ sym (length-append declared.group.slaves (declared_slaves groups))
 
 -- the line of a project's groups is one
-pub project-line : (groups : List Declared) → lowest_fault (groups_of groups) ≡ None → IsLine (areas_by_rank groups)
+pub project-line : (groups : List Declared) → lowest_fault (groups_of groups) ≡ None → IsProjectLine (areas_by_rank groups)
 project-line groups none = record {
   few = let few = project-few (groups_of groups) none in let many = ranks-declared groups in omega (arith, few, many);
-  kept = groups-kept groups (each-group IsSlaveInside groups (project-inside (groups_of groups) none).slaves);
+  unchanged = groups-unchanged groups (each-group IsSlaveInside groups (project-inside (groups_of groups) none).slaves);
   lists = λ task.
       let state : State = record { groups = groups; epoch = 0 } in
       subst (λ (list : List Keyed). IsTaskList list) (task-listed task groups) (project-list state task none);
 }
 
--- the lowest crowded task of the line
+-- the lowest task over the limit of the line
 
 find-same : (p q : ℕ → Bool) → ((task : ℕ) → p task ≡ q task) → (list : List ℕ) → find p list ≡ find q list
 find-same p q same [] = refl
 find-same p q same (task ∷ list) = grind (arith, find-same p q same list)
 
-pub line-crowded : (groups : List Declared) → crowded_task (line_from 1 groups) ≡ crowded_from 8 0 (areas_by_rank groups)
-line-crowded groups = grind (arith, find-same, task-listed)
+pub line-over_limit : (groups : List Declared) → over_limit_task (line_from 1 groups) ≡ over_limit_from 8 0 (areas_by_rank groups)
+line-over_limit groups = grind (arith, find-same, task-listed)
 
 -- what is recut of each task
 

@@ -22,7 +22,7 @@ differ-inside test hulls old new are same key clear = grind arith
 -- the hulls of the touched keys are such ones
 
 untouched-by : (same : Bool) (old new : List Keyed) (key : Key) → (width_in old key == width_in new key) ≡ same → not same ≡ false → width_in old key ≡ width_in new key
-untouched-by same old new key is kept = grind arith
+untouched-by same old new key is unchanged = grind arith
 
 later : (list : List Keyed) (starts : List Key) → starts ++ END ∷ [] ≡ boundaries list → drop 1 starts ≡ later_keys list
 later list starts all = ap (drop 1) (append_cancel_right starts (START ∷ later_keys list) (END ∷ []) all)

@@ -18,59 +18,59 @@ use Rattle.hc_events.specs.declared.faults.CoreFault.{CoreFault}
 use Rattle.hc_events.specs.declared.faults.CoreFault.TheVariants.{Absent, NoSuchTask, PostLength, SerialsSpent, StalePost, UnknownStation, Unprogrammed}
 use Rattle.hc_events.specs.Faults.{edit_refusal}
 use Rattle.hc_events.specs.Arrivals.{Arrival, arrival_in}
-use Rattle.hc_events.specs.Entries.{Entry, Record, Opened, Edited, Posted, Sent, Wrote, Came, Forgot}
+use Rattle.hc_events.specs.Entries.{HistoryEntry, History, Opened, Edited, Posted, Sent, Wrote, Came, Forgot}
 use Rattle.hc_events.specs.Points.{epoch_of, line_of, next_serial, state_of}
-use Rattle.hc_events.specs.Sendings.{Frame, Named, alone, framed, framed_behind, has_room, joined, length_of, task_datagrams}
+use Rattle.hc_events.specs.Sendings.{Frame, Named, frame_of_one, framed, framed_after, has_room, frame_joined, line_data_length, task_datagrams}
 use Rattle.hc_events.specs.Owed.{is_in_line, owed_blocks}
 use Rattle.hc_events.specs.WriteFrames.{frame_blocks}
-use Rattle.hc_events.specs.Steps.{Step, Edits, Posts, SendsTasks, SendsWrite, SendsWrites, Arrives, Reads, Forgets, kept_if, edit_refused, forget_faults, is_no_task, post_faults, proposal, has_serials, task_faults, with_sent, write_faults, with_write, with_writes, with_arrival, entries_after, entries_after_all}
-use Rattle.hc_events.specs.Accepted.{AreAccepted, IsAccepted, IsPost, StandsIn, frames_of, just_opened}
+use Rattle.hc_events.specs.Steps.{Step, Edits, Posts, SendsTasks, SendsWrite, SendsWrites, Arrives, Reads, Forgets, unless_fault, edit_refused, forget_faults, is_no_task, post_faults, proposal, has_serials, task_faults, with_sent, write_faults, with_write, with_writes, with_arrival, entries_after, entries_after_all}
+use Rattle.hc_events.specs.Accepted.{AreAccepted, IsAccepted, IsPost, IsInLine, frames_of, just_opened}
 
--- the datagrams of a proposal are those of the line
+-- the datagrams of a proposal are the line's
 
-stands_in : (line : List Member) (task first count : ℕ) → first + count ≤ datagram_count (task_places task line) → All (StandsIn line) (map (λ d. (task, d)) (range_with_len first count))
-stands_in line task first zero within = All-nil (StandsIn line)
-stands_in line task first (suc count) within =
-    All-cons (StandsIn line) (task, first) (map (λ d. (task, d)) (range_with_len (first + 1) count)) (omega arith) (stands_in line task (first + 1) count (omega arith))
+is_placed_in : (line : List Member) (task first count : ℕ) → first + count ≤ datagram_count (task_places task line) → All (IsInLine line) (map (λ d. (task, d)) (range_with_len first count))
+is_placed_in line task first zero within = All-nil (IsInLine line)
+is_placed_in line task first (suc count) within =
+    All-cons (IsInLine line) (task, first) (map (λ d. (task, d)) (range_with_len (first + 1) count)) (omega arith) (is_placed_in line task (first + 1) count (omega arith))
 
 zero_below : (count : ℕ) → 0 + count ≤ count
 zero_below count = omega arith
 
-all_stand : (line : List Member) (tasks : List ℕ) → All (StandsIn line) (flat_map (task_datagrams line) tasks)
-all_stand line [] = All-nil (StandsIn line)
-all_stand line (task ∷ tasks) =
-    All-append (StandsIn line) (task_datagrams line task) (flat_map (task_datagrams line) tasks)
-    (stands_in line task 0 (datagram_count (task_places task line)) (zero_below (datagram_count (task_places task line)))) (all_stand line tasks)
+all_are_placed : (line : List Member) (tasks : List ℕ) → All (IsInLine line) (flat_map (task_datagrams line) tasks)
+all_are_placed line [] = All-nil (IsInLine line)
+all_are_placed line (task ∷ tasks) =
+    All-append (IsInLine line) (task_datagrams line task) (flat_map (task_datagrams line) tasks)
+    (is_placed_in line task 0 (datagram_count (task_places task line)) (zero_below (datagram_count (task_places task line)))) (all_are_placed line tasks)
 
-abbrev Stand : List Member → Frame → Type 0
-Stand line sending = All (StandsIn line) sending.datagrams
+abbrev ArePlaced : List Member → Frame → Type 0
+ArePlaced line sending = All (IsInLine line) sending.datagrams
 
-frames_either : (line : List Member) (room : Bool) (sending next : Frame) (rest other : List Frame) → All (Stand line) rest → Stand line sending → All (Stand line) other → All (Stand line) (cond room rest (sending ∷ other))
+frames_either : (line : List Member) (room : Bool) (sending next : Frame) (rest other : List Frame) → All (ArePlaced line) rest → ArePlaced line sending → All (ArePlaced line) other → All (ArePlaced line) (cond room rest (sending ∷ other))
 frames_either line true sending next rest other a b c = a
-frames_either line false sending next rest other a b c = All-cons (Stand line) sending other b c
+frames_either line false sending next rest other a b c = All-cons (ArePlaced line) sending other b c
 
-frames_behind : (line : List Member) (sending : Frame) (datagrams : List Named) → Stand line sending → All (StandsIn line) datagrams → All (Stand line) (framed_behind line sending datagrams)
-frames_behind line sending [] stand all = All-cons (Stand line) sending [] stand (All-nil (Stand line))
-frames_behind line sending (datagram ∷ datagrams) stand all =
-    let first = All-head (StandsIn line) datagram datagrams all in
-    let others = All-tail (StandsIn line) datagram datagrams all in
-    let single : All (StandsIn line) (datagram ∷ []) = All-cons (StandsIn line) datagram [] first (All-nil (StandsIn line)) in
-    frames_either line (has_room sending.bytes (length_of line datagram)) sending sending
-    (framed_behind line (joined sending datagram (length_of line datagram)) datagrams)
-    (framed_behind line (alone (sending.serial + 1) datagram (length_of line datagram)) datagrams)
-    (frames_behind line (joined sending datagram (length_of line datagram)) datagrams (All-append (StandsIn line) sending.datagrams (datagram ∷ []) stand single) others)
-    stand
-    (frames_behind line (alone (sending.serial + 1) datagram (length_of line datagram)) datagrams single others)
+frames_after : (line : List Member) (sending : Frame) (datagrams : List Named) → ArePlaced line sending → All (IsInLine line) datagrams → All (ArePlaced line) (framed_after line sending datagrams)
+frames_after line sending [] are_placed all = All-cons (ArePlaced line) sending [] are_placed (All-nil (ArePlaced line))
+frames_after line sending (datagram ∷ datagrams) are_placed all =
+    let first = All-head (IsInLine line) datagram datagrams all in
+    let others = All-tail (IsInLine line) datagram datagrams all in
+    let single : All (IsInLine line) (datagram ∷ []) = All-cons (IsInLine line) datagram [] first (All-nil (IsInLine line)) in
+    frames_either line (has_room sending.bytes (line_data_length line datagram)) sending sending
+    (framed_after line (frame_joined sending datagram (line_data_length line datagram)) datagrams)
+    (framed_after line (frame_of_one (sending.serial + 1) datagram (line_data_length line datagram)) datagrams)
+    (frames_after line (frame_joined sending datagram (line_data_length line datagram)) datagrams (All-append (IsInLine line) sending.datagrams (datagram ∷ []) are_placed single) others)
+    are_placed
+    (frames_after line (frame_of_one (sending.serial + 1) datagram (line_data_length line datagram)) datagrams single others)
 
-frames_stand : (line : List Member) (serial : ℕ) (datagrams : List Named) → All (StandsIn line) datagrams → All (Stand line) (framed line serial datagrams)
-frames_stand line serial [] all = All-nil (Stand line)
-frames_stand line serial (datagram ∷ datagrams) all =
-    frames_behind line (alone serial datagram (length_of line datagram)) datagrams
-    (All-cons (StandsIn line) datagram [] (All-head (StandsIn line) datagram datagrams all) (All-nil (StandsIn line)))
-    (All-tail (StandsIn line) datagram datagrams all)
+frames_are_placed : (line : List Member) (serial : ℕ) (datagrams : List Named) → All (IsInLine line) datagrams → All (ArePlaced line) (framed line serial datagrams)
+frames_are_placed line serial [] all = All-nil (ArePlaced line)
+frames_are_placed line serial (datagram ∷ datagrams) all =
+    frames_after line (frame_of_one serial datagram (line_data_length line datagram)) datagrams
+    (All-cons (IsInLine line) datagram [] (All-head (IsInLine line) datagram datagrams all) (All-nil (IsInLine line)))
+    (All-tail (IsInLine line) datagram datagrams all)
 
-pub proposal-stands : (past : Record) (tasks : List ℕ) → All (λ sending. All (StandsIn (line_of past)) sending.datagrams) (proposal past tasks)
-proposal-stands past tasks = frames_stand (line_of past) (next_serial past) (flat_map (task_datagrams (line_of past)) tasks) (all_stand (line_of past) tasks)
+pub proposal-is_placed : (history : History) (tasks : List ℕ) → All (λ sending. All (IsInLine (line_of history)) sending.datagrams) (proposal history tasks)
+proposal-is_placed history tasks = frames_are_placed (line_of history) (next_serial history) (flat_map (task_datagrams (line_of history)) tasks) (all_are_placed (line_of history) tasks)
 
 -- what isn't refused meets no condition of a fault
 
@@ -86,54 +86,54 @@ no_refusal : (fault : Option EditFault) → option_map edit_refusal fault ≡ No
 no_refusal None e = refl
 no_refusal (Some fault) e = cc
 
-accepted_post : (past : Record) (task epoch : ℕ) (bytes : List ℕ) → lowest (post_faults past task epoch bytes) ≡ None → IsPost (line_of past) task bytes
-accepted_post past task epoch bytes e =
-    let lengths = (not (length bytes == output_length (task_places task (line_of past))), PostLength) ∷ [] in
-    let first = passed (is_no_task task) NoSuchTask ((not (epoch == epoch_of past), StalePost) ∷ lengths) e in
-    let second = passed (not (epoch == epoch_of past)) StalePost lengths first.1 in
-    let third = passed (not (length bytes == output_length (task_places task (line_of past)))) PostLength [] second.1 in
-    record { stands = ltb-true task TASKS (not-false _ first.0); fits = eqb-true _ _ (not-false _ third.0) }
+accepted_post : (history : History) (task epoch : ℕ) (bytes : List ℕ) → lowest (post_faults history task epoch bytes) ≡ None → IsPost (line_of history) task bytes
+accepted_post history task epoch bytes e =
+    let lengths = (not (length bytes == output_length (task_places task (line_of history))), PostLength) ∷ [] in
+    let first = passed (is_no_task task) NoSuchTask ((not (epoch == epoch_of history), StalePost) ∷ lengths) e in
+    let second = passed (not (epoch == epoch_of history)) StalePost lengths first.1 in
+    let third = passed (not (length bytes == output_length (task_places task (line_of history)))) PostLength [] second.1 in
+    record { is_placed = ltb-true task TASKS (not-false _ first.0); fits = eqb-true _ _ (not-false _ third.0) }
 
 some_of : (found : Option Member) → is_none found ≡ false → is_some found ≡ true
 some_of None e = cc
 some_of (Some member) e = refl
 
-accepted_forget : (past : Record) (station : ℕ) → lowest (forget_faults past station) ≡ None → is_in_line past station ≡ true
-accepted_forget past station e =
-    let absent = (is_none (slave_at (state_of past) station), Absent) ∷ [] in
-    let first = passed (not (is_declared_station (state_of past) station)) UnknownStation absent e in
-    let second = passed (is_none (slave_at (state_of past) station)) Absent [] first.1 in
-    some_of (slave_at (state_of past) station) second.0
+accepted_forget : (history : History) (station : ℕ) → lowest (forget_faults history station) ≡ None → is_in_line history station ≡ true
+accepted_forget history station e =
+    let absent = (is_none (slave_at (state_of history) station), Absent) ∷ [] in
+    let first = passed (not (is_declared_station (state_of history) station)) UnknownStation absent e in
+    let second = passed (is_none (slave_at (state_of history) station)) Absent [] first.1 in
+    some_of (slave_at (state_of history) station) second.0
 
-nothing_owed : (past : Record) (tasks : List ℕ) → lowest (task_faults past tasks) ≡ None → owed_blocks past ≡ []
-nothing_owed past tasks e =
-    let serials = (not (has_serials past (length (proposal past tasks))), SerialsSpent) ∷ [] in
-    let owed : Bool × CoreFault = (nat_lt 0 (length (owed_blocks past)), Unprogrammed (length (owed_blocks past))) in
+nothing_owed : (history : History) (tasks : List ℕ) → lowest (task_faults history tasks) ≡ None → owed_blocks history ≡ []
+nothing_owed history tasks e =
+    let serials = (not (has_serials history (length (proposal history tasks))), SerialsSpent) ∷ [] in
+    let owed : Bool × CoreFault = (nat_lt 0 (length (owed_blocks history)), Unprogrammed (length (owed_blocks history))) in
     let first = passed (list_any is_no_task tasks) NoSuchTask (owed ∷ serials) e in
-    none_owed (owed_blocks past) (passed owed.0 owed.1 serials first.1).0
+    none_owed (owed_blocks history) (passed owed.0 owed.1 serials first.1).0
 
 -- a property that each accepted entry keeps
 
-abbrev pub Keeps : (Record → Type 0) → Type 0
-Keeps P = (past : Record) (entry : Entry) → IsAccepted past entry → P past → P (entry ∷ past)
+abbrev pub StaysTrue : (History → Type 0) → Type 0
+StaysTrue P = (history : History) (entry : HistoryEntry) → IsAccepted history entry → P history → P (entry ∷ history)
 
-keeps_if : (P : Record → Type 0) (refused : Option CoreFault) (past next : Record) → (refused ≡ None → P next) → P past → P (kept_if refused past next)
-keeps_if P None past next then' before = then' refl
-keeps_if P (Some fault) past next then' before = before
+keeps_if : (P : History → Type 0) (refused : Option CoreFault) (history next : History) → (refused ≡ None → P next) → P history → P (unless_fault refused history next)
+keeps_if P None history next then' before = then' refl
+keeps_if P (Some fault) history next then' before = before
 
 abbrev AreOf : List Member → ℕ → List ℕ → List Frame → Type 0
 AreOf line serial tasks sendings = All (Contains (frames_of line serial tasks)) (map (λ sending. sending.datagrams) sendings)
 
-keeps_sent : (P : Record → Type 0) → Keeps P → (line : List Member) (serial : ℕ) (tasks : List ℕ) (sendings : List Frame) (past : Record) → line_of past ≡ line → owed_blocks past ≡ [] → All (Stand line) sendings → AreOf line serial tasks sendings → P past → P (with_sent past sendings)
-keeps_sent P keeps line serial tasks [] past same none stand are before = before
-keeps_sent P keeps line serial tasks (sending ∷ sendings) past same none stand are before =
+keeps_sent : (P : History → Type 0) → StaysTrue P → (line : List Member) (serial : ℕ) (tasks : List ℕ) (sendings : List Frame) (history : History) → line_of history ≡ line → owed_blocks history ≡ [] → All (ArePlaced line) sendings → AreOf line serial tasks sendings → P history → P (with_sent history sendings)
+keeps_sent P stays line serial tasks [] history same none are_placed are before = before
+keeps_sent P stays line serial tasks (sending ∷ sendings) history same none are_placed are before =
     let frames = map (λ other. other.datagrams) sendings in
-    keeps_sent P keeps line serial tasks sendings (Sent sending.datagrams ∷ past) same none (All-tail (Stand line) sending sendings stand)
+    keeps_sent P stays line serial tasks sendings (Sent sending.datagrams ∷ history) same none (All-tail (ArePlaced line) sending sendings are_placed)
     (All-tail (Contains (frames_of line serial tasks)) sending.datagrams frames are)
-    (keeps past (Sent sending.datagrams)
+    (stays history (Sent sending.datagrams)
     (record {
       programmed = none;
-      stands = subst (λ members. All (StandsIn members) sending.datagrams) (sym same) (All-head (Stand line) sending sendings stand);
+      is_placed = subst (λ members. All (IsInLine members) sending.datagrams) (sym same) (All-head (ArePlaced line) sending sendings are_placed);
       tasks = tasks;
       serial = serial;
       one = subst (λ members. Contains (frames_of members serial tasks) sending.datagrams) (sym same) (All-head (Contains (frames_of line serial tasks)) sending.datagrams frames are);
@@ -143,58 +143,58 @@ keeps_sent P keeps line serial tasks (sending ∷ sendings) past same none stand
 one_some : (block : LineBlock) (blocks : List LineBlock) → 0 < length (block ∷ blocks)
 one_some block blocks = omega arith
 
-keeps_write : (P : Record → Type 0) → Keeps P → (past : Record) (blocks : List LineBlock) → owed_blocks past ≡ blocks → P past → P (with_write past blocks)
-keeps_write P keeps past [] same before = before
-keeps_write P keeps past (block ∷ blocks) same before = keeps past (Wrote (block ∷ [])) (record { some = one_some block []; first = inl (sym (ap (take 1) same)) }) before
+keeps_write : (P : History → Type 0) → StaysTrue P → (history : History) (blocks : List LineBlock) → owed_blocks history ≡ blocks → P history → P (with_write history blocks)
+keeps_write P stays history [] same before = before
+keeps_write P stays history (block ∷ blocks) same before = stays history (Wrote (block ∷ [])) (record { some = one_some block []; first = inl (sym (ap (take 1) same)) }) before
 
-keeps_writes : (P : Record → Type 0) → Keeps P → (past : Record) (blocks : List LineBlock) → frame_blocks (owed_blocks past) ≡ blocks → P past → P (with_writes past blocks)
-keeps_writes P keeps past [] same before = before
-keeps_writes P keeps past (block ∷ blocks) same before = keeps past (Wrote (block ∷ blocks)) (record { some = one_some block blocks; first = inr (sym same) }) before
+keeps_writes : (P : History → Type 0) → StaysTrue P → (history : History) (blocks : List LineBlock) → frame_blocks (owed_blocks history) ≡ blocks → P history → P (with_writes history blocks)
+keeps_writes P stays history [] same before = before
+keeps_writes P stays history (block ∷ blocks) same before = stays history (Wrote (block ∷ blocks)) (record { some = one_some block blocks; first = inr (sym same) }) before
 
-keeps_arrival : (P : Record → Type 0) → Keeps P → (past : Record) (read : Result Arrival FrameFault) → P past → P (with_arrival past read)
-keeps_arrival P keeps past (Err fault) before = before
-keeps_arrival P keeps past (Ok arrival) before = keeps past (Came arrival) tt before
+keeps_arrival : (P : History → Type 0) → StaysTrue P → (history : History) (read : Result Arrival FrameFault) → P history → P (with_arrival history read)
+keeps_arrival P stays history (Err fault) before = before
+keeps_arrival P stays history (Ok arrival) before = stays history (Came arrival) tt before
 
-pub kept-after : (P : Record → Type 0) → Keeps P → (past : Record) (step : Step) → P past → P (entries_after past step)
-kept-after P keeps past (Edits edit) before =
-    keeps_if P (edit_refused past edit) past (Edited edit ∷ past) (λ e. keeps past (Edited edit) (no_refusal (lowest (edit_faults (state_of past) edit)) e) before) before
-kept-after P keeps past (Posts task epoch bytes) before =
-    keeps_if P (lowest (post_faults past task epoch bytes)) past (Posted task bytes ∷ past) (λ e. keeps past (Posted task bytes) (accepted_post past task epoch bytes e) before) before
-kept-after P keeps past (SendsTasks tasks) before =
-    keeps_if P (lowest (task_faults past tasks)) past (with_sent past (proposal past tasks))
-    (λ e. keeps_sent P keeps (line_of past) (next_serial past) tasks (proposal past tasks) past refl (nothing_owed past tasks e) (proposal-stands past tasks) (All-contains_itself (frames_of (line_of past) (next_serial past) tasks)) before) before
-kept-after P keeps past SendsWrite before =
-    keeps_if P (lowest (write_faults past (owed_blocks past))) past (with_write past (owed_blocks past)) (λ e. keeps_write P keeps past (owed_blocks past) refl before) before
-kept-after P keeps past SendsWrites before =
-    keeps_if P (lowest (write_faults past (owed_blocks past))) past (with_writes past (frame_blocks (owed_blocks past))) (λ e. keeps_writes P keeps past (frame_blocks (owed_blocks past)) refl before) before
-kept-after P keeps past (Arrives bytes) before = keeps_arrival P keeps past (arrival_in bytes) before
-kept-after P keeps past (Reads task) before = before
-kept-after P keeps past (Forgets station) before =
-    keeps_if P (lowest (forget_faults past station)) past (Forgot station ∷ past) (λ e. keeps past (Forgot station) (accepted_forget past station e) before) before
+pub unchanged-after : (P : History → Type 0) → StaysTrue P → (history : History) (step : Step) → P history → P (entries_after history step)
+unchanged-after P stays history (Edits edit) before =
+    keeps_if P (edit_refused history edit) history (Edited edit ∷ history) (λ e. stays history (Edited edit) (no_refusal (lowest (edit_faults (state_of history) edit)) e) before) before
+unchanged-after P stays history (Posts task epoch bytes) before =
+    keeps_if P (lowest (post_faults history task epoch bytes)) history (Posted task bytes ∷ history) (λ e. stays history (Posted task bytes) (accepted_post history task epoch bytes e) before) before
+unchanged-after P stays history (SendsTasks tasks) before =
+    keeps_if P (lowest (task_faults history tasks)) history (with_sent history (proposal history tasks))
+    (λ e. keeps_sent P stays (line_of history) (next_serial history) tasks (proposal history tasks) history refl (nothing_owed history tasks e) (proposal-is_placed history tasks) (All-contains_itself (frames_of (line_of history) (next_serial history) tasks)) before) before
+unchanged-after P stays history SendsWrite before =
+    keeps_if P (lowest (write_faults history (owed_blocks history))) history (with_write history (owed_blocks history)) (λ e. keeps_write P stays history (owed_blocks history) refl before) before
+unchanged-after P stays history SendsWrites before =
+    keeps_if P (lowest (write_faults history (owed_blocks history))) history (with_writes history (frame_blocks (owed_blocks history))) (λ e. keeps_writes P stays history (frame_blocks (owed_blocks history)) refl before) before
+unchanged-after P stays history (Arrives bytes) before = keeps_arrival P stays history (arrival_in bytes) before
+unchanged-after P stays history (Reads task) before = before
+unchanged-after P stays history (Forgets station) before =
+    keeps_if P (lowest (forget_faults history station)) history (Forgot station ∷ history) (λ e. stays history (Forgot station) (accepted_forget history station e) before) before
 
-pub kept-after_all : (P : Record → Type 0) → Keeps P → (past : Record) (steps : List Step) → P past → P (entries_after_all past steps)
-kept-after_all P keeps past [] before = before
-kept-after_all P keeps past (step ∷ steps) before = kept-after_all P keeps (entries_after past step) steps (kept-after P keeps past step before)
+pub unchanged-after_all : (P : History → Type 0) → StaysTrue P → (history : History) (steps : List Step) → P history → P (entries_after_all history steps)
+unchanged-after_all P stays history [] before = before
+unchanged-after_all P stays history (step ∷ steps) before = unchanged-after_all P stays (entries_after history step) steps (unchanged-after P stays history step before)
 
 -- an entry that is accepted leads to a record of accepted entries
 
-pub accepted-more : Keeps AreAccepted
-accepted-more past (Opened groups) accepted before = absurd accepted
-accepted-more past (Edited edit) accepted before = (accepted, before)
-accepted-more past (Posted task bytes) accepted before = (accepted, before)
-accepted-more past (Forgot station) accepted before = (accepted, before)
-accepted-more past (Sent frame) accepted before = (accepted, before)
-accepted-more past (Wrote blocks) accepted before = (accepted, before)
-accepted-more past (Came arrival) accepted before = (accepted, before)
+pub accepted-more : StaysTrue AreAccepted
+accepted-more history (Opened groups) accepted before = absurd accepted
+accepted-more history (Edited edit) accepted before = (accepted, before)
+accepted-more history (Posted task bytes) accepted before = (accepted, before)
+accepted-more history (Forgot station) accepted before = (accepted, before)
+accepted-more history (Sent frame) accepted before = (accepted, before)
+accepted-more history (Wrote blocks) accepted before = (accepted, before)
+accepted-more history (Came arrival) accepted before = (accepted, before)
 
 -- what each accepted entry keeps holds of each record of accepted entries
 
-pub held-of_accepted : (P : Record → Type 0) → Keeps P → ((groups : List Group) → P (just_opened groups)) → (past : Record) → AreAccepted past → P past
-held-of_accepted P keeps just [] all = absurd all
-held-of_accepted P keeps just (Opened groups ∷ past) all = subst (λ before. P (Opened groups ∷ before)) (sym all) (just groups)
-held-of_accepted P keeps just (Edited edit ∷ past) all = keeps past (Edited edit) all.0 (held-of_accepted P keeps just past all.1)
-held-of_accepted P keeps just (Posted task bytes ∷ past) all = keeps past (Posted task bytes) all.0 (held-of_accepted P keeps just past all.1)
-held-of_accepted P keeps just (Forgot station ∷ past) all = keeps past (Forgot station) all.0 (held-of_accepted P keeps just past all.1)
-held-of_accepted P keeps just (Sent frame ∷ past) all = keeps past (Sent frame) all.0 (held-of_accepted P keeps just past all.1)
-held-of_accepted P keeps just (Wrote blocks ∷ past) all = keeps past (Wrote blocks) all.0 (held-of_accepted P keeps just past all.1)
-held-of_accepted P keeps just (Came arrival ∷ past) all = keeps past (Came arrival) all.0 (held-of_accepted P keeps just past all.1)
+pub held-of_accepted : (P : History → Type 0) → StaysTrue P → ((groups : List Group) → P (just_opened groups)) → (history : History) → AreAccepted history → P history
+held-of_accepted P stays just [] all = absurd all
+held-of_accepted P stays just (Opened groups ∷ history) all = subst (λ before. P (Opened groups ∷ before)) (sym all) (just groups)
+held-of_accepted P stays just (Edited edit ∷ history) all = stays history (Edited edit) all.0 (held-of_accepted P stays just history all.1)
+held-of_accepted P stays just (Posted task bytes ∷ history) all = stays history (Posted task bytes) all.0 (held-of_accepted P stays just history all.1)
+held-of_accepted P stays just (Forgot station ∷ history) all = stays history (Forgot station) all.0 (held-of_accepted P stays just history all.1)
+held-of_accepted P stays just (Sent frame ∷ history) all = stays history (Sent frame) all.0 (held-of_accepted P stays just history all.1)
+held-of_accepted P stays just (Wrote blocks ∷ history) all = stays history (Wrote blocks) all.0 (held-of_accepted P stays just history all.1)
+held-of_accepted P stays just (Came arrival ∷ history) all = stays history (Came arrival) all.0 (held-of_accepted P stays just history all.1)

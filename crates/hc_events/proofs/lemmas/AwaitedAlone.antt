@@ -9,18 +9,18 @@ use Rattle.hc_records.specs.declared.records.Group.{Group}
 use Rattle.hc_records.proofs.lemmas.Choices.{by_bool}
 use Rattle.hc_registers.specs.Blocks.{LineBlock, line_blocks}
 use Rattle.hc_events.specs.declared.sending.TheConstants.{FRAME_BLOCKS}
-use Rattle.hc_events.specs.Entries.{Entry, Record, Opened, Edited, Posted, Sent, Wrote, Came, Forgot}
+use Rattle.hc_events.specs.Entries.{HistoryEntry, History, Opened, Edited, Posted, Sent, Wrote, Came, Forgot}
 use Rattle.hc_events.specs.Points.{line_of, next_serial}
 use Rattle.hc_events.specs.Heads.{block_item, is_block, write_head, write_heads}
 use Rattle.hc_events.specs.Answering.{Sending, ends, is_forgetting, sending_of}
-use Rattle.hc_events.specs.Awaited.{all_outdated, awaited, is_write}
+use Rattle.hc_events.specs.Awaited.{all_outdated, awaited, is_write_sending}
 use Rattle.hc_events.specs.Owed.{is_owed, owed_blocks}
 use Rattle.hc_events.specs.Accepted.{AreAccepted, IsWrite, just_opened}
 use Rattle.hc_events.specs.AnswerLaws.{HasOwnNames}
 use Rattle.hc_events.specs.Forgetting.{writes_one}
-use Rattle.hc_events.proofs.lemmas.Accepted.{Keeps, held-of_accepted}
-use Rattle.hc_events.proofs.lemmas.Answers.{accepted-at, alive-is, written-inside}
-use Rattle.hc_events.proofs.lemmas.Awaited.{alive_edited}
+use Rattle.hc_events.proofs.lemmas.Accepted.{StaysTrue, held-of_accepted}
+use Rattle.hc_events.proofs.lemmas.Answers.{accepted-at, still_awaited-is, written-inside}
+use Rattle.hc_events.proofs.lemmas.Awaited.{awaited_edited}
 use Rattle.hc_events.proofs.lemmas.BlockSizes.{write-few}
 use Rattle.hc_events.proofs.lemmas.Fronts.{is_named, write-front}
 use Rattle.hc_events.proofs.lemmas.Live.{live-owed}
@@ -29,20 +29,20 @@ use Rattle.hc_events.proofs.lemmas.TwoWrites.{InLine, line-stays, named-passing,
 
 -- a frame of writes that is awaited has a block that is owed
 
-pub record IsOwedOne (past : Record) : Type 0 where
+pub record IsOwedOne (history : History) : Type 0 where
   pub block : LineBlock
-  pub inside : InLine (line_of past) block
-  pub owed : is_owed past block ≡ true
+  pub inside : InLine (line_of history) block
+  pub owed : is_owed history block ≡ true
 
-pub awaited-owes : (past : Record) (serial : ℕ) (write : Sending) → AreAccepted past → awaited past serial ≡ Some write → is_write write ≡ true → IsOwedOne past
-awaited-owes past serial write all e w =
-    let alive = alive-is serial (sending_of past serial) write e in
-    let made = alive.made in
-    let at = wrote-at past serial made alive.there (ap (λ (s : Sending). list_any (λ head. is_block head.item) s.heads) alive.same ∙ w) in
+pub awaited-owes : (history : History) (serial : ℕ) (write : Sending) → AreAccepted history → awaited history serial ≡ Some write → is_write_sending write ≡ true → IsOwedOne history
+awaited-owes history serial write all e w =
+    let still_awaited = still_awaited-is serial (sending_of history serial) write e in
+    let made = still_awaited.made in
+    let at = wrote-at history serial made still_awaited.there (ap (λ (s : Sending). list_any (λ head. is_block head.item) s.heads) still_awaited.same ∙ w) in
     let accepted : IsWrite (owed_blocks at.before) at.blocks = accepted-at made.since at.before (Wrote at.blocks) at.running refl (subst AreAccepted at.split all) in
-    let going : list_any (ends serial (write_heads at.blocks)) made.since ≡ false = ap (λ heads. list_any (ends serial heads) made.since) (sym at.heads) ∙ alive.goes_on in
-    let line : line_of past ≡ line_of at.before = ap line_of at.split ∙ line-stays made.since (Wrote at.blocks ∷ at.before) serial (write_heads at.blocks) at.running going in
-    let live = some-live (InLine (line_of at.before)) made.since at.blocks (written-inside at.before at.blocks accepted) (ap (all_outdated made.since) (sym at.heads) ∙ alive.news) in
+    let going : list_any (ends serial (write_heads at.blocks)) made.since ≡ false = ap (λ heads. list_any (ends serial heads) made.since) (sym at.heads) ∙ still_awaited.goes_on in
+    let line : line_of history ≡ line_of at.before = ap line_of at.split ∙ line-stays made.since (Wrote at.blocks ∷ at.before) serial (write_heads at.blocks) at.running going in
+    let live = some-live (InLine (line_of at.before)) made.since at.blocks (written-inside at.before at.blocks accepted) (ap (all_outdated made.since) (sym at.heads) ∙ still_awaited.updates) in
     record {
       block = live.block;
       inside = subst (λ members. InLine members live.block) (sym line) live.known;
@@ -50,19 +50,19 @@ awaited-owes past serial write all e w =
           ∙ live-owed made.since at.before at.blocks live.block live.sent at.running (ap (λ n. list_any (ends n (write_heads at.blocks)) made.since) at.serial_is ∙ going) live.live;
     }
 
-none_named : (past : Record) (one : IsOwedOne past) → owed_blocks past ≡ [] → ⊥
-none_named past one none =
-    let named = named-passing (is_owed past) one.block one.owed (line_blocks (line_of past)) one.inside in
+none_named : (history : History) (one : IsOwedOne history) → owed_blocks history ≡ [] → ⊥
+none_named history one none =
+    let named = named-passing (is_owed history) one.block one.owed (line_blocks (line_of history)) one.inside in
     let never : true ≡ false = sym named ∙ ap (is_named (block_item one.block)) none in cc
 
 -- where a frame of tasks is awaited nothing is owed
 
-record TasksOweNothing (past : Record) : Type 0 where
-  holds : (serial : ℕ) (now : Sending) → awaited past serial ≡ Some now → is_write now ≡ false → list_any is_forgetting past ≡ false → owed_blocks past ≡ []
+record TasksOweNothing (history : History) : Type 0 where
+  holds : (serial : ℕ) (now : Sending) → awaited history serial ≡ Some now → is_write_sending now ≡ false → list_any is_forgetting history ≡ false → owed_blocks history ≡ []
 
-older_tasks : (past : Record) (entry : Entry) (serial : ℕ) (now : Sending) → TasksOweNothing past → owed_blocks (entry ∷ past) ≡ owed_blocks past → NotAgain past serial entry now → is_write now ≡ false
-    → list_any is_forgetting past ≡ false → owed_blocks (entry ∷ past) ≡ []
-older_tasks past entry serial now before same still w none =
+older_tasks : (history : History) (entry : HistoryEntry) (serial : ℕ) (now : Sending) → TasksOweNothing history → owed_blocks (entry ∷ history) ≡ owed_blocks history → NotAgain history serial entry now → is_write_sending now ≡ false
+    → list_any is_forgetting history ≡ false → owed_blocks (entry ∷ history) ≡ []
+older_tasks history entry serial now before same still w none =
     same ∙ before.holds serial still.was.before still.was.there (write_was now still.was.before still.was.heads ∙ w) none
 
 below-true : (a b : ℕ) → nat_lt a b ≡ true → a < b
@@ -75,76 +75,76 @@ never_some : (blocks rest : List LineBlock) → 0 < length blocks → [] ≡ blo
 never_some [] rest some e = omega arith
 never_some (block ∷ blocks) rest some e = cc
 
-nothing_written : (past : Record) (blocks : List LineBlock) → IsWrite (owed_blocks past) blocks → owed_blocks past ≡ [] → ⊥
-nothing_written past blocks write none = never_some blocks (write-front (owed_blocks past) blocks write).rest write.some (sym none ∙ (write-front (owed_blocks past) blocks write).joined)
+nothing_written : (history : History) (blocks : List LineBlock) → IsWrite (owed_blocks history) blocks → owed_blocks history ≡ [] → ⊥
+nothing_written history blocks write none = never_some blocks (write-front (owed_blocks history) blocks write).rest write.some (sym none ∙ (write-front (owed_blocks history) blocks write).joined)
 
 heads_are : (blocks : List LineBlock) → 0 < length blocks → list_any (λ head. is_block head.item) (write_heads blocks) ≡ true
 heads_are [] some = absurd (omega arith)
 heads_are (block ∷ blocks) some = refl
 
-wrote_tasks : (past : Record) (blocks : List LineBlock) (serial : ℕ) (now : Sending) → TasksOweNothing past → IsWrite (owed_blocks past) blocks → awaited (Wrote blocks ∷ past) serial ≡ Some now → is_write now ≡ false
-    → list_any is_forgetting past ≡ false → ⊥
-wrote_tasks past blocks serial now before write e w none =
-    by_bool (next_serial past == serial)
-    (λ t. let never : true ≡ false = sym (heads_are blocks write.some) ∙ sym (ap (list_any (λ head. is_block head.item)) (new_wrote past blocks serial now e t)) ∙ w in cc)
-    (λ t. let was = (older_wrote past blocks serial now e t).was in
-    nothing_written past blocks write (before.holds serial was.before was.there (write_was now was.before was.heads ∙ w) none))
+wrote_tasks : (history : History) (blocks : List LineBlock) (serial : ℕ) (now : Sending) → TasksOweNothing history → IsWrite (owed_blocks history) blocks → awaited (Wrote blocks ∷ history) serial ≡ Some now → is_write_sending now ≡ false
+    → list_any is_forgetting history ≡ false → ⊥
+wrote_tasks history blocks serial now before write e w none =
+    by_bool (next_serial history == serial)
+    (λ t. let never : true ≡ false = sym (heads_are blocks write.some) ∙ sym (ap (list_any (λ head. is_block head.item)) (new_wrote history blocks serial now e t)) ∙ w in cc)
+    (λ t. let was = (older_wrote history blocks serial now e t).was in
+    nothing_written history blocks write (before.holds serial was.before was.there (write_was now was.before was.heads ∙ w) none))
 
-tasks-grow : Keeps TasksOweNothing
-tasks-grow past (Opened groups) accepted before = absurd accepted
-tasks-grow past (Edited edit) accepted before = record { holds = λ serial now e w none. absurd (none-some now (sym (alive_edited serial edit (sending_of past serial)) ∙ e)) }
-tasks-grow past (Posted task bytes) accepted before =
-    record { holds = λ serial now e w none. older_tasks past (Posted task bytes) serial now before refl (still_other past serial (Posted task bytes) now (λ heads. refl) refl e) w none }
-tasks-grow past (Sent frame) accepted before = record { holds = λ serial now e w none. accepted.programmed }
-tasks-grow past (Wrote blocks) accepted before = record { holds = λ serial now e w none. absurd (wrote_tasks past blocks serial now before accepted e w none) }
-tasks-grow past (Came arrival) accepted before = record {
+tasks-grow : StaysTrue TasksOweNothing
+tasks-grow history (Opened groups) accepted before = absurd accepted
+tasks-grow history (Edited edit) accepted before = record { holds = λ serial now e w none. absurd (none-some now (sym (awaited_edited serial edit (sending_of history serial)) ∙ e)) }
+tasks-grow history (Posted task bytes) accepted before =
+    record { holds = λ serial now e w none. older_tasks history (Posted task bytes) serial now before refl (still_other history serial (Posted task bytes) now (λ heads. refl) refl e) w none }
+tasks-grow history (Sent frame) accepted before = record { holds = λ serial now e w none. accepted.programmed }
+tasks-grow history (Wrote blocks) accepted before = record { holds = λ serial now e w none. absurd (wrote_tasks history blocks serial now before accepted e w none) }
+tasks-grow history (Came arrival) accepted before = record {
   holds = λ serial now e w none.
-      let was = (still_came past serial arrival now e).was in
-      filter_none (is_owed past) (is_owed (Came arrival ∷ past)) (not-owed_stays past arrival) (line_blocks (line_of past)) (before.holds serial was.before was.there (write_was now was.before was.heads ∙ w) none);
+      let was = (still_came history serial arrival now e).was in
+      filter_none (is_owed history) (is_owed (Came arrival ∷ history)) (not-owed_stays history arrival) (line_blocks (line_of history)) (before.holds serial was.before was.there (write_was now was.before was.heads ∙ w) none);
 }
-tasks-grow past (Forgot station) accepted before = record { holds = λ serial now e w none. let never : true ≡ false = none in cc }
+tasks-grow history (Forgot station) accepted before = record { holds = λ serial now e w none. let never : true ≡ false = none in cc }
 
 just_tasks : (groups : List Group) → TasksOweNothing (just_opened groups)
 just_tasks groups = record { holds = λ serial now e w none. absurd (none-some now e) }
 
-pub tasks-owe_nothing : (past : Record) (serial : ℕ) (now : Sending) → AreAccepted past → awaited past serial ≡ Some now → is_write now ≡ false → list_any is_forgetting past ≡ false → owed_blocks past ≡ []
-tasks-owe_nothing past serial now all e w none = (held-of_accepted TasksOweNothing tasks-grow just_tasks past all).holds serial now e w none
+pub tasks-owe_nothing : (history : History) (serial : ℕ) (now : Sending) → AreAccepted history → awaited history serial ≡ Some now → is_write_sending now ≡ false → list_any is_forgetting history ≡ false → owed_blocks history ≡ []
+tasks-owe_nothing history serial now all e w none = (held-of_accepted TasksOweNothing tasks-grow just_tasks history all).holds serial now e w none
 
-pub writes-alone : (past : Record) (serial other : ℕ) (write sending : Sending) → AreAccepted past → list_any is_forgetting past ≡ false → awaited past serial ≡ Some write → is_write write ≡ true
-    → awaited past other ≡ Some sending → is_write sending ≡ true
-writes-alone past serial other write sending all none there w e =
-    by_bool (is_write sending)
+pub writes-alone : (history : History) (serial other : ℕ) (write sending : Sending) → AreAccepted history → list_any is_forgetting history ≡ false → awaited history serial ≡ Some write → is_write_sending write ≡ true
+    → awaited history other ≡ Some sending → is_write_sending sending ≡ true
+writes-alone history serial other write sending all none there w e =
+    by_bool (is_write_sending sending)
     (λ t. t)
-    (λ t. absurd (none_named past (awaited-owes past serial write all there w) (tasks-owe_nothing past other sending all e t none)))
+    (λ t. absurd (none_named history (awaited-owes history serial write all there w) (tasks-owe_nothing history other sending all e t none)))
 
 -- the blocks of a frame of writes
 
-pub write-blocks : (past : Record) (serial : ℕ) (sending : Sending) → AreAccepted past → sending_of past serial ≡ Some sending → is_write sending ≡ true → length sending.heads ≤ FRAME_BLOCKS
-write-blocks past serial sending all e w =
-    let at = wrote-at past serial sending e w in
+pub write-blocks : (history : History) (serial : ℕ) (sending : Sending) → AreAccepted history → sending_of history serial ≡ Some sending → is_write_sending sending ≡ true → length sending.heads ≤ FRAME_BLOCKS
+write-blocks history serial sending all e w =
+    let at = wrote-at history serial sending e w in
     let accepted : IsWrite (owed_blocks at.before) at.blocks = accepted-at sending.since at.before (Wrote at.blocks) at.running refl (subst AreAccepted at.split all) in
     subst (λ n. n ≤ FRAME_BLOCKS) (sym (ap length at.heads ∙ length-map at.blocks write_head)) (write-few at.before at.blocks accepted)
 
 -- where each write has a frame of its own, one is awaited at most
 
-one_block : (since : List Entry) (blocks : List LineBlock) (before : Record) → list_all writes_one (since ++ Wrote blocks ∷ before) ≡ true → length blocks ≡ 1
+one_block : (since : List HistoryEntry) (blocks : List LineBlock) (before : History) → list_all writes_one (since ++ Wrote blocks ∷ before) ≡ true → length blocks ≡ 1
 one_block [] blocks before all = eqb-true (length blocks) 1 (and_parts (length blocks == 1) (list_all writes_one before) all).0
 one_block (entry ∷ since) blocks before all = one_block since blocks before (and_parts (writes_one entry) _ all).1
 
-never_more : (older : Sending) (past : Record) (serial : ℕ) → list_all writes_one past ≡ true → awaited past serial ≡ Some older → is_write older ≡ true → 1 < length older.heads → ⊥
-never_more older past serial ones e w more =
-    let alive = alive-is serial (sending_of past serial) older e in
-    let heads : alive.made.heads ≡ older.heads = ap (λ (s : Sending). s.heads) alive.same in
-    let at = wrote-at past serial alive.made alive.there (ap (list_any (λ head. is_block head.item)) heads ∙ w) in
-    let one = one_block alive.made.since at.blocks at.before (subst (λ entries. list_all writes_one entries ≡ true) at.split ones) in
+never_more : (older : Sending) (history : History) (serial : ℕ) → list_all writes_one history ≡ true → awaited history serial ≡ Some older → is_write_sending older ≡ true → 1 < length older.heads → ⊥
+never_more older history serial ones e w more =
+    let still_awaited = still_awaited-is serial (sending_of history serial) older e in
+    let heads : still_awaited.made.heads ≡ older.heads = ap (λ (s : Sending). s.heads) still_awaited.same in
+    let at = wrote-at history serial still_awaited.made still_awaited.there (ap (list_any (λ head. is_block head.item)) heads ∙ w) in
+    let one = one_block still_awaited.made.since at.blocks at.before (subst (λ entries. list_all writes_one entries ≡ true) at.split ones) in
     let single : length older.heads ≡ 1 = ap length (sym heads ∙ at.heads) ∙ length-map at.blocks write_head ∙ one in
     omega arith
 
-pub one-write : (past : Record) (serial other : ℕ) (write sending : Sending) → AreAccepted past → HasOwnNames (line_of past) → list_all writes_one past ≡ true → awaited past serial ≡ Some write → is_write write ≡ true
-    → awaited past other ≡ Some sending → is_write sending ≡ true → other ≡ serial
-one-write past serial other write sending all names ones e w f v =
+pub one-write : (history : History) (serial other : ℕ) (write sending : Sending) → AreAccepted history → HasOwnNames (line_of history) → list_all writes_one history ≡ true → awaited history serial ≡ Some write → is_write_sending write ≡ true
+    → awaited history other ≡ Some sending → is_write_sending sending ≡ true → other ≡ serial
+one-write history serial other write sending all names ones e w f v =
     by_bool (nat_lt serial other)
-    (λ t. absurd (never_more write past serial ones e w (two-writes past serial other write sending all names (below-true serial other t) e w f v).more))
+    (λ t. absurd (never_more write history serial ones e w (two-writes history serial other write sending all names (below-true serial other t) e w f v).more))
     (λ t. by_bool (nat_lt other serial)
-    (λ u. absurd (never_more sending past other ones f v (two-writes past other serial sending write all names (below-true other serial u) f v e w).more))
+    (λ u. absurd (never_more sending history other ones f v (two-writes history other serial sending write all names (below-true other serial u) f v e w).more))
     (λ u. neither serial other t u))

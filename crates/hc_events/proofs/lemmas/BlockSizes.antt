@@ -11,7 +11,7 @@ use Rattle.hc_records.proofs.lemmas.Lists.{All-enumerate_from, All-flat_map}
 use Rattle.hc_registers.specs.Blocks.{LineBlock, RegisterBlock, area_blocks, line_blocks, member_blocks, slave_blocks}
 use Rattle.hc_frames.specs.declared.limits.TheConstants.{MAX_ETHERCAT}
 use Rattle.hc_events.specs.declared.sending.TheConstants.{FRAME_BLOCKS}
-use Rattle.hc_events.specs.Entries.{Record}
+use Rattle.hc_events.specs.Entries.{History}
 use Rattle.hc_events.specs.Owed.{is_owed, owed_blocks}
 use Rattle.hc_events.specs.Points.{line_of}
 use Rattle.hc_events.specs.Sendings.{has_room}
@@ -40,8 +40,8 @@ member_has line member =
 pub line-sized : (line : List Member) → All Sized (line_blocks line)
 line-sized line = All-flat_map Sized (member_blocks line) line (λ i d within. member_has line (get_or line i d))
 
-pub owed-sized : (past : Record) → All Sized (owed_blocks past)
-owed-sized past = All-filter (is_owed past) Sized (line_blocks (line_of past)) (line-sized (line_of past))
+pub owed-sized : (history : History) → All Sized (owed_blocks history)
+owed-sized history = All-filter (is_owed history) Sized (line_blocks (line_of history)) (line-sized (line_of history))
 
 -- what one frame writes fits
 
@@ -57,15 +57,15 @@ few_alone : (blocks : List LineBlock) → length (take 1 blocks) ≤ 1
 few_alone [] = omega arith
 few_alone (block ∷ blocks) = omega arith
 
-pub write-sized : (past : Record) (blocks : List LineBlock) → IsWrite (owed_blocks past) blocks → All Sized blocks
-write-sized past blocks write =
-    let front = write-front (owed_blocks past) blocks write in
-    front-all (Sized) blocks front.rest (subst (All Sized) front.joined (owed-sized past))
+pub write-sized : (history : History) (blocks : List LineBlock) → IsWrite (owed_blocks history) blocks → All Sized blocks
+write-sized history blocks write =
+    let front = write-front (owed_blocks history) blocks write in
+    front-all (Sized) blocks front.rest (subst (All Sized) front.joined (owed-sized history))
 
-pub write-fits : (past : Record) (blocks : List LineBlock) → IsWrite (owed_blocks past) blocks → 2 + (0 + blocks_bytes blocks) ≤ MAX_ETHERCAT
-write-fits past blocks write =
-    ⊎_elim (λ (alone : blocks ≡ take 1 (owed_blocks past)). one_fits blocks (write-sized past blocks write) (subst (λ some. length some ≤ 1) (sym alone) (few_alone (owed_blocks past))))
-    (λ (held : blocks ≡ frame_blocks (owed_blocks past)). subst (λ some. 2 + (0 + blocks_bytes some) ≤ MAX_ETHERCAT) (sym held) (beside-fits 0 (owed_blocks past) (omega arith))) write.first
+pub write-fits : (history : History) (blocks : List LineBlock) → IsWrite (owed_blocks history) blocks → 2 + (0 + blocks_bytes blocks) ≤ MAX_ETHERCAT
+write-fits history blocks write =
+    ⊎_elim (λ (alone : blocks ≡ take 1 (owed_blocks history)). one_fits blocks (write-sized history blocks write) (subst (λ some. length some ≤ 1) (sym alone) (few_alone (owed_blocks history))))
+    (λ (held : blocks ≡ frame_blocks (owed_blocks history)). subst (λ some. 2 + (0 + blocks_bytes some) ≤ MAX_ETHERCAT) (sym held) (beside-fits 0 (owed_blocks history) (omega arith))) write.first
 
 counted : (blocks : List LineBlock) → All Sized blocks → 20 * length blocks ≤ blocks_bytes blocks
 counted [] all = omega arith
@@ -76,10 +76,10 @@ counted (block ∷ blocks) all =
     omega arith
 
 -- so it writes at most 74 blocks
-pub write-few : (past : Record) (blocks : List LineBlock) → IsWrite (owed_blocks past) blocks → length blocks ≤ FRAME_BLOCKS
-write-few past blocks write =
-    let least = counted blocks (write-sized past blocks write) in
-    let most = write-fits past blocks write in
+pub write-few : (history : History) (blocks : List LineBlock) → IsWrite (owed_blocks history) blocks → length blocks ≤ FRAME_BLOCKS
+write-few history blocks write =
+    let least = counted blocks (write-sized history blocks write) in
+    let most = write-fits history blocks write in
     omega arith
 
 -- and the first owed block always joins
@@ -94,5 +94,5 @@ holds_first (block ∷ blocks) all some =
     let room : has_room 0 (length block.block.bytes) ≡ true = grind (arith, nat_tests) in
     subst (λ b. 0 < length (cond b (block ∷ blocks_beside (0 + block_bytes block) blocks) [])) (sym room) (one_more (blocks_beside (0 + block_bytes block) blocks))
 
-pub frame-holds : (past : Record) → 0 < length (owed_blocks past) → 0 < length (frame_blocks (owed_blocks past))
-frame-holds past some = holds_first (owed_blocks past) (owed-sized past) some
+pub frame-holds : (history : History) → 0 < length (owed_blocks history) → 0 < length (frame_blocks (owed_blocks history))
+frame-holds history some = holds_first (owed_blocks history) (owed-sized history) some

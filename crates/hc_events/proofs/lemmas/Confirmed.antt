@@ -7,10 +7,10 @@ use Rattle.std.proofs.lemmas.Bool.{and_parts, eqb-true, not-true, or_left, or_ri
 use Rattle.hc_records.proofs.lemmas.Choices.{by_bool}
 use Rattle.hc_registers.specs.Blocks.{LineBlock}
 use Rattle.hc_events.specs.Arrivals.{Arrival, Part}
-use Rattle.hc_events.specs.Entries.{Entry, Record, Came, Wrote}
+use Rattle.hc_events.specs.Entries.{HistoryEntry, History, Came, Wrote}
 use Rattle.hc_events.specs.Points.{next_serial, line_of}
 use Rattle.hc_events.specs.Heads.{Block, Datagram, Head, Item, block_item, is_block, same_item, write_heads}
-use Rattle.hc_events.specs.Answering.{Good, Sending, Stale, Wrong, ends, fits, forgets, has_good, is_answer, is_good, is_outdated, judge, judged, judged_by, only_if, sending_of, sends, starts_over}
+use Rattle.hc_events.specs.Answering.{Good, Sending, Stale, Wrong, ends, fits_sending, forgets, has_good, is_answer, is_good, is_outdated, judge, judged, judged_by, only_if, sending_of, sends, starts_over}
 use Rattle.hc_events.specs.Owed.{block_among, confirms, if_confirmed, known_bytes, last_write, was_confirmed, write_of}
 use Rattle.hc_events.proofs.lemmas.Awaited.{same_is}
 use Rattle.hc_events.proofs.lemmas.Live.{any_found, last-stays, find-is}
@@ -22,7 +22,7 @@ use Rattle.hc_events.specs.Accepted.{AreAccepted}
 
 -- an arrival that is good for a block answers a frame that carries it, and since then neither was the block sent nor the slave forgotten
 
-pub record Confirms (item : Item) (heads : List Head) (since : List Entry) : Type 0 where
+pub record Confirms (item : Item) (heads : List Head) (since : List HistoryEntry) : Type 0 where
   pub carried : list_any (λ head. same_item item head.item) heads ≡ true
   pub write : list_any (λ head. is_block head.item) heads ≡ true
   pub live : is_outdated item since ≡ false
@@ -37,14 +37,14 @@ good_live : (outdated same : Bool) → is_good (cond outdated Stale (cond same G
 good_live true same e = cc
 good_live false same e = refl
 
-more_confirms : (item : Item) (head : Head) (heads : List Head) (since : List Entry) → Confirms item heads since → Confirms item (head ∷ heads) since
+more_confirms : (item : Item) (head : Head) (heads : List Head) (since : List HistoryEntry) → Confirms item heads since → Confirms item (head ∷ heads) since
 more_confirms item head heads since one = record {
   carried = or_right (same_item item head.item) (list_any (λ head. same_item item head.item) heads) one.carried;
   write = or_right (is_block head.item) (list_any (λ head. is_block head.item) heads) one.write;
   live = one.live;
 }
 
-pub confirms-by : (since : List Entry) (station number : ℕ) (heads : List Head) (parts : List Part) → list_any (confirms (Block station number)) (map (judge since) (zip heads parts)) ≡ true → Confirms (Block station number) heads since
+pub confirms-by : (since : List HistoryEntry) (station number : ℕ) (heads : List Head) (parts : List Part) → list_any (confirms (Block station number)) (map (judge since) (zip heads parts)) ≡ true → Confirms (Block station number) heads since
 confirms-by since station number [] parts e = cc
 confirms-by since station number (head ∷ heads) [] e = cc
 confirms-by since station number (head ∷ heads) (part ∷ parts) e =
@@ -65,79 +65,79 @@ heads_named item (block ∷ blocks) = ap (λ b. same_item item (block_item block
 
 -- so its last write is the one that was answered
 
-pub record IsConfirmed (past : Record) (serial station number : ℕ) : Type 0 where
+pub record IsConfirmed (history : History) (serial station number : ℕ) : Type 0 where
   pub block : LineBlock
-  pub last : last_write past station number ≡ Some (write_of serial block)
+  pub last : last_write history station number ≡ Some (write_of serial block)
   pub same : same_item (Block station number) (block_item block) ≡ true
-  pub inside : AreAccepted past → InLine (line_of past) block
+  pub inside : AreAccepted history → InLine (line_of history) block
 
 all_units : (blocks : List LineBlock) → All (λ (other : LineBlock). Unit {0}) blocks
 all_units [] = All-nil (λ (other : LineBlock). Unit {0})
 all_units (block ∷ blocks) = All-cons (λ (other : LineBlock). Unit {0}) block blocks tt (all_units blocks)
 
-found_some : (past : Record) (serial station number : ℕ) (blocks : List LineBlock) (found : Option LineBlock) → found ≡ block_among station number blocks → is_some found ≡ true
-    → last_write past station number ≡ option_or (option_map (write_of serial) found) None → (AreAccepted past → All (InLine (line_of past)) blocks) → IsConfirmed past serial station number
-found_some past serial station number blocks None is some e inside = cc
-found_some past serial station number blocks (Some block) is some e inside = record {
+found_some : (history : History) (serial station number : ℕ) (blocks : List LineBlock) (found : Option LineBlock) → found ≡ block_among station number blocks → is_some found ≡ true
+    → last_write history station number ≡ option_or (option_map (write_of serial) found) None → (AreAccepted history → All (InLine (line_of history)) blocks) → IsConfirmed history serial station number
+found_some history serial station number blocks None is some e inside = cc
+found_some history serial station number blocks (Some block) is some e inside = record {
   block = block;
   last = e;
   same = (find-is (λ other. Unit {0}) (λ other. same_item (Block station number) (block_item other)) blocks block (all_units blocks) (sym is)).1;
-  inside = λ all. (find-is (InLine (line_of past)) (λ other. same_item (Block station number) (block_item other)) blocks block (inside all) (sym is)).0;
+  inside = λ all. (find-is (InLine (line_of history)) (λ other. same_item (Block station number) (block_item other)) blocks block (inside all) (sym is)).0;
 }
 
 some_or : (serial : ℕ) (found : Option LineBlock) (rest : Option (ℕ × List ℕ)) → is_some found ≡ true → option_or (option_map (write_of serial) found) rest ≡ option_or (option_map (write_of serial) found) None
 some_or serial None rest some = cc
 some_or serial (Some block) rest some = refl
 
-last_of : (past : Record) (arrival : Arrival) (sending : Sending) (station number : ℕ) → sending_of past arrival.serial ≡ Some sending → is_answer arrival sending ≡ true
-    → Confirms (Block station number) sending.heads sending.since → IsConfirmed past arrival.serial station number
-last_of past arrival sending station number there answers one =
-    let at = wrote-at past arrival.serial sending there one.write in
+last_of : (history : History) (arrival : Arrival) (sending : Sending) (station number : ℕ) → sending_of history arrival.serial ≡ Some sending → is_answer arrival sending ≡ true
+    → Confirms (Block station number) sending.heads sending.since → IsConfirmed history arrival.serial station number
+last_of history arrival sending station number there answers one =
+    let at = wrote-at history arrival.serial sending there one.write in
     let item = Block station number in
-    let going = not-true (list_any (ends arrival.serial sending.heads) sending.since) (and_parts (fits arrival.serial sending.heads arrival) _ answers).1 in
+    let going = not-true (list_any (ends arrival.serial sending.heads) sending.since) (and_parts (fits_sending arrival.serial sending.heads arrival) _ answers).1 in
     let live = or_parts (list_any (forgets station) sending.since || starts_over sending.since) (list_any (sends item) sending.since) one.live in
-    let kept = or_parts (list_any (forgets station) sending.since) (starts_over sending.since) live.0 in
-    let stays = last-stays sending.since (Wrote at.blocks ∷ at.before) arrival.serial sending.heads station number at.running going kept.0 live.1 in
+    let unchanged = or_parts (list_any (forgets station) sending.since) (starts_over sending.since) live.0 in
+    let stays = last-stays sending.since (Wrote at.blocks ∷ at.before) arrival.serial sending.heads station number at.running going unchanged.0 live.1 in
     let some : is_some (block_among station number at.blocks) ≡ true =
     sym (any_found (λ block. same_item item (block_item block)) at.blocks) ∙ sym (heads_named item at.blocks) ∙ sym (ap (list_any (λ head. same_item item head.item)) at.heads) ∙ one.carried in
     let line = ap line_of at.split ∙ line-stays sending.since (Wrote at.blocks ∷ at.before) arrival.serial sending.heads at.running going in
-    found_some past arrival.serial station number at.blocks (block_among station number at.blocks) refl some
+    found_some history arrival.serial station number at.blocks (block_among station number at.blocks) refl some
     (ap (λ entries. last_write entries station number) at.split ∙ stays
     ∙ some_or (next_serial at.before) (block_among station number at.blocks) (last_write at.before station number) some
     ∙ ap (λ n. option_or (option_map (write_of n) (block_among station number at.blocks)) None) at.serial_is)
     (λ all. subst (λ members. All (InLine members) at.blocks) (sym line) (written-inside at.before at.blocks (accepted-at sending.since at.before (Wrote at.blocks) at.running refl (subst AreAccepted at.split all))))
 
-confirmed_if : (past : Record) (arrival : Arrival) (station number : ℕ) (found : Option Sending) → sending_of past arrival.serial ≡ found
-    → list_any (confirms (Block station number)) (option_map_or (judged arrival) (option_and_then (only_if (is_answer arrival)) found) []) ≡ true → IsConfirmed past arrival.serial station number
-confirmed_if past arrival station number None there e = cc
-confirmed_if past arrival station number (Some sending) there e =
+confirmed_if : (history : History) (arrival : Arrival) (station number : ℕ) (found : Option Sending) → sending_of history arrival.serial ≡ found
+    → list_any (confirms (Block station number)) (option_map_or (judged arrival) (option_and_then (only_if (is_answer arrival)) found) []) ≡ true → IsConfirmed history arrival.serial station number
+confirmed_if history arrival station number None there e = cc
+confirmed_if history arrival station number (Some sending) there e =
     by_bool (is_answer arrival sending)
-    (λ t. last_of past arrival sending station number there t
+    (λ t. last_of history arrival sending station number there t
     (confirms-by sending.since station number sending.heads arrival.parts (sym (ap (λ b. list_any (confirms (Block station number)) (option_map_or (judged arrival) (cond b (Some sending) None) [])) t) ∙ e)))
     (λ t. let never : false ≡ true = sym (ap (λ b. list_any (confirms (Block station number)) (option_map_or (judged arrival) (cond b (Some sending) None) [])) t) ∙ e in cc)
 
-pub confirmed-last : (past : Record) (arrival : Arrival) (station number : ℕ) → list_any (confirms (Block station number)) (judged_by past arrival) ≡ true → IsConfirmed past arrival.serial station number
-confirmed-last past arrival station number e = confirmed_if past arrival station number (sending_of past arrival.serial) refl e
+pub confirmed-last : (history : History) (arrival : Arrival) (station number : ℕ) → list_any (confirms (Block station number)) (judged_by history arrival) ≡ true → IsConfirmed history arrival.serial station number
+confirmed-last history arrival station number e = confirmed_if history arrival station number (sending_of history arrival.serial) refl e
 
--- what is known behind it
+-- what is known after it
 
-pub known-good : (past : Record) (arrival : Arrival) (station number : ℕ) → list_any (confirms (Block station number)) (judged_by past arrival) ≡ true
-    → known_bytes (Came arrival ∷ past) station number ≡ option_map (λ write. write.1) (last_write past station number)
-known-good past arrival station number e =
-    let one = confirmed-last past arrival station number e in
+pub known-good : (history : History) (arrival : Arrival) (station number : ℕ) → list_any (confirms (Block station number)) (judged_by history arrival) ≡ true
+    → known_bytes (Came arrival ∷ history) station number ≡ option_map (λ write. write.1) (last_write history station number)
+known-good history arrival station number e =
+    let one = confirmed-last history arrival station number e in
     let item = Block station number in
-    let confirmed : was_confirmed (Came arrival ∷ past) arrival.serial item ≡ true =
-    or_left ((arrival.serial == arrival.serial) && list_any (confirms item) (judged_by past arrival)) (was_confirmed past arrival.serial item)
-    (ap (λ b. b && list_any (confirms item) (judged_by past arrival)) (same_is arrival.serial) ∙ e) in
-    ap (option_and_then (if_confirmed (Came arrival ∷ past) item)) one.last
+    let confirmed : was_confirmed (Came arrival ∷ history) arrival.serial item ≡ true =
+    or_left ((arrival.serial == arrival.serial) && list_any (confirms item) (judged_by history arrival)) (was_confirmed history arrival.serial item)
+    (ap (λ b. b && list_any (confirms item) (judged_by history arrival)) (same_is arrival.serial) ∙ e) in
+    ap (option_and_then (if_confirmed (Came arrival ∷ history) item)) one.last
     ∙ ap (λ b. cond b (Some one.block.block.bytes) None) confirmed
     ∙ sym (ap (option_map (λ write. write.1)) one.last)
 
-pub known-came : (past : Record) (arrival : Arrival) (station number : ℕ) → known_bytes (Came arrival ∷ past) station number
-    ≡ cond (list_any (confirms (Block station number)) (judged_by past arrival)) (option_map (λ write. write.1) (last_write past station number)) (known_bytes past station number)
-known-came past arrival station number =
-    by_bool (list_any (confirms (Block station number)) (judged_by past arrival))
-    (λ t. known-good past arrival station number t
-    ∙ sym (ap (λ b. cond b (option_map (λ write. write.1) (last_write past station number)) (known_bytes past station number)) t))
-    (λ t. known-same past arrival (Block station number) (last_write past station number) t
-    ∙ sym (ap (λ b. cond b (option_map (λ write. write.1) (last_write past station number)) (known_bytes past station number)) t))
+pub known-came : (history : History) (arrival : Arrival) (station number : ℕ) → known_bytes (Came arrival ∷ history) station number
+    ≡ cond (list_any (confirms (Block station number)) (judged_by history arrival)) (option_map (λ write. write.1) (last_write history station number)) (known_bytes history station number)
+known-came history arrival station number =
+    by_bool (list_any (confirms (Block station number)) (judged_by history arrival))
+    (λ t. known-good history arrival station number t
+    ∙ sym (ap (λ b. cond b (option_map (λ write. write.1) (last_write history station number)) (known_bytes history station number)) t))
+    (λ t. known-same history arrival (Block station number) (last_write history station number) t
+    ∙ sym (ap (λ b. cond b (option_map (λ write. write.1) (last_write history station number)) (known_bytes history station number)) t))

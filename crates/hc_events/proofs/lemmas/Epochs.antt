@@ -2,23 +2,23 @@
 use Rattle.std.proofs.Common.{◌≡◌, ◌+◌, refl, ap, ◌∙◌}
 use Rattle.std.specs.Result.{result_unwrap_or}
 use Rattle.hc_records.specs.Edits.{changed, refused_by}
-use Rattle.hc_events.specs.Entries.{Record, Opened, Edited, Posted, Sent, Wrote, Came, Forgot}
+use Rattle.hc_events.specs.Entries.{History, Opened, Edited, Posted, Sent, Wrote, Came, Forgot}
 use Rattle.hc_events.specs.Points.{epoch_of, state_of}
 use Rattle.hc_events.specs.Accepted.{AreAccepted}
-use Rattle.hc_events.proofs.lemmas.Accepted.{Keeps, held-of_accepted}
+use Rattle.hc_events.proofs.lemmas.Accepted.{StaysTrue, held-of_accepted}
 
-abbrev pub Counted : Record → Type 0
-Counted past = (state_of past).epoch ≡ epoch_of past
+abbrev pub Counted : History → Type 0
+Counted history = (state_of history).epoch ≡ epoch_of history
 
-counted-more : Keeps Counted
-counted-more past (Opened groups) accepted before = absurd accepted
-counted-more past (Edited edit) accepted before =
-    ap (λ fault. (result_unwrap_or (refused_by fault (changed (state_of past) edit)) (state_of past)).epoch) accepted ∙ ap (λ n. n + 1) before
-counted-more past (Posted task bytes) accepted before = before
-counted-more past (Forgot station) accepted before = before
-counted-more past (Sent frame) accepted before = before
-counted-more past (Wrote blocks) accepted before = before
-counted-more past (Came arrival) accepted before = before
+counted-more : StaysTrue Counted
+counted-more history (Opened groups) accepted before = absurd accepted
+counted-more history (Edited edit) accepted before =
+    ap (λ fault. (result_unwrap_or (refused_by fault (changed (state_of history) edit)) (state_of history)).epoch) accepted ∙ ap (λ n. n + 1) before
+counted-more history (Posted task bytes) accepted before = before
+counted-more history (Forgot station) accepted before = before
+counted-more history (Sent frame) accepted before = before
+counted-more history (Wrote blocks) accepted before = before
+counted-more history (Came arrival) accepted before = before
 
-pub epochs-counted : (past : Record) → AreAccepted past → Counted past
-epochs-counted past all = held-of_accepted Counted counted-more (λ groups. refl) past all
+pub epochs-counted : (history : History) → AreAccepted history → Counted history
+epochs-counted history all = held-of_accepted Counted counted-more (λ groups. refl) history all

@@ -89,7 +89,7 @@ both_same : (item : Item) (a b : LineBlock) → same_item item (block_item a) �
 both_same (Datagram task d) a b e f = cc
 both_same (Block station number) a b e f = numbers_same station number a.station a.number b.station b.number e f
 
--- blocks that pass a test, of which one more is looked at
+-- blocks that pass a test; one more is looked at
 
 abbrev with_first : Bool → LineBlock → List LineBlock → List LineBlock
 with_first passes block others = cond passes (block ∷ others) others

@@ -13,16 +13,16 @@ use Rattle.hc_frames.specs.Commands.{code_of}
 use Rattle.hc_events.specs.declared.answer.Answer.TheVariants as answer
 use Rattle.hc_events.specs.declared.answer.Outcome.{Outcome}
 use Rattle.hc_events.specs.Arrivals.{Arrival, Part}
-use Rattle.hc_events.specs.Entries.{Entry, Record, Opened, Edited, Posted, Sent, Wrote, Came, Forgot}
+use Rattle.hc_events.specs.Entries.{HistoryEntry, History, Opened, Edited, Posted, Sent, Wrote, Came, Forgot}
 use Rattle.hc_events.specs.Points.{line_of}
 use Rattle.hc_events.specs.Sendings.{Named}
 use Rattle.hc_events.specs.Heads.{Head, Item, Datagram, Block, is_block, write_heads}
-use Rattle.hc_events.specs.Answering.{Sending, Verdict, Good, Wrong, Stale, answered_by, has_head, has_heads, judge, judged, judged_by, Judged, is_news}
-use Rattle.hc_events.specs.Steps.{told_of, told_of_block, told_of_blocks, outcome_for}
+use Rattle.hc_events.specs.Answering.{Sending, Verdict, Good, Wrong, Stale, answered_by, has_head, has_heads, judge, judged, judged_by, Judged, is_current}
+use Rattle.hc_events.specs.Steps.{judged_answer, write_answer, judged_blocks_answer, outcome_for}
 use Rattle.hc_events.specs.Accepted.{AreAccepted}
 use Rattle.hc_events.specs.SendingLaws.{heads_of, is_sending}
 use Rattle.hc_events.specs.AnswerLaws.{IsHeadOf, IsItemOf}
-use Rattle.hc_events.specs.Names.{HasFewDatagrams, HasItsAddress, IsNamed, named_at}
+use Rattle.hc_events.specs.Names.{HasFewDatagrams, HasItsAddress, IsNamedByAddress, named_at}
 use Rattle.hc_events.proofs.lemmas.Answers.{answered-of_line, answers-first}
 use Rattle.hc_events.proofs.lemmas.OneWrite.{no_blocks}
 
@@ -40,15 +40,15 @@ all_addresses sending (head ∷ heads) (part ∷ parts) e =
     let same = and_parts (has_head head part) _ e in
     All-cons HasItsAddress (judge sending.since (head, part)) (map (judge sending.since) (zip heads parts)) (same_address head part same.0) (all_addresses sending heads parts same.1)
 
-addresses_by : (past : Record) (arrival : Arrival) (found : Option Sending) → answered_by past arrival ≡ found → All HasItsAddress (option_map_or (judged arrival) found [])
-addresses_by past arrival None is = All-nil HasItsAddress
-addresses_by past arrival (Some sending) is =
-    all_addresses sending sending.heads arrival.parts ((answers-first past arrival sending).0 is).fits
+addresses_by : (history : History) (arrival : Arrival) (found : Option Sending) → answered_by history arrival ≡ found → All HasItsAddress (option_map_or (judged arrival) found [])
+addresses_by history arrival None is = All-nil HasItsAddress
+addresses_by history arrival (Some sending) is =
+    all_addresses sending sending.heads arrival.parts ((answers-first history arrival sending).0 is).fits
 
-pub addresses-sent : (past : Record) (arrival : Arrival) → All HasItsAddress (judged_by past arrival)
-addresses-sent past arrival = addresses_by past arrival (answered_by past arrival) refl
+pub addresses-sent : (history : History) (arrival : Arrival) → All HasItsAddress (judged_by history arrival)
+addresses-sent history arrival = addresses_by history arrival (answered_by history arrival) refl
 
--- a logical address tells its task and its number
+-- a logical address gives its task and its number
 
 task_back : (task d : ℕ) → d < 16 → (0x01000000 * (task + 1) + 2048 * d) / 0x01000000 - 1 ≡ task
 task_back task d low = omega (arith, low)
@@ -65,69 +65,69 @@ name_back task d address low is =
 
 -- the datagrams of a frame of tasks
 
-named_item : (line : List Member) (since : List Entry) (head : Head) (part : Part) (item : Item) → HasFewDatagrams line → head.item ≡ item → IsItemOf line item head → is_block item ≡ false
-    → part.address ≡ head.address → IsNamed line (judge since (head, part))
+named_item : (line : List Member) (since : List HistoryEntry) (head : Head) (part : Part) (item : Item) → HasFewDatagrams line → head.item ≡ item → IsItemOf line item head → is_block item ≡ false
+    → part.address ≡ head.address → IsNamedByAddress line (judge since (head, part))
 named_item line since head part (Block station number) few there is plain same = cc
 named_item line since head part (Datagram task d) few there is plain same = record {
   named = (task, d);
-  stands = is.0;
+  is_placed = is.0;
   head = is.1;
   names = name_back task d part.address (few (task, d) is.0) (same ∙ ap (λ (one : Head). one.address) is.1);
 }
 
-all_named : (line : List Member) (since : List Entry) (heads : List Head) (parts : List Part) → HasFewDatagrams line → All (IsHeadOf line) heads
-    → list_any (λ head. is_block head.item) heads ≡ false → has_heads heads parts ≡ true → All (IsNamed line) (map (judge since) (zip heads parts))
-all_named line since [] parts few are plain fit = All-nil (IsNamed line)
+all_named : (line : List Member) (since : List HistoryEntry) (heads : List Head) (parts : List Part) → HasFewDatagrams line → All (IsHeadOf line) heads
+    → list_any (λ head. is_block head.item) heads ≡ false → has_heads heads parts ≡ true → All (IsNamedByAddress line) (map (judge since) (zip heads parts))
+all_named line since [] parts few are plain fit = All-nil (IsNamedByAddress line)
 all_named line since (head ∷ heads) [] few are plain fit = cc
 all_named line since (head ∷ heads) (part ∷ parts) few are plain fit =
     let same = and_parts (has_head head part) _ fit in
     let none = or_parts (is_block head.item) (list_any (λ one. is_block one.item) heads) plain in
-    All-cons (IsNamed line) (judge since (head, part)) (map (judge since) (zip heads parts))
+    All-cons (IsNamedByAddress line) (judge since (head, part)) (map (judge since) (zip heads parts))
     (named_item line since head part head.item few refl (All-head (IsHeadOf line) head heads are) none.0 (same_address head part same.0))
     (all_named line since heads parts few (All-tail (IsHeadOf line) head heads are) none.1 same.1)
 
 -- what is answered datagram by datagram is no register write
 
-not_answered : (one : Verdict) (outcomes : List Outcome) → told_of_block one ≡ answer.Answered outcomes → ⊥
+not_answered : (one : Verdict) (outcomes : List Outcome) → write_answer one ≡ answer.Answered outcomes → ⊥
 not_answered Good outcomes e = cc
 not_answered Wrong outcomes e = cc
 not_answered Stale outcomes e = cc
 
-not_written : (news : Bool) (written outcomes : List Outcome) → cond news (answer.Written written) answer.Stale ≡ answer.Answered outcomes → ⊥
+not_written : (updates : Bool) (written outcomes : List Outcome) → cond updates (answer.Written written) answer.Stale ≡ answer.Answered outcomes → ⊥
 not_written true written outcomes e = cc
 not_written false written outcomes e = cc
 
-never_blocks : (datagrams : List Judged) (outcomes : List Outcome) → told_of_blocks datagrams ≡ answer.Answered outcomes → ⊥
+never_blocks : (datagrams : List Judged) (outcomes : List Outcome) → judged_blocks_answer datagrams ≡ answer.Answered outcomes → ⊥
 never_blocks [] outcomes e = cc
 never_blocks (datagram ∷ []) outcomes e = not_answered datagram.verdict outcomes e
 never_blocks (datagram ∷ next ∷ datagrams) outcomes e =
-    not_written (list_any is_news (datagram ∷ next ∷ datagrams)) (map outcome_for (datagram ∷ next ∷ datagrams)) outcomes e
+    not_written (list_any is_current (datagram ∷ next ∷ datagrams)) (map outcome_for (datagram ∷ next ∷ datagrams)) outcomes e
 
-never_write : (since : List Entry) (blocks : List LineBlock) (parts : List Part) (outcomes : List Outcome) → told_of (map (judge since) (zip (write_heads blocks) parts)) ≡ answer.Answered outcomes → ⊥
+never_write : (since : List HistoryEntry) (blocks : List LineBlock) (parts : List Part) (outcomes : List Outcome) → judged_answer (map (judge since) (zip (write_heads blocks) parts)) ≡ answer.Answered outcomes → ⊥
 never_write since [] parts outcomes e = cc
 never_write since (block ∷ blocks) [] outcomes e = cc
 never_write since (block ∷ blocks) (part ∷ parts) outcomes e = never_blocks (map (judge since) (zip (write_heads (block ∷ blocks)) (part ∷ parts))) outcomes e
 
-plain_by : (before : Record) (entry : Entry) (since : List Entry) (heads : List Head) (parts : List Part) (outcomes : List Outcome) → is_sending entry ≡ true → heads ≡ heads_of before entry
-    → told_of (map (judge since) (zip heads parts)) ≡ answer.Answered outcomes → list_any (λ head. is_block head.item) heads ≡ false
-plain_by before (Opened groups) since heads parts outcomes sends is told = cc
-plain_by before (Edited edit) since heads parts outcomes sends is told = cc
-plain_by before (Posted task bytes) since heads parts outcomes sends is told = cc
-plain_by before (Forgot station) since heads parts outcomes sends is told = cc
-plain_by before (Came arrival) since heads parts outcomes sends is told = cc
-plain_by before (Sent frame) since heads parts outcomes sends is told = ap (list_any (λ (head : Head). is_block head.item)) is ∙ no_blocks (line_of before) frame
-plain_by before (Wrote blocks) since heads parts outcomes sends is told =
-    absurd (never_write since blocks parts outcomes (sym (ap (λ all. told_of (map (judge since) (zip all parts))) is) ∙ told))
+plain_by : (before : History) (entry : HistoryEntry) (since : List HistoryEntry) (heads : List Head) (parts : List Part) (outcomes : List Outcome) → is_sending entry ≡ true → heads ≡ heads_of before entry
+    → judged_answer (map (judge since) (zip heads parts)) ≡ answer.Answered outcomes → list_any (λ head. is_block head.item) heads ≡ false
+plain_by before (Opened groups) since heads parts outcomes sends is answer_given = cc
+plain_by before (Edited edit) since heads parts outcomes sends is answer_given = cc
+plain_by before (Posted task bytes) since heads parts outcomes sends is answer_given = cc
+plain_by before (Forgot station) since heads parts outcomes sends is answer_given = cc
+plain_by before (Came arrival) since heads parts outcomes sends is answer_given = cc
+plain_by before (Sent frame) since heads parts outcomes sends is answer_given = ap (list_any (λ (head : Head). is_block head.item)) is ∙ no_blocks (line_of before) frame
+plain_by before (Wrote blocks) since heads parts outcomes sends is answer_given =
+    absurd (never_write since blocks parts outcomes (sym (ap (λ all. judged_answer (map (judge since) (zip all parts))) is) ∙ answer_given))
 
-named_by_answer : (past : Record) (arrival : Arrival) (outcomes : List Outcome) (found : Option Sending) → AreAccepted past → HasFewDatagrams (line_of past) → answered_by past arrival ≡ found
-    → told_of (option_map_or (judged arrival) found []) ≡ answer.Answered outcomes → All (IsNamed (line_of past)) (option_map_or (judged arrival) found [])
-named_by_answer past arrival outcomes None all few is told = All-nil (IsNamed (line_of past))
-named_by_answer past arrival outcomes (Some sending) all few is told =
-    let first = (answers-first past arrival sending).0 is in
-    let at = first.stands in
-    all_named (line_of past) sending.since sending.heads arrival.parts few (answered-of_line past arrival sending all is)
-    (plain_by at.before at.entry sending.since sending.heads arrival.parts outcomes at.sends at.heads told) first.fits
+named_by_answer : (history : History) (arrival : Arrival) (outcomes : List Outcome) (found : Option Sending) → AreAccepted history → HasFewDatagrams (line_of history) → answered_by history arrival ≡ found
+    → judged_answer (option_map_or (judged arrival) found []) ≡ answer.Answered outcomes → All (IsNamedByAddress (line_of history)) (option_map_or (judged arrival) found [])
+named_by_answer history arrival outcomes None all few is answer_given = All-nil (IsNamedByAddress (line_of history))
+named_by_answer history arrival outcomes (Some sending) all few is answer_given =
+    let first = (answers-first history arrival sending).0 is in
+    let at = first.is_placed in
+    all_named (line_of history) sending.since sending.heads arrival.parts few (answered-of_line history arrival sending all is)
+    (plain_by at.before at.entry sending.since sending.heads arrival.parts outcomes at.sends at.heads answer_given) first.fits
 
-pub answered-named : (past : Record) (arrival : Arrival) (outcomes : List Outcome) → AreAccepted past → HasFewDatagrams (line_of past)
-    → told_of (judged_by past arrival) ≡ answer.Answered outcomes → All (IsNamed (line_of past)) (judged_by past arrival)
-answered-named past arrival outcomes all few told = named_by_answer past arrival outcomes (answered_by past arrival) all few refl told
+pub answered-named : (history : History) (arrival : Arrival) (outcomes : List Outcome) → AreAccepted history → HasFewDatagrams (line_of history)
+    → judged_answer (judged_by history arrival) ≡ answer.Answered outcomes → All (IsNamedByAddress (line_of history)) (judged_by history arrival)
+answered-named history arrival outcomes all few answer_given = named_by_answer history arrival outcomes (answered_by history arrival) all few refl answer_given

@@ -10,7 +10,7 @@ use Rattle.hc_records.specs.declared.edit.Edit.{Edit}
 use Rattle.hc_records.specs.Line.{Member, is_at}
 use Rattle.hc_records.proofs.lemmas.Choices.{by_bool, member-by}
 use Rattle.hc_registers.specs.Blocks.{LineBlock, RegisterBlock, line_blocks, member_blocks, numbered, same_block, same_bytes, slave_blocks}
-use Rattle.hc_events.specs.Entries.{Record, Edited}
+use Rattle.hc_events.specs.Entries.{History, Edited}
 use Rattle.hc_events.specs.Points.{line_of}
 use Rattle.hc_events.specs.Owed.{if_confirmed, is_in_line, is_owed, last_write}
 use Rattle.hc_events.proofs.lemmas.Once.{and_left}
@@ -43,7 +43,7 @@ of_line line (member ∷ members) block e =
     (λ t. let never : true ≡ false = sym (of_slave block member.slave.station 0 (slave_blocks line member) t) ∙ other in cc)
     (λ t. of_line line members block (any_joined (same_block block) (member_blocks line member) (flat_map (member_blocks line) members) e t)))
 
-pub unmoved-is_owed : (past : Record) (edit : Edit) (block : LineBlock) → list_any (same_block block) (line_blocks (line_of past)) ≡ true → is_owed (Edited edit ∷ past) block ≡ is_owed past block
-unmoved-is_owed past edit block e =
-    let there : is_in_line past block.station ≡ true = of_line (line_of past) (line_of past) block e in
-    ap (λ b. not (option_map_or (bytes_eq block.block.bytes) (option_and_then (if_confirmed past (block_item block)) (cond b (last_write past block.station block.number) None)) false)) there
+pub unmoved-is_owed : (history : History) (edit : Edit) (block : LineBlock) → list_any (same_block block) (line_blocks (line_of history)) ≡ true → is_owed (Edited edit ∷ history) block ≡ is_owed history block
+unmoved-is_owed history edit block e =
+    let there : is_in_line history block.station ≡ true = of_line (line_of history) (line_of history) block e in
+    ap (λ b. not (option_map_or (bytes_eq block.block.bytes) (option_and_then (if_confirmed history (block_item block)) (cond b (last_write history block.station block.number) None)) false)) there

@@ -9,10 +9,10 @@ use Rattle.hc_bits.specs.Bits.{bit_of}
 use Rattle.hc_bits.proofs.lemmas.Bits.{bit_of-lt, bit_at-number_of}
 use Rattle.hc_records.specs.Line.{Member}
 use Rattle.hc_records.specs.Image.{VariablePlace, variable_place}
-use Rattle.hc_events.specs.Entries.{Record, Opened, Edited, Posted, Sent, Wrote, Came, Forgot}
+use Rattle.hc_events.specs.Entries.{History, Opened, Edited, Posted, Sent, Wrote, Came, Forgot}
 use Rattle.hc_events.specs.Points.{line_of}
-use Rattle.hc_events.specs.Sendings.{length_of}
-use Rattle.hc_events.specs.Outputs.{byte_of, bytes_of, has_bit, image_bit, is_posted, outputs_in, posted_bit, sent_bit, sent_data, value_bit}
+use Rattle.hc_events.specs.Sendings.{line_data_length}
+use Rattle.hc_events.specs.Outputs.{byte_of, bytes_of_bits, has_bit, image_bit, is_posted, outputs_in, posted_bit, sent_bit, sent_data, value_bit}
 
 -- each bit is 0 or 1
 
@@ -28,24 +28,24 @@ posted_small line task bytes k (Some found) before small =
 zero_small : 0 < 2
 zero_small = omega arith
 
-value_small : (past : Record) (variable k : ℕ) → value_bit past variable k < 2
+value_small : (history : History) (variable k : ℕ) → value_bit history variable k < 2
 value_small [] variable k = zero_small
-value_small (Opened groups ∷ past) variable k = zero_small
-value_small (Edited edit ∷ past) variable k =
-    chosen_small (is_some (variable_place variable (line_of past))) (value_bit past variable k) 0 (value_small past variable k) zero_small
-value_small (Posted task bytes ∷ past) variable k =
-    posted_small (line_of past) task bytes k (variable_place variable (line_of past)) (value_bit past variable k) (value_small past variable k)
-value_small (Forgot station ∷ past) variable k = value_small past variable k
-value_small (Sent frame ∷ past) variable k = value_small past variable k
-value_small (Wrote blocks ∷ past) variable k = value_small past variable k
-value_small (Came arrival ∷ past) variable k = value_small past variable k
+value_small (Opened groups ∷ history) variable k = zero_small
+value_small (Edited edit ∷ history) variable k =
+    chosen_small (is_some (variable_place variable (line_of history))) (value_bit history variable k) 0 (value_small history variable k) zero_small
+value_small (Posted task bytes ∷ history) variable k =
+    posted_small (line_of history) task bytes k (variable_place variable (line_of history)) (value_bit history variable k) (value_small history variable k)
+value_small (Forgot station ∷ history) variable k = value_small history variable k
+value_small (Sent frame ∷ history) variable k = value_small history variable k
+value_small (Wrote blocks ∷ history) variable k = value_small history variable k
+value_small (Came arrival ∷ history) variable k = value_small history variable k
 
-found_small : (past : Record) (k : ℕ) (found : Option (ℕ × VariablePlace)) → option_map_or (λ pair. value_bit past pair.0 (k - pair.1.bit)) found 0 < 2
-found_small past k None = zero_small
-found_small past k (Some pair) = value_small past pair.0 (k - pair.1.bit)
+found_small : (history : History) (k : ℕ) (found : Option (ℕ × VariablePlace)) → option_map_or (λ pair. value_bit history pair.0 (k - pair.1.bit)) found 0 < 2
+found_small history k None = zero_small
+found_small history k (Some pair) = value_small history pair.0 (k - pair.1.bit)
 
-sent_small : (past : Record) (outputs : List (ℕ × VariablePlace)) (k : ℕ) → sent_bit past outputs k < 2
-sent_small past outputs k = found_small past k (find (has_bit k) outputs)
+sent_small : (history : History) (outputs : List (ℕ × VariablePlace)) (k : ℕ) → sent_bit history outputs k < 2
+sent_small history outputs k = found_small history k (find (has_bit k) outputs)
 
 -- the bits of bytes that are made of bits
 
@@ -59,7 +59,7 @@ byte_bit bit small n i below =
     bit_at-number_of (map (λ k. bit (8 * n + k)) (range_with_len 0 8)) i (eight_small bit small n 0 8)
     ∙ get_or-map-range_with_len (λ k. bit (8 * n + k)) 0 8 i i 0 below (omega arith)
 
-made_bit : (bit : ℕ → ℕ) → ((k : ℕ) → bit k < 2) → (size k : ℕ) → k < 8 * size → bit_of (bytes_of bit size) k ≡ bit k
+made_bit : (bit : ℕ → ℕ) → ((k : ℕ) → bit k < 2) → (size k : ℕ) → k < 8 * size → bit_of (bytes_of_bits bit size) k ≡ bit k
 unfolding bit_of
 made_bit bit small size k below =
     let inside : k / 8 < size = omega arith in
@@ -70,15 +70,15 @@ made_bit bit small size k below =
     ∙ ap bit whole
 
 -- the bytes that are made of sent bits
-pub record HasBits (past : Record) (task d : ℕ) (bytes : List ℕ) : Type 0 where
-  pub size : length bytes ≡ length_of (line_of past) (task, d)
-  pub bits : (k : ℕ) → k < 8 * length_of (line_of past) (task, d) → bit_of bytes k ≡ sent_bit past (outputs_in (line_of past) task d) k
+pub record HasBits (history : History) (task d : ℕ) (bytes : List ℕ) : Type 0 where
+  pub size : length bytes ≡ line_data_length (line_of history) (task, d)
+  pub bits : (k : ℕ) → k < 8 * line_data_length (line_of history) (task, d) → bit_of bytes k ≡ sent_bit history (outputs_in (line_of history) task d) k
 
-pub sent-data : (past : Record) (task d : ℕ) → HasBits past task d (sent_data past task d)
-sent-data past task d =
-    let outputs = outputs_in (line_of past) task d in
-    let size = length_of (line_of past) (task, d) in
+pub sent-data : (history : History) (task d : ℕ) → HasBits history task d (sent_data history task d)
+sent-data history task d =
+    let outputs = outputs_in (line_of history) task d in
+    let size = line_data_length (line_of history) (task, d) in
     record {
-      size = length-map-range_with_len (byte_of (sent_bit past outputs)) 0 size;
-      bits = λ k below. made_bit (sent_bit past outputs) (sent_small past outputs) size k below;
+      size = length-map-range_with_len (byte_of (sent_bit history outputs)) 0 size;
+      bits = λ k below. made_bit (sent_bit history outputs) (sent_small history outputs) size k below;
     }

@@ -6,14 +6,14 @@ use Rattle.std.proofs.lemmas.Bool.{eqb-true, and_from, and_parts, eq-eqb}
 use Rattle.std.proofs.lemmas.List.Elements.{All-contains}
 use Rattle.std.proofs.lemmas.List.Sums.{sum_by-cons}
 use Rattle.std.proofs.lemmas.Grind.{common_steps}
-use Rattle.hc_records.specs.AddressLaws.{IsDatagram}
+use Rattle.hc_records.specs.AddressLaws.{LineHasDatagram}
 use Rattle.hc_records.specs.declared.keys.Key.{Key}
 use Rattle.hc_records.specs.declared.limits.TheConstants.{TASKS}
 use Rattle.hc_records.specs.declared.records.Area.{Area}
 use Rattle.hc_records.specs.declared.records.Dir.{Dir}
 use Rattle.hc_records.specs.declared.records.Dir.TheVariants.{Out, In}
 use Rattle.hc_records.specs.Area.{width}
-use Rattle.hc_records.specs.Image.{counter_share, datagram_length, inside, is_of, logical_address, task_places}
+use Rattle.hc_records.specs.Image.{counter_share, datagram_length, inside, area_is_of, logical_address, task_places}
 use Rattle.hc_records.specs.Keys.{same_dir}
 use Rattle.hc_records.specs.Line.{Member, State, line}
 use Rattle.hc_records.specs.Packing.{Placed}
@@ -27,33 +27,33 @@ use Rattle.hc_records.proofs.lemmas.Parts.{EndsInDatagram, ends-in-datagram}
 use Rattle.hc_records.proofs.lemmas.VariablePlaces.{same_dir-same}
 use Rattle.hc_registers.specs.declared.fmmu.Mapping.{Mapping}
 use Rattle.hc_registers.specs.Blocks.{mapping_at}
-use Rattle.hc_machine.specs.Laws.{IsRead, IsWritten}
+use Rattle.hc_machine.specs.Laws.{IsRead, IsPairedForWriting}
 use Rattle.hc_machine.specs.Logical.{logical_count}
-use Rattle.hc_machine.proofs.lemmas.Logical.{counts-tell}
+use Rattle.hc_machine.proofs.lemmas.Logical.{counts-say}
 use Rattle.hc_exchange.specs.PairLaws.{IsConfigurable}
-use Rattle.hc_exchange.specs.Pairs.{key_of}
+use Rattle.hc_exchange.specs.Pairs.{member_area_key}
 use Rattle.hc_exchange.specs.Writing.{IsProgrammed}
 use Rattle.hc_plan.proofs.lemmas.AreaKeys.{HasArea, one-key, one-rank, placed-areas}
-use Rattle.hc_plan.proofs.lemmas.Elements.{contains-kept, contains-mapped, contains-unkept, contains-unmapped, some-passes, which-passes}
+use Rattle.hc_plan.proofs.lemmas.Elements.{contains-unchanged, contains-mapped, contains-unkept, contains-unmapped, some-passes, which-passes}
 use Rattle.hc_exchange.proofs.lemmas.Listed.{areas-mapped}
-use Rattle.hc_exchange.proofs.lemmas.Members.{IsGoodPlace, area-inside, keeps-line, one-station}
-use Rattle.hc_exchange.proofs.lemmas.Places.{logical-told, mapped-place, place-widths}
+use Rattle.hc_exchange.proofs.lemmas.Members.{IsGoodPlace, area-inside, stays-line, one-station}
+use Rattle.hc_exchange.proofs.lemmas.Places.{logical-answer_given, mapped-place, place-widths}
 use Rattle.hc_exchange.specs.Carrying.{CarriesPair, count_through}
 use Rattle.hc_exchange.specs.FrameLaws.{CountersAreExpected}
-use Rattle.hc_exchange.proofs.lemmas.Lines.{Stands, all-stand}
+use Rattle.hc_exchange.proofs.lemmas.Lines.{IsPlaced, all-are_placed}
 use Rattle.hc_exchange.proofs.lemmas.Slaves.{carried-reads, carried-writes, reads-carried, writes-carried}
 
--- an area of the line that has a bit in the datagram tells that its slave counts there
+-- an area of the line that has a bit in the datagram says that its slave counts there
 
-in-datagram : (state : State) (task datagram : ℕ) (member : Member) (dir : Dir) (bit m : ℕ) → IsConfigurable state → IsDatagram (line state) task datagram → Contains (line state) member
+in-datagram : (state : State) (task datagram : ℕ) (member : Member) (dir : Dir) (bit m : ℕ) → IsConfigurable state → LineHasDatagram (line state) task datagram → Contains (line state) member
     → bit < 8 * datagram_length (task_places task (line state)) datagram → CarriesPair (line state) dir member.slave.station (8 * logical_address task datagram + bit) m
-    → list_any (is_of member.rank dir) (map (λ (area : Placed). area.key) (inside datagram (task_places task (line state)))) ≡ true
+    → list_any (area_is_of member.rank dir) (map (λ (area : Placed). area.key) (inside datagram (task_places task (line state)))) ≡ true
 in-datagram state task datagram member dir bit m can is has low carries =
     let members = line state in
-    let keeps = keeps-line state can in
+    let stays = stays-line state can in
     let pairs = carries.areas in
     let own = pairs.is_mapped in
-    let place = mapped-place members pairs.member pairs.index pairs.area pairs.mapping keeps own.in_line own.in_record own.mapped in
+    let place = mapped-place members pairs.member pairs.index pairs.area pairs.mapping stays own.in_line own.in_record own.mapped in
     let p = place.placed in
     let count = uncrowded-few members task can.uncrowded is.in_task in
     let counted = is.counted in
@@ -64,15 +64,15 @@ in-datagram state task datagram member dir bit m can is has low carries =
     let few' : pairs.pair.k < p.bits = omega (arith, pairs.pair.below, place.bits) in
     let logical : 8 * logical_address task datagram + bit ≡ 8 * (16777216 * (pairs.area.task + 1) + 2048 * p.datagram) + p.bit + pairs.pair.k =
     subst (λ (mapping : Mapping). 8 * logical_address task datagram + bit ≡ 8 * mapping.address + mapping.bit + pairs.pair.k) (sym place.is) pairs.pair.logical in
-    let told =
-    logical-told task datagram 0 11888 bit pairs.area.task p.datagram p.bit p.bits pairs.pair.k early place.good.early short place.good.inside few few' (first-bit (8 * logical_address task datagram) bit _ logical) in
-    let there : Contains (task_places task members) p = subst (λ (t : ℕ). Contains (task_places t members) p) (sym told.0) place.in_task in
-    let kept = contains-kept (λ (area : Placed). area.datagram == datagram) (task_places task members) p there (eq-eqb p.datagram datagram (sym told.1)) in
-    let keyed = contains-mapped (λ (area : Placed). area.key) (inside datagram (task_places task members)) p kept in
-    let one : pairs.member ≡ member = one-station members pairs.member member keeps own.in_line has pairs.station_is in
+    let answer_given =
+    logical-answer_given task datagram 0 11888 bit pairs.area.task p.datagram p.bit p.bits pairs.pair.k early place.good.early short place.good.inside few few' (first-bit (8 * logical_address task datagram) bit _ logical) in
+    let there : Contains (task_places task members) p = subst (λ (t : ℕ). Contains (task_places t members) p) (sym answer_given.0) place.in_task in
+    let unchanged = contains-unchanged (λ (area : Placed). area.datagram == datagram) (task_places task members) p there (eq-eqb p.datagram datagram (sym answer_given.1)) in
+    let keyed = contains-mapped (λ (area : Placed). area.key) (inside datagram (task_places task members)) p unchanged in
+    let one : pairs.member ≡ member = one-station members pairs.member member stays own.in_line has pairs.station_is in
     let rank : p.key.rank ≡ member.rank = ap (λ (key : Key). key.rank) place.key ∙ ap (λ (slave : Member). slave.rank) one in
     let way : same_dir p.key.dir dir ≡ true = ap₂ same_dir (ap (λ (key : Key). key.dir) place.key ∙ carries.direction) refl ∙ same_dir-refl dir in
-    some-passes (is_of member.rank dir) (map (λ (area : Placed). area.key) (inside datagram (task_places task members))) p.key keyed
+    some-passes (area_is_of member.rank dir) (map (λ (area : Placed). area.key) (inside datagram (task_places task members))) p.key keyed
     (and_from (p.key.rank == member.rank) (same_dir p.key.dir dir) (eq-eqb p.key.rank member.rank rank) way)
   where
     first-bit : (a bit b : ℕ) → a + bit ≡ b → a + 0 + bit ≡ b
@@ -88,29 +88,29 @@ record HasBit (line : List Member) (dir : Dir) (station from bits : ℕ) : Type 
   carries : CarriesPair line dir station (from + bit) m
 
 has-bit : (state : State) (task datagram : ℕ) (member : Member) (dir : Dir) → IsConfigurable state → Contains (line state) member
-    → list_any (is_of member.rank dir) (map (λ (area : Placed). area.key) (inside datagram (task_places task (line state)))) ≡ true
+    → list_any (area_is_of member.rank dir) (map (λ (area : Placed). area.key) (inside datagram (task_places task (line state)))) ≡ true
     → HasBit (line state) dir member.slave.station (8 * logical_address task datagram) (8 * datagram_length (task_places task (line state)) datagram)
 has-bit state task datagram member dir can has some =
     let members = line state in
-    let keeps = keeps-line state can in
+    let stays = stays-line state can in
     let places = task_places task members in
-    let key = which-passes (is_of member.rank dir) (map (λ (area : Placed). area.key) (inside datagram places)) some in
+    let key = which-passes (area_is_of member.rank dir) (map (λ (area : Placed). area.key) (inside datagram places)) some in
     let placed = contains-unmapped (λ (area : Placed). area.key) (inside datagram places) key.0 key.1 in
     let p = placed.0 in
-    let kept = contains-unkept (λ (area : Placed). area.datagram == datagram) places p placed.1 in
+    let unchanged = contains-unkept (λ (area : Placed). area.datagram == datagram) places p placed.1 in
     let tests = and_parts (key.0.rank == member.rank) (same_dir key.0.dir dir) key.2 in
-    let source : HasArea members task (area_of p) = All-contains (λ (x : Placed). HasArea members task (area_of x)) places p (placed-areas members task) kept.0 in
+    let source : HasArea members task (area_of p) = All-contains (λ (x : Placed). HasArea members task (area_of x)) places p (placed-areas members task) unchanged.0 in
     let area = source.area in
-    let own_key : key_of source.member source.index area ≡ key.0 = sym source.key ∙ placed.2 in
-    let one : source.member ≡ member = one-rank members source.member member keeps.ranks source.in_line has (ap (λ (k : Key). k.rank) own_key ∙ eqb-true key.0.rank member.rank tests.0) in
+    let own_key : member_area_key source.member source.index area ≡ key.0 = sym source.key ∙ placed.2 in
+    let one : source.member ≡ member = one-rank members source.member member stays.ranks source.in_line has (ap (λ (k : Key). k.rank) own_key ∙ eqb-true key.0.rank member.rank tests.0) in
     let way : area.dir ≡ dir = ap (λ (k : Key). k.dir) own_key ∙ same_dir-same key.0.dir dir tests.1 in
     elim (areas-mapped state source.member source.index area can source.in_line source.found) [
       | inl mapped ↦
           let in_place = mapped.1 in
           let q = in_place.placed in
           let there : Contains places q = subst (λ (t : ℕ). Contains (task_places t members) q) source.task_is in_place.in_task in
-          let equal : p ≡ q = one-key state task p q kept.0 there (source.key ∙ sym in_place.key) in
-          let datagram_is : q.datagram ≡ datagram = ap (λ (x : Placed). x.datagram) (sym equal) ∙ eqb-true p.datagram datagram kept.1 in
+          let equal : p ≡ q = one-key state task p q unchanged.0 there (source.key ∙ sym in_place.key) in
+          let datagram_is : q.datagram ≡ datagram = ap (λ (x : Placed). x.datagram) (sym equal) ∙ eqb-true p.datagram datagram unchanged.1 in
           let bits : q.bits ≡ width area = in_place.bits in
           let some_bits = mapped.0 in
           let ends : q.bit + q.bits ≤ 8 * datagram_length places q.datagram = All-contains (EndsInDatagram places) places q (ends-in-datagram places) there in
@@ -133,8 +133,8 @@ has-bit state task datagram member dir can has some =
             };
           }
       | inr none ↦
-          let good = All-contains IsGoodPlace places p (keeps.places task (subst (λ (t : ℕ). t < TASKS) source.task_is (area-inside members source.member source.index area keeps source.in_line source.found).task)) kept.0 in
-          absurd (place-no members source.member source.index area p task none.0 (All-contains (λ (x : Placed). x.key ≡ key_of source.member source.index area → x.bits ≡ width area) places p (place-widths members source.member source.index area task keeps source.in_line source.found) kept.0 source.key) good)
+          let good = All-contains IsGoodPlace places p (stays.places task (subst (λ (t : ℕ). t < TASKS) source.task_is (area-inside members source.member source.index area stays source.in_line source.found).task)) unchanged.0 in
+          absurd (place-no members source.member source.index area p task none.0 (All-contains (λ (x : Placed). x.key ≡ member_area_key source.member source.index area → x.bits ≡ width area) places p (place-widths members source.member source.index area task stays source.in_line source.found) unchanged.0 source.key) good)
     ]
   where
     address-bit : (t task d datagram bit : ℕ) → t ≡ task → d ≡ datagram → 8 * logical_address task datagram + bit ≡ 8 * logical_address t d + bit + 0
@@ -143,49 +143,49 @@ has-bit state task datagram member dir can has some =
     place-no : (members : List Member) (member : Member) (index : ℕ) (area : Area) (p : Placed) (task : ℕ) → width area ≡ 0 → p.bits ≡ width area → IsGoodPlace p → ⊥
     place-no members member index area p task none bits good = let some = good.some in omega arith
 
--- so each slave counts as its areas in the datagram tell
+-- so each slave counts as its areas in the datagram give
 
 share-by : (one r : ℕ) (b : Bool) (P : Type 0) → ((r ≡ one) × P) ⊎ ((r ≡ 0) × (¬ P)) → (P → b ≡ true) → (b ≡ true → P) → r ≡ (if b then one else 0)
 share-by one r b P h4 to from = grind (arith, common_steps)
 
-slave-counts : (state : State) (task datagram : ℕ) (member : Member) (memory : List ℕ) → IsConfigurable state → IsDatagram (line state) task datagram → Contains (line state) member
+slave-counts : (state : State) (task datagram : ℕ) (member : Member) (memory : List ℕ) → IsConfigurable state → LineHasDatagram (line state) task datagram → Contains (line state) member
     → IsProgrammed (line state) member memory
     → logical_count memory (8 * logical_address task datagram) (datagram_length (task_places task (line state)) datagram)
     ≡ counter_share (map (λ (area : Placed). area.key) (inside datagram (task_places task (line state)))) member.rank
 slave-counts state task datagram member memory can is has programmed =
     let members = line state in
-    let keeps = keeps-line state can in
+    let stays = stays-line state can in
     let from = 8 * logical_address task datagram in
     let n = datagram_length (task_places task members) datagram in
     let keys = map (λ (area : Placed). area.key) (inside datagram (task_places task members)) in
-    let told = counts-tell memory from n in
-    let read : told.0 ≡ (if list_any (is_of member.rank In) keys then 1 else 0) =
-    share-by 1 told.0 (list_any (is_of member.rank In) keys) (IsRead memory from n) told.3
-    (λ reads. in-datagram state task datagram member In reads.1 reads.2 can is has reads.4 (reads-carried members member memory reads.0 (from + reads.1) reads.2 keeps has programmed reads.3 reads.5))
+    let answer_given = counts-say memory from n in
+    let read : answer_given.0 ≡ (if list_any (area_is_of member.rank In) keys then 1 else 0) =
+    share-by 1 answer_given.0 (list_any (area_is_of member.rank In) keys) (IsRead memory from n) answer_given.3
+    (λ reads. in-datagram state task datagram member In reads.1 reads.2 can is has reads.4 (reads-carried members member memory reads.0 (from + reads.1) reads.2 stays has programmed reads.3 reads.5))
     (λ some.
     let bit = has-bit state task datagram member In can has some in
-    let serves = carried-reads members member memory (from + bit.bit) bit.m keeps has programmed bit.carries in
+    let serves = carried-reads members member memory (from + bit.bit) bit.m stays has programmed bit.carries in
     (serves.fmmu, bit.bit, bit.m, serves.below, bit.below, (serves.turned, serves.pair))) in
-    let written : told.1 ≡ (if list_any (is_of member.rank Out) keys then 2 else 0) =
-    share-by 2 told.1 (list_any (is_of member.rank Out) keys) (IsWritten memory from n) told.4
-    (λ writes. in-datagram state task datagram member Out writes.1 writes.2 can is has writes.4 (writes-carried members member memory writes.0 (from + writes.1) writes.2 keeps has programmed writes.3 writes.5))
+    let written : answer_given.1 ≡ (if list_any (area_is_of member.rank Out) keys then 2 else 0) =
+    share-by 2 answer_given.1 (list_any (area_is_of member.rank Out) keys) (IsPairedForWriting memory from n) answer_given.4
+    (λ writes. in-datagram state task datagram member Out writes.1 writes.2 can is has writes.4 (writes-carried members member memory writes.0 (from + writes.1) writes.2 stays has programmed writes.3 writes.5))
     (λ some.
     let bit = has-bit state task datagram member Out can has some in
-    let serves = carried-writes members member memory (from + bit.bit) bit.m keeps has programmed bit.carries in
+    let serves = carried-writes members member memory (from + bit.bit) bit.m stays has programmed bit.carries in
     (serves.fmmu, bit.bit, bit.m, serves.below, bit.below, (serves.turned, serves.pair))) in
-    told.2 ∙ ap₂ (λ (a b : ℕ). a + b) read written ∙ turned (if list_any (is_of member.rank In) keys then 1 else 0) (if list_any (is_of member.rank Out) keys then 2 else 0)
+    answer_given.2 ∙ ap₂ (λ (a b : ℕ). a + b) read written ∙ turned (if list_any (area_is_of member.rank In) keys then 1 else 0) (if list_any (area_is_of member.rank Out) keys then 2 else 0)
   where
     turned : (a b : ℕ) → a + b ≡ b + a
     turned a b = omega arith
 
 all-count : (line members : List Member) (machines : List (List ℕ)) (from n : ℕ) (keys : List Key)
-    → ((member : Member) (memory : List ℕ) → Stands line member memory → logical_count memory from n ≡ counter_share keys member.rank)
-    → AllZip (Stands line) members machines → count_through machines from n ≡ sum_by (counter_share keys) (map (λ (member : Member). member.rank) members)
-all-count line [] [] from n keys each stand = refl
-all-count line [] (memory ∷ machines) from n keys each stand = absurd stand
-all-count line (member ∷ members) [] from n keys each stand = absurd stand
-all-count line (member ∷ members) (memory ∷ machines) from n keys each stand =
-    ap₂ (λ (a b : ℕ). a + b) (each member memory stand.0) (all-count line members machines from n keys each stand.1)
+    → ((member : Member) (memory : List ℕ) → IsPlaced line member memory → logical_count memory from n ≡ counter_share keys member.rank)
+    → AllZip (IsPlaced line) members machines → count_through machines from n ≡ sum_by (counter_share keys) (map (λ (member : Member). member.rank) members)
+all-count line [] [] from n keys each are_placed = refl
+all-count line [] (memory ∷ machines) from n keys each are_placed = absurd are_placed
+all-count line (member ∷ members) [] from n keys each are_placed = absurd are_placed
+all-count line (member ∷ members) (memory ∷ machines) from n keys each are_placed =
+    ap₂ (λ (a b : ℕ). a + b) (each member memory are_placed.0) (all-count line members machines from n keys each are_placed.1)
     ∙ sym (sum_by-cons (counter_share keys) member.rank (map (λ (m : Member). m.rank) members))
 
 pub counts-expected : CountersAreExpected
@@ -193,5 +193,5 @@ counts-expected state machines task datagram can are is =
     let members = line state in
     all-count members members machines (8 * logical_address task datagram) (datagram_length (task_places task members) datagram)
     (map (λ (area : Placed). area.key) (inside datagram (task_places task members)))
-    (λ member memory stands. slave-counts state task datagram member memory can is stands.in_line stands.ready.programmed)
-    (all-stand members machines are)
+    (λ member memory is_placed. slave-counts state task datagram member memory can is is_placed.in_line is_placed.ready.programmed)
+    (all-are_placed members machines are)

@@ -32,7 +32,7 @@ fields area mapping phys fits =
       activate = refl;
     }
 
--- the first bit of a block, the one behind its last, and its first memory bit, by the fields
+-- the first bit of a block, the one after its last, and its first memory bit, by the fields
 
 first-bit : (address bit start low : ℕ) → start ≡ address + bit / 8 → low ≡ bit % 8 → 8 * start + low % 8 ≡ 8 * address + bit
 first-bit address bit start low is is_low = omega arith
@@ -88,8 +88,8 @@ block-pairs area mapping x m inside fits =
     end-bit mapping.address mapping.bit bits (long_at block 0) (word_at block 4) (slice_index block 7) some read.logical_start_address read.length read.logical_stop_bit in
     let memory = memory-bit area.phys (word_at block 8) (slice_index block 10) read.physical_start_address read.physical_start_bit in (
       λ pair.
-          let told = read-pair block (8 * mapping.address + mapping.bit) bits (8 * area.phys) x m first end memory pair in
-          record { k = x - (8 * mapping.address + mapping.bit); below = told.0; logical = told.1; memory = told.2 },
+          let answer_given = read-pair block (8 * mapping.address + mapping.bit) bits (8 * area.phys) x m first end memory pair in
+          record { k = x - (8 * mapping.address + mapping.bit); below = answer_given.0; logical = answer_given.1; memory = answer_given.2 },
       λ pair.
           made-pair block (8 * mapping.address + mapping.bit) bits (8 * area.phys) x m pair.k first end memory refl within pair.below pair.logical pair.memory,
     )

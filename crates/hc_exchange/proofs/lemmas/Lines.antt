@@ -10,17 +10,17 @@ use Rattle.hc_records.specs.Line.{Member, line}
 use Rattle.hc_records.proofs.lemmas.Lists.{AllPairs-head, AllPairs-tail}
 use Rattle.hc_records.proofs.lemmas.Choices.{contains-first, contains-later}
 use Rattle.hc_machine.specs.Logical.{logical_data, logical_memory}
-use Rattle.hc_exchange.proofs.lemmas.Members.{KeepsLine, keeps-line, one-station}
-use Rattle.hc_exchange.specs.Carrying.{AreProgrammed, CarriesPair, IsReady, data_through, memories_behind}
+use Rattle.hc_exchange.proofs.lemmas.Members.{KeepsLine, stays-line, one-station}
+use Rattle.hc_exchange.specs.Carrying.{AreProgrammed, CarriesPair, IsReadyMachine, data_through, memories_after}
 use Rattle.hc_exchange.specs.CarryingLaws.{InputsAreBroughtBack, LinesStayProgrammed, OtherBitsComeBack, OtherMemoryStays, OutputsArrive}
 use Rattle.hc_machine.proofs.lemmas.Memories.{length-data}
-use Rattle.hc_exchange.proofs.lemmas.Slaves.{bit-arrived, bit-brought, bit-kept, bit-left, no-two-ways, one-carrier, stays-ready}
+use Rattle.hc_exchange.proofs.lemmas.Slaves.{bit-arrived, bit-brought, bit-unchanged, bit-left, no-two-ways, one-carrier, stays-ready}
 
 -- slaves of a line and their machines, one by one
 
-pub record Stands (line : List Member) (member : Member) (memory : List ℕ) : Type 0 where
+pub record IsPlaced (line : List Member) (member : Member) (memory : List ℕ) : Type 0 where
   pub in_line : Contains line member
-  pub ready : IsReady line member memory
+  pub ready : IsReadyMachine line member memory
 
 zip-from : (R : Member → List ℕ → Type 0) (members : List Member) (machines : List (List ℕ)) → length machines ≡ length members
     → ((k : ℕ) (member : Member) (memory : List ℕ) → slice_get members k ≡ Some member → slice_get machines k ≡ Some memory → R member memory) → AllZip R members machines
@@ -29,9 +29,9 @@ zip-from R [] (y ∷ ys) same each = absurd (omega arith)
 zip-from R (x ∷ xs) [] same each = absurd (omega arith)
 zip-from R (x ∷ xs) (y ∷ ys) same each = (each 0 x y refl refl, zip-from R xs ys (omega arith) (λ k member memory is is'. each (suc k) member memory is is'))
 
-pub all-stand : (line : List Member) (machines : List (List ℕ)) → AreProgrammed line machines → AllZip (Stands line) line machines
-all-stand line machines are =
-    zip-from (Stands line) line machines are.count
+pub all-are_placed : (line : List Member) (machines : List (List ℕ)) → AreProgrammed line machines → AllZip (IsPlaced line) line machines
+all-are_placed line machines are =
+    zip-from (IsPlaced line) line machines are.count
     (λ k member memory is is'. record { in_line = (k, slice_get_within line k member is, get_or_from_slice_get line k member member is); ready = are.each k member memory is is' })
 
 -- the size of the data
@@ -47,124 +47,124 @@ same-low memory bytes from bit low = omega (arith, length-data memory bytes from
 abbrev ReadsNone : List Member → ℕ → Member → Type 0
 ReadsNone line x member = (m : ℕ) → ¬ (CarriesPair line In member.slave.station x m)
 
-left-through : (line : List Member) (members : List Member) (machines : List (List ℕ)) (from bit : ℕ) (bytes : List ℕ) → KeepsLine line → AllZip (Stands line) members machines
+left-through : (line : List Member) (members : List Member) (machines : List (List ℕ)) (from bit : ℕ) (bytes : List ℕ) → KeepsLine line → AllZip (IsPlaced line) members machines
     → bit < 8 * length bytes → ((member : Member) → Contains line member → Contains members member → ReadsNone line (from + bit) member)
     → bit_of (data_through machines from bytes) bit ≡ bit_of bytes bit
-left-through line [] [] from bit bytes keeps stand low none = refl
-left-through line [] (memory ∷ machines) from bit bytes keeps stand low none = absurd stand
-left-through line (member ∷ members) [] from bit bytes keeps stand low none = absurd stand
-left-through line (member ∷ members) (memory ∷ machines) from bit bytes keeps stand low none =
-    let first = stand.0 in
-    left-through line members machines from bit (logical_data memory from bytes) keeps stand.1 (same-low memory bytes from bit low)
+left-through line [] [] from bit bytes stays are_placed low none = refl
+left-through line [] (memory ∷ machines) from bit bytes stays are_placed low none = absurd are_placed
+left-through line (member ∷ members) [] from bit bytes stays are_placed low none = absurd are_placed
+left-through line (member ∷ members) (memory ∷ machines) from bit bytes stays are_placed low none =
+    let first = are_placed.0 in
+    left-through line members machines from bit (logical_data memory from bytes) stays are_placed.1 (same-low memory bytes from bit low)
     (λ other has within. none other has (contains-later member other members within))
-    ∙ bit-left line member memory bytes from bit keeps first.in_line first.ready.programmed low (none member first.in_line (contains-first member members))
+    ∙ bit-left line member memory bytes from bit stays first.in_line first.ready.programmed low (none member first.in_line (contains-first member members))
 
 -- one that a slave reads is that slave's
 brought-through : (line : List Member) (members : List Member) (machines : List (List ℕ)) (k : ℕ) (member : Member) (memory : List ℕ) (from bit m : ℕ) (bytes : List ℕ) → KeepsLine line
-    → AllZip (Stands line) members machines → AllPairs (λ a b. a.rank < b.rank) members → slice_get members k ≡ Some member → slice_get machines k ≡ Some memory
+    → AllZip (IsPlaced line) members machines → AllPairs (λ a b. a.rank < b.rank) members → slice_get members k ≡ Some member → slice_get machines k ≡ Some memory
     → bit < 8 * length bytes → CarriesPair line In member.slave.station (from + bit) m → bit_of (data_through machines from bytes) bit ≡ bit_of memory m
-brought-through line [] machines k member memory from bit m bytes keeps stand ranks is is' low input = cc
-brought-through line (first ∷ members) [] k member memory from bit m bytes keeps stand ranks is is' low input = cc
-brought-through line (first ∷ members) (own ∷ machines) zero member memory from bit m bytes keeps stand ranks is is' low input =
+brought-through line [] machines k member memory from bit m bytes stays are_placed ranks is is' low input = cc
+brought-through line (first ∷ members) [] k member memory from bit m bytes stays are_placed ranks is is' low input = cc
+brought-through line (first ∷ members) (own ∷ machines) zero member memory from bit m bytes stays are_placed ranks is is' low input =
     let one : first ≡ member = cc in
     let same : own ≡ memory = cc in
-    let has = stand.0.in_line in
+    let has = are_placed.0.in_line in
     let here : CarriesPair line In first.slave.station (from + bit) m = subst (λ (slave : Member). CarriesPair line In slave.slave.station (from + bit) m) (sym one) input in
-    left-through line members machines from bit (logical_data own from bytes) keeps stand.1 (same-low own bytes from bit low)
+    left-through line members machines from bit (logical_data own from bytes) stays are_placed.1 (same-low own bytes from bit low)
     (λ other in_line within n reads.
-    let stations = (one-carrier line first.slave.station other.slave.station (from + bit) m n keeps here.areas reads.areas).0 in
-    let equal : first ≡ other = one-station line first other keeps has in_line stations in
+    let stations = (one-carrier line first.slave.station other.slave.station (from + bit) m n stays here.areas reads.areas).0 in
+    let equal : first ≡ other = one-station line first other stays has in_line stations in
     let lower : first.rank < other.rank = All-contains (λ (b : Member). first.rank < b.rank) members other (AllPairs-head (λ (a b : Member). a.rank < b.rank) first members ranks) within in
     let ranks_same : first.rank ≡ other.rank = ap (λ (slave : Member). slave.rank) equal in
     omega arith)
-    ∙ bit-brought line first own bytes from bit m keeps has stand.0.ready.programmed low here ∙ ap (λ (xs : List ℕ). bit_of xs m) same
-brought-through line (first ∷ members) (own ∷ machines) (suc k) member memory from bit m bytes keeps stand ranks is is' low input =
-    brought-through line members machines k member memory from bit m (logical_data own from bytes) keeps stand.1 (AllPairs-tail (λ a b. a.rank < b.rank) first members ranks) is is'
+    ∙ bit-brought line first own bytes from bit m stays has are_placed.0.ready.programmed low here ∙ ap (λ (xs : List ℕ). bit_of xs m) same
+brought-through line (first ∷ members) (own ∷ machines) (suc k) member memory from bit m bytes stays are_placed ranks is is' low input =
+    brought-through line members machines k member memory from bit m (logical_data own from bytes) stays are_placed.1 (AllPairs-tail (λ a b. a.rank < b.rank) first members ranks) is is'
     (same-low own bytes from bit low) input
 
 -- an output's bit reaches its slave as it was sent
 arrived-through : (line : List Member) (members : List Member) (machines : List (List ℕ)) (k : ℕ) (member : Member) (memory' : List ℕ) (from bit m : ℕ) (bytes : List ℕ) → KeepsLine line
-    → AllZip (Stands line) members machines → slice_get members k ≡ Some member → slice_get (memories_behind machines from bytes) k ≡ Some memory'
+    → AllZip (IsPlaced line) members machines → slice_get members k ≡ Some member → slice_get (memories_after machines from bytes) k ≡ Some memory'
     → bit < 8 * length bytes → CarriesPair line Out member.slave.station (from + bit) m → bit_of memory' m ≡ bit_of bytes bit
-arrived-through line [] machines k member memory' from bit m bytes keeps stand is is' low output = cc
-arrived-through line (first ∷ members) [] k member memory' from bit m bytes keeps stand is is' low output = cc
-arrived-through line (first ∷ members) (own ∷ machines) zero member memory' from bit m bytes keeps stand is is' low output =
+arrived-through line [] machines k member memory' from bit m bytes stays are_placed is is' low output = cc
+arrived-through line (first ∷ members) [] k member memory' from bit m bytes stays are_placed is is' low output = cc
+arrived-through line (first ∷ members) (own ∷ machines) zero member memory' from bit m bytes stays are_placed is is' low output =
     let one : first ≡ member = cc in
     let same : logical_memory own from bytes ≡ memory' = cc in
     let here : CarriesPair line Out first.slave.station (from + bit) m = subst (λ (slave : Member). CarriesPair line Out slave.slave.station (from + bit) m) (sym one) output in
-    ap (λ (xs : List ℕ). bit_of xs m) (sym same) ∙ bit-arrived line first own bytes from bit m keeps stand.0.in_line stand.0.ready.programmed low here
-arrived-through line (first ∷ members) (own ∷ machines) (suc k) member memory' from bit m bytes keeps stand is is' low output =
-    arrived-through line members machines k member memory' from bit m (logical_data own from bytes) keeps stand.1 is is' (same-low own bytes from bit low) output
-    ∙ bit-left line first own bytes from bit keeps stand.0.in_line stand.0.ready.programmed low
-    (λ n input. no-two-ways line member.slave.station first.slave.station (from + bit) m n keeps output input)
+    ap (λ (xs : List ℕ). bit_of xs m) (sym same) ∙ bit-arrived line first own bytes from bit m stays are_placed.0.in_line are_placed.0.ready.programmed low here
+arrived-through line (first ∷ members) (own ∷ machines) (suc k) member memory' from bit m bytes stays are_placed is is' low output =
+    arrived-through line members machines k member memory' from bit m (logical_data own from bytes) stays are_placed.1 is is' (same-low own bytes from bit low) output
+    ∙ bit-left line first own bytes from bit stays are_placed.0.in_line are_placed.0.ready.programmed low
+    (λ n input. no-two-ways line member.slave.station first.slave.station (from + bit) m n stays output input)
 
 -- and the rest of its memory stays
-kept-through : (line : List Member) (members : List Member) (machines : List (List ℕ)) (k : ℕ) (member : Member) (memory memory' : List ℕ) (from m : ℕ) (bytes : List ℕ) → KeepsLine line
-    → AllZip (Stands line) members machines → slice_get members k ≡ Some member → slice_get machines k ≡ Some memory → slice_get (memories_behind machines from bytes) k ≡ Some memory'
+unchanged-through : (line : List Member) (members : List Member) (machines : List (List ℕ)) (k : ℕ) (member : Member) (memory memory' : List ℕ) (from m : ℕ) (bytes : List ℕ) → KeepsLine line
+    → AllZip (IsPlaced line) members machines → slice_get members k ≡ Some member → slice_get machines k ≡ Some memory → slice_get (memories_after machines from bytes) k ≡ Some memory'
     → m < 98304 → ((bit : ℕ) → bit < 8 * length bytes → ¬ (CarriesPair line Out member.slave.station (from + bit) m)) → bit_of memory' m ≡ bit_of memory m
-kept-through line [] machines k member memory memory' from m bytes keeps stand is own_is is' low none = cc
-kept-through line (first ∷ members) [] k member memory memory' from m bytes keeps stand is own_is is' low none = cc
-kept-through line (first ∷ members) (own ∷ machines) zero member memory memory' from m bytes keeps stand is own_is is' low none =
+unchanged-through line [] machines k member memory memory' from m bytes stays are_placed is own_is is' low none = cc
+unchanged-through line (first ∷ members) [] k member memory memory' from m bytes stays are_placed is own_is is' low none = cc
+unchanged-through line (first ∷ members) (own ∷ machines) zero member memory memory' from m bytes stays are_placed is own_is is' low none =
     let one : first ≡ member = cc in
     let own_same : own ≡ memory = cc in
     let same : logical_memory own from bytes ≡ memory' = cc in
     ap (λ (xs : List ℕ). bit_of xs m) (sym same)
-    ∙ bit-kept line first own bytes from m keeps stand.0.in_line stand.0.ready.programmed low
+    ∙ bit-unchanged line first own bytes from m stays are_placed.0.in_line are_placed.0.ready.programmed low
     (λ bit inside output. none bit inside (subst (λ (slave : Member). CarriesPair line Out slave.slave.station (from + bit) m) one output))
     ∙ ap (λ (xs : List ℕ). bit_of xs m) own_same
-kept-through line (first ∷ members) (own ∷ machines) (suc k) member memory memory' from m bytes keeps stand is own_is is' low none =
-    kept-through line members machines k member memory memory' from m (logical_data own from bytes) keeps stand.1 is own_is is' low
+unchanged-through line (first ∷ members) (own ∷ machines) (suc k) member memory memory' from m bytes stays are_placed is own_is is' low none =
+    unchanged-through line members machines k member memory memory' from m (logical_data own from bytes) stays are_placed.1 is own_is is' low
     (λ bit inside. none bit (omega (arith, inside, length-data own bytes from)))
 
 ready-through : (line : List Member) (members : List Member) (machines : List (List ℕ)) (k : ℕ) (member : Member) (memory' : List ℕ) (from : ℕ) (bytes : List ℕ) → KeepsLine line
-    → AllZip (Stands line) members machines → slice_get members k ≡ Some member → slice_get (memories_behind machines from bytes) k ≡ Some memory' → IsReady line member memory'
-ready-through line [] machines k member memory' from bytes keeps stand is is' = cc
-ready-through line (first ∷ members) [] k member memory' from bytes keeps stand is is' = cc
-ready-through line (first ∷ members) (own ∷ machines) zero member memory' from bytes keeps stand is is' =
+    → AllZip (IsPlaced line) members machines → slice_get members k ≡ Some member → slice_get (memories_after machines from bytes) k ≡ Some memory' → IsReadyMachine line member memory'
+ready-through line [] machines k member memory' from bytes stays are_placed is is' = cc
+ready-through line (first ∷ members) [] k member memory' from bytes stays are_placed is is' = cc
+ready-through line (first ∷ members) (own ∷ machines) zero member memory' from bytes stays are_placed is is' =
     let one : first ≡ member = cc in
     let same : logical_memory own from bytes ≡ memory' = cc in
-    subst (λ (slave : Member). IsReady line slave memory') one
-    (subst (IsReady line first) same (stays-ready line first own bytes from keeps stand.0.in_line stand.0.ready))
-ready-through line (first ∷ members) (own ∷ machines) (suc k) member memory' from bytes keeps stand is is' =
-    ready-through line members machines k member memory' from (logical_data own from bytes) keeps stand.1 is is'
+    subst (λ (slave : Member). IsReadyMachine line slave memory') one
+    (subst (IsReadyMachine line first) same (stays-ready line first own bytes from stays are_placed.0.in_line are_placed.0.ready))
+ready-through line (first ∷ members) (own ∷ machines) (suc k) member memory' from bytes stays are_placed is is' =
+    ready-through line members machines k member memory' from (logical_data own from bytes) stays are_placed.1 is is'
 
-pub length-behind : (machines : List (List ℕ)) (from : ℕ) (bytes : List ℕ) → length (memories_behind machines from bytes) ≡ length machines
-length-behind [] from bytes = refl
-length-behind (memory ∷ machines) from bytes = ap suc (length-behind machines from (logical_data memory from bytes))
+pub length-after_it : (machines : List (List ℕ)) (from : ℕ) (bytes : List ℕ) → length (memories_after machines from bytes) ≡ length machines
+length-after_it [] from bytes = refl
+length-after_it (memory ∷ machines) from bytes = ap suc (length-after_it machines from (logical_data memory from bytes))
 
 -- the laws
 
 pub inputs-brought : InputsAreBroughtBack
 inputs-brought state machines k member memory bytes from bit m meets low input =
     let members = line state in
-    let keeps = keeps-line state meets.configurable in
-    brought-through members members machines k member memory from bit m bytes keeps (all-stand members machines meets.programmed) keeps.ranks meets.member_is meets.memory_is low input
+    let stays = stays-line state meets.configurable in
+    brought-through members members machines k member memory from bit m bytes stays (all-are_placed members machines meets.programmed) stays.ranks meets.member_is meets.memory_is low input
 
 pub others-back : OtherBitsComeBack
 others-back state machines bytes from bit can are low none =
     let members = line state in
-    left-through members members machines from bit bytes (keeps-line state can) (all-stand members machines are) low (λ member has within m. none member.slave.station m)
+    left-through members members machines from bit bytes (stays-line state can) (all-are_placed members machines are) low (λ member has within m. none member.slave.station m)
 
 pub outputs-arrive : OutputsArrive
 outputs-arrive state machines k member memory memory' bytes from bit m meets is low output =
     let members = line state in
-    let keeps = keeps-line state meets.configurable in
-    arrived-through members members machines k member memory' from bit m bytes keeps (all-stand members machines meets.programmed) meets.member_is is low output
+    let stays = stays-line state meets.configurable in
+    arrived-through members members machines k member memory' from bit m bytes stays (all-are_placed members machines meets.programmed) meets.member_is is low output
 
 pub others-stay : OtherMemoryStays
 others-stay state machines k member memory memory' bytes from m meets is low none =
     let members = line state in
-    let keeps = keeps-line state meets.configurable in
-    kept-through members members machines k member memory memory' from m bytes keeps (all-stand members machines meets.programmed) meets.member_is meets.memory_is is low none
+    let stays = stays-line state meets.configurable in
+    unchanged-through members members machines k member memory memory' from m bytes stays (all-are_placed members machines meets.programmed) meets.member_is meets.memory_is is low none
 
 pub line-stays : LinesStayProgrammed
 line-stays state machines bytes from can are =
     let members = line state in
-    let keeps = keeps-line state can in
+    let stays = stays-line state can in
     record {
       size = length-through machines from bytes;
       programmed = record {
-        count = length-behind machines from bytes ∙ are.count;
-        each = λ k member memory is is'. ready-through members members machines k member memory from bytes keeps (all-stand members machines are) is is';
+        count = length-after_it machines from bytes ∙ are.count;
+        each = λ k member memory is is'. ready-through members members machines k member memory from bytes stays (all-are_placed members machines are) is is';
       };
     }

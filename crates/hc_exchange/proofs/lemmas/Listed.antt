@@ -1,4 +1,4 @@
--- An area that has a bit stands in its task's list, and so it is mapped.
+-- An area that has a bit is in its task's list, and so it is mapped.
 use Rattle.std.proofs.Common.{◌≡◌, ℕ, ◌+◌, ◌<◌, ◌⊎◌, ◌∙◌, inl, inr, true, false, List, refl, sym, ap, subst, arith}
 use Rattle.std.specs.Prelude.{Contains, None, Option, Some, filter, find, map, option_map, slice_get, nat_lt, ◌==◌, ◌&&◌}
 use Rattle.std.specs.List.{enumerate_from, flat_map}
@@ -22,9 +22,9 @@ use Rattle.hc_records.proofs.lemmas.Tasks.{listed}
 use Rattle.hc_registers.specs.declared.fmmu.Mapping.{Mapping}
 use Rattle.hc_registers.specs.Blocks.{mapping_at, mapping_of}
 use Rattle.hc_exchange.specs.PairLaws.{AreasWithBitsAreMapped, IsMappedInPlace}
-use Rattle.hc_exchange.specs.Pairs.{key_of}
-use Rattle.hc_plan.proofs.lemmas.Elements.{contains-joined, contains-kept, contains-mapped, contains-numbered, contains-unmapped}
-use Rattle.hc_exchange.proofs.lemmas.Members.{KeepsLine, keeps-line}
+use Rattle.hc_exchange.specs.Pairs.{member_area_key}
+use Rattle.hc_plan.proofs.lemmas.Elements.{contains-joined, contains-unchanged, contains-mapped, contains-numbered, contains-unmapped}
+use Rattle.hc_exchange.proofs.lemmas.Members.{KeepsLine, stays-line}
 use Rattle.hc_exchange.proofs.lemmas.Places.{mapped-place}
 
 own-task : (task bits : ℕ) → 0 < bits → ((task == task) ≡ true) × (nat_lt 0 bits ≡ true)
@@ -40,14 +40,14 @@ one-way task line Out l has = Contains-append_left (flat_map (slave_areas task O
 one-way task line In l has = Contains-append_right (flat_map (slave_areas task Out) line) (flat_map (slave_areas task In) line) l has
 
 in-list : (line : List Member) (member : Member) (index : ℕ) (area : Area) → Contains line member → slice_get member.slave.areas index ≡ Some area → 0 < width area
-    → Contains (task_list area.task line) (key_of member index area, width area)
+    → Contains (task_list area.task line) (member_area_key member index area, width area)
 in-list line member index area has own some =
     let numbered = enumerate_from 0 member.slave.areas in
     let number : 0 + index ≡ index = omega arith in
     let element : Contains numbered (index, area) = subst (λ (n : ℕ). Contains numbered (n, area)) number (contains-numbered 0 index member.slave.areas area own) in
     let test = λ (e : ℕ × Area). belongs area.task area.dir e.1 in
-    let kept = contains-kept test numbered (index, area) element (belongs-own area some) in
-    let one : Contains (slave_areas area.task area.dir member) (listed area.dir member.rank (index, area)) = contains-mapped (listed area.dir member.rank) (filter test numbered) (index, area) kept in
+    let unchanged = contains-unchanged test numbered (index, area) element (belongs-own area some) in
+    let one : Contains (slave_areas area.task area.dir member) (listed area.dir member.rank (index, area)) = contains-mapped (listed area.dir member.rank) (filter test numbered) (index, area) unchanged in
     let all = contains-joined (slave_areas area.task area.dir) line member (listed area.dir member.rank (index, area)) has one in
     contains-mapped keyed (task_areas area.task line) (listed area.dir member.rank (index, area)) (one-way area.task line area.dir (listed area.dir member.rank (index, area)) all)
 
@@ -57,9 +57,9 @@ none-found f (Some x) none = cc
 
 -- where an area has a bit, something is found under its key
 is-found : (line : List Member) (member : Member) (index : ℕ) (area : Area) → Contains line member → slice_get member.slave.areas index ≡ Some area → 0 < width area
-    → mapping_of line area.task (key_of member index area) ≡ None → ⊥
+    → mapping_of line area.task (member_area_key member index area) ≡ None → ⊥
 is-found line member index area has own some none =
-    let key = key_of member index area in
+    let key = member_area_key member index area in
     let places = task_places area.task line in
     let test = λ (p : Placed). same_key p.key key in
     let listed_so : Contains (map area_of places) (key, width area) =
@@ -72,22 +72,22 @@ is-found line member index area has own some none =
     cc
 
 pub areas-mapped : AreasWithBitsAreMapped
-areas-mapped state member index area can has own = by (mapping_of members area.task (key_of member index area)) refl
+areas-mapped state member index area can has own = by (mapping_of members area.task (member_area_key member index area)) refl
   where
     members : List Member
     members = line state
 
-    keeps : KeepsLine members
-    keeps = keeps-line state can
+    stays : KeepsLine members
+    stays = stays-line state can
 
-    by : (o : Option Mapping) → mapping_of members area.task (key_of member index area) ≡ o
-        → ((0 < width area) × IsMappedInPlace members member index area) ⊎ ((width area ≡ 0) × (mapping_of members area.task (key_of member index area) ≡ None))
+    by : (o : Option Mapping) → mapping_of members area.task (member_area_key member index area) ≡ o
+        → ((0 < width area) × IsMappedInPlace members member index area) ⊎ ((width area ≡ 0) × (mapping_of members area.task (member_area_key member index area) ≡ None))
     by None none = elim (cases_lt 0 (width area)) [
       | inl some ↦ absurd (is-found members member index area has own some none)
       | inr all ↦ inr (omega arith, none)
     ]
     by (Some mapping) mapped =
-        let place = mapped-place members member index area mapping keeps has own mapped in
+        let place = mapped-place members member index area mapping stays has own mapped in
         let some : 0 < place.placed.bits = place.good.some in
         inl (
           omega (arith, some, place.bits),

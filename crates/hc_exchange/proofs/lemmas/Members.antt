@@ -47,17 +47,17 @@ good-places state task can low k d within =
     let places = packed opening list in
     let packable : All IsPackable list = project-packable state task can.project in
     let count = uncrowded-few members task can.uncrowded low in
-    let behind : (slice_index_or places k d).datagram + 1 ≤ datagram_count places = greatest-all (λ (placed : Placed). placed.datagram + 1) 0 places k d within in
+    let after_it : (slice_index_or places k d).datagram + 1 ≤ datagram_count places = greatest-all (λ (placed : Placed). placed.datagram + 1) 0 places k d within in
     let own : IsPackable (area_of (slice_index_or places k d)) =
     All-unmap IsPackable area_of places (subst (All IsPackable) (sym (packed-areas opening list)) packable) k d within in
     record {
       some = own.some;
       inside = packed-inside opening list packable k d within;
-      early = omega (arith, behind, count);
+      early = omega (arith, after_it, count);
     }
 
-pub keeps-line : (state : State) → IsConfigurable state → KeepsLine (line state)
-keeps-line state can = record {
+pub stays-line : (state : State) → IsConfigurable state → KeepsLine (line state)
+stays-line state can = record {
   slaves = line-inside state.groups can.project;
   widths = line-slaves (λ slave. All HoldsItsWidth slave.areas) 1 state.groups (each-group (λ slave. All HoldsItsWidth slave.areas) state.groups (reaches-hold (groups_of state.groups) can.project));
   ranks = line-ascends 1 state.groups;
@@ -68,8 +68,8 @@ keeps-line state can = record {
 -- a station address names one slave of the line
 
 pub one-station : (line : List Member) (a b : Member) → KeepsLine line → Contains line a → Contains line b → a.slave.station ≡ b.slave.station → a ≡ b
-one-station line a b keeps has has' same =
-    elim (contains-order (λ (x y : Member). x.slave.station ≢ y.slave.station) line a b keeps.stations has has') [
+one-station line a b stays has has' same =
+    elim (contains-order (λ (x y : Member). x.slave.station ≢ y.slave.station) line a b stays.stations has has') [
       | inl one ↦ one
       | inr (inl differ) ↦ absurd (differ same)
       | inr (inr differ) ↦ absurd (differ (sym same))
@@ -78,17 +78,17 @@ one-station line a b keeps has has' same =
 -- the areas of a slave of the line
 
 pub slave-of : (line : List Member) (member : Member) → KeepsLine line → Contains line member → IsSlaveInside member.slave
-slave-of line member keeps has = All-contains (λ (m : Member). IsSlaveInside m.slave) line member keeps.slaves has
+slave-of line member stays has = All-contains (λ (m : Member). IsSlaveInside m.slave) line member stays.slaves has
 
 area-at : (P : Area → Type 0) (areas : List Area) (index : ℕ) (area : Area) → All P areas → slice_get areas index ≡ Some area → P area
 area-at P areas index area all found = subst P (get_or_from_slice_get areas index area area found) (all index area (slice_get_within areas index area found))
 
 pub area-inside : (line : List Member) (member : Member) (index : ℕ) (area : Area) → KeepsLine line → Contains line member → slice_get member.slave.areas index ≡ Some area → IsAreaInside area
-area-inside line member index area keeps has found = area-at IsAreaInside member.slave.areas index area (slave-of line member keeps has).areas found
+area-inside line member index area stays has found = area-at IsAreaInside member.slave.areas index area (slave-of line member stays has).areas found
 
 pub area-width : (line : List Member) (member : Member) (index : ℕ) (area : Area) → KeepsLine line → Contains line member → slice_get member.slave.areas index ≡ Some area → width area ≤ 8 * reach area
-area-width line member index area keeps has found =
-    area-at HoldsItsWidth member.slave.areas index area (All-contains (λ (m : Member). All HoldsItsWidth m.slave.areas) line member keeps.widths has) found
+area-width line member index area stays has found =
+    area-at HoldsItsWidth member.slave.areas index area (All-contains (λ (m : Member). All HoldsItsWidth m.slave.areas) line member stays.widths has) found
 
 -- a memory bit of an area lies in a byte that the area may take
 byte-of : (phys bits bytes m k : ℕ) → bits ≤ 8 * bytes → k < bits → m ≡ 8 * phys + k → (phys ≤ m / 8) × (m / 8 < phys + bytes)
@@ -102,11 +102,11 @@ bit-reached area m k holds below is =
 -- so a memory bit names one area of a slave of the line
 pub one-index : (line : List Member) (member : Member) (i j : ℕ) (a b : Area) (m k l : ℕ) → KeepsLine line → Contains line member
     → slice_get member.slave.areas i ≡ Some a → slice_get member.slave.areas j ≡ Some b → k < width a → m ≡ 8 * a.phys + k → l < width b → m ≡ 8 * b.phys + l → i ≡ j
-one-index line member i j a b m k l keeps has found found' below is below' is' =
+one-index line member i j a b m k l stays has found found' below is below' is' =
     let areas = member.slave.areas in
-    let first = bit-reached a m k (area-width line member i a keeps has found) below is in
-    let second = bit-reached b m l (area-width line member j b keeps has found') below' is' in
-    let apart = (slave-of line member keeps has).apart in
+    let first = bit-reached a m k (area-width line member i a stays has found) below is in
+    let second = bit-reached b m l (area-width line member j b stays has found') below' is' in
+    let apart = (slave-of line member stays has).apart in
     let at_i = get_or_from_slice_get areas i a a found in
     let at_j = get_or_from_slice_get areas j b a found' in
     elim (cases_order i j) [
@@ -117,6 +117,6 @@ one-index line member i j a b m k l keeps has found found' below is below' is' =
           subst (λ (y : Area). KeepApart b y) at_i (subst (λ (x : Area). KeepApart x (slice_index_or areas i a)) at_j (apart j i a higher (slice_get_within areas i a found))) (m / 8) second first)
     ]
 
--- the memory of an area ends by that of its slave
+-- an area ends within its slave's memory
 pub area-in-memory : (area : Area) → IsAreaInside area → width area ≤ 8 * reach area → 8 * area.phys + width area ≤ 98304
 area-in-memory area inside holds = let end : area.phys + reach area ≤ 12288 = inside.end in omega arith

@@ -13,7 +13,7 @@ use Rattle.hc_records.specs.Keys.{same_key}
 use Rattle.hc_records.specs.Line.{Member}
 use Rattle.hc_records.specs.Packing.{Placed, opening, packed}
 use Rattle.hc_records.specs.TaskList.{Keyed, task_list}
-use Rattle.hc_records.proofs.lemmas.Disjoint.{StandsBefore, packed-apart}
+use Rattle.hc_records.proofs.lemmas.Disjoint.{LiesBefore, packed-apart}
 use Rattle.hc_records.proofs.lemmas.Finds.{found-all, mapped-some}
 use Rattle.hc_records.proofs.lemmas.KeyOrder.{same_key-same}
 use Rattle.hc_records.proofs.lemmas.Lists.{All-unmap}
@@ -21,7 +21,7 @@ use Rattle.hc_records.proofs.lemmas.Packed.{area_of, packed-areas}
 use Rattle.hc_records.proofs.lemmas.Tasks.{task-list-all}
 use Rattle.hc_registers.specs.declared.fmmu.Mapping.{Mapping}
 use Rattle.hc_registers.specs.Blocks.{IsMappable, mapping_at, mapping_of}
-use Rattle.hc_exchange.specs.Pairs.{key_of}
+use Rattle.hc_exchange.specs.Pairs.{member_area_key}
 use Rattle.hc_plan.proofs.lemmas.AreaKeys.{one-rank}
 use Rattle.hc_plan.proofs.lemmas.Elements.{contains-order, numbered-at}
 use Rattle.hc_exchange.proofs.lemmas.Members.{IsGoodPlace, KeepsLine, area-inside}
@@ -36,7 +36,7 @@ pub found-passes : {X : Type 0} (test : X → Bool) (xs : List X) (found : X) �
 found-passes test [] found has = cc
 found-passes test (x ∷ xs) found has = passes-by (test x) test x found (find test xs) refl (found-passes test xs found) has
 
--- the area that a key names has the width that stands beside the key
+-- the area that a key names has the width that is beside the key
 
 named-width : (member other : Member) (index number : ℕ) (area found : Area) → other ≡ member → number ≡ index → slice_get other.slave.areas number ≡ Some found
     → slice_get member.slave.areas index ≡ Some area → width found ≡ width area
@@ -46,40 +46,40 @@ named-width member other index number area found same same_number has own =
     ap width one
 
 list-widths : (line : List Member) (member : Member) (index : ℕ) (area : Area) (task : ℕ) → KeepsLine line → Contains line member → slice_get member.slave.areas index ≡ Some area
-    → All (λ (k : Keyed). k.0 ≡ key_of member index area → k.1 ≡ width area) (task_list task line)
-list-widths line member index area task keeps has own =
-    task-list-all (λ (k : Keyed). k.0 ≡ key_of member index area → k.1 ≡ width area) task line
+    → All (λ (k : Keyed). k.0 ≡ member_area_key member index area → k.1 ≡ width area) (task_list task line)
+list-widths line member index area task stays has own =
+    task-list-all (λ (k : Keyed). k.0 ≡ member_area_key member index area → k.1 ≡ width area) task line
     (λ dir j d low i e within belongs same.
     let other = slice_index_or line j d in
     let numbered = numbered-at 0 other.slave.areas i e within in
-    let one : other ≡ member = one-rank line other member keeps.ranks (Contains-get_or line j d low) has (ap (λ (key : Key). key.rank) same) in
+    let one : other ≡ member = one-rank line other member stays.ranks (Contains-get_or line j d low) has (ap (λ (key : Key). key.rank) same) in
     let number = slice_index_or (enumerate_from 0 other.slave.areas) i e in
     let none : number.0 - 0 ≡ number.0 = omega arith in
     named-width member other index number.0 area number.1 one (ap (λ (key : Key). key.area) same)
     (ap (slice_get other.slave.areas) (sym none) ∙ numbered.1) own)
 
 pub place-widths : (line : List Member) (member : Member) (index : ℕ) (area : Area) (task : ℕ) → KeepsLine line → Contains line member → slice_get member.slave.areas index ≡ Some area
-    → All (λ (p : Placed). p.key ≡ key_of member index area → p.bits ≡ width area) (task_places task line)
-place-widths line member index area task keeps has own =
+    → All (λ (p : Placed). p.key ≡ member_area_key member index area → p.bits ≡ width area) (task_places task line)
+place-widths line member index area task stays has own =
     let list = task_list task line in
-    let named = λ (k : Keyed). (k.0 ≡ key_of member index area → k.1 ≡ width area) in
-    All-unmap named area_of (packed opening list) (subst (All named) (sym (packed-areas opening list)) (list-widths line member index area task keeps has own))
+    let named = λ (k : Keyed). (k.0 ≡ member_area_key member index area → k.1 ≡ width area) in
+    All-unmap named area_of (packed opening list) (subst (All named) (sym (packed-areas opening list)) (list-widths line member index area task stays has own))
 
 -- where an area is mapped: at its place in its task's list
 pub record Place (line : List Member) (member : Member) (index : ℕ) (area : Area) (mapping : Mapping) : Type 0 where
   pub placed : Placed
   pub in_task : Contains (task_places area.task line) placed
-  pub key : placed.key ≡ key_of member index area
+  pub key : placed.key ≡ member_area_key member index area
   pub bits : placed.bits ≡ width area
   pub good : IsGoodPlace placed
   pub is : mapping_at area.task placed ≡ mapping
 
 pub mapped-place : (line : List Member) (member : Member) (index : ℕ) (area : Area) (mapping : Mapping) → KeepsLine line → Contains line member
-    → slice_get member.slave.areas index ≡ Some area → mapping_of line area.task (key_of member index area) ≡ Some mapping → Place line member index area mapping
-mapped-place line member index area mapping keeps has own mapped =
-    let key = key_of member index area in
+    → slice_get member.slave.areas index ≡ Some area → mapping_of line area.task (member_area_key member index area) ≡ Some mapping → Place line member index area mapping
+mapped-place line member index area mapping stays has own mapped =
+    let key = member_area_key member index area in
     let places = task_places area.task line in
-    let low : area.task < TASKS = (area-inside line member index area keeps has own).task in
+    let low : area.task < TASKS = (area-inside line member index area stays has own).task in
     let found = mapped-some (mapping_at area.task) (find (λ (p : Placed). same_key p.key key) places) mapping mapped in
     let same : found.0.key ≡ key = same_key-same found.0.key key (found-passes (λ (p : Placed). same_key p.key key) places found.0 found.1) in
     record {
@@ -87,8 +87,8 @@ mapped-place line member index area mapping keeps has own mapped =
       in_task = found-all (Contains places) (λ (p : Placed). same_key p.key key) places found.0 (All-contains_itself places) found.1;
       key = same;
       bits = found-all (λ (p : Placed). p.key ≡ key → p.bits ≡ width area) (λ (p : Placed). same_key p.key key) places found.0
-          (place-widths line member index area area.task keeps has own) found.1 same;
-      good = found-all IsGoodPlace (λ (p : Placed). same_key p.key key) places found.0 (keeps.places area.task low) found.1;
+          (place-widths line member index area area.task stays has own) found.1 same;
+      good = found-all IsGoodPlace (λ (p : Placed). same_key p.key key) places found.0 (stays.places area.task low) found.1;
       is = found.2;
     }
 
@@ -103,20 +103,20 @@ pub place-mappable : (line : List Member) (member : Member) (index : ℕ) (area 
 place-mappable line member index area mapping low place = subst (IsMappable area) place.is (mappable-at area place.placed low place.bits place.good)
 
 -- a logical bit names its task, its datagram and its bit there
-pub logical-told : (task datagram bit bits k task' datagram' bit' bits' k' : ℕ) → datagram < 16 → datagram' < 16 → bit + bits ≤ 11888 → bit' + bits' ≤ 11888 → k < bits → k' < bits'
+pub logical-answer_given : (task datagram bit bits k task' datagram' bit' bits' k' : ℕ) → datagram < 16 → datagram' < 16 → bit + bits ≤ 11888 → bit' + bits' ≤ 11888 → k < bits → k' < bits'
     → 8 * (16777216 * (task + 1) + 2048 * datagram) + bit + k ≡ 8 * (16777216 * (task' + 1) + 2048 * datagram') + bit' + k'
     → (task ≡ task') × (datagram ≡ datagram') × (bit + k ≡ bit' + k')
-logical-told task datagram bit bits k task' datagram' bit' bits' k' early early' inside inside' below below' same = grind (arith, common_steps)
+logical-answer_given task datagram bit bits k task' datagram' bit' bits' k' early early' inside inside' below below' same = grind (arith, common_steps)
 
-meet-no : (a b : Placed) (k l : ℕ) → a.datagram ≡ b.datagram → a.bit + k ≡ b.bit + l → k < a.bits → StandsBefore a b → ⊥
+meet-no : (a b : Placed) (k l : ℕ) → a.datagram ≡ b.datagram → a.bit + k ≡ b.bit + l → k < a.bits → LiesBefore a b → ⊥
 meet-no a b k l same bits below (inl earlier) = omega arith
-meet-no a b k l same bits below (inr behind) = let ends = behind.1 in omega arith
+meet-no a b k l same bits below (inr after_it) = let ends = after_it.1 in omega arith
 
 -- two places of a task that have a logical bit in common are one
 one-place : (list : List Keyed) (a b : Placed) (k l : ℕ) → Contains (packed opening list) a → Contains (packed opening list) b → a.datagram ≡ b.datagram → a.bit + k ≡ b.bit + l
     → k < a.bits → l < b.bits → a ≡ b
 one-place list a b k l has has' same bits below below' =
-    elim (contains-order StandsBefore (packed opening list) a b (packed-apart opening list) has has') [
+    elim (contains-order LiesBefore (packed opening list) a b (packed-apart opening list) has has') [
       | inl one ↦ one
       | inr (inl before) ↦ absurd (meet-no a b k l same bits below before)
       | inr (inr before) ↦ absurd (meet-no b a l k (sym same) (sym bits) below' before)
@@ -133,8 +133,8 @@ one-area line member other index number a b mapping mapping' x k l place place' 
     let few' : l < q.bits = omega (arith, place'.bits) in
     let first : x ≡ 8 * (16777216 * (a.task + 1) + 2048 * p.datagram) + p.bit + k = subst (λ (m : Mapping). x ≡ 8 * m.address + m.bit + k) (sym place.is) is in
     let second : x ≡ 8 * (16777216 * (b.task + 1) + 2048 * q.datagram) + q.bit + l = subst (λ (m : Mapping). x ≡ 8 * m.address + m.bit + l) (sym place'.is) is' in
-    let told = logical-told a.task p.datagram p.bit p.bits k b.task q.datagram q.bit q.bits l place.good.early place'.good.early place.good.inside place'.good.inside few few' (sym first ∙ second) in
-    let there : Contains (task_places a.task line) q = subst (λ (task : ℕ). Contains (task_places task line) q) (sym told.0) place'.in_task in
-    let one : p ≡ q = one-place (task_list a.task line) p q k l place.in_task there told.1 told.2 few few' in
-    let same : key_of member index a ≡ key_of other number b = sym place.key ∙ ap (λ (placed : Placed). placed.key) one ∙ place'.key in
+    let answer_given = logical-answer_given a.task p.datagram p.bit p.bits k b.task q.datagram q.bit q.bits l place.good.early place'.good.early place.good.inside place'.good.inside few few' (sym first ∙ second) in
+    let there : Contains (task_places a.task line) q = subst (λ (task : ℕ). Contains (task_places task line) q) (sym answer_given.0) place'.in_task in
+    let one : p ≡ q = one-place (task_list a.task line) p q k l place.in_task there answer_given.1 answer_given.2 few few' in
+    let same : member_area_key member index a ≡ member_area_key other number b = sym place.key ∙ ap (λ (placed : Placed). placed.key) one ∙ place'.key in
     (ap (λ (key : Key). key.rank) same, ap (λ (key : Key). key.area) same)

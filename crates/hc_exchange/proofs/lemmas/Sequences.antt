@@ -10,12 +10,12 @@ use Rattle.hc_records.specs.Line.{Member, State, line}
 use Rattle.hc_records.proofs.lemmas.Lists.{AllPairs-head, AllPairs-tail}
 use Rattle.hc_registers.specs.declared.fmmu.Mapping.{Mapping}
 use Rattle.hc_registers.specs.Blocks.{mapping_of}
-use Rattle.hc_exchange.specs.Pairs.{AreasPair, key_of}
-use Rattle.hc_exchange.proofs.lemmas.Members.{KeepsLine, area-in-memory, area-inside, area-width, keeps-line, one-index, one-station}
-use Rattle.hc_exchange.specs.Carrying.{CarriesPair, data_through, memories_behind}
+use Rattle.hc_exchange.specs.Pairs.{AreasPair, member_area_key}
+use Rattle.hc_exchange.proofs.lemmas.Members.{KeepsLine, area-in-memory, area-inside, area-width, stays-line, one-index, one-station}
+use Rattle.hc_exchange.specs.Carrying.{CarriesPair, data_through, memories_after}
 use Rattle.hc_exchange.specs.CarryingLaws.{Meets}
-use Rattle.hc_exchange.specs.Sequences.{AllInputsAreBroughtBack, AllOtherMemoryStays, AllOutputsArrive, AreApart, Logical, SequencesKeepTheLine}
-use Rattle.hc_exchange.proofs.lemmas.Lines.{inputs-brought, length-behind, line-stays, others-stay, outputs-arrive}
+use Rattle.hc_exchange.specs.Sequences.{AllInputsAreBroughtBack, AllOtherMemoryStays, AllOutputsArrive, LogicalsAreApart, Logical, SequencesKeepTheLine}
+use Rattle.hc_exchange.proofs.lemmas.Lines.{inputs-brought, length-after_it, line-stays, others-stay, outputs-arrive}
 
 -- a memory bit of a slave has one area, and so one logical bit and one direction
 
@@ -27,17 +27,17 @@ same-bit : (first k l m phys x y : ℕ) → m ≡ phys + k → m ≡ phys + l �
 same-bit first k l m phys x y is is' at_x at_y = omega arith
 
 same-pair : (line : List Member) (station x y m : ℕ) → KeepsLine line → (p : AreasPair line station x m) → (q : AreasPair line station y m) → SamePair line station x y m p q
-same-pair line station x y m keeps p q =
+same-pair line station x y m stays p q =
     let is = p.is_mapped in
     let is' = q.is_mapped in
-    let one : p.member ≡ q.member = one-station line p.member q.member keeps is.in_line is'.in_line (p.station_is ∙ sym q.station_is) in
+    let one : p.member ≡ q.member = one-station line p.member q.member stays is.in_line is'.in_line (p.station_is ∙ sym q.station_is) in
     let found : slice_get p.member.slave.areas q.index ≡ Some q.area = subst (λ (slave : Member). slice_get slave.slave.areas q.index ≡ Some q.area) (sym one) is'.in_record in
     let index : p.index ≡ q.index =
-    one-index line p.member p.index q.index p.area q.area m p.pair.k q.pair.k keeps is.in_line is.in_record found p.pair.below p.pair.memory q.pair.below q.pair.memory in
+    one-index line p.member p.index q.index p.area q.area m p.pair.k q.pair.k stays is.in_line is.in_record found p.pair.below p.pair.memory q.pair.below q.pair.memory in
     let areas : Some p.area ≡ Some q.area = sym is.in_record ∙ ap (λ (n : ℕ). slice_get p.member.slave.areas n) index ∙ found in
     let area : p.area ≡ q.area = cc in
-    let keys : mapping_of line p.area.task (key_of p.member p.index p.area) ≡ mapping_of line q.area.task (key_of q.member q.index q.area) =
-    ap (λ (a : Area). mapping_of line a.task (key_of p.member p.index a)) area ∙ ap₂ (λ (slave : Member) (n : ℕ). mapping_of line q.area.task (key_of slave n q.area)) one index in
+    let keys : mapping_of line p.area.task (member_area_key p.member p.index p.area) ≡ mapping_of line q.area.task (member_area_key q.member q.index q.area) =
+    ap (λ (a : Area). mapping_of line a.task (member_area_key p.member p.index a)) area ∙ ap₂ (λ (slave : Member) (n : ℕ). mapping_of line q.area.task (member_area_key slave n q.area)) one index in
     let mappings : Some p.mapping ≡ Some q.mapping = sym is.mapped ∙ keys ∙ is'.mapped in
     let mapping : p.mapping ≡ q.mapping = cc in
     let first : 8 * p.mapping.address + p.mapping.bit ≡ 8 * q.mapping.address + q.mapping.bit = ap (λ (at : Mapping). 8 * at.address + at.bit) mapping in
@@ -49,35 +49,35 @@ same-pair line station x y m keeps p q =
     }
 
 no-two-uses : (line : List Member) (station x y m : ℕ) → KeepsLine line → CarriesPair line In station x m → CarriesPair line Out station y m → ⊥
-no-two-uses line station x y m keeps input output =
-    let same = (same-pair line station x y m keeps input.areas output.areas).direction in
+no-two-uses line station x y m stays input output =
+    let same = (same-pair line station x y m stays input.areas output.areas).direction in
     let ways : In ≡ Out = sym input.direction ∙ same ∙ output.direction in
     cc
 
 bit-inside : (line : List Member) (station x m : ℕ) → KeepsLine line → AreasPair line station x m → m < 98304
-bit-inside line station x m keeps p =
+bit-inside line station x m stays p =
     let is = p.is_mapped in
     let end =
-    area-in-memory p.area (area-inside line p.member p.index p.area keeps is.in_line is.in_record) (area-width line p.member p.index p.area keeps is.in_line is.in_record) in
+    area-in-memory p.area (area-inside line p.member p.index p.area stays is.in_line is.in_record) (area-width line p.member p.index p.area stays is.in_line is.in_record) in
     let below = p.pair.below in
     let memory = p.pair.memory in
     omega arith
 
--- the machine of a slave behind the first datagram
+-- the machine of a slave after the first datagram
 
-behind-first : (state : State) (machines : List (List ℕ)) (k : ℕ) (member : Member) (memory : List ℕ) (d : Logical) → Meets state machines k member memory
-    → slice_get (memories_behind machines d.from d.bytes) k ≡ Some (get_or (memories_behind machines d.from d.bytes) k memory)
-behind-first state machines k member memory d meets =
+after_it-first : (state : State) (machines : List (List ℕ)) (k : ℕ) (member : Member) (memory : List ℕ) (d : Logical) → Meets state machines k member memory
+    → slice_get (memories_after machines d.from d.bytes) k ≡ Some (get_or (memories_after machines d.from d.bytes) k memory)
+after_it-first state machines k member memory d meets =
     let within = slice_get_within machines k memory meets.memory_is in
-    slice_get-get_or (memories_behind machines d.from d.bytes) k memory (omega (arith, within, length-behind machines d.from d.bytes))
+    slice_get-get_or (memories_after machines d.from d.bytes) k memory (omega (arith, within, length-after_it machines d.from d.bytes))
 
 meets-next : (state : State) (machines : List (List ℕ)) (k : ℕ) (member : Member) (memory : List ℕ) (d : Logical) → Meets state machines k member memory
-    → Meets state (memories_behind machines d.from d.bytes) k member (get_or (memories_behind machines d.from d.bytes) k memory)
+    → Meets state (memories_after machines d.from d.bytes) k member (get_or (memories_after machines d.from d.bytes) k memory)
 meets-next state machines k member memory d meets = record {
   configurable = meets.configurable;
   programmed = (line-stays state machines d.bytes d.from meets.configurable meets.programmed).programmed;
   member_is = meets.member_is;
-  memory_is = behind-first state machines k member memory d meets;
+  memory_is = after_it-first state machines k member memory d meets;
 }
 
 pub all-inputs : AllInputsAreBroughtBack
@@ -90,13 +90,13 @@ all-inputs state machines k member memory (first ∷ ds) zero d bit m came meets
     ∙ inputs-brought state machines k member memory d.bytes d.from bit m meets has.below input
 all-inputs state machines k member memory (first ∷ ds) (suc n) d bit m came meets has input is =
     let members = line state in
-    let keeps = keeps-line state meets.configurable in
-    let memory1 = get_or (memories_behind machines first.from first.bytes) k memory in
-    all-inputs state (memories_behind machines first.from first.bytes) k member memory1 ds n d bit m came (meets-next state machines k member memory first meets)
+    let stays = stays-line state meets.configurable in
+    let memory1 = get_or (memories_after machines first.from first.bytes) k memory in
+    all-inputs state (memories_after machines first.from first.bytes) k member memory1 ds n d bit m came (meets-next state machines k member memory first meets)
     (record { is = has.is; below = has.below }) input is
-    ∙ others-stay state machines k member memory memory1 first.bytes first.from m meets (behind-first state machines k member memory first meets)
-    (bit-inside members member.slave.station (d.from + bit) m keeps input.areas)
-    (λ l inside output. no-two-uses members member.slave.station (d.from + bit) (first.from + l) m keeps input output)
+    ∙ others-stay state machines k member memory memory1 first.bytes first.from m meets (after_it-first state machines k member memory first meets)
+    (bit-inside members member.slave.station (d.from + bit) m stays input.areas)
+    (λ l inside output. no-two-uses members member.slave.station (d.from + bit) (first.from + l) m stays input output)
 
 pub all-others : AllOtherMemoryStays
 all-others state machines k member memory memory' [] m meets low none is =
@@ -104,36 +104,36 @@ all-others state machines k member memory memory' [] m meets low none is =
     let same : memory ≡ memory' = cc in
     ap (λ (xs : List ℕ). bit_of xs m) (sym same)
 all-others state machines k member memory memory' (first ∷ ds) m meets low none is =
-    let memory1 = get_or (memories_behind machines first.from first.bytes) k memory in
-    all-others state (memories_behind machines first.from first.bytes) k member memory1 memory' ds m (meets-next state machines k member memory first meets) low
+    let memory1 = get_or (memories_after machines first.from first.bytes) k memory in
+    all-others state (memories_after machines first.from first.bytes) k member memory1 memory' ds m (meets-next state machines k member memory first meets) low
     (λ n d bit has. none (suc n) d bit (record { is = has.is; below = has.below })) is
-    ∙ others-stay state machines k member memory memory1 first.bytes first.from m meets (behind-first state machines k member memory first meets) low
+    ∙ others-stay state machines k member memory memory1 first.bytes first.from m meets (after_it-first state machines k member memory first meets) low
     (λ bit inside. none 0 first bit (record { is = refl; below = inside }))
 
 pub all-outputs : AllOutputsArrive
 all-outputs state machines k member memory memory' [] n d bit m meets apart has output is = let none = has.is in cc
 all-outputs state machines k member memory memory' (first ∷ ds) zero d bit m meets apart has output is =
     let members = line state in
-    let keeps = keeps-line state meets.configurable in
+    let stays = stays-line state meets.configurable in
     let at : Some first ≡ Some d = has.is in
     let one : d ≡ first = cc in
     let below : bit < 8 * length first.bytes = subst (λ (x : Logical). bit < 8 * length x.bytes) one has.below in
     let own : CarriesPair members Out member.slave.station (first.from + bit) m = subst (λ (x : Logical). CarriesPair members Out member.slave.station (x.from + bit) m) one output in
-    let memory1 = get_or (memories_behind machines first.from first.bytes) k memory in
-    all-others state (memories_behind machines first.from first.bytes) k member memory1 memory' ds m (meets-next state machines k member memory first meets)
-    (bit-inside members member.slave.station (first.from + bit) m keeps own.areas)
+    let memory1 = get_or (memories_after machines first.from first.bytes) k memory in
+    all-others state (memories_after machines first.from first.bytes) k member memory1 memory' ds m (meets-next state machines k member memory first meets)
+    (bit-inside members member.slave.station (first.from + bit) m stays own.areas)
     (λ i e l within other.
     let later : Contains ds e = (i, slice_get_within ds i e within.is, get_or_from_slice_get ds i e e within.is) in
-    let away = All-contains (AreApart first) ds e (AllPairs-head AreApart first ds apart) later in
-    away bit l below within.below (same-pair members member.slave.station (first.from + bit) (e.from + l) m keeps own.areas other.areas).logical)
+    let away = All-contains (LogicalsAreApart first) ds e (AllPairs-head LogicalsAreApart first ds apart) later in
+    away bit l below within.below (same-pair members member.slave.station (first.from + bit) (e.from + l) m stays own.areas other.areas).logical)
     is
-    ∙ outputs-arrive state machines k member memory memory1 first.bytes first.from bit m meets (behind-first state machines k member memory first meets) below own
+    ∙ outputs-arrive state machines k member memory memory1 first.bytes first.from bit m meets (after_it-first state machines k member memory first meets) below own
     ∙ ap (λ (x : Logical). bit_of x.bytes bit) (sym one)
 all-outputs state machines k member memory memory' (first ∷ ds) (suc n) d bit m meets apart has output is =
-    let memory1 = get_or (memories_behind machines first.from first.bytes) k memory in
-    all-outputs state (memories_behind machines first.from first.bytes) k member memory1 memory' ds n d bit m (meets-next state machines k member memory first meets)
-    (AllPairs-tail AreApart first ds apart) (record { is = has.is; below = has.below }) output is
+    let memory1 = get_or (memories_after machines first.from first.bytes) k memory in
+    all-outputs state (memories_after machines first.from first.bytes) k member memory1 memory' ds n d bit m (meets-next state machines k member memory first meets)
+    (AllPairs-tail LogicalsAreApart first ds apart) (record { is = has.is; below = has.below }) output is
 
 pub all-keep : SequencesKeepTheLine
 all-keep state machines [] can are = are
-all-keep state machines (d ∷ ds) can are = all-keep state (memories_behind machines d.from d.bytes) ds can (line-stays state machines d.bytes d.from can are).programmed
+all-keep state machines (d ∷ ds) can are = all-keep state (memories_after machines d.from d.bytes) ds can (line-stays state machines d.bytes d.from can are).programmed

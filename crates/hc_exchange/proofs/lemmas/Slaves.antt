@@ -1,7 +1,7 @@
 -- What a programmed slave makes of a logical datagram.
 use Rattle.std.proofs.Common.{◌≡◌, ℕ, ◌+◌, ◌*◌, ◌<◌, ◌≤◌, ◌∙◌, inr, Bool, true, List, length, refl, sym, ap, ap₂, subst, arith}
 use Rattle.std.specs.Prelude.{Contains, Some, slice_get}
-use Rattle.hc_places.proofs.lemmas.Loads.{dir-in}
+use Rattle.hc_places.proofs.lemmas.DatagramUses.{dir-in}
 use Rattle.hc_bits.specs.Bits.{bit_of}
 use Rattle.hc_records.specs.declared.records.Area.{Area}
 use Rattle.hc_records.specs.declared.records.Dir.{Dir}
@@ -9,47 +9,47 @@ use Rattle.hc_records.specs.declared.records.Dir.TheVariants.{Out, In}
 use Rattle.hc_records.specs.Keys.{same_dir}
 use Rattle.hc_records.specs.Line.{Member}
 use Rattle.hc_registers.specs.Blocks.{mapped_bytes}
-use Rattle.hc_machine.specs.Fmmus.{block_at, is_read, is_write}
-use Rattle.hc_machine.specs.Laws.{IsPair, Reads, Writes}
+use Rattle.hc_machine.specs.Fmmus.{fmmu_block_at, is_read, is_write_fmmu}
+use Rattle.hc_machine.specs.Laws.{IsPair, Reads, FmmuWrites}
 use Rattle.hc_machine.specs.Logical.{logical_data, logical_memory}
 use Rattle.hc_machine.proofs.lemmas.Logical.{read-from-memory, unread-stays, unwritten-stays, written-from-data}
 use Rattle.hc_plan.proofs.lemmas.AreaKeys.{one-rank}
 use Rattle.hc_exchange.specs.Pairs.{AreasPair}
 use Rattle.hc_exchange.specs.Writing.{IsProgrammed}
 use Rattle.hc_exchange.proofs.lemmas.Decoded.{block-way}
-use Rattle.hc_exchange.proofs.lemmas.Kept.{programmed-kept}
+use Rattle.hc_exchange.proofs.lemmas.Unchanged.{programmed-unchanged}
 use Rattle.hc_exchange.proofs.lemmas.Members.{KeepsLine, area-inside, one-index}
 use Rattle.hc_exchange.proofs.lemmas.Places.{mapped-place, one-area}
-use Rattle.hc_exchange.proofs.lemmas.Programmed.{SlaveFmmu, area-stands, slave-fmmu}
+use Rattle.hc_exchange.proofs.lemmas.Programmed.{SlaveFmmu, area-is_placed, slave-fmmu}
 use Rattle.hc_exchange.proofs.lemmas.Sources.{mapped-area}
-use Rattle.hc_exchange.specs.Carrying.{CarriesPair, IsReady}
+use Rattle.hc_exchange.specs.Carrying.{CarriesPair, IsReadyMachine}
 use Rattle.hc_machine.proofs.lemmas.Memories.{length-memory, memory-bytes, same-byte}
 
 -- a logical bit has one area of one slave
 
 pub one-owner : (line : List Member) (station other x m n : ℕ) → KeepsLine line → (p : AreasPair line station x m) → (q : AreasPair line other x n)
     → (p.member ≡ q.member) × (p.index ≡ q.index) × (p.area ≡ q.area)
-one-owner line station other x m n keeps p q =
+one-owner line station other x m n stays p q =
     let is = p.is_mapped in
     let is' = q.is_mapped in
     let same =
     one-area line p.member q.member p.index q.index p.area q.area p.mapping q.mapping x p.pair.k q.pair.k
-    (mapped-place line p.member p.index p.area p.mapping keeps is.in_line is.in_record is.mapped) (mapped-place line q.member q.index q.area q.mapping keeps is'.in_line is'.in_record is'.mapped)
+    (mapped-place line p.member p.index p.area p.mapping stays is.in_line is.in_record is.mapped) (mapped-place line q.member q.index q.area q.mapping stays is'.in_line is'.in_record is'.mapped)
     p.pair.below p.pair.logical q.pair.below q.pair.logical in
-    let one : p.member ≡ q.member = one-rank line p.member q.member keeps.ranks is.in_line is'.in_line same.0 in
+    let one : p.member ≡ q.member = one-rank line p.member q.member stays.ranks is.in_line is'.in_line same.0 in
     let areas : Some p.area ≡ Some q.area = sym is.in_record ∙ ap₂ (λ (slave : Member) (n : ℕ). slice_get slave.slave.areas n) one same.1 ∙ is'.in_record in
     (one, same.1, cc)
 
 -- and so one direction
 pub one-carrier : (line : List Member) (station other x m n : ℕ) → KeepsLine line → (p : AreasPair line station x m) → (q : AreasPair line other x n)
     → (station ≡ other) × (p.area.dir ≡ q.area.dir)
-one-carrier line station other x m n keeps p q =
-    let owner = one-owner line station other x m n keeps p q in
+one-carrier line station other x m n stays p q =
+    let owner = one-owner line station other x m n stays p q in
     (sym p.station_is ∙ ap (λ (slave : Member). slave.slave.station) owner.0 ∙ q.station_is, ap (λ (a : Area). a.dir) owner.2)
 
 pub no-two-ways : (line : List Member) (station other x m n : ℕ) → KeepsLine line → CarriesPair line Out station x m → CarriesPair line In other x n → ⊥
-no-two-ways line station other x m n keeps output input =
-    let same = (one-carrier line station other x m n keeps output.areas input.areas).1 in
+no-two-ways line station other x m n stays output input =
+    let same = (one-carrier line station other x m n stays output.areas input.areas).1 in
     let ways : Out ≡ In = sym output.direction ∙ same ∙ input.direction in
     cc
 
@@ -64,20 +64,20 @@ areas-of line member memory i x m fmmu = record { member = member; index = i; ar
 
 pub reads-carried : (line : List Member) (member : Member) (memory : List ℕ) (i x m : ℕ) → KeepsLine line → Contains line member → IsProgrammed line member memory → i < 16 → Reads memory i x m
     → CarriesPair line In member.slave.station x m
-reads-carried line member memory i x m keeps has programmed low reads =
-    let fmmu = slave-fmmu line member memory i x m keeps has programmed low reads.1 in
+reads-carried line member memory i x m stays has programmed low reads =
+    let fmmu = slave-fmmu line member memory i x m stays has programmed low reads.1 in
     record {
       areas = areas-of line member memory i x m fmmu;
-      direction = dir-in fmmu.area.dir (sym (block-way fmmu.area fmmu.mapping).0 ∙ ap is_read (sym fmmu.stands) ∙ reads.0);
+      direction = dir-in fmmu.area.dir (sym (block-way fmmu.area fmmu.mapping).0 ∙ ap is_read (sym fmmu.is_placed) ∙ reads.0);
     }
 
-pub writes-carried : (line : List Member) (member : Member) (memory : List ℕ) (i x m : ℕ) → KeepsLine line → Contains line member → IsProgrammed line member memory → i < 16 → Writes memory i x m
+pub writes-carried : (line : List Member) (member : Member) (memory : List ℕ) (i x m : ℕ) → KeepsLine line → Contains line member → IsProgrammed line member memory → i < 16 → FmmuWrites memory i x m
     → CarriesPair line Out member.slave.station x m
-writes-carried line member memory i x m keeps has programmed low writes =
-    let fmmu = slave-fmmu line member memory i x m keeps has programmed low writes.1 in
+writes-carried line member memory i x m stays has programmed low writes =
+    let fmmu = slave-fmmu line member memory i x m stays has programmed low writes.1 in
     record {
       areas = areas-of line member memory i x m fmmu;
-      direction = out-way fmmu.area.dir (sym (block-way fmmu.area fmmu.mapping).1 ∙ ap is_write (sym fmmu.stands) ∙ writes.0);
+      direction = out-way fmmu.area.dir (sym (block-way fmmu.area fmmu.mapping).1 ∙ ap is_write_fmmu (sym fmmu.is_placed) ∙ writes.0);
     }
 
 -- an area's FMMU reads or writes its pairs
@@ -85,109 +85,109 @@ writes-carried line member memory i x m keeps has programmed low writes =
 pub record Serves (memory : List ℕ) (x m : ℕ) (way : List ℕ → Bool) : Type 0 where
   pub fmmu : ℕ
   pub below : fmmu < 16
-  pub turned : way (block_at memory fmmu) ≡ true
-  pub pair : IsPair (block_at memory fmmu) x m
+  pub turned : way (fmmu_block_at memory fmmu) ≡ true
+  pub pair : IsPair (fmmu_block_at memory fmmu) x m
 
 serves : (line : List Member) (member : Member) (memory : List ℕ) (x m : ℕ) (way : List ℕ → Bool) → KeepsLine line → Contains line member → IsProgrammed line member memory
     → (pairs : AreasPair line member.slave.station x m) → way (mapped_bytes pairs.area pairs.mapping) ≡ true → Serves memory x m way
-serves line member memory x m way keeps has programmed pairs turned =
-    let told = area-stands line member memory x m keeps has programmed pairs in
+serves line member memory x m way stays has programmed pairs turned =
+    let answer_given = area-is_placed line member memory x m stays has programmed pairs in
     record {
       fmmu = pairs.index;
-      below = told.below;
-      turned = ap way told.stands ∙ turned;
-      pair = subst (λ (block : List ℕ). IsPair block x m) (sym told.stands) (mapped-area line pairs.member pairs.index pairs.area pairs.mapping x m keeps pairs.is_mapped pairs.pair);
+      below = answer_given.below;
+      turned = ap way answer_given.is_placed ∙ turned;
+      pair = subst (λ (block : List ℕ). IsPair block x m) (sym answer_given.is_placed) (mapped-area line pairs.member pairs.index pairs.area pairs.mapping x m stays pairs.is_mapped pairs.pair);
     }
 
 pub carried-reads : (line : List Member) (member : Member) (memory : List ℕ) (x m : ℕ) → KeepsLine line → Contains line member → IsProgrammed line member memory
     → CarriesPair line In member.slave.station x m → Serves memory x m is_read
-carried-reads line member memory x m keeps has programmed input =
+carried-reads line member memory x m stays has programmed input =
     let pairs = input.areas in
-    serves line member memory x m is_read keeps has programmed pairs ((block-way pairs.area pairs.mapping).0 ∙ ap (λ (dir : Dir). same_dir dir In) input.direction)
+    serves line member memory x m is_read stays has programmed pairs ((block-way pairs.area pairs.mapping).0 ∙ ap (λ (dir : Dir). same_dir dir In) input.direction)
 
 pub carried-writes : (line : List Member) (member : Member) (memory : List ℕ) (x m : ℕ) → KeepsLine line → Contains line member → IsProgrammed line member memory
-    → CarriesPair line Out member.slave.station x m → Serves memory x m is_write
-carried-writes line member memory x m keeps has programmed output =
+    → CarriesPair line Out member.slave.station x m → Serves memory x m is_write_fmmu
+carried-writes line member memory x m stays has programmed output =
     let pairs = output.areas in
-    serves line member memory x m is_write keeps has programmed pairs ((block-way pairs.area pairs.mapping).1 ∙ ap (λ (dir : Dir). same_dir dir Out) output.direction)
+    serves line member memory x m is_write_fmmu stays has programmed pairs ((block-way pairs.area pairs.mapping).1 ∙ ap (λ (dir : Dir). same_dir dir Out) output.direction)
 
 -- of a slave's FMMUs one alone pairs a logical bit, and one alone a memory bit
 
 one-reader : (line : List Member) (member : Member) (memory : List ℕ) (i j x m n : ℕ) → KeepsLine line → Contains line member → IsProgrammed line member memory → i < 16 → j < 16
-    → IsPair (block_at memory i) x m → IsPair (block_at memory j) x n → i ≡ j
-one-reader line member memory i j x m n keeps has programmed low low' pair pair' =
-    let p = slave-fmmu line member memory i x m keeps has programmed low pair in
-    let q = slave-fmmu line member memory j x n keeps has programmed low' pair' in
-    (one-area line member member i j p.area q.area p.mapping q.mapping x p.pair.k q.pair.k (mapped-place line member i p.area p.mapping keeps has p.is.in_record p.is.mapped)
-    (mapped-place line member j q.area q.mapping keeps has q.is.in_record q.is.mapped) p.pair.below p.pair.logical q.pair.below q.pair.logical).1
+    → IsPair (fmmu_block_at memory i) x m → IsPair (fmmu_block_at memory j) x n → i ≡ j
+one-reader line member memory i j x m n stays has programmed low low' pair pair' =
+    let p = slave-fmmu line member memory i x m stays has programmed low pair in
+    let q = slave-fmmu line member memory j x n stays has programmed low' pair' in
+    (one-area line member member i j p.area q.area p.mapping q.mapping x p.pair.k q.pair.k (mapped-place line member i p.area p.mapping stays has p.is.in_record p.is.mapped)
+    (mapped-place line member j q.area q.mapping stays has q.is.in_record q.is.mapped) p.pair.below p.pair.logical q.pair.below q.pair.logical).1
 
 one-writer : (line : List Member) (member : Member) (memory : List ℕ) (i j x y m : ℕ) → KeepsLine line → Contains line member → IsProgrammed line member memory → i < 16 → j < 16
-    → IsPair (block_at memory i) x m → IsPair (block_at memory j) y m → i ≡ j
-one-writer line member memory i j x y m keeps has programmed low low' pair pair' =
-    let p = slave-fmmu line member memory i x m keeps has programmed low pair in
-    let q = slave-fmmu line member memory j y m keeps has programmed low' pair' in
-    one-index line member i j p.area q.area m p.pair.k q.pair.k keeps has p.is.in_record q.is.in_record p.pair.below p.pair.memory q.pair.below q.pair.memory
+    → IsPair (fmmu_block_at memory i) x m → IsPair (fmmu_block_at memory j) y m → i ≡ j
+one-writer line member memory i j x y m stays has programmed low low' pair pair' =
+    let p = slave-fmmu line member memory i x m stays has programmed low pair in
+    let q = slave-fmmu line member memory j y m stays has programmed low' pair' in
+    one-index line member i j p.area q.area m p.pair.k q.pair.k stays has p.is.in_record q.is.in_record p.pair.below p.pair.memory q.pair.below q.pair.memory
 
--- so each bit of the data, and each of memory, is told by the areas
+-- so each bit of the data, and each of memory, is given by the areas
 
 pub bit-brought : (line : List Member) (member : Member) (memory bytes : List ℕ) (from bit m : ℕ) → KeepsLine line → Contains line member → IsProgrammed line member memory
     → bit < 8 * length bytes → CarriesPair line In member.slave.station (from + bit) m → bit_of (logical_data memory from bytes) bit ≡ bit_of memory m
-bit-brought line member memory bytes from bit m keeps has programmed low input =
-    let reader = carried-reads line member memory (from + bit) m keeps has programmed input in
+bit-brought line member memory bytes from bit m stays has programmed low input =
+    let reader = carried-reads line member memory (from + bit) m stays has programmed input in
     let below = reader.below in
     read-from-memory memory bytes from bit reader.fmmu m low reader.below (reader.turned, reader.pair)
     (λ j n lower reads.
-    let same = one-reader line member memory reader.fmmu j (from + bit) m n keeps has programmed reader.below (omega arith) reader.pair reads.1 in
+    let same = one-reader line member memory reader.fmmu j (from + bit) m n stays has programmed reader.below (omega arith) reader.pair reads.1 in
     omega arith)
 
 pub bit-left : (line : List Member) (member : Member) (memory bytes : List ℕ) (from bit : ℕ) → KeepsLine line → Contains line member → IsProgrammed line member memory
     → bit < 8 * length bytes → ((m : ℕ) → ¬ (CarriesPair line In member.slave.station (from + bit) m)) → bit_of (logical_data memory from bytes) bit ≡ bit_of bytes bit
-bit-left line member memory bytes from bit keeps has programmed low none =
-    unread-stays memory bytes from bit low (λ j n below reads. none n (reads-carried line member memory j (from + bit) n keeps has programmed below reads))
+bit-left line member memory bytes from bit stays has programmed low none =
+    unread-stays memory bytes from bit low (λ j n below reads. none n (reads-carried line member memory j (from + bit) n stays has programmed below reads))
 
 -- the memory of an area is process memory
 pub output-high : (line : List Member) (station x m : ℕ) → KeepsLine line → (pairs : AreasPair line station x m) → 32768 ≤ m
-output-high line station x m keeps pairs =
+output-high line station x m stays pairs =
     let is = pairs.is_mapped in
-    let start : 4096 ≤ pairs.area.phys = (area-inside line pairs.member pairs.index pairs.area keeps is.in_line is.in_record).start in
+    let start : 4096 ≤ pairs.area.phys = (area-inside line pairs.member pairs.index pairs.area stays is.in_line is.in_record).start in
     let memory = pairs.pair.memory in
     omega arith
 
 pub bit-arrived : (line : List Member) (member : Member) (memory bytes : List ℕ) (from bit m : ℕ) → KeepsLine line → Contains line member → IsProgrammed line member memory
     → bit < 8 * length bytes → CarriesPair line Out member.slave.station (from + bit) m → bit_of (logical_memory memory from bytes) m ≡ bit_of bytes bit
-bit-arrived line member memory bytes from bit m keeps has programmed low output =
-    let writer = carried-writes line member memory (from + bit) m keeps has programmed output in
-    let high = output-high line member.slave.station (from + bit) m keeps output.areas in
+bit-arrived line member memory bytes from bit m stays has programmed low output =
+    let writer = carried-writes line member memory (from + bit) m stays has programmed output in
+    let high = output-high line member.slave.station (from + bit) m stays output.areas in
     let below = writer.below in
     written-from-data memory bytes from bit writer.fmmu m programmed.machine.size (inr (omega arith)) low writer.below (writer.turned, writer.pair)
     (λ j n lower inside writes.
-    let same = one-writer line member memory writer.fmmu j (from + bit) (from + n) m keeps has programmed writer.below (omega arith) writer.pair writes.1 in
+    let same = one-writer line member memory writer.fmmu j (from + bit) (from + n) m stays has programmed writer.below (omega arith) writer.pair writes.1 in
     omega arith)
 
-pub bit-kept : (line : List Member) (member : Member) (memory bytes : List ℕ) (from m : ℕ) → KeepsLine line → Contains line member → IsProgrammed line member memory → m < 98304
+pub bit-unchanged : (line : List Member) (member : Member) (memory bytes : List ℕ) (from m : ℕ) → KeepsLine line → Contains line member → IsProgrammed line member memory → m < 98304
     → ((bit : ℕ) → bit < 8 * length bytes → ¬ (CarriesPair line Out member.slave.station (from + bit) m)) → bit_of (logical_memory memory from bytes) m ≡ bit_of memory m
-bit-kept line member memory bytes from m keeps has programmed low none =
+bit-unchanged line member memory bytes from m stays has programmed low none =
     unwritten-stays memory bytes from m programmed.machine.size low
-    (λ j n below inside writes. none n inside (writes-carried line member memory j (from + n) m keeps has programmed below writes))
+    (λ j n below inside writes. none n inside (writes-carried line member memory j (from + n) m stays has programmed below writes))
 
 -- and the registers stay
 
-pub stays-ready : (line : List Member) (member : Member) (memory bytes : List ℕ) (from : ℕ) → KeepsLine line → Contains line member → IsReady line member memory
-    → IsReady line member (logical_memory memory from bytes)
-stays-ready line member memory bytes from keeps has ready =
+pub stays-ready : (line : List Member) (member : Member) (memory bytes : List ℕ) (from : ℕ) → KeepsLine line → Contains line member → IsReadyMachine line member memory
+    → IsReadyMachine line member (logical_memory memory from bytes)
+stays-ready line member memory bytes from stays has ready =
     let programmed = ready.programmed in
     let memory' = logical_memory memory from bytes in
     let long = programmed.machine.size in
     let long' : length memory' ≡ 12288 = length-memory memory bytes from ∙ long in
     let all_bytes = memory-bytes memory bytes from long ready.all_bytes in
     record {
-      programmed = programmed-kept line member memory memory' keeps has programmed long'
+      programmed = programmed-unchanged line member memory memory' stays has programmed long'
           (λ r low.
           same-byte memory' memory r (all_bytes r (omega arith)) (ready.all_bytes r (omega arith))
           (λ j below.
-          bit-kept line member memory bytes from (8 * r + j) keeps has programmed (omega arith)
+          bit-unchanged line member memory bytes from (8 * r + j) stays has programmed (omega arith)
           (λ bit inside output.
-          let high = output-high line member.slave.station (from + bit) (8 * r + j) keeps output.areas in
+          let high = output-high line member.slave.station (from + bit) (8 * r + j) stays output.areas in
           omega arith)));
       all_bytes = all_bytes;
     }

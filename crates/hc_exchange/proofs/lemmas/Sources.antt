@@ -12,15 +12,15 @@ use Rattle.hc_registers.specs.declared.fmmu.Mapping.{Mapping}
 use Rattle.hc_registers.specs.Blocks.{IsMappable, LineBlock, RegisterBlock, area_blocks, fmmu_block, fmmu_bytes, line_blocks, mapped_bytes, mapping_of, member_blocks, slave_blocks, sync_manager_block}
 use Rattle.hc_machine.specs.Laws.{IsPair}
 use Rattle.hc_exchange.specs.PairLaws.{LinesPairTheirAreas}
-use Rattle.hc_exchange.specs.Pairs.{AreasPair, BlocksPair, IsAreaPair, IsBlockPair, IsMapped, LiesInMemory, key_of}
+use Rattle.hc_exchange.specs.Pairs.{AreasPair, BlocksPair, IsAreaPair, IsBlockPair, IsMapped, LiesInMemory, member_area_key}
 use Rattle.hc_exchange.proofs.lemmas.Decoded.{block-pairs, block-unmapped}
 use Rattle.hc_plan.proofs.lemmas.Elements.{contains-joined, contains-mapped, contains-numbered, numbered-at}
-use Rattle.hc_exchange.proofs.lemmas.Members.{KeepsLine, area-in-memory, area-inside, area-width, keeps-line, slave-of}
+use Rattle.hc_exchange.proofs.lemmas.Members.{KeepsLine, area-in-memory, area-inside, area-width, stays-line, slave-of}
 use Rattle.hc_exchange.proofs.lemmas.Places.{mapped-place, place-mappable}
 
 -- the FMMU block of the area at an index of a slave's record
 abbrev pub own_fmmu : List Member → Member → ℕ → Area → RegisterBlock
-own_fmmu line member index area = fmmu_block index area (mapping_of line area.task (key_of member index area))
+own_fmmu line member index area = fmmu_block index area (mapping_of line area.task (member_area_key member index area))
 
 -- a block of a slave is the FMMU block of one of its areas
 pub record IsAreaBlock (line : List Member) (member : Member) (block : RegisterBlock) : Type 0 where
@@ -44,7 +44,7 @@ slave-sources line member =
     let areas = member.slave.areas in
     All-flat_map (Source line member) (area_blocks line member.rank) (enumerate_from 0 areas)
     (All-weaker (λ (e : ℕ × Area). (0 ≤ e.0) × (slice_get areas (e.0 - 0) ≡ Some e.1)) (λ (e : ℕ × Area). All (Source line member) (area_blocks line member.rank e))
-    (λ e told. blocks-of e told.1) (enumerate_from 0 areas) (numbered-at 0 areas))
+    (λ e answer_given. blocks-of e answer_given.1) (enumerate_from 0 areas) (numbered-at 0 areas))
   where
     blocks-of : (e : ℕ × Area) → slice_get member.slave.areas (e.0 - 0) ≡ Some e.1 → All (Source line member) (area_blocks line member.rank e)
     blocks-of e found =
@@ -86,7 +86,7 @@ pub record PairOf (line : List Member) (member : Member) (block : LineBlock) (x 
   pub mapping : Mapping
   pub found : slice_get member.slave.areas index ≡ Some area
   pub is : block.block ≡ own_fmmu line member index area
-  pub mapped : mapping_of line area.task (key_of member index area) ≡ Some mapping
+  pub mapped : mapping_of line area.task (member_area_key member index area) ≡ Some mapping
   pub pair : IsAreaPair area mapping x m
 
 mapped-pair : (area : Area) (o : Option Mapping) (x m : ℕ) → LiesInMemory area → ((mapping : Mapping) → o ≡ Some mapping → IsMappable area mapping) → IsPair (fmmu_bytes area o) x m
@@ -95,23 +95,23 @@ mapped-pair area None x m inside fits pair = absurd (block-unmapped area x m pai
 mapped-pair area (Some mapping) x m inside fits pair = (mapping, refl, (block-pairs area mapping x m inside (fits mapping refl)).0 pair)
 
 in-memory : (line : List Member) (member : Member) (index : ℕ) (area : Area) → KeepsLine line → Contains line member → slice_get member.slave.areas index ≡ Some area → LiesInMemory area
-in-memory line member index area keeps has found = area-in-memory area (area-inside line member index area keeps has found) (area-width line member index area keeps has found)
+in-memory line member index area stays has found = area-in-memory area (area-inside line member index area stays has found) (area-width line member index area stays has found)
 
 mappable : (line : List Member) (member : Member) (index : ℕ) (area : Area) (mapping : Mapping) → KeepsLine line → Contains line member → slice_get member.slave.areas index ≡ Some area
-    → mapping_of line area.task (key_of member index area) ≡ Some mapping → IsMappable area mapping
-mappable line member index area mapping keeps has found mapped =
-    place-mappable line member index area mapping (area-inside line member index area keeps has found).task (mapped-place line member index area mapping keeps has found mapped)
+    → mapping_of line area.task (member_area_key member index area) ≡ Some mapping → IsMappable area mapping
+mappable line member index area mapping stays has found mapped =
+    place-mappable line member index area mapping (area-inside line member index area stays has found).task (mapped-place line member index area mapping stays has found mapped)
 
 pub area-pair : (line : List Member) (member : Member) (index : ℕ) (area : Area) (x m : ℕ) → KeepsLine line → Contains line member → slice_get member.slave.areas index ≡ Some area
-    → IsPair (fmmu_bytes area (mapping_of line area.task (key_of member index area))) x m
-    → (mapping : Mapping) × (mapping_of line area.task (key_of member index area) ≡ Some mapping) × IsAreaPair area mapping x m
-area-pair line member index area x m keeps has found pair =
-    mapped-pair area (mapping_of line area.task (key_of member index area)) x m (in-memory line member index area keeps has found)
-    (λ mapping mapped. mappable line member index area mapping keeps has found mapped) pair
+    → IsPair (fmmu_bytes area (mapping_of line area.task (member_area_key member index area))) x m
+    → (mapping : Mapping) × (mapping_of line area.task (member_area_key member index area) ≡ Some mapping) × IsAreaPair area mapping x m
+area-pair line member index area x m stays has found pair =
+    mapped-pair area (mapping_of line area.task (member_area_key member index area)) x m (in-memory line member index area stays has found)
+    (λ mapping mapped. mappable line member index area mapping stays has found mapped) pair
 
 pub pair-of : (line : List Member) (member : Member) (block : LineBlock) (x m : ℕ) → KeepsLine line → Contains line member → IsOfMember line member block → IsBlockPair block x m
     → PairOf line member block x m
-pair-of line member block x m keeps has own pair = by own.source
+pair-of line member block x m stays has own pair = by own.source
   where
     by : Source line member block.block → PairOf line member block x m
     by (inl manager) =
@@ -120,10 +120,10 @@ pair-of line member block x m keeps has own pair = by own.source
         absurd (omega arith)
     by (inr source) =
         let area = source.area in
-        let told = area-pair line member source.index area x m keeps has source.found (subst (λ (b : RegisterBlock). IsPair b.bytes x m) source.is pair.pair) in
-        record { index = source.index; area = area; mapping = told.0; found = source.found; is = source.is; mapped = told.1; pair = told.2 }
+        let answer_given = area-pair line member source.index area x m stays has source.found (subst (λ (b : RegisterBlock). IsPair b.bytes x m) source.is pair.pair) in
+        record { index = source.index; area = area; mapping = answer_given.0; found = source.found; is = source.is; mapped = answer_given.1; pair = answer_given.2 }
 
--- the blocks of a slave stand in the line
+-- the blocks of a slave are in the line
 
 pub block-in-line : (line : List Member) (member : Member) (block : RegisterBlock) → Contains line member → Contains (slave_blocks line member) block
     → (number : ℕ) × Contains (line_blocks line) (record { station = member.slave.station; number = number; block = block })
@@ -144,34 +144,34 @@ fmmu-in-slave line member index area found =
     let element : Contains numbered (index, area) = subst (λ (n : ℕ). Contains numbered (n, area)) number (contains-numbered 0 index member.slave.areas area found) in
     contains-joined (area_blocks line member.rank) numbered (index, area) fmmu element (contains-later (sync_manager_block area) fmmu (fmmu ∷ []) (contains-first fmmu []))
 
--- slave by slave, the pairs of the blocks are those of the areas
+-- slave by slave, the pairs of the blocks are the areas'
 
 blocks-to-areas : (line : List Member) (station x m : ℕ) → KeepsLine line → BlocksPair line station x m → AreasPair line station x m
-blocks-to-areas line station x m keeps pairs =
+blocks-to-areas line station x m stays pairs =
     let source = All-contains (IsOfLine line) (line_blocks line) pairs.block (line-sources line) pairs.in_line in
-    let told = pair-of line source.member pairs.block x m keeps source.in_line source.of_member pairs.pair in
+    let answer_given = pair-of line source.member pairs.block x m stays source.in_line source.of_member pairs.pair in
     record {
       member = source.member;
-      index = told.index;
-      area = told.area;
-      mapping = told.mapping;
+      index = answer_given.index;
+      area = answer_given.area;
+      mapping = answer_given.mapping;
       station_is = sym source.of_member.station_is ∙ pairs.station_is;
-      is_mapped = record { in_line = source.in_line; in_record = told.found; mapped = told.mapped };
-      pair = told.pair;
+      is_mapped = record { in_line = source.in_line; in_record = answer_given.found; mapped = answer_given.mapped };
+      pair = answer_given.pair;
     }
 
 pub mapped-area : (line : List Member) (member : Member) (index : ℕ) (area : Area) (mapping : Mapping) (x m : ℕ) → KeepsLine line → IsMapped line member index area mapping
     → IsAreaPair area mapping x m → IsPair (mapped_bytes area mapping) x m
-mapped-area line member index area mapping x m keeps is pair =
-    (block-pairs area mapping x m (in-memory line member index area keeps is.in_line is.in_record) (mappable line member index area mapping keeps is.in_line is.in_record is.mapped)).1 pair
+mapped-area line member index area mapping x m stays is pair =
+    (block-pairs area mapping x m (in-memory line member index area stays is.in_line is.in_record) (mappable line member index area mapping stays is.in_line is.in_record is.mapped)).1 pair
 
 areas-to-blocks : (line : List Member) (station x m : ℕ) → KeepsLine line → AreasPair line station x m → BlocksPair line station x m
-areas-to-blocks line station x m keeps pairs =
+areas-to-blocks line station x m stays pairs =
     let is = pairs.is_mapped in
     let area = pairs.area in
     let fmmu = own_fmmu line pairs.member pairs.index area in
     let block = block-in-line line pairs.member fmmu is.in_line (fmmu-in-slave line pairs.member pairs.index area is.in_record) in
-    let few : pairs.index < 8 = omega (arith, (slave-of line pairs.member keeps is.in_line).few, slice_get_within pairs.member.slave.areas pairs.index area is.in_record) in
+    let few : pairs.index < 8 = omega (arith, (slave-of line pairs.member stays is.in_line).few, slice_get_within pairs.member.slave.areas pairs.index area is.in_record) in
     record {
       block = record { station = pairs.member.slave.station; number = block.0; block = fmmu };
       in_line = block.1;
@@ -179,11 +179,11 @@ areas-to-blocks line station x m keeps pairs =
       pair = record {
         from = omega arith;
         below = omega arith;
-        pair = subst (λ (o : Option Mapping). IsPair (fmmu_bytes area o) x m) (sym is.mapped) (mapped-area line pairs.member pairs.index area pairs.mapping x m keeps is pairs.pair);
+        pair = subst (λ (o : Option Mapping). IsPair (fmmu_bytes area o) x m) (sym is.mapped) (mapped-area line pairs.member pairs.index area pairs.mapping x m stays is pairs.pair);
       };
     }
 
 pub lines-pair : LinesPairTheirAreas
 lines-pair state station x m can =
-    let keeps = keeps-line state can in
-    (blocks-to-areas (line state) station x m keeps, areas-to-blocks (line state) station x m keeps)
+    let stays = stays-line state can in
+    (blocks-to-areas (line state) station x m stays, areas-to-blocks (line state) station x m stays)

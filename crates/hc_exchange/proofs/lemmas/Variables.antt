@@ -8,7 +8,7 @@ use Rattle.std.proofs.lemmas.List.{map-append}
 use Rattle.std.proofs.lemmas.List.Elements.{All-contains, All-contains_itself, All-map, Contains-get_or}
 use Rattle.hc_records.specs.declared.keys.Key.{Key}
 use Rattle.hc_records.specs.declared.records.Dir.{Dir}
-use Rattle.hc_records.specs.Area.{Entry, assigned_entries, bits_of, width}
+use Rattle.hc_records.specs.Area.{Entry, assigned_entries, entry_bits, width}
 use Rattle.hc_records.specs.Image.{VariablePlace, area_variables, logical_address, task_places, task_variables, tasks, variables_from}
 use Rattle.hc_records.specs.Keys.{same_dir}
 use Rattle.hc_records.specs.Line.{Member, State, line}
@@ -21,7 +21,7 @@ use Rattle.hc_records.proofs.lemmas.Variables.{IsEntryVariable, IsPlaced, entry-
 use Rattle.hc_records.proofs.lemmas.VariablePlaces.{same_dir-same}
 use Rattle.hc_registers.specs.Blocks.{mapping_at}
 use Rattle.hc_exchange.specs.PairLaws.{IsConfigurable}
-use Rattle.hc_exchange.specs.Pairs.{key_of}
+use Rattle.hc_exchange.specs.Pairs.{member_area_key}
 use Rattle.hc_plan.proofs.lemmas.AreaKeys.{one-key}
 use Rattle.hc_plan.proofs.lemmas.Elements.{contains-unmapped, numbered-at}
 use Rattle.hc_exchange.proofs.lemmas.Listed.{areas-mapped}
@@ -57,7 +57,7 @@ record IsListed (line : List Member) (task : ℕ) (listed : Listed) : Type 0 whe
   in_line : Contains line member
   found : slice_get member.slave.areas index ≡ Some listed.area
   task_is : listed.area.task ≡ task
-  key : listed.key ≡ key_of member index listed.area
+  key : listed.key ≡ member_area_key member index listed.area
 
 all-listed : (line : List Member) (task : ℕ) → All (IsListed line task) (task_areas task line)
 all-listed line task =
@@ -82,7 +82,7 @@ all-listed line task =
     key-with : Dir → ℕ → ℕ → Key
     key-with way rank number = record { dir = way; rank = rank; area = number }
 
--- a variable of an area that stands in a task
+-- a variable of an area that is in a task
 carried-at : (state : State) (task : ℕ) (pair : Listed × Placed) (v : ℕ) (bit bits : ℕ) → IsConfigurable state → IsListed (line state) task pair.0 → IsPlaced pair
     → Contains (task_places task (line state)) pair.1 → Contains (variables_from pair.1.bit (assigned_entries pair.0.area)) (v, (bit, bits))
     → IsCarried (line state) v (place_of task pair (v, (bit, bits)))
@@ -98,7 +98,7 @@ carried-at state task pair v bit bits can source placed in_task found =
     let number : entry.0 ≡ v = ap (λ (f : Found). f.0) own.2 in
     let first : pair.1.bit + entry.1.0 ≡ bit = ap (λ (f : Found). f.1.0) own.2 in
     let size : entry.1.1 ≡ bits = ap (λ (f : Found). f.1.1) own.2 in
-    let inside = All-contains (IsEntryVariable (λ n. n ≡ n) 0 (0 + bits_of entries)) (variables_from 0 entries) entry (entry-variables (λ n. n ≡ n) 0 entries (λ k d within. refl)) own.1 in
+    let inside = All-contains (IsEntryVariable (λ n. n ≡ n) 0 (0 + entry_bits entries)) (variables_from 0 entries) entry (entry-variables (λ n. n ≡ n) 0 entries (λ k d within. refl)) own.1 in
     let to = inside.to in
     elim (areas-mapped state source.member source.index area can source.in_line source.found) [
       | inr none ↦ record {

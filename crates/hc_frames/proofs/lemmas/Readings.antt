@@ -14,8 +14,8 @@ use Rattle.hc_frames.specs.declared.limits.TheConstants.{MAX_DATA}
 use Rattle.hc_frames.specs.Commands.{code_of, command_of}
 use Rattle.hc_frames.specs.Laws.{CanBeCarried, CarriedFramesAreRead}
 use Rattle.hc_frames.specs.Sizes.{text_size}
-use Rattle.hc_frames.specs.FrameText.{Carried, carried_frame, carried_head, carried_text, carried_texts, length_field}
-use Rattle.hc_frames.specs.Arrived.{carried, circulates, data_size, datagram_bytes, datagrams_in, fault_in, fill_region, reading_of, region, serial_in, has_other_index, is_unknown, is_whole, long_at, more_at_end, more_between, says_more, word_at}
+use Rattle.hc_frames.specs.FrameText.{WireDatagram, carried_frame, carried_head, carried_text, carried_texts, length_field}
+use Rattle.hc_frames.specs.Arrived.{datagram_carried, circulates, data_size, datagram_bytes, datagram_tails, fault_in, fill_region, reading_of, region, serial_in, has_other_index, is_unknown, is_whole, long_at, more_at_end, more_between, says_more, word_at}
 use Rattle.hc_frames.specs.Returned.{FitsLine}
 use Rattle.hc_frames.proofs.lemmas.Datagrams.{datagrams-none, datagrams-some, whole-long}
 use Rattle.hc_frames.proofs.lemmas.Texts.{carried-cut, length-carried_text, length-carried_texts}
@@ -57,9 +57,9 @@ command_back Lrw = refl
 index_same : (n : ℕ) → not (n == n) ≡ false
 index_same n = grind (arith, nat_tests)
 
-module _ (serial : ℕ) (more : Bool) (d : Carried) (behind : List ℕ) (fits : FitsLine d) where
+module _ (serial : ℕ) (more : Bool) (d : WireDatagram) (after_it : List ℕ) (fits : FitsLine d) where
   abbrev bytes : List ℕ
-  bytes = carried_text serial more d ++ behind
+  bytes = carried_text serial more d ++ after_it
 
   abbrev field : ℕ
   field = length_field (length d.bytes) more
@@ -82,8 +82,8 @@ module _ (serial : ℕ) (more : Bool) (d : Carried) (behind : List ℕ) (fits : 
   pub index-read : has_other_index (serial % 256) bytes ≡ false
   index-read = index_same (serial % 256)
 
-  pub length-bytes : length bytes ≡ 12 + length d.bytes + length behind
-  length-bytes = length-append (carried_text serial more d) behind ∙ ap (λ (n : ℕ). n + length behind) (length-carried_text serial more d)
+  pub length-bytes : length bytes ≡ 12 + length d.bytes + length after_it
+  length-bytes = length-append (carried_text serial more d) after_it ∙ ap (λ (n : ℕ). n + length after_it) (length-carried_text serial more d)
 
   pub whole-read : is_whole bytes ≡ true
   whole-read =
@@ -92,9 +92,9 @@ module _ (serial : ℕ) (more : Bool) (d : Carried) (behind : List ℕ) (fits : 
       whole_from : (n spare long : ℕ) → n ≡ length d.bytes → spare ≡ 0 → 12 + length d.bytes ≤ long → (nat_le 1 n && (nat_le n MAX_DATA && ((spare == 0) && nat_le (12 + n) long))) ≡ true
       whole_from n spare long e s l = let filled : 1 ≤ length d.bytes = fits.filled in let most : length d.bytes ≤ 1486 = fits.size in grind (arith, nat_tests)
 
-  pub behind-read : drop (12 + data_size bytes) bytes ≡ behind
-  behind-read =
-      ap (λ (n : ℕ). drop n bytes) (ap (λ (n : ℕ). 12 + n) size-read ∙ sym (length-carried_text serial more d)) ∙ drop-append_seam (carried_text serial more d) behind
+  pub after_it-read : drop (12 + data_size bytes) bytes ≡ after_it
+  after_it-read =
+      ap (λ (n : ℕ). drop n bytes) (ap (λ (n : ℕ). 12 + n) size-read ∙ sym (length-carried_text serial more d)) ∙ drop-append_seam (carried_text serial more d) after_it
 
   -- the ten bytes before the data
   abbrev front : List ℕ
@@ -103,24 +103,24 @@ module _ (serial : ℕ) (more : Bool) (d : Carried) (behind : List ℕ) (fits : 
   data_read : slice_range bytes 10 (10 + data_size bytes) ≡ d.bytes
   data_read =
       ap (λ (n : ℕ). slice_range bytes 10 (10 + n)) size-read
-      ∙ ap (λ (xs : List ℕ). slice_range xs 10 (10 + length d.bytes)) (carried-cut serial more d behind)
-      ∙ ap (λ (n : ℕ). take n (d.bytes ++ (to_le_bytes w16 d.counter ++ behind))) (omega arith)
-      ∙ take_at d.bytes (to_le_bytes w16 d.counter ++ behind) (length d.bytes) refl
+      ∙ ap (λ (xs : List ℕ). slice_range xs 10 (10 + length d.bytes)) (carried-cut serial more d after_it)
+      ∙ ap (λ (n : ℕ). take n (d.bytes ++ (to_le_bytes w16 d.counter ++ after_it))) (omega arith)
+      ∙ take_at d.bytes (to_le_bytes w16 d.counter ++ after_it) (length d.bytes) refl
 
-  byte_behind : (i : ℕ) → slice_index bytes (10 + data_size bytes + i) ≡ slice_index (to_le_bytes w16 d.counter ++ behind) i
-  byte_behind i =
-      let tail : List ℕ = to_le_bytes w16 d.counter ++ behind in
+  byte_after : (i : ℕ) → slice_index bytes (10 + data_size bytes + i) ≡ slice_index (to_le_bytes w16 d.counter ++ after_it) i
+  byte_after i =
+      let tail : List ℕ = to_le_bytes w16 d.counter ++ after_it in
       let long : length (front ++ d.bytes) ≡ 10 + length d.bytes = length-append front d.bytes in
       ap (λ (n : ℕ). slice_index bytes (10 + n + i)) size-read
-      ∙ ap (λ (xs : List ℕ). slice_index xs (10 + length d.bytes + i)) (carried-cut serial more d behind ∙ sym (append_assoc front d.bytes tail))
+      ∙ ap (λ (xs : List ℕ). slice_index xs (10 + length d.bytes + i)) (carried-cut serial more d after_it ∙ sym (append_assoc front d.bytes tail))
       ∙ ap (λ (n : ℕ). slice_index ((front ++ d.bytes) ++ tail) (n + i)) (sym long)
       ∙ get_or-append-add (front ++ d.bytes) tail i 0
 
   counter_read : word_at bytes (10 + data_size bytes) ≡ d.counter
   counter_read =
       ap (λ (n : ℕ). slice_index bytes n + 256 * slice_index bytes (10 + data_size bytes + 1)) (sym (add-zero (10 + data_size bytes)))
-      ∙ ap (λ (n : ℕ). n + 256 * slice_index bytes (10 + data_size bytes + 1)) (byte_behind 0)
-      ∙ ap (λ (n : ℕ). d.counter % 256 + 256 * n) (byte_behind 1)
+      ∙ ap (λ (n : ℕ). n + 256 * slice_index bytes (10 + data_size bytes + 1)) (byte_after 0)
+      ∙ ap (λ (n : ℕ). d.counter % 256 + 256 * n) (byte_after 1)
       ∙ word_back d.counter fits.counter
 
   address_read : long_at bytes 2 ≡ d.address
@@ -129,7 +129,7 @@ module _ (serial : ℕ) (more : Bool) (d : Carried) (behind : List ℕ) (fits : 
   interrupt_read : word_at bytes 8 ≡ d.interrupt
   interrupt_read = word_back d.interrupt fits.interrupt
 
-  pub carried-read : carried bytes ≡ d
+  pub carried-read : datagram_carried bytes ≡ d
   carried-read =
       ap (λ (c : Command). record { command = c; address = long_at bytes 2; interrupt = word_at bytes 8; bytes = slice_range bytes 10 (10 + data_size bytes); counter = word_at bytes (10 + data_size bytes) }) (ap (λ (o : Option Command). unwrap_or o Lrw) (command_back d.command))
       ∙ ap (λ (n : ℕ). record { command = d.command; address = n; interrupt = word_at bytes 8; bytes = slice_range bytes 10 (10 + data_size bytes); counter = word_at bytes (10 + data_size bytes) }) address_read
@@ -137,87 +137,87 @@ module _ (serial : ℕ) (more : Bool) (d : Carried) (behind : List ℕ) (fits : 
       ∙ ap (λ (xs : List ℕ). record { command = d.command; address = d.address; interrupt = d.interrupt; bytes = xs; counter = word_at bytes (10 + data_size bytes) }) data_read
       ∙ ap (λ (n : ℕ). record { command = d.command; address = d.address; interrupt = d.interrupt; bytes = d.bytes; counter = n }) counter_read
 
--- a datagram at the front of some bytes, and what stands behind it
-record HeadRead (serial : ℕ) (more : Bool) (d : Carried) (behind bytes : List ℕ) : Type 0 where
+-- a datagram at the front of some bytes, and what is after it
+record HeadRead (serial : ℕ) (more : Bool) (d : WireDatagram) (after_it bytes : List ℕ) : Type 0 where
   whole : is_whole bytes ≡ true
   promise : says_more bytes ≡ more
   turn : circulates bytes ≡ false
   unknown : is_unknown bytes ≡ false
   index : has_other_index (serial % 256) bytes ≡ false
-  fields : carried bytes ≡ d
-  rest : drop (12 + data_size bytes) bytes ≡ behind
+  fields : datagram_carried bytes ≡ d
+  rest : drop (12 + data_size bytes) bytes ≡ after_it
 
-head_read : (serial : ℕ) (more : Bool) (d : Carried) (behind : List ℕ) → FitsLine d → HeadRead serial more d behind (carried_text serial more d ++ behind)
-head_read serial more d behind fits = record {
-  whole = whole-read serial more d behind fits;
-  promise = more-read serial more d behind fits;
-  turn = turn-read serial more d behind fits;
-  unknown = unknown-read serial more d behind fits;
-  index = index-read serial more d behind fits;
-  fields = carried-read serial more d behind fits;
-  rest = behind-read serial more d behind fits;
+head_read : (serial : ℕ) (more : Bool) (d : WireDatagram) (after_it : List ℕ) → FitsLine d → HeadRead serial more d after_it (carried_text serial more d ++ after_it)
+head_read serial more d after_it fits = record {
+  whole = whole-read serial more d after_it fits;
+  promise = more-read serial more d after_it fits;
+  turn = turn-read serial more d after_it fits;
+  unknown = unknown-read serial more d after_it fits;
+  index = index-read serial more d after_it fits;
+  fields = carried-read serial more d after_it fits;
+  rest = after_it-read serial more d after_it fits;
 }
 
-abbrev follow : List Carried → Bool
+abbrev follow : List WireDatagram → Bool
 follow [] = false
 follow (e ∷ ds) = true
 
-head_of : (serial : ℕ) (d : Carried) (ds : List Carried) → FitsLine d → HeadRead serial (follow ds) d (carried_texts serial ds) (carried_texts serial (d ∷ ds))
+head_of : (serial : ℕ) (d : WireDatagram) (ds : List WireDatagram) → FitsLine d → HeadRead serial (follow ds) d (carried_texts serial ds) (carried_texts serial (d ∷ ds))
 head_of serial d [] fits = let P : List ℕ → Type 0 = λ bytes. HeadRead serial false d [] bytes in subst P (append-nil (carried_text serial false d)) (head_read serial false d [] fits)
 head_of serial d (e ∷ ds) fits = head_read serial true d (carried_texts serial (e ∷ ds)) fits
 
 -- the bytes from each datagram on
-abbrev starts : ℕ → List Carried → List (List ℕ)
+abbrev starts : ℕ → List WireDatagram → List (List ℕ)
 starts serial [] = []
 starts serial (d ∷ ds) = carried_texts serial (d ∷ ds) ∷ starts serial ds
 
-starts_in : (serial : ℕ) (ds : List Carried) → All FitsLine ds → datagrams_in (carried_texts serial ds) ≡ starts serial ds
+starts_in : (serial : ℕ) (ds : List WireDatagram) → All FitsLine ds → datagram_tails (carried_texts serial ds) ≡ starts serial ds
 starts_in serial [] fits = datagrams-none [] refl
 starts_in serial (d ∷ ds) fits =
     let bytes : List ℕ = carried_texts serial (d ∷ ds) in
     let head = head_of serial d ds (All-head FitsLine d ds fits) in
     let long : 12 + data_size bytes ≤ length bytes = whole-long bytes head.whole in
     datagrams-some bytes (omega arith)
-    ∙ ap (λ (rest : List ℕ). bytes ∷ datagrams_in rest) head.rest
+    ∙ ap (λ (rest : List ℕ). bytes ∷ datagram_tails rest) head.rest
     ∙ ap (λ (ds : List (List ℕ)). bytes ∷ ds) (starts_in serial ds (All-tail FitsLine d ds fits))
 
-all_whole : (serial : ℕ) (ds : List Carried) → All FitsLine ds → list_all is_whole (starts serial ds) ≡ true
+all_whole : (serial : ℕ) (ds : List WireDatagram) → All FitsLine ds → list_all is_whole (starts serial ds) ≡ true
 all_whole serial [] fits = refl
 all_whole serial (d ∷ ds) fits = ap (λ (b : Bool). b && list_all is_whole (starts serial ds)) (head_of serial d ds (All-head FitsLine d ds fits)).whole ∙ all_whole serial ds (All-tail FitsLine d ds fits)
 
-all_promised : (serial : ℕ) (ds : List Carried) → All FitsLine ds → more_between (starts serial ds) ≡ true
+all_promised : (serial : ℕ) (ds : List WireDatagram) → All FitsLine ds → more_between (starts serial ds) ≡ true
 all_promised serial [] fits = refl
 all_promised serial (d ∷ []) fits = refl
 all_promised serial (d ∷ e ∷ ds) fits = ap (λ (b : Bool). b && more_between (starts serial (e ∷ ds))) (head_of serial d (e ∷ ds) (All-head FitsLine d (e ∷ ds) fits)).promise ∙ all_promised serial (e ∷ ds) (All-tail FitsLine d (e ∷ ds) fits)
 
-none_promised : (serial : ℕ) (ds : List Carried) → All FitsLine ds → more_at_end (starts serial ds) ≡ false
+none_promised : (serial : ℕ) (ds : List WireDatagram) → All FitsLine ds → more_at_end (starts serial ds) ≡ false
 none_promised serial [] fits = refl
 none_promised serial (d ∷ []) fits = (head_of serial d [] (All-head FitsLine d [] fits)).promise
 none_promised serial (d ∷ e ∷ ds) fits = none_promised serial (e ∷ ds) (All-tail FitsLine d (e ∷ ds) fits)
 
-none_turned : (serial : ℕ) (ds : List Carried) → All FitsLine ds → list_any circulates (starts serial ds) ≡ false
+none_turned : (serial : ℕ) (ds : List WireDatagram) → All FitsLine ds → list_any circulates (starts serial ds) ≡ false
 none_turned serial [] fits = refl
 none_turned serial (d ∷ ds) fits = ap (λ (b : Bool). b || list_any circulates (starts serial ds)) (head_of serial d ds (All-head FitsLine d ds fits)).turn ∙ none_turned serial ds (All-tail FitsLine d ds fits)
 
-none_unknown : (serial : ℕ) (ds : List Carried) → All FitsLine ds → list_any is_unknown (starts serial ds) ≡ false
+none_unknown : (serial : ℕ) (ds : List WireDatagram) → All FitsLine ds → list_any is_unknown (starts serial ds) ≡ false
 none_unknown serial [] fits = refl
 none_unknown serial (d ∷ ds) fits = ap (λ (b : Bool). b || list_any is_unknown (starts serial ds)) (head_of serial d ds (All-head FitsLine d ds fits)).unknown ∙ none_unknown serial ds (All-tail FitsLine d ds fits)
 
-none_other : (serial : ℕ) (ds : List Carried) → All FitsLine ds → list_any (has_other_index (serial % 256)) (starts serial ds) ≡ false
+none_other : (serial : ℕ) (ds : List WireDatagram) → All FitsLine ds → list_any (has_other_index (serial % 256)) (starts serial ds) ≡ false
 none_other serial [] fits = refl
 none_other serial (d ∷ ds) fits = ap (λ (b : Bool). b || list_any (has_other_index (serial % 256)) (starts serial ds)) (head_of serial d ds (All-head FitsLine d ds fits)).index ∙ none_other serial ds (All-tail FitsLine d ds fits)
 
-all_carried : (serial : ℕ) (ds : List Carried) → All FitsLine ds → map carried (starts serial ds) ≡ ds
+all_carried : (serial : ℕ) (ds : List WireDatagram) → All FitsLine ds → map datagram_carried (starts serial ds) ≡ ds
 all_carried serial [] fits = refl
-all_carried serial (d ∷ ds) fits = ap (λ (c : Carried). c ∷ map carried (starts serial ds)) (head_of serial d ds (All-head FitsLine d ds fits)).fields ∙ ap (λ (cs : List Carried). d ∷ cs) (all_carried serial ds (All-tail FitsLine d ds fits))
+all_carried serial (d ∷ ds) fits = ap (λ (c : WireDatagram). c ∷ map datagram_carried (starts serial ds)) (head_of serial d ds (All-head FitsLine d ds fits)).fields ∙ ap (λ (cs : List WireDatagram). d ∷ cs) (all_carried serial ds (All-tail FitsLine d ds fits))
 
-pub parts-read : (serial : ℕ) (ds : List Carried) → All FitsLine ds → map carried (datagrams_in (carried_texts serial ds)) ≡ ds
-parts-read serial ds fits = ap (map carried) (starts_in serial ds fits) ∙ all_carried serial ds fits
+pub parts-read : (serial : ℕ) (ds : List WireDatagram) → All FitsLine ds → map datagram_carried (datagram_tails (carried_texts serial ds)) ≡ ds
+parts-read serial ds fits = ap (map datagram_carried) (starts_in serial ds fits) ∙ all_carried serial ds fits
 
 less : (m n : ℕ) → m < n → nat_lt m n ≡ true
 less m n h = grind (arith, nat_tests)
 
-filled_by : (serial : ℕ) (ds : List Carried) → All FitsLine ds → 0 < length ds → fill_region (datagrams_in (carried_texts serial ds)) ≡ true
+filled_by : (serial : ℕ) (ds : List WireDatagram) → All FitsLine ds → 0 < length ds → fill_region (datagram_tails (carried_texts serial ds)) ≡ true
 filled_by serial [] fits some = absurd (omega arith)
 filled_by serial (d ∷ ds) fits some =
     ap fill_region (starts_in serial (d ∷ ds) fits)
@@ -234,16 +234,16 @@ header_type n h = omega arith
 header_size : (n : ℕ) → n ≤ 1498 → (n + 4096) % 2048 ≡ n
 header_size n h = omega arith
 
-least : (ds : List Carried) → All FitsLine ds → 0 < length ds → 13 ≤ text_size ds
+least : (ds : List WireDatagram) → All FitsLine ds → 0 < length ds → 13 ≤ text_size ds
 least [] fits some = absurd (omega arith)
-least (d ∷ ds) fits some = let filled : 1 ≤ length d.bytes = (All-head FitsLine d ds fits).filled in omega (arith, sum_by-cons (λ (x : Carried). 12 + length x.bytes) d ds)
+least (d ∷ ds) fits some = let filled : 1 ≤ length d.bytes = (All-head FitsLine d ds fits).filled in omega (arith, sum_by-cons (λ (x : WireDatagram). 12 + length x.bytes) d ds)
 
 not_less : (m n : ℕ) → n ≤ m → nat_lt m n ≡ false
 not_less m n h = grind (arith, nat_tests)
 
-module _ (a b c d e f first serial : ℕ) (parts : List Carried) (behind : List ℕ) (can : CanBeCarried serial parts) where
+module _ (a b c d e f first serial : ℕ) (parts : List WireDatagram) (after_it : List ℕ) (can : CanBeCarried serial parts) where
   abbrev frame : List ℕ
-  frame = carried_frame (a ∷ b ∷ c ∷ d ∷ e ∷ f ∷ []) first serial parts behind
+  frame = carried_frame (a ∷ b ∷ c ∷ d ∷ e ∷ f ∷ []) first serial parts after_it
 
   abbrev text : List ℕ
   text = carried_texts serial parts
@@ -261,17 +261,17 @@ module _ (a b c d e f first serial : ℕ) (parts : List Carried) (behind : List 
   bytes_read = ap (λ (n : ℕ). n % 2048) header_read ∙ header_size (length text) most
 
   region_read : region frame ≡ text
-  region_read = ap (λ (n : ℕ). take n (text ++ behind)) bytes_read ∙ take_at text behind (length text) refl
+  region_read = ap (λ (n : ℕ). take n (text ++ after_it)) bytes_read ∙ take_at text after_it (length text) refl
 
   serial_read : serial_in frame ≡ serial
   serial_read = serial_back serial can.low
 
   long_frame : 16 + length text ≤ length frame
-  long_frame = omega (arith, length-append text behind)
+  long_frame = omega (arith, length-append text after_it)
 
   pub six-read : (fault_in frame ≡ None) × (reading_of frame ≡ record { serial = serial; parts = parts })
   six-read =
-      let filled : fill_region (datagrams_in (region frame)) ≡ true = ap (λ (bytes : List ℕ). fill_region (datagrams_in bytes)) region_read ∙ filled_by serial parts can.fits can.some in
+      let filled : fill_region (datagram_tails (region frame)) ≡ true = ap (λ (bytes : List ℕ). fill_region (datagram_tails bytes)) region_read ∙ filled_by serial parts can.fits can.some in
       let thirteen : 13 ≤ text_size parts = least parts can.fits can.some in
       let size : length text ≡ text_size parts = size_is in
       let long : 16 + length text ≤ length frame = long_frame in
@@ -281,17 +281,17 @@ module _ (a b c d e f first serial : ℕ) (parts : List Carried) (behind : List 
             (not_less (length frame) 28 (omega arith))
             refl
             (ap (λ (n : ℕ). not (n / 2048 == 2)) header_read ∙ ap (λ (n : ℕ). not (n == 2)) (header_type (length text) most))
-            (ap (λ (x : Bool). x || (nat_lt (length frame) (16 + datagram_bytes frame) || not (fill_region (datagrams_in (region frame))))) (not_less 1498 (datagram_bytes frame) (omega arith))
-            ∙ ap (λ (x : Bool). x || not (fill_region (datagrams_in (region frame)))) (not_less (length frame) (16 + datagram_bytes frame) (omega arith))
+            (ap (λ (x : Bool). x || (nat_lt (length frame) (16 + datagram_bytes frame) || not (fill_region (datagram_tails (region frame))))) (not_less 1498 (datagram_bytes frame) (omega arith))
+            ∙ ap (λ (x : Bool). x || not (fill_region (datagram_tails (region frame)))) (not_less (length frame) (16 + datagram_bytes frame) (omega arith))
             ∙ ap not filled)
-            (ap (λ (bytes : List ℕ). list_any circulates (datagrams_in bytes)) region_read ∙ ap (list_any circulates) (starts_in serial parts can.fits) ∙ none_turned serial parts can.fits)
-            (ap (λ (bytes : List ℕ). more_at_end (datagrams_in bytes)) region_read ∙ ap more_at_end (starts_in serial parts can.fits) ∙ none_promised serial parts can.fits)
-            (ap (λ (bytes : List ℕ). list_any is_unknown (datagrams_in bytes)) region_read ∙ ap (list_any is_unknown) (starts_in serial parts can.fits) ∙ none_unknown serial parts can.fits)
-            (ap (λ (n : ℕ). list_any (has_other_index (n % 256)) (datagrams_in (region frame))) serial_read
-            ∙ ap (λ (bytes : List ℕ). list_any (has_other_index (serial % 256)) (datagrams_in bytes)) region_read ∙ ap (list_any (has_other_index (serial % 256))) (starts_in serial parts can.fits) ∙ none_other serial parts can.fits),
-        ap (λ (n : ℕ). record { serial = n; parts = map carried (datagrams_in (region frame)) }) serial_read
-            ∙ ap (λ (bytes : List ℕ). record { serial = serial; parts = map carried (datagrams_in bytes) }) region_read
-            ∙ ap (λ (ps : List Carried). record { serial = serial; parts = ps }) (parts-read serial parts can.fits),
+            (ap (λ (bytes : List ℕ). list_any circulates (datagram_tails bytes)) region_read ∙ ap (list_any circulates) (starts_in serial parts can.fits) ∙ none_turned serial parts can.fits)
+            (ap (λ (bytes : List ℕ). more_at_end (datagram_tails bytes)) region_read ∙ ap more_at_end (starts_in serial parts can.fits) ∙ none_promised serial parts can.fits)
+            (ap (λ (bytes : List ℕ). list_any is_unknown (datagram_tails bytes)) region_read ∙ ap (list_any is_unknown) (starts_in serial parts can.fits) ∙ none_unknown serial parts can.fits)
+            (ap (λ (n : ℕ). list_any (has_other_index (n % 256)) (datagram_tails (region frame))) serial_read
+            ∙ ap (λ (bytes : List ℕ). list_any (has_other_index (serial % 256)) (datagram_tails bytes)) region_read ∙ ap (list_any (has_other_index (serial % 256))) (starts_in serial parts can.fits) ∙ none_other serial parts can.fits),
+        ap (λ (n : ℕ). record { serial = n; parts = map datagram_carried (datagram_tails (region frame)) }) serial_read
+            ∙ ap (λ (bytes : List ℕ). record { serial = serial; parts = map datagram_carried (datagram_tails bytes) }) region_read
+            ∙ ap (λ (ps : List WireDatagram). record { serial = serial; parts = ps }) (parts-read serial parts can.fits),
       )
 
 -- a list of six
@@ -307,6 +307,6 @@ by_six P each (a ∷ b ∷ c ∷ d ∷ e ∷ f ∷ g ∷ xs) long = absurd (omeg
 
 -- a frame is read as it was spelled
 pub frame-read : CarriedFramesAreRead
-frame-read destination first serial parts behind long can =
-    let P : List ℕ → Type 0 = λ there. let bytes = carried_frame there first serial parts behind in (fault_in bytes ≡ None) × (reading_of bytes ≡ record { serial = serial; parts = parts }) in
-    by_six P (λ a b c d e f. six-read a b c d e f first serial parts behind can) destination long
+frame-read destination first serial parts after_it long can =
+    let P : List ℕ → Type 0 = λ there. let bytes = carried_frame there first serial parts after_it in (fault_in bytes ≡ None) × (reading_of bytes ≡ record { serial = serial; parts = parts }) in
+    by_six P (λ a b c d e f. six-read a b c d e f first serial parts after_it can) destination long

@@ -1,4 +1,4 @@
--- A readable frame is the spelling of what it tells.
+-- A readable frame is the spelling of what it gives.
 use Rattle.std.proofs.Common.{◌≡◌, ◌==◌, ℕ, zero, suc, ◌+◌, ◌*◌, ◌/◌, ◌%◌, ◌<◌, ◌≤◌, Bool, true, false, ◌&&◌, ◌||◌, not, All, nat_le, List, [], ◌∷◌, ◌++◌, length, take, drop, map, get_or, refl, sym, ap, ◌∙◌, subst, append-nil, arith, length-drop, unwrap_or, is_none, ltb-false, ltb-true}
 use Rattle.std.specs.Prelude.{slice_index}
 use Rattle.std.specs.List.{list_all, list_any}
@@ -13,8 +13,8 @@ use Rattle.std.proofs.lemmas.Grind.{common_steps}
 use Rattle.hc_records.proofs.lemmas.Choices.{by_bool}
 use Rattle.hc_frames.specs.declared.commands.Command.TheVariants.{Lrw}
 use Rattle.hc_frames.specs.Commands.{code_of, command_of}
-use Rattle.hc_frames.specs.FrameText.{Carried, head_to, carried_text, carried_texts, length_field}
-use Rattle.hc_frames.specs.Arrived.{carried, circulates, data_size, datagram_bytes, datagrams_in, is_not_ethercat, region, serial_in, has_other_index, is_unknown, is_whole, more_at_end, more_between, says_more, word_at}
+use Rattle.hc_frames.specs.FrameText.{WireDatagram, head_to, carried_text, carried_texts, length_field}
+use Rattle.hc_frames.specs.Arrived.{datagram_carried, circulates, data_size, datagram_bytes, datagram_tails, is_not_ethercat, region, serial_in, has_other_index, is_unknown, is_whole, more_at_end, more_between, says_more, word_at}
 use Rattle.hc_frames.specs.Laws.{ReadableFramesAreCarried}
 use Rattle.hc_frames.specs.Returned.{FitsLine}
 use Rattle.hc_frames.proofs.lemmas.Datagrams.{carried-length, datagrams-none, datagrams-some, whole-long}
@@ -88,7 +88,7 @@ AllBytes xs = All (λ b. b < 256) xs
 
 -- the data and the counter of a whole datagram, and what follows them
 tail_spelled : (bytes : List ℕ) → AllBytes bytes → is_whole bytes ≡ true
-    → (carried bytes).bytes ++ (to_le_bytes w16 (carried bytes).counter ++ drop (12 + data_size bytes) bytes) ≡ drop 10 bytes
+    → (datagram_carried bytes).bytes ++ (to_le_bytes w16 (datagram_carried bytes).counter ++ drop (12 + data_size bytes) bytes) ≡ drop 10 bytes
 tail_spelled bytes all whole =
     let n : ℕ = data_size bytes in
     let t : List ℕ = drop (10 + n) bytes in
@@ -101,7 +101,7 @@ tail_spelled bytes all whole =
     let low_t : slice_index t 0 < 256 = omega arith in
     let high_t : slice_index t 1 < 256 = omega arith in
     let rest : drop (12 + n) bytes ≡ drop 2 t = ap (λ (k : ℕ). drop k bytes) (omega arith) ∙ sym (drop_twice (10 + n) 2 bytes) in
-    ap (λ (k : ℕ). take k (drop 10 bytes) ++ (to_le_bytes w16 (carried bytes).counter ++ drop (12 + n) bytes)) (omega arith)
+    ap (λ (k : ℕ). take k (drop 10 bytes) ++ (to_le_bytes w16 (datagram_carried bytes).counter ++ drop (12 + n) bytes)) (omega arith)
     ∙ ap (λ (k : ℕ). take n (drop 10 bytes) ++ (to_le_bytes w16 (k + 256 * slice_index bytes (10 + n + 1)) ++ drop (12 + n) bytes)) (sym first)
     ∙ ap (λ (k : ℕ). take n (drop 10 bytes) ++ (to_le_bytes w16 (slice_index t 0 + 256 * k) ++ drop (12 + n) bytes)) (sym second)
     ∙ ap (λ (xs : List ℕ). take n (drop 10 bytes) ++ (to_le_bytes w16 (slice_index t 0 + 256 * slice_index t 1) ++ xs)) rest
@@ -120,7 +120,7 @@ record Clean (serial : ℕ) (more : Bool) (bytes : List ℕ) : Type 0 where
   promise : says_more bytes ≡ more
 
 abbrev Spelled : ℕ → Bool → List ℕ → Type 0
-Spelled serial more bytes = carried_text serial more (carried bytes) ++ drop (12 + data_size bytes) bytes ≡ bytes
+Spelled serial more bytes = carried_text serial more (datagram_carried bytes) ++ drop (12 + data_size bytes) bytes ≡ bytes
 
 -- it is the text of what it carries
 head_spelled : (serial : ℕ) (more : Bool) (bytes : List ℕ) → AllBytes bytes → Clean serial more bytes → Spelled serial more bytes
@@ -137,10 +137,10 @@ head_spelled serial more bytes all clean =
     let h' : h < 256 = all 7 0 (omega arith) in
     let i' : i < 256 = all 8 0 (omega arith) in
     let j' : j < 256 = all 9 0 (omega arith) in
-    let size : length (carried bytes).bytes ≡ (g + 256 * h) % 2048 = carried-length bytes clean.whole in
-    let field : length_field (length (carried bytes).bytes) more ≡ g + 256 * h =
+    let size : length (datagram_carried bytes).bytes ≡ (g + 256 * h) % 2048 = carried-length bytes clean.whole in
+    let field : length_field (length (datagram_carried bytes).bytes) more ≡ g + 256 * h =
     ap (λ (n : ℕ). length_field n more) size ∙ field_back (g + 256 * h) more (omega arith) (spare_clear bytes clean.whole) clean.turn clean.promise in
-    carried-cut serial more (carried bytes) (drop (12 + data_size bytes) bytes)
+    carried-cut serial more (datagram_carried bytes) (drop (12 + data_size bytes) bytes)
     ∙ ten_same _ _ _ _ _ _ _ _ _ _ a b c d e f g h i j _ xs
     (code_back a clean.known) (sym (unequal_not b (serial % 256) clean.index))
     (byte_0 c d e f c' d' e' f') (byte_1 c d e f c' d' e' f') (byte_2 c d e f c' d' e' f') (byte_3 c d e f c' d' e' f')
@@ -155,10 +155,10 @@ word_low bytes at all inside =
     let high : slice_index bytes (at + 1) < 256 = all (at + 1) 0 inside in
     omega arith
 
-head_fits : (bytes : List ℕ) → AllBytes bytes → is_whole bytes ≡ true → FitsLine (carried bytes)
+head_fits : (bytes : List ℕ) → AllBytes bytes → is_whole bytes ≡ true → FitsLine (datagram_carried bytes)
 head_fits bytes all whole =
     let long : 12 + data_size bytes ≤ length bytes = whole-long bytes whole in
-    let size : length (carried bytes).bytes ≡ data_size bytes = carried-length bytes whole in
+    let size : length (datagram_carried bytes).bytes ≡ data_size bytes = carried-length bytes whole in
     let low : word_at bytes 2 < 65536 = word_low bytes 2 all (omega arith) in
     let high : word_at bytes 4 < 65536 = word_low bytes 4 all (omega arith) in
     let one : 1 ≤ data_size bytes = one_of (data_size bytes) (and_parts _ _ whole).0 in
@@ -214,52 +214,52 @@ others_clean serial d e ds clean = record {
   index = (or_parts _ _ clean.index).1;
 }
 
-record Told (serial : ℕ) (bytes : List ℕ) (ds : List (List ℕ)) : Type 0 where
-  text : carried_texts serial (map carried ds) ≡ bytes
-  fits : All FitsLine (map carried ds)
+record AnswerGiven (serial : ℕ) (bytes : List ℕ) (ds : List (List ℕ)) : Type 0 where
+  text : carried_texts serial (map datagram_carried ds) ≡ bytes
+  fits : All FitsLine (map datagram_carried ds)
 
-fits_one : (d : Carried) → FitsLine d → All FitsLine (d ∷ [])
+fits_one : (d : WireDatagram) → FitsLine d → All FitsLine (d ∷ [])
 fits_one d fits = All-cons FitsLine d [] fits (λ k e inside. absurd (omega arith))
 
-bytes_behind : (n : ℕ) (bytes : List ℕ) → AllBytes bytes → AllBytes (drop n bytes)
-bytes_behind n bytes all = λ k d inside.
+bytes_after : (n : ℕ) (bytes : List ℕ) → AllBytes bytes → AllBytes (drop n bytes)
+bytes_after n bytes all = λ k d inside.
     let there : get_or (drop n bytes) k d ≡ get_or bytes (n + k) d = get_or-drop n bytes k d in
     let within : n + k < length bytes = omega (arith, length-drop n bytes) in
     let low : get_or bytes (n + k) d < 256 = all (n + k) d within in
     omega arith
 
 -- bytes that clean datagrams fill are their texts, one after another
-told : (n serial : ℕ) (bytes : List ℕ) → length bytes ≤ n → 0 < length bytes → AllBytes bytes → AllClean serial (datagrams_in bytes) → Told serial bytes (datagrams_in bytes)
-told zero serial bytes short some all clean = absurd (omega arith)
-told (suc n) serial bytes short some all clean = step (λ (rest : List ℕ). told n serial rest) (drop (12 + data_size bytes) bytes) refl
+answer_given : (n serial : ℕ) (bytes : List ℕ) → length bytes ≤ n → 0 < length bytes → AllBytes bytes → AllClean serial (datagram_tails bytes) → AnswerGiven serial bytes (datagram_tails bytes)
+answer_given zero serial bytes short some all clean = absurd (omega arith)
+answer_given (suc n) serial bytes short some all clean = step (λ (rest : List ℕ). answer_given n serial rest) (drop (12 + data_size bytes) bytes) refl
   where
-    step : ((rest : List ℕ) → length rest ≤ n → 0 < length rest → AllBytes rest → AllClean serial (datagrams_in rest) → Told serial rest (datagrams_in rest)) → (rest : List ℕ) → rest ≡ drop (12 + data_size bytes) bytes → Told serial bytes (datagrams_in bytes)
-    step others_told [] e =
-        let here : datagrams_in bytes ≡ bytes ∷ [] = datagrams-some bytes some ∙ ap (λ (xs : List ℕ). bytes ∷ datagrams_in xs) (sym e) ∙ ap (λ (ds : List (List ℕ)). bytes ∷ ds) (datagrams-none [] refl) in
+    step : ((rest : List ℕ) → length rest ≤ n → 0 < length rest → AllBytes rest → AllClean serial (datagram_tails rest) → AnswerGiven serial rest (datagram_tails rest)) → (rest : List ℕ) → rest ≡ drop (12 + data_size bytes) bytes → AnswerGiven serial bytes (datagram_tails bytes)
+    step others_answered [] e =
+        let here : datagram_tails bytes ≡ bytes ∷ [] = datagrams-some bytes some ∙ ap (λ (xs : List ℕ). bytes ∷ datagram_tails xs) (sym e) ∙ ap (λ (ds : List (List ℕ)). bytes ∷ ds) (datagrams-none [] refl) in
         let Q : List (List ℕ) → Type 0 = AllClean serial in
         let one : Clean serial false bytes = last_clean serial bytes (subst Q here clean) in
-        let R : List (List ℕ) → Type 0 = Told serial bytes in
+        let R : List (List ℕ) → Type 0 = AnswerGiven serial bytes in
         subst R (sym here) (record {
-          text = sym (append-nil (carried_text serial false (carried bytes))) ∙ ap (λ (xs : List ℕ). carried_text serial false (carried bytes) ++ xs) e ∙ head_spelled serial false bytes all one;
-          fits = fits_one (carried bytes) (head_fits bytes all one.whole);
+          text = sym (append-nil (carried_text serial false (datagram_carried bytes))) ∙ ap (λ (xs : List ℕ). carried_text serial false (datagram_carried bytes) ++ xs) e ∙ head_spelled serial false bytes all one;
+          fits = fits_one (datagram_carried bytes) (head_fits bytes all one.whole);
         })
-    step others_told (r ∷ rs) e =
+    step others_answered (r ∷ rs) e =
         let rest : List ℕ = r ∷ rs in
-        let behind : List (List ℕ) = datagrams_in (drop (12 + data_size rest) rest) in
-        let there : datagrams_in rest ≡ rest ∷ behind = datagrams-some rest (omega arith) in
-        let here : datagrams_in bytes ≡ bytes ∷ rest ∷ behind = datagrams-some bytes some ∙ ap (λ (xs : List ℕ). bytes ∷ datagrams_in xs) (sym e) ∙ ap (λ (ds : List (List ℕ)). bytes ∷ ds) there in
+        let after_it : List (List ℕ) = datagram_tails (drop (12 + data_size rest) rest) in
+        let there : datagram_tails rest ≡ rest ∷ after_it = datagrams-some rest (omega arith) in
+        let here : datagram_tails bytes ≡ bytes ∷ rest ∷ after_it = datagrams-some bytes some ∙ ap (λ (xs : List ℕ). bytes ∷ datagram_tails xs) (sym e) ∙ ap (λ (ds : List (List ℕ)). bytes ∷ ds) there in
         let Q : List (List ℕ) → Type 0 = AllClean serial in
-        let both : AllClean serial (bytes ∷ rest ∷ behind) = subst Q here clean in
-        let one : Clean serial true bytes = first_clean serial bytes rest behind both in
+        let both : AllClean serial (bytes ∷ rest ∷ after_it) = subst Q here clean in
+        let one : Clean serial true bytes = first_clean serial bytes rest after_it both in
         let B : List ℕ → Type 0 = AllBytes in
-        let others : Told serial rest (datagrams_in rest) =
-        others_told rest (omega (arith, ap length e, length-drop (12 + data_size bytes) bytes)) (omega arith) (subst B (sym e) (bytes_behind (12 + data_size bytes) bytes all)) (subst Q (sym there) (others_clean serial bytes rest behind both)) in
-        let S : List (List ℕ) → Type 0 = Told serial rest in
-        let next : Told serial rest (rest ∷ behind) = subst S there others in
-        let R : List (List ℕ) → Type 0 = Told serial bytes in
+        let others : AnswerGiven serial rest (datagram_tails rest) =
+        others_answered rest (omega (arith, ap length e, length-drop (12 + data_size bytes) bytes)) (omega arith) (subst B (sym e) (bytes_after (12 + data_size bytes) bytes all)) (subst Q (sym there) (others_clean serial bytes rest after_it both)) in
+        let S : List (List ℕ) → Type 0 = AnswerGiven serial rest in
+        let next : AnswerGiven serial rest (rest ∷ after_it) = subst S there others in
+        let R : List (List ℕ) → Type 0 = AnswerGiven serial bytes in
         subst R (sym here) (record {
-          text = ap (λ (xs : List ℕ). carried_text serial true (carried bytes) ++ xs) (next.text ∙ e) ∙ head_spelled serial true bytes all one;
-          fits = All-cons FitsLine (carried bytes) (map carried (rest ∷ behind)) (head_fits bytes all one.whole) next.fits;
+          text = ap (λ (xs : List ℕ). carried_text serial true (datagram_carried bytes) ++ xs) (next.text ∙ e) ∙ head_spelled serial true bytes all one;
+          fits = All-cons FitsLine (datagram_carried bytes) (map datagram_carried (rest ∷ after_it)) (head_fits bytes all one.whole) next.fits;
         })
 
 -- nine bytes and what follows them
@@ -305,8 +305,8 @@ frame_round bytes long =
     let high : b15 < 256 = all 15 0 (omega arith) in
     let header : length text + 4096 ≡ b14 + 256 * b15 = ap (λ (k : ℕ). k + 4096) size ∙ header_back (b14 + 256 * b15) kind in
     let both = and_parts _ _ (not-false _ type) in
-    let behind : drop (16 + n) bytes ≡ drop n xs = sym (drop_twice 16 n bytes) in
-    let tail : text ++ drop (16 + n) bytes ≡ xs = ap (λ (t : List ℕ). t ++ drop (16 + n) bytes) same ∙ ap (λ (t : List ℕ). take n xs ++ t) behind ∙ take-append-drop n xs in (
+    let after_it : drop (16 + n) bytes ≡ drop n xs = sym (drop_twice 16 n bytes) in
+    let tail : text ++ drop (16 + n) bytes ≡ xs = ap (λ (t : List ℕ). t ++ drop (16 + n) bytes) same ∙ ap (λ (t : List ℕ). take n xs ++ t) after_it ∙ take-append-drop n xs in (
       spelled.5,
       ap (λ (t : List ℕ). b0 ∷ b1 ∷ b2 ∷ b3 ∷ b4 ∷ b5 ∷ b6 ∷ t)
           (sym (nine_same _ _ _ _ _ _ _ _ _ b7 b8 b9 b10 b11 b12 b13 b14 b15 _ xs
@@ -316,8 +316,8 @@ frame_round bytes long =
     rest (omega arith))
     bytes (omega arith) long
 
-some_bytes : (bytes : List ℕ) → 0 < length (datagrams_in bytes) → 0 < length bytes
-some_bytes [] some = let none : length (datagrams_in []) ≡ 0 = ap length (datagrams-none [] refl) in absurd (omega arith)
+some_bytes : (bytes : List ℕ) → 0 < length (datagram_tails bytes) → 0 < length bytes
+some_bytes [] some = let none : length (datagram_tails []) ≡ 0 = ap length (datagrams-none [] refl) in absurd (omega arith)
 some_bytes (b ∷ bytes) some = omega arith
 
 bytes_before : (n : ℕ) (bytes : List ℕ) → AllBytes bytes → AllBytes (take n bytes)
@@ -332,7 +332,7 @@ pub frame-carried : ReadableFramesAreCarried
 frame-carried bytes all none =
     let clear : Clear bytes = clear_of bytes none in
     let part : List ℕ = region bytes in
-    let ds : List (List ℕ) = datagrams_in part in
+    let ds : List (List ℕ) = datagram_tails part in
     let serial : ℕ = serial_in bytes in
     let n : ℕ = datagram_bytes bytes in
     let long = or_parts _ _ clear.size in
@@ -342,13 +342,13 @@ frame-carried bytes all none =
     let some : 0 < length ds = ltb-true _ _ filled.0 in
     let rows = and_parts _ _ filled.1 in
     let size : length part ≡ n = omega (arith, length-take n (drop 16 bytes), length-drop 16 bytes) in
-    let said : Told serial part ds =
-    told (length part) serial part (omega arith) (some_bytes part some) (bytes_before n (drop 16 bytes) (bytes_behind 16 bytes all))
+    let said : AnswerGiven serial part ds =
+    answer_given (length part) serial part (omega arith) (some_bytes part some) (bytes_before n (drop 16 bytes) (bytes_after 16 bytes all))
     (record { whole = rows.0; between = rows.1; end = clear.end; turn = clear.turn; known = clear.known; index = clear.index }) in
-    let parts : List Carried = map carried ds in
+    let parts : List WireDatagram = map datagram_carried ds in
     let text : List ℕ = carried_texts serial parts in
     let size_of : length text ≡ n = ap length said.text ∙ size in
     let text_is : text_size parts ≡ n = sym (length-carried_texts serial parts) ∙ size_of in
     let kind : word_at bytes 14 / 2048 ≡ 2 = eqb-true _ 2 (not-false _ clear.type) in
     let round = frame_round bytes (omega arith) all clear.ethercat kind text said.text size_of in
-    (record { some = omega (arith, length-map ds carried); low = round.0; fits = said.fits; within = omega arith }, round.1)
+    (record { some = omega (arith, length-map ds datagram_carried); low = round.0; fits = said.fits; within = omega arith }, round.1)

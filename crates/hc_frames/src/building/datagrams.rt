@@ -1,6 +1,6 @@
 //! Datagrams in slices of their exact size.
 ghost use Rattle.std.specs.Prelude.{◌≡◌, ◌+◌, ◌*◌, ◌≤◌, ◌++◌, OnOk, length, map};
-ghost use Rattle.hc_frames.specs.FrameText.{block_write, datagram_text, datagrams_text, blank_lrw, lrw, station_address};
+ghost use Rattle.hc_frames.specs.FrameText.{block_write, sent_datagram_text, sent_datagrams_text, blank_lrw, lrw, station_address};
 ghost use Rattle.hc_frames.specs.Sizes.{datagrams_size};
 
 use super::heads::datagram_head;
@@ -19,7 +19,7 @@ pub(crate) fn write_datagram(
 )
     requires exact { length out.old ≡ 12 + length bytes.now }
     requires size { length bytes.now ≤ MAX_DATA }
-    ensures { out.new ≡ datagram_text serial more (record { command = command; address = address; bytes = bytes.now }) }
+    ensures { out.new ≡ sent_datagram_text serial more (record { command = command; address = address; bytes = bytes.now }) }
 {
     let (head, rest) = out.split_at_mut(DATAGRAM_HEAD_BYTES);
     let (data, counter) = rest.split_at_mut(bytes.len());
@@ -33,7 +33,7 @@ pub(crate) fn write_datagram(
 pub fn build_datagram_of(out: &mut [u8], serial: u64, address: u32, bytes: &[u8], more: bool)
     requires exact { length out.old ≡ 12 + length bytes.now }
     requires size { length bytes.now ≤ MAX_DATA }
-    ensures { out.new ≡ datagram_text serial more (lrw address bytes.now) }
+    ensures { out.new ≡ sent_datagram_text serial more (lrw address bytes.now) }
 {
     write_datagram(out, serial, Command::Lrw, address, bytes, more);
 }
@@ -58,7 +58,7 @@ pub fn build_write_datagram(
 )
     requires exact { length out.old ≡ 12 + length bytes.now }
     requires size { length bytes.now ≤ MAX_DATA }
-    ensures { out.new ≡ datagram_text serial more (block_write station register bytes.now) }
+    ensures { out.new ≡ sent_datagram_text serial more (block_write station register bytes.now) }
 {
     let address = station_address(station, register);
     write_datagram(out, serial, Command::Fpwr, address, bytes, more);
@@ -74,7 +74,7 @@ pub fn add_datagram_of(
     more: bool,
 ) -> Result<(), AllocError>
     requires { length bytes.now ≤ MAX_DATA }
-    ensures { OnOk result (text.new.items ≡ text.old.items ++ datagram_text serial more (lrw address bytes.now)) }
+    ensures { OnOk result (text.new.items ≡ text.old.items ++ sent_datagram_text serial more (lrw address bytes.now)) }
 {
     let size = bytes.len() as u16;
     text.extend_from_slice(&datagram_head(serial, Command::Lrw, address, size, more))?;
@@ -83,11 +83,11 @@ pub fn add_datagram_of(
 }
 
 /// Writes one LRW datagram whose data bytes are 0, with the working counter 0. `out` has 12 bytes more than `size`, the
-/// number of data bytes, 1 to 1,486; the data stand from byte 10 on. `more` says that another datagram follows it.
+/// number of data bytes, 1 to 1,486; the data are from byte 10 on. `more` says that another datagram follows it.
 pub fn build_blank_datagram(out: &mut [u8], serial: u64, address: u32, size: u16, more: bool)
     requires exact { length out.old ≡ 12 + size }
     requires size { size ≤ MAX_DATA }
-    ensures { out.new ≡ datagram_text serial more (blank_lrw (address, size)) }
+    ensures { out.new ≡ sent_datagram_text serial more (blank_lrw (address, size)) }
 {
     out.fill(0);
     out[..DATAGRAM_HEAD_BYTES].copy_from_slice(&datagram_head(
@@ -104,7 +104,7 @@ pub fn build_blank_datagram(out: &mut [u8], serial: u64, address: u32, size: u16
 pub(crate) fn write_blank_datagrams(out: &mut [u8], serial: u64, datagrams: &[(u32, u16)])
     requires exact { length out.old ≡ datagrams_size datagrams.now }
     requires size { 2 + length out.old ≤ MAX_ETHERCAT }
-    ensures { out.new ≡ datagrams_text serial (map blank_lrw datagrams.now) }
+    ensures { out.new ≡ sent_datagrams_text serial (map blank_lrw datagrams.now) }
 {
     if let [(address, size), rest @ ..] = datagrams {
         let (first, others) = out.split_at_mut(BESIDE_DATA_BYTES + usize::from(*size));

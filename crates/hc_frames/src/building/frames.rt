@@ -81,8 +81,8 @@ pub fn build_write(
     build_single(out, serial, Command::Fpwr, address, bytes)
 }
 
-/// Where a slave stands in the line, as the low word of an address: each slave adds 1 to it, and the one that meets 0
-/// is addressed (ETG.1000.4, auto increment addressing).
+/// Where a slave is in the line, as the low word of an address: each slave adds 1 to it, and the one that meets 0 is
+/// addressed (ETG.1000.4, auto increment addressing).
 fn position_address(position: u16, register: u16) -> u32
     ensures { result ≡ (65536 - position) % 65536 + 65536 * register }
 {
@@ -118,7 +118,7 @@ pub fn build_alias_read(out: &mut [u8], position: u16) -> Result<usize, Room>
 /// Writes a frame of LRW datagrams, given by address and number of data bytes, whose data bytes are 0, to the front of
 /// `out`, and answers the frame's size in bytes. The datagrams have 1 data byte or more each, and 1,498 bytes at most
 /// with the 12 bytes beside the data of each; `serial` is below 2^40. `Room` with the size needed where `out` is
-/// shorter; `out` is then as it was. The data of the first stand from byte 26 on, the next 12 bytes further each.
+/// shorter; `out` is then as it was. The data of the first are from byte 26 on, the next 12 bytes further each.
 pub fn build_blank_frame(
     out: &mut [u8],
     serial: u64,
@@ -165,7 +165,7 @@ fn write_blank_frame(out: &mut [u8], serial: u64, datagrams: &[(u32, u16)], size
 
 /// Writes a frame of one LRW datagram whose data bytes are 0 to the front of `out`, and answers the frame's size in
 /// bytes. `size` is the number of data bytes, 1 to 1,486, and `serial` is below 2^40. `Room` with the size needed where
-/// `out` is shorter; `out` is then as it was. The data stand from byte 26 on.
+/// `out` is shorter; `out` is then as it was. The data are from byte 26 on.
 pub fn build_blank_lrw(out: &mut [u8], serial: u64, address: u32, size: u16) -> Result<usize, Room>
     requires serial { serial < 2 ^ 40 }
     requires filled { 1 ≤ size }

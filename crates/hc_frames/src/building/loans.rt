@@ -1,7 +1,7 @@
 //! Datagrams and frames whose data part is lent for writing.
 ghost use Rattle.std.specs.Borrow.{sem};
 ghost use Rattle.std.specs.Prelude.{◌≡◌, ◌+◌, ◌^◌, ◌<◌, ◌≤◌, [], ◌∷◌, ◌++◌, ◌↔◌, length, drop, replicate, IsErr, IfOk, IfErr};
-ghost use Rattle.hc_frames.specs.FrameText.{datagram_text, frame_text, blank_lrw};
+ghost use Rattle.hc_frames.specs.FrameText.{sent_datagram_text, frame_text, blank_lrw};
 ghost use Rattle.hc_frames.specs.Lending.{LendsData, LendsFrameData, LendsFrameIfOk};
 ghost use Rattle.hc_frames.specs.Sizes.{frame_size};
 
@@ -21,7 +21,7 @@ fn with_blank_datagram(
     requires exact { length out.old ≡ 12 + size }
     requires size { size ≤ MAX_DATA }
     ensures same { result.ghost_name ≡ out.entry.ghost_name }
-    ensures text { result.now ≡ datagram_text serial more (blank_lrw (address, size)) }
+    ensures text { result.now ≡ sent_datagram_text serial more (blank_lrw (address, size)) }
 {
     build_blank_datagram(out, serial, address, size, more);
     out
@@ -67,9 +67,9 @@ fn lend_lrw(out: &mut [u8], serial: u64, address: u32, size: u16) -> &mut [u8]
 }
 
 /// Writes a frame of one LRW datagram to the front of `out`, and lends its data part, which is 0 at first. `size` is the
-/// number of data bytes, 1 to 1,486, and `serial` is below 2^40. When the loan ends `out` is the frame with what was
-/// left in the part, and behind it what stood there. `Room` with the size needed where `out` is shorter; `out` then stays
-/// as it was.
+/// number of data bytes, 1 to 1,486, and `serial` is below 2^40. When the loan ends `out` is the frame with what was left
+/// in the part, and after it what was there. `Room` with the size needed where `out` is shorter; `out` then stays as it
+/// was.
 pub fn build_lrw(out: &mut [u8], serial: u64, address: u32, size: u16) -> Result<&mut [u8], Room>
     requires serial { serial < 2 ^ 40 }
     requires filled { 1 ≤ size }

@@ -1,7 +1,7 @@
 //! A frame of several datagrams whose data parts are lent one after another.
 ghost use Rattle.std.specs.Borrow.{sem, LendsBoth, Array, u8 as byte};
 ghost use Rattle.std.specs.Prelude.{◌++◌, take, ◌≡◌, ◌≤◌, ◌<◌, length, drop};
-ghost use Rattle.hc_frames.specs.Standing.{StandOpen, first_size};
+ghost use Rattle.hc_frames.specs.OpenDatagrams.{AreOpen, first_size};
 
 mod writing;
 
@@ -17,8 +17,8 @@ pub struct Open<'a> {
     datagrams: &'a [(u32, u16)],
     /// The frame's serial.
     serial: u64,
-    /// The datagrams stand in front of the rest, with data of zeros.
-    pub ghost standing: { StandOpen serial datagrams.now rest.now },
+    /// The datagrams are before the rest, with data of zeros.
+    pub ghost standing: { AreOpen serial datagrams.now rest.now },
 }
 
 /// A slice in two.
@@ -31,7 +31,7 @@ fn cut(bytes: &mut [u8], at: usize) -> (&mut [u8], &mut [u8])
     bytes.split_at_mut(at)
 }
 
-/// The data bytes of the first datagram, and the datagrams behind it.
+/// The data bytes of the first datagram, and the datagrams after it.
 fn first_and_others(datagrams: &[(u32, u16)]) -> (usize, &[(u32, u16)])
     requires { 0 < length datagrams.now }
     ensures size { result.0 ≡ first_size datagrams.now }
@@ -43,15 +43,15 @@ fn first_and_others(datagrams: &[(u32, u16)]) -> (usize, &[(u32, u16)])
 impl<'a> Open<'a> {
     ghost use Rattle.std.specs.Prelude.{◌↔◌, [], replicate, IsNone, IfSome};
     ghost use Rattle.hc_frames.specs.Handing.{LendsNext};
-    ghost use Rattle.hc_frames.specs.Opened.{LeavesOpen};
+    ghost use Rattle.hc_frames.specs.Opened.{HandsOutFirst};
 
-    /// Lends the next datagram's data part, which is 0 at first, and hands on the frame behind it. None where all
+    /// Lends the next datagram's data part, which is 0 at first, and hands on the frame after it. None where all
     /// datagrams were handed out.
     pub fn next(self) -> Option<(&'a mut [u8], Open<'a>)>
         ensures* lent { sem 𝓛 (LendsNext self.entry result) }
         ensures all { IsNone result ↔ (self.entry.datagrams.now ≡ []) }
         ensures part { IfSome result (λ pair. pair.0.now ≡ replicate (first_size self.entry.datagrams.now) 0) }
-        ensures left { IfSome result (λ pair. LeavesOpen self.entry pair.1) }
+        ensures left { IfSome result (λ pair. HandsOutFirst self.entry pair.1) }
     {
         let Open {
             rest,
@@ -62,9 +62,9 @@ impl<'a> Open<'a> {
             return None;
         }
         let (size, others) = first_and_others(datagrams);
-        let (text, behind) = cut(rest, BESIDE_DATA_BYTES + size);
+        let (text, after_it) = cut(rest, BESIDE_DATA_BYTES + size);
         let open = Open {
-            rest: behind,
+            rest: after_it,
             datagrams: others,
             serial,
         };

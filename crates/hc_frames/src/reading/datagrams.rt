@@ -1,9 +1,9 @@
 //! One pass over the datagrams of a frame.
 ghost use Rattle.std.specs.Prelude.{◌≡◌, ◌<◌, ◌≤◌, ◌^◌, length};
-ghost use Rattle.hc_frames.specs.Arrived.{datagrams_in};
+ghost use Rattle.hc_frames.specs.Arrived.{datagram_tails};
 ghost use Rattle.hc_frames.specs.Survey.{noted, nothing_seen, surveyed};
 
-use super::fields::{behind, circulates, has_other_index, is_unknown, is_whole, says_more};
+use super::fields::{after_it, circulates, has_other_index, is_unknown, is_whole, says_more};
 
 /// What the conditions of a frame look at, over the datagrams up to some place.
 #[derive(Clone, Copy)]
@@ -41,7 +41,7 @@ impl Survey {
 /// doesn't say that more follow.
 pub(crate) fn survey_of(region: &[u8], index: u8) -> Option<Survey>
     requires { length region.now < 2048 }
-    ensures { result ≡ surveyed index nothing_seen (datagrams_in region.now) }
+    ensures { result ≡ surveyed index nothing_seen (datagram_tails region.now) }
 {
     let mut rest = region;
     let mut seen = Survey {
@@ -56,7 +56,7 @@ pub(crate) fn survey_of(region: &[u8], index: u8) -> Option<Survey>
             return None;
         }
         seen = seen.noted(index, rest);
-        rest = behind(rest);
+        rest = after_it(rest);
     }
     Some(seen)
 }

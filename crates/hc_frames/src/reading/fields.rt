@@ -21,7 +21,7 @@ pub fn long_at(bytes: &[u8], at: usize) -> u32
     u32::from(word_at(bytes, at)) + 65536 * u32::from(word_at(bytes, at + 2))
 }
 
-/// The serial: the forty bits behind the source's first byte, high byte first.
+/// The serial: the forty bits after the source's first byte, high byte first.
 pub(crate) fn serial_in(frame: &[u8]) -> u64
     requires { 12 ≤ length frame.now }
     ensures value { result ≡ serial_in frame.now }
@@ -38,7 +38,7 @@ pub(crate) fn is_not_ethercat(frame: &[u8]) -> bool
     !(frame[12] == 0x88 && frame[13] == 0xa4)
 }
 
-/// Whether the EtherCAT header's type isn't that of datagrams.
+/// Whether the EtherCAT header's type says anything but datagrams.
 pub(crate) fn has_bad_type(frame: &[u8]) -> bool
     requires { 16 ≤ length frame.now }
     ensures { result ≡ has_bad_type frame.now }
@@ -55,7 +55,7 @@ pub(crate) fn data_size(bytes: &[u8]) -> usize
     usize::from(word_at(bytes, 6) % 2048)
 }
 
-/// Whether a whole datagram with data stands at the front.
+/// Whether a whole datagram with data is at the front.
 pub(crate) fn is_whole(bytes: &[u8]) -> bool
     ensures { result ≡ is_whole bytes.now }
 {
@@ -101,8 +101,8 @@ pub(crate) fn has_other_index(index: u8, bytes: &[u8]) -> bool
     bytes[1] != index
 }
 
-/// What stands behind the whole datagram at the front.
-pub(crate) fn behind(bytes: &[u8]) -> &[u8]
+/// What is after the whole datagram at the front.
+pub(crate) fn after_it(bytes: &[u8]) -> &[u8]
     requires { is_whole bytes.now ≡ true }
     ensures { result.now ≡ drop (12 + data_size bytes.now) bytes.now }
 {

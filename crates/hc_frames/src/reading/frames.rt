@@ -1,7 +1,7 @@
 //! The reader.
 ghost use Rattle.std.specs.Prelude.{◌≡◌, IfErr, IfOk, Some};
 ghost use Rattle.hc_frames.specs.Arrived.{Answers, fault_in};
-ghost use Rattle.hc_frames.specs.Regions.{StandsBehind, fault_of};
+ghost use Rattle.hc_frames.specs.Regions.{ComesAfter, fault_of};
 
 use super::datagrams::{Survey, survey_of};
 use super::faults::FrameFault;
@@ -12,7 +12,7 @@ use crate::limits::{HEAD_BYTES, LEAST_READ, MAX_DATAGRAMS};
 /// The bytes of the datagrams, by the EtherCAT header, or the first fault that shows before they are looked at.
 fn region_of(frame: &[u8]) -> Result<&[u8], FrameFault>
     ensures fault { IfErr result (λ fault. fault_in frame.now ≡ Some fault) }
-    ensures found { IfOk result (λ region. StandsBehind frame.now region.now) }
+    ensures found { IfOk result (λ region. ComesAfter frame.now region.now) }
 {
     if frame.len() < LEAST_READ {
         return Err(FrameFault::Short);
@@ -49,7 +49,7 @@ fn fault_of(seen: Survey) -> Option<FrameFault>
 
 /// Reads a frame of one datagram or more, or answers the first fault in the order of `FrameFault`. It takes any
 /// destination, any first source byte, any addresses, interrupt fields, data and working counters, and anything or
-/// nothing behind the datagrams (ETG.1000.4, frame, EtherCAT header and datagram structure; this project's profile).
+/// nothing after the datagrams (ETG.1000.4, frame, EtherCAT header and datagram structure; this project's profile).
 pub fn read_frame(frame: &[u8]) -> Result<Returned<'_>, FrameFault>
     ensures { Answers frame.now result }
 {

@@ -1,9 +1,9 @@
-//! What a frame that was read tells.
+//! What a frame that was read gives.
 ghost use Rattle.std.specs.Prelude.{◌≡◌, ◌+◌, ◌-◌, ◌^◌, ◌<◌, ◌≤◌, ◌∷◌, true, length, map, slice_get};
 ghost use Rattle.std.specs.List.{list_all};
-ghost use Rattle.hc_frames.specs.Arrived.{carried, datagrams_in, is_whole, placed_from, region, Reading};
+ghost use Rattle.hc_frames.specs.Arrived.{datagram_carried, datagram_tails, is_whole, placed_from, region, Reading, datagrams_placed};
 
-use super::fields::{behind, data_size, long_at, word_at};
+use super::fields::{after_it, data_size, long_at, word_at};
 use crate::commands::Command;
 use crate::limits::{DATAGRAM_HEAD_BYTES, HEAD_BYTES};
 use std::marker::Model;
@@ -11,7 +11,7 @@ use std::marker::Model;
 /// A datagram of a frame that was read. It borrows the frame.
 #[derive(Debug, Drop)]
 pub struct Part<'a> {
-    /// Where its first byte stands in the frame: the address is 2 bytes further, the data 10, and the working counter
+    /// Where its first byte is in the frame: the address is 2 bytes further, the data 10, and the working counter
     /// follows the data.
     pub start: usize,
     /// What the slaves were asked to do.
@@ -27,9 +27,9 @@ pub struct Part<'a> {
 }
 
 impl<'a> Model for Part<'a> {
-    ghost use Rattle.hc_frames.specs.Arrived.{Placed};
+    ghost use Rattle.hc_frames.specs.Arrived.{ArrivedDatagram};
 
-    ghost Value = { Placed };
+    ghost Value = { ArrivedDatagram };
 
     ghost view = { λ part. record { start = part.start; carried = record { command = part.command; address = part.address; interrupt = part.interrupt; bytes = part.bytes.now; counter = part.counter } } };
 }
@@ -45,24 +45,24 @@ pub struct Returned<'a> {
 impl<'a> Model for Returned<'a> {
     ghost use Rattle.std.specs.Prelude.{◌≡◌, ◌^◌, ◌<◌, ◌≤◌, true, length, map};
     ghost use Rattle.std.specs.List.{list_all};
-    ghost use Rattle.hc_frames.specs.Arrived.{carried, datagrams_in, is_whole, Reading};
+    ghost use Rattle.hc_frames.specs.Arrived.{datagram_carried, datagram_tails, is_whole, Reading};
 
     ghost Value = { Reading };
 
-    ghost view = { λ frame. record { serial = frame.serial; parts = map carried (datagrams_in frame.region.now) } };
+    ghost view = { λ frame. record { serial = frame.serial; parts = map datagram_carried (datagram_tails frame.region.now) } };
 
-    ghost invariant = { λ frame. (list_all is_whole (datagrams_in frame.region.now) ≡ true) × (frame.count ≡ length (datagrams_in frame.region.now)) × (length frame.region.now < 2048) × (frame.serial < 2 ^ 40) × (1 ≤ frame.count) };
+    ghost invariant = { λ frame. (list_all is_whole (datagram_tails frame.region.now) ≡ true) × (frame.count ≡ length (datagram_tails frame.region.now)) × (length frame.region.now < 2048) × (frame.serial < 2 ^ 40) × (1 ≤ frame.count) };
 }
 
 impl<'a> Returned<'a> {
     /// The reading of whole datagrams.
     pub(crate) fn of(serial: u64, region: &'a [u8], count: usize) -> Returned<'a>
-        requires whole { list_all is_whole (datagrams_in region.now) ≡ true }
-        requires counted { count ≡ length (datagrams_in region.now) }
+        requires whole { list_all is_whole (datagram_tails region.now) ≡ true }
+        requires counted { count ≡ length (datagram_tails region.now) }
         requires short { length region.now < 2048 }
         requires serial { serial < 2 ^ 40 }
         requires some { 1 ≤ count }
-        ensures { result ≡ record { serial = serial; parts = map carried (datagrams_in region.now) } }
+        ensures { result ≡ record { serial = serial; parts = map datagram_carried (datagram_tails region.now) } }
     {
         Returned {
             serial,
@@ -115,19 +115,19 @@ pub struct Parts<'a> {
 impl<'a> Model for Parts<'a> {
     ghost use Rattle.std.specs.Prelude.{List, ◌≡◌, ◌+◌, ◌<◌, true, length, map};
     ghost use Rattle.std.specs.List.{list_all};
-    ghost use Rattle.hc_frames.specs.Arrived.{carried, datagrams_in, is_whole, placed_from, Placed};
+    ghost use Rattle.hc_frames.specs.Arrived.{datagram_carried, datagram_tails, is_whole, placed_from, ArrivedDatagram, datagrams_placed};
 
-    ghost Value = { List Placed };
+    ghost Value = { List ArrivedDatagram };
 
-    ghost view = { λ left. placed_from left.start (map carried (datagrams_in left.rest.now)) };
+    ghost view = { λ left. datagrams_placed left.start left.rest.now };
 
-    ghost invariant = { λ left. (list_all is_whole (datagrams_in left.rest.now) ≡ true) × (left.start + length left.rest.now < 4096) };
+    ghost invariant = { λ left. (list_all is_whole (datagram_tails left.rest.now) ≡ true) × (left.start + length left.rest.now < 4096) };
 }
 
 /// The whole datagram at the front of some bytes.
 fn part_at(start: usize, bytes: &[u8]) -> Part<'_>
     requires { is_whole bytes.now ≡ true }
-    ensures { result ≡ record { start = start; carried = carried bytes.now } }
+    ensures { result ≡ record { start = start; carried = datagram_carried bytes.now } }
 {
     let size = data_size(bytes);
     Part {
@@ -140,15 +140,15 @@ fn part_at(start: usize, bytes: &[u8]) -> Part<'_>
     }
 }
 
-/// The datagram at the front, and the bytes behind it.
+/// The datagram at the front, and the bytes after it.
 fn first_part(start: usize, bytes: &[u8]) -> (Part<'_>, &[u8])
     requires some { 0 < length bytes.now }
-    requires whole { list_all is_whole (datagrams_in bytes.now) ≡ true }
-    ensures placed { placed_from start (map carried (datagrams_in bytes.now)) ≡ result.0 ∷ placed_from (start + (length bytes.now - length result.1.now)) (map carried (datagrams_in result.1.now)) }
-    ensures whole { list_all is_whole (datagrams_in result.1.now) ≡ true }
+    requires whole { list_all is_whole (datagram_tails bytes.now) ≡ true }
+    ensures placed { datagrams_placed start bytes.now ≡ result.0 ∷ datagrams_placed (start + (length bytes.now - length result.1.now)) result.1.now }
+    ensures whole { list_all is_whole (datagram_tails result.1.now) ≡ true }
     ensures shorter { length result.1.now < length bytes.now }
 {
-    (part_at(start, bytes), behind(bytes))
+    (part_at(start, bytes), after_it(bytes))
 }
 
 impl<'a> Iterator for Parts<'a> {
@@ -164,9 +164,9 @@ impl<'a> Iterator for Parts<'a> {
         if self.rest.is_empty() {
             return None;
         }
-        let (part, behind) = first_part(self.start, self.rest);
-        self.start += self.rest.len() - behind.len();
-        self.rest = behind;
+        let (part, after_it) = first_part(self.start, self.rest);
+        self.start += self.rest.len() - after_it.len();
+        self.rest = after_it;
         Some(part)
     }
 }

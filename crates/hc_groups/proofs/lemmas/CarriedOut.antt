@@ -21,7 +21,7 @@ use Rattle.hc_groups.specs.declared.changes.AreasChange.{AreasChange}
 use Rattle.hc_groups.specs.declared.changes.PresenceChange.{PresenceChange}
 use Rattle.hc_groups.specs.declared.prepared.Prepared.{Prepared}
 use Rattle.hc_groups.specs.declared.prepared.Prepared.TheVariants.{Presence, Areas}
-use Rattle.hc_groups.specs.Changes.{areas_change, areas_changed, change_by, changed_groups, has_alias, has_slave, place_at, place_in, presence_at, presence_change, slave_place, slaves_at, with_areas, with_present, with_slave}
+use Rattle.hc_groups.specs.Changes.{areas_change, areas_changed, change_by, changed_groups, has_alias, has_slave, place_at, station_place, presence_at, presence_change, slave_place, slaves_at, with_areas, with_present, with_slave}
 use Rattle.hc_groups.proofs.Found.{IsFirstAt, changed-alike, first-at, none-changed, once-changed, there}
 
 -- the presence of a group
@@ -74,12 +74,12 @@ groups-with : (station area : ℕ) (change : Area → Area) (groups : List Decla
 groups-with station area change [] group slave apart first second = absurd first
 groups-with station area change (declared ∷ groups) zero slave apart first second =
     let slaves = declared.group.slaves in
-    let behind = declared_slaves groups in
-    let it = there (λ a. All (AreApart a) behind) (has_address station) slave slaves (AllPairs-between AreApart slaves behind apart) second in
+    let after_it = declared_slaves groups in
+    let it = there (λ a. All (AreApart a) after_it) (has_address station) slave slaves (AllPairs-between AreApart slaves after_it apart) second in
     let others = All-weaker (AreApart it.found) (other_than station)
-    (λ s other. ne_eqb s.station station (λ is. other (eqb-true it.found.station station it.passes ∙ sym is))) behind it.holds in
+    (λ s other. ne_eqb s.station station (λ is. other (eqb-true it.found.station station it.passes ∙ sym is))) after_it it.holds in
     ap (λ (own : List Slave). with_all own declared ∷ groups)
-    (slaves-with station area slave change slaves it.found (AllPairs-append_left AreApart slaves behind apart) second it.at)
+    (slaves-with station area slave change slaves it.found (AllPairs-append_left AreApart slaves after_it apart) second it.at)
     ∙ ap (λ (rest : List Declared). with_slaves (with_area station area change) declared ∷ rest) (sym (groups-without station area change groups others))
 groups-with station area change (declared ∷ groups) (suc group) slave apart first second =
     let slaves = declared.group.slaves in
@@ -95,7 +95,7 @@ areas-carried : (groups : List Declared) (station area : ℕ) (change : Area →
     changed_groups (Areas found) groups ≡ map (with_slaves (with_area station area change)) groups
 areas-carried groups station area change found none is =
     let at = mapped-some (areas_changed groups area change) (slave_place groups station) found is in
-    let among = joined-some (place_in groups station) (position (has_slave station) groups) at.0 at.1 in
+    let among = joined-some (station_place groups station) (position (has_slave station) groups) at.0 at.1 in
     let own = mapped-some (place_at groups among.0) (position (has_address station) (slaves_at groups among.0)) at.0 among.2 in
     ap (λ (c : AreasChange). changed_groups (Areas c) groups) (sym at.2)
     ∙ ap (λ place. changed_groups (Areas (areas_changed groups area change place)) groups) (sym own.2)

@@ -7,22 +7,22 @@ use Rattle.hc_records.specs.declared.faults.EditFault.{EditFault}
 use Rattle.hc_records.specs.declared.faults.EditFault.TheVariants.{TooManyDatagrams, EpochsSpent}
 use Rattle.hc_records.specs.Line.{State, line}
 use Rattle.hc_records.specs.Lists.{lowest}
-use Rattle.hc_records.specs.Edits.{changed, crowded_task, edit_faults, edited, late_faults, own_faults}
-use Rattle.hc_groups.specs.Edits.{own_fault, state_of}
+use Rattle.hc_records.specs.Edits.{changed, over_limit_task, edit_faults, edited, late_faults, own_faults}
+use Rattle.hc_groups.specs.Edits.{own_fault, groups_state}
 
 -- those of a state are those over its groups
-any-epoch : (state : State) (edit : Edit) → own_faults state edit ≡ own_faults (state_of state.groups) edit
+any-epoch : (state : State) (edit : Edit) → own_faults state edit ≡ own_faults (groups_state state.groups) edit
 any-epoch state edit = search rules
 
-lowest-behind : {F : Type 0} (faults others : List (Bool × F)) → lowest faults ≡ None → lowest (faults ++ others) ≡ lowest others
-lowest-behind [] others none = refl
-lowest-behind ((true, fault) ∷ faults) others none = cc
-lowest-behind ((false, fault) ∷ faults) others none = lowest-behind faults others none
+lowest-after_it : {F : Type 0} (faults others : List (Bool × F)) → lowest faults ≡ None → lowest (faults ++ others) ≡ lowest others
+lowest-after_it [] others none = refl
+lowest-after_it ((true, fault) ∷ faults) others none = cc
+lowest-after_it ((false, fault) ∷ faults) others none = lowest-after_it faults others none
 
 -- the faults that concern the new line, the epoch and a declared group
 abbrev pub line_faults : State → Edit → List (Bool × EditFault)
 line_faults state edit =
-    (is_some (crowded_task (line (changed state edit))), TooManyDatagrams (unwrap_or (crowded_task (line (changed state edit))) 0))
+    (is_some (over_limit_task (line (changed state edit))), TooManyDatagrams (unwrap_or (over_limit_task (line (changed state edit))) 0))
     ∷ (state.epoch == LAST_EPOCH, EpochsSpent)
     ∷ late_faults state edit
 
@@ -32,4 +32,4 @@ own-refuses state edit fault own = search rules
 
 -- where there is none, the others decide
 pub line-decides : (state : State) (edit : Edit) → own_fault state.groups edit ≡ None → lowest (edit_faults state edit) ≡ lowest (line_faults state edit)
-line-decides state edit own = lowest-behind (own_faults state edit) (line_faults state edit) (ap lowest (any-epoch state edit) ∙ own)
+line-decides state edit own = lowest-after_it (own_faults state edit) (line_faults state edit) (ap lowest (any-epoch state edit) ∙ own)

@@ -5,13 +5,13 @@ use Rattle.hc_groups.specs.declared.changes.PresenceChange.{PresenceChange}
 use Rattle.hc_groups.specs.Changes.{slaves_at}
 use Rattle.hc_groups.specs.Index.{Index, block_sum}
 
--- sums along a list in which the element with an index counts for so many: those after it follow
+-- sums along a list where the element with an index counts for so many: those after it follow
 abbrev pub recounted : ℕ → ℕ → List ℕ → List ℕ
 recounted index count [] = []
 recounted zero count (sum ∷ sums) = sum ∷ map (λ other. other + count - (get_or sums 0 0 - sum)) sums
 recounted (suc index) count (sum ∷ sums) = sum ∷ recounted index count sums
 
--- an index in which a group is present, or isn't
+-- an index where a group is present, or isn't
 abbrev pub turned_index : List Declared → PresenceChange → Index → Index
 turned_index groups change index =
     record index {

@@ -10,16 +10,16 @@ use Rattle.hc_records.specs.Image.{VariablePlace}
 use Rattle.hc_records.specs.Keys.{same_dir}
 use Rattle.hc_records.proofs.lemmas.Finds.{found-none, mapped-some}
 use Rattle.hc_records.proofs.lemmas.VariablePlaces.{same_dir-same}
-use Rattle.hc_places.specs.Table.{Row, RowsAscend, Table, place_in, stands_in_datagram}
+use Rattle.hc_places.specs.Table.{VariableRow, RowsAscend, Table, place_in, is_placed_in_datagram}
 use Rattle.hc_places.proofs.lemmas.Found.{find-holds}
-use Rattle.hc_images.specs.Packed.{Bytes, Carries, Holds, IsOutput, LiesIn, Packed, sent_bytes, slot_bytes}
-use Rattle.hc_images.proofs.Standing.{rows-placed}
+use Rattle.hc_images.specs.Packed.{Bytes, Carries, HoldsOutputValues, IsOutput, LiesInTaskPlace, Packed, sent_bytes, slot_bytes}
+use Rattle.hc_images.proofs.Placing.{rows-placed}
 
 -- a bit lies in the place of an output's row
 
-abbrev bit_lies : ℕ → ℕ → ℕ → Row → Bool
+abbrev bit_lies : ℕ → ℕ → ℕ → VariableRow → Bool
 bit_lies task d k row =
-    same_dir row.1.dir Out && (stands_in_datagram task d row.1 && (nat_le row.1.bit k && nat_lt k (row.1.bit + row.1.bits)))
+    same_dir row.1.dir Out && (is_placed_in_datagram task d row.1 && (nat_le row.1.bit k && nat_lt k (row.1.bit + row.1.bits)))
 
 is_within : (bit bits k : ℕ) → (nat_le bit k && nat_lt k (bit + bits)) ≡ true → (bit ≤ k) × (k < bit + bits)
 is_within bit bits k e = grind (arith, nat_tests)
@@ -27,10 +27,10 @@ is_within bit bits k e = grind (arith, nat_tests)
 within_is : (bit bits k : ℕ) → bit ≤ k → k < bit + bits → (nat_le bit k && nat_lt k (bit + bits)) ≡ true
 within_is bit bits k from below = grind (arith, nat_tests)
 
-lies_there : (task d k : ℕ) (row : Row) → bit_lies task d k row ≡ true → (row.1.dir ≡ Out) × LiesIn row.1 task d k
+lies_there : (task d k : ℕ) (row : VariableRow) → bit_lies task d k row ≡ true → (row.1.dir ≡ Out) × LiesInTaskPlace row.1 task d k
 lies_there task d k row e = search (rules, and_parts, is_within, same_dir-same, eqb-true)
 
-there_lies : (task d k : ℕ) (row : Row) → row.1.dir ≡ Out → LiesIn row.1 task d k → bit_lies task d k row ≡ true
+there_lies : (task d k : ℕ) (row : VariableRow) → row.1.dir ≡ Out → LiesInTaskPlace row.1 task d k → bit_lies task d k row ≡ true
 there_lies task d k row out lies = search (rules, and_from, eq-eqb, within_is)
 
 -- an output variable of the table in whose place the bit lies
@@ -38,25 +38,25 @@ pub record HasBit (table : Table) (task d k : ℕ) : Type 0 where
   pub variable : ℕ
   pub place : VariablePlace
   pub is : IsOutput table variable place
-  pub lies : LiesIn place task d k
+  pub lies : LiesInTaskPlace place task d k
 
 abbrev pub HasNoBit : Table → ℕ → ℕ → ℕ → Type 0
-HasNoBit table task d k = (variable : ℕ) (place : VariablePlace) → IsOutput table variable place → ¬ (LiesIn place task d k)
+HasNoBit table task d k = (variable : ℕ) (place : VariablePlace) → IsOutput table variable place → ¬ (LiesInTaskPlace place task d k)
 
-found_bit : (table : Table) (task d k : ℕ) → RowsAscend table.variables → (found : Option Row) → find (bit_lies task d k) table.variables ≡ found → HasBit table task d k ⊎ HasNoBit table task d k
+found_bit : (table : Table) (task d k : ℕ) → RowsAscend table.variables → (found : Option VariableRow) → find (bit_lies task d k) table.variables ≡ found → HasBit table task d k ⊎ HasNoBit table task d k
 found_bit table task d k ascend (Some row) e =
-    let holds = find-holds (λ (r : Row). place_in table r.0 ≡ Some r.1) (bit_lies task d k) table.variables row e (rows-placed table ascend) in
+    let holds = find-holds (λ (r : VariableRow). place_in table r.0 ≡ Some r.1) (bit_lies task d k) table.variables row e (rows-placed table ascend) in
     let lies = lies_there task d k row holds.1 in
     inl (record { variable = row.0; place = row.1; is = record { there = holds.0; output = lies.0 }; lies = lies.1 })
 found_bit table task d k ascend None e =
     inr (λ variable place is lies.
-    let row = mapped-some (λ (r : Row). r.1) (find (λ r. r.0 == variable) table.variables) place is.there in
-    let misses = (find-holds (λ (r : Row). bit_lies task d k r ≡ false) (λ r. r.0 == variable) table.variables row.0 row.1 (found-none (bit_lies task d k) table.variables e)).0 in
+    let row = mapped-some (λ (r : VariableRow). r.1) (find (λ r. r.0 == variable) table.variables) place is.there in
+    let misses = (find-holds (λ (r : VariableRow). bit_lies task d k r ≡ false) (λ r. r.0 == variable) table.variables row.0 row.1 (found-none (bit_lies task d k) table.variables e)).0 in
     let own : bit_lies task d k row.0 ≡ true = search (rules, there_lies) in
     let never : true ≡ false = sym own ∙ misses in
     cc)
 
--- each bit lies in one output variable's place or in none (in no two: `IsLaidOut` says that of its places)
+-- each bit lies in one output variable's place or in none (in no two: `IsLaidOut` says so of its places)
 pub bit-lies : (table : Table) (task d k : ℕ) → RowsAscend table.variables → HasBit table task d k ⊎ HasNoBit table task d k
 bit-lies table task d k ascend = found_bit table task d k ascend (find (bit_lies task d k) table.variables) refl
 
@@ -73,7 +73,7 @@ carries-alike table value other bytes alike carries = record {
   others = carries.others;
 }
 
-pub holds-alike : (table : Table) (value other : ℕ → ℕ → ℕ) (packed : Packed) → AreAlike table value other → Holds table value packed → Holds table other packed
+pub holds-alike : (table : Table) (value other : ℕ → ℕ → ℕ) (packed : Packed) → AreAlike table value other → HoldsOutputValues table value packed → HoldsOutputValues table other packed
 holds-alike table value other packed alike holds = record { sent = carries-alike table value other packed.sent alike holds.sent; masks = holds.masks }
 
 -- the bit of a datagram that carries the values

@@ -1,4 +1,4 @@
--- Over an edit each variable keeps its bits and its direction: it stands in one declared entry, and edits leave what is declared. Beside it they may declare more,
+-- Over an edit each variable keeps its bits and its direction: it is in one declared entry, and edits leave what is declared. Beside it they may declare more,
 -- which isn't in the line.
 use Rattle.std.proofs.Common.{◌≡◌, ◌≢◌, ℕ, zero, suc, ◌+◌, ◌==◌, Bool, true, false, cond, List, [], ◌∷◌, ◌++◌, map, refl, sym, ap, ap₂, ◌∙◌, subst, Option, Some, None, rules}
 use Rattle.std.specs.Prelude.{All, find}
@@ -33,7 +33,7 @@ use Rattle.hc_records.proofs.lemmas.Lines.{line-slaves}
 use Rattle.hc_records.proofs.lemmas.Lists.{All-append_left, All-append_right, All-enumerate_from, All-flat_map, AllPairs-from_once, AllPairs-unmap}
 use Rattle.hc_records.proofs.lemmas.Projects.{project-names}
 use Rattle.hc_records.proofs.lemmas.Variables.{place_of, task_pairs, zip-left}
-use Rattle.hc_places.specs.Table.{Row, place_in, table_of}
+use Rattle.hc_places.specs.Table.{VariableRow, place_in, table_of}
 use Rattle.hc_places.proofs.lemmas.Found.{find-holds}
 use Rattle.hc_images.specs.Values.{KeepEntries, KeepsItsEntry}
 use Rattle.hc_images.proofs.Numbered.{IsFoundIn, each-found}
@@ -80,23 +80,23 @@ area_by : (own : Bool) (index : ℕ) (change : Area → Area) (slave : Slave) �
     → slave_named (cond own (record slave { areas = changed_at index change slave.areas }) slave) ≡ slave_named slave
 area_by own index change slave same = search (rules, flat_changed)
 
-area_kept : (station index : ℕ) (change : Area → Area) (groups : List Declared) → ((area : Area) → area_named (change area) ≡ area_named area)
+area_unchanged : (station index : ℕ) (change : Area → Area) (groups : List Declared) → ((area : Area) → area_named (change area) ≡ area_named area)
     → named_in (map (with_slaves (with_area station index change)) groups) ≡ named_in groups
-area_kept station index change groups same = search (rules, flat_same, area_by)
+area_unchanged station index change groups same = search (rules, flat_same, area_by)
 
 named_after : (groups : List Declared) (edit : Edit) → declares edit ≡ false → named_in (groups_after groups edit) ≡ named_in groups
 named_after groups (Connect alias) none = search (rules, flat_same, presence_by)
 named_after groups (Disconnect alias) none = search (rules, flat_same, presence_by)
-named_after groups (Remap station area pdos) none = search (rules, area_kept)
-named_after groups (Move station area task) none = search (rules, area_kept)
+named_after groups (Remap station area pdos) none = search (rules, area_unchanged)
+named_after groups (Move station area task) none = search (rules, area_unchanged)
 named_after groups (Declare group) none = cc
 
 either_state : (fault : Option EditFault) (state next : State) → named_in next.groups ≡ named_in state.groups
     → named_in (result_unwrap_or (refused_by fault next) state).groups ≡ named_in state.groups
 either_state fault state next same = search rules
 
-named_kept : (state : State) (edit : Edit) → declares edit ≡ false → named_in (state_after state edit).groups ≡ named_in state.groups
-named_kept state edit none = either_state (lowest (edit_faults state edit)) state (changed state edit) (named_after state.groups edit none)
+named_unchanged : (state : State) (edit : Edit) → declares edit ≡ false → named_in (state_after state edit).groups ≡ named_in state.groups
+named_unchanged state edit none = either_state (lowest (edit_faults state edit)) state (changed state edit) (named_after state.groups edit none)
 
 -- no variable is declared twice
 
@@ -140,7 +140,7 @@ entry_variables P dir bit ((None, bits) ∷ entries) all =
 entry_variables P dir bit ((Some variable, bits) ∷ entries) all =
     search (rules, All-cons, All-head, All-tail, entry_variables P dir (bit + bits) entries (All-tail (λ entry. All P (entry_named dir entry)) (Some variable, bits) entries all))
 
-abbrev OfRow : (Named → Type 0) → Row → Type 0
+abbrev OfRow : (Named → Type 0) → VariableRow → Type 0
 OfRow P row = P (row.0, (row.1.bits, row.1.dir))
 
 abbrev OfArea : (Named → Type 0) → Area → Type 0
@@ -182,7 +182,7 @@ IsNamed named variable place = find (λ other. other.0 == variable) named ≡ So
 variable_named : (named : List Named) (groups : List Declared) (variable : ℕ) (place : VariablePlace) → All (IsFoundIn named) (named_in groups) → variable_place variable (line_from 1 groups) ≡ Some place → IsNamed named variable place
 variable_named named groups variable place all there =
     let rows = flat_map (task_variables (line_from 1 groups)) tasks in
-    let row = mapped-some (λ (r : Row). r.1) (find (λ r. r.0 == variable) rows) place there in
+    let row = mapped-some (λ (r : VariableRow). r.1) (find (λ r. r.0 == variable) rows) place there in
     let found = row.0 in
     let holds = find-holds (OfRow (IsFoundIn named)) (λ r. r.0 == variable) rows found row.1 (all_rows (IsFoundIn named) groups all) in
     let number : found.0 ≡ variable = eqb-true found.0 variable holds.1 in
@@ -197,7 +197,7 @@ changes_keep state edit changes none variable place another there there' =
     let named = named_in state.groups in
     let next = state_after state edit in
     let all = each_named state.groups none in
-    let all' : All (IsFoundIn named) (named_in next.groups) = subst (All (IsFoundIn named)) (sym (named_kept state edit changes)) all in
+    let all' : All (IsFoundIn named) (named_in next.groups) = subst (All (IsFoundIn named)) (sym (named_unchanged state edit changes)) all in
     let first = variable_named named state.groups variable place all (sym (place-of_line (line state) variable) ∙ there) in
     let second = variable_named named next.groups variable another all' (sym (place-of_line (line next) variable) ∙ there') in
     same_entry (find (λ other. other.0 == variable) named) variable place another first second

@@ -1,4 +1,4 @@
--- The bytes of a memory behind a logical datagram.
+-- The bytes of a memory after a logical datagram.
 use Rattle.std.proofs.Common.{◌≡◌, ℕ, ◌+◌, ◌-◌, ◌*◌, ◌/◌, ◌%◌, ◌<◌, ◌≤◌, ◌∙◌, inl, inr, List, [], ◌∷◌, length, get_or, set, refl, sym, ap, subst, arith, length-set, get_or-set_other, get_or-set_same, lit<}
 use Rattle.std.specs.Prelude.{◌&&◌, if◌then◌else◌}
 use Rattle.std.specs.Int.{bit_at}

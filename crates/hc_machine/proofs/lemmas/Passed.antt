@@ -1,4 +1,4 @@
--- What a slave passes on: a frame that is read is read behind it too, and another one stays.
+-- What a slave passes on: a frame that is read is read after it too, and another one stays.
 use Rattle.std.proofs.Common.{◌≡◌, ℕ, ◌+◌, ◌^◌, ◌<◌, ◌≤◌, Bool, true, false, All, List, [], ◌∷◌, ◌++◌, length, take, drop, is_none, refl, sym, ap, ap₂, ◌∙◌, arith, length-append, length-take}
 use Rattle.std.specs.Prelude.{if◌then◌else◌, slice_index}
 use Rattle.std.proofs.lemmas.List.Elements.{All-cons, All-head, All-nil, All-tail}
@@ -6,17 +6,17 @@ use Rattle.std.proofs.lemmas.List.Sums.{sum_by-cons}
 use Rattle.hc_frames.specs.declared.commands.Command.{Command}
 use Rattle.hc_frames.specs.declared.commands.Command.TheVariants.{Aprd, Apwr, Fpwr, Lrw}
 use Rattle.hc_frames.specs.Arrived.{datagram_bytes, fault_in, reading_of}
-use Rattle.hc_frames.specs.FrameText.{Carried, carried_frame, carried_texts, head_to}
+use Rattle.hc_frames.specs.FrameText.{WireDatagram, carried_frame, carried_texts, head_to}
 use Rattle.hc_frames.specs.Laws.{CanBeCarried}
 use Rattle.hc_frames.specs.Returned.{FitsLine}
 use Rattle.hc_frames.specs.Sizes.{text_size}
 use Rattle.hc_frames.proofs.lemmas.Readings.{frame-read}
 use Rattle.hc_frames.proofs.lemmas.Spelling.{frame-carried}
 use Rattle.hc_frames.proofs.lemmas.Texts.{length-carried_texts}
-use Rattle.hc_machine.specs.Commands.{address_after, memory_behind_datagram, served}
-use Rattle.hc_machine.specs.Frames.{all_served, frame_after, memory_behind}
+use Rattle.hc_machine.specs.Commands.{address_after, memory_after_datagram, served}
+use Rattle.hc_machine.specs.Frames.{all_served, frame_after, memory_after}
 use Rattle.hc_machine.specs.Laws.{ServedFramesAreRead, SizesStay}
-use Rattle.hc_machine.proofs.Alias.{length-kept}
+use Rattle.hc_machine.proofs.Alias.{length-unchanged}
 use Rattle.hc_machine.proofs.Framed.{head-long, no-fault, readable-long}
 use Rattle.hc_machine.proofs.Served.{length-data}
 
@@ -24,8 +24,8 @@ pub frame-stays : (memory bytes : List ℕ) → is_none (fault_in bytes) ≡ fal
 unfolding frame_after
 frame-stays memory bytes faulty = rw faulty refl
 
-pub memory-stays : (memory bytes : List ℕ) → is_none (fault_in bytes) ≡ false → memory ≡ memory_behind memory bytes
-unfolding memory_behind
+pub memory-stays : (memory bytes : List ℕ) → is_none (fault_in bytes) ≡ false → memory ≡ memory_after memory bytes
+unfolding memory_after
 memory-stays memory bytes faulty = rw faulty refl
 
 -- an address that goes on has as many bits
@@ -35,11 +35,11 @@ address-fits Apwr address fits = omega arith
 address-fits Fpwr address fits = fits
 address-fits Lrw address fits = fits
 
-pub served-size : (memory : List ℕ) (d : Carried) → length memory ≡ 12288 → length (served memory d).bytes ≡ length d.bytes
+pub served-size : (memory : List ℕ) (d : WireDatagram) → length memory ≡ 12288 → length (served memory d).bytes ≡ length d.bytes
 unfolding served
 served-size memory d long = length-data d.command memory d.address d.bytes long
 
-served-fits : (memory : List ℕ) (d : Carried) → length memory ≡ 12288 → FitsLine d → FitsLine (served memory d)
+served-fits : (memory : List ℕ) (d : WireDatagram) → length memory ≡ 12288 → FitsLine d → FitsLine (served memory d)
 unfolding served
 served-fits memory d long fits =
     let size : length (served memory d).bytes ≡ length d.bytes = served-size memory d long in
@@ -53,24 +53,24 @@ served-fits memory d long fits =
       size = omega arith;
     }
 
-all-fit : (memory : List ℕ) (ds : List Carried) → length memory ≡ 12288 → All FitsLine ds → All FitsLine (all_served memory ds)
+all-fit : (memory : List ℕ) (ds : List WireDatagram) → length memory ≡ 12288 → All FitsLine ds → All FitsLine (all_served memory ds)
 all-fit memory [] long fits = All-nil FitsLine
 all-fit memory (d ∷ ds) long fits =
-    All-cons FitsLine (served memory d) (all_served (memory_behind_datagram memory d) ds) (served-fits memory d long (All-head FitsLine d ds fits))
-    (all-fit (memory_behind_datagram memory d) ds (length-kept memory d long) (All-tail FitsLine d ds fits))
+    All-cons FitsLine (served memory d) (all_served (memory_after_datagram memory d) ds) (served-fits memory d long (All-head FitsLine d ds fits))
+    (all-fit (memory_after_datagram memory d) ds (length-unchanged memory d long) (All-tail FitsLine d ds fits))
 
-all-sizes : (memory : List ℕ) (ds : List Carried) → length memory ≡ 12288 → text_size (all_served memory ds) ≡ text_size ds
+all-sizes : (memory : List ℕ) (ds : List WireDatagram) → length memory ≡ 12288 → text_size (all_served memory ds) ≡ text_size ds
 all-sizes memory [] long = refl
 all-sizes memory (d ∷ ds) long =
-    sum_by-cons (λ (x : Carried). 12 + length x.bytes) (served memory d) (all_served (memory_behind_datagram memory d) ds)
-    ∙ ap₂ (λ (m n : ℕ). 12 + m + n) (served-size memory d long) (all-sizes (memory_behind_datagram memory d) ds (length-kept memory d long))
-    ∙ sym (sum_by-cons (λ (x : Carried). 12 + length x.bytes) d ds)
+    sum_by-cons (λ (x : WireDatagram). 12 + length x.bytes) (served memory d) (all_served (memory_after_datagram memory d) ds)
+    ∙ ap₂ (λ (m n : ℕ). 12 + m + n) (served-size memory d long) (all-sizes (memory_after_datagram memory d) ds (length-unchanged memory d long))
+    ∙ sym (sum_by-cons (λ (x : WireDatagram). 12 + length x.bytes) d ds)
 
-some-served : (memory : List ℕ) (ds : List Carried) → 0 < length ds → 0 < length (all_served memory ds)
+some-served : (memory : List ℕ) (ds : List WireDatagram) → 0 < length ds → 0 < length (all_served memory ds)
 some-served memory [] some = some
 some-served memory (d ∷ ds) some = omega arith
 
-pub are-carried : (memory : List ℕ) (serial : ℕ) (ds : List Carried) → length memory ≡ 12288 → CanBeCarried serial ds → CanBeCarried serial (all_served memory ds)
+pub are-carried : (memory : List ℕ) (serial : ℕ) (ds : List WireDatagram) → length memory ≡ 12288 → CanBeCarried serial ds → CanBeCarried serial (all_served memory ds)
 are-carried memory serial ds long can =
     let within : text_size ds ≤ 1498 = can.within in
     let same : text_size (all_served memory ds) ≡ text_size ds = all-sizes memory ds long in
@@ -91,28 +91,28 @@ served-read memory frame long bytes none =
     let can = (frame-carried frame bytes (no-fault _ none)).0 in
     let six : length (take 6 frame) ≡ 6 = let e = long-enough frame none in omega (arith, length-take 6 frame) in
     let carried : CanBeCarried (reading_of frame).serial (all_served memory (reading_of frame).parts) = are-carried memory (reading_of frame).serial (reading_of frame).parts long can in
-    let behind : List ℕ = drop (16 + datagram_bytes frame) frame in
-    ap (λ (b : Bool). is_none (fault_in (if b then carried_frame (take 6 frame) (slice_index frame 6) (reading_of frame).serial (all_served memory (reading_of frame).parts) behind else frame))) none
-    ∙ ap is_none (frame-read (take 6 frame) (slice_index frame 6) (reading_of frame).serial (all_served memory (reading_of frame).parts) behind six carried).0
+    let after_it : List ℕ = drop (16 + datagram_bytes frame) frame in
+    ap (λ (b : Bool). is_none (fault_in (if b then carried_frame (take 6 frame) (slice_index frame 6) (reading_of frame).serial (all_served memory (reading_of frame).parts) after_it else frame))) none
+    ∙ ap is_none (frame-read (take 6 frame) (slice_index frame 6) (reading_of frame).serial (all_served memory (reading_of frame).parts) after_it six carried).0
 
-frame-size : (destination : List ℕ) (first serial : ℕ) (ds : List Carried) (behind : List ℕ) → length destination ≡ 6
-    → length (carried_frame destination first serial ds behind) ≡ 16 + text_size ds + length behind
-frame-size destination first serial ds behind six =
+frame-size : (destination : List ℕ) (first serial : ℕ) (ds : List WireDatagram) (after_it : List ℕ) → length destination ≡ 6
+    → length (carried_frame destination first serial ds after_it) ≡ 16 + text_size ds + length after_it
+frame-size destination first serial ds after_it six =
     let text : List ℕ = carried_texts serial ds in
     let head : List ℕ = head_to destination first serial (length text) in
-    length-append (head ++ text) behind
-    ∙ ap (λ (n : ℕ). n + length behind) (length-append head text ∙ ap₂ (λ (m n : ℕ). m + n) (head-long destination first serial (length text) six) (length-carried_texts serial ds))
+    length-append (head ++ text) after_it
+    ∙ ap (λ (n : ℕ). n + length after_it) (length-append head text ∙ ap₂ (λ (m n : ℕ). m + n) (head-long destination first serial (length text) six) (length-carried_texts serial ds))
 
 size-stays : (memory frame : List ℕ) (readable : Bool) → length memory ≡ 12288 → All (λ b. b < 256) frame → is_none (fault_in frame) ≡ readable
     → length (if readable then carried_frame (take 6 frame) (slice_index frame 6) (reading_of frame).serial (all_served memory (reading_of frame).parts) (drop (16 + datagram_bytes frame) frame) else frame) ≡ length frame
 size-stays memory frame false long bytes faulty = refl
 size-stays memory frame true long bytes none =
     let six : length (take 6 frame) ≡ 6 = let e = long-enough frame none in omega (arith, length-take 6 frame) in
-    let behind : List ℕ = drop (16 + datagram_bytes frame) frame in
-    let parts : List Carried = (reading_of frame).parts in
-    frame-size (take 6 frame) (slice_index frame 6) (reading_of frame).serial (all_served memory parts) behind six
-    ∙ ap (λ (n : ℕ). 16 + n + length behind) (all-sizes memory parts long)
-    ∙ sym (frame-size (take 6 frame) (slice_index frame 6) (reading_of frame).serial parts behind six)
+    let after_it : List ℕ = drop (16 + datagram_bytes frame) frame in
+    let parts : List WireDatagram = (reading_of frame).parts in
+    frame-size (take 6 frame) (slice_index frame 6) (reading_of frame).serial (all_served memory parts) after_it six
+    ∙ ap (λ (n : ℕ). 16 + n + length after_it) (all-sizes memory parts long)
+    ∙ sym (frame-size (take 6 frame) (slice_index frame 6) (reading_of frame).serial parts after_it six)
     ∙ sym (ap length (frame-carried frame bytes (no-fault _ none)).1)
 
 pub sizes-stay : SizesStay

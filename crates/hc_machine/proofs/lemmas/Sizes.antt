@@ -1,2 +1,2 @@
 -- Memories keep their sizes.
-pub use Rattle.hc_machine.proofs.Alias.{length-kept}
+pub use Rattle.hc_machine.proofs.Alias.{length-unchanged}

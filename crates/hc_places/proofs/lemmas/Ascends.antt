@@ -6,8 +6,8 @@ use Rattle.hc_records.specs.Line.{groups_of, line_from}
 use Rattle.hc_records.specs.Project.{lowest_fault}
 use Rattle.hc_places.specs.Table.{RowsAscend, table_of}
 use Rattle.hc_places.proofs.lemmas.Once.{variable-once}
-use Rattle.hc_places.proofs.Rising.{ascends-by_number, kept-length}
+use Rattle.hc_places.proofs.Rising.{ascends-by_number, unchanged-length}
 
 -- the table of a project's line has each variable once, in the order of their numbers
 pub table-ascends : (groups : List Declared) → lowest_fault (groups_of groups) ≡ None → RowsAscend (table_of (line_from 1 groups)).variables
-table-ascends groups none = grind (arith, ascends-by_number, kept-length, variable-once)
+table-ascends groups none = grind (arith, ascends-by_number, unchanged-length, variable-once)

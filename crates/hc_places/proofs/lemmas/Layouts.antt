@@ -11,7 +11,7 @@ use Rattle.hc_records.specs.Line.{Member, line_from}
 use Rattle.hc_records.specs.Packing.{Placed}
 use Rattle.hc_cuts.specs.Place.{place_of}
 use Rattle.hc_cuts.specs.Areas.{areas_by_rank, list_by}
-use Rattle.hc_cuts.proofs.lemmas.Told.{place-told}
+use Rattle.hc_cuts.proofs.lemmas.AnswerGiven.{place-answer_given}
 use Rattle.hc_places.specs.Layout.{layout_of, placed_in}
 
 -- a layout's place of a key in a task is its place in the task's list
@@ -25,7 +25,7 @@ placed-in-line members task key below =
     ap (option_and_then (find (λ (placed : Placed). same_key placed.key key)))
     (slice_get-map (λ t. task_places t members) tasks task ∙ ap (option_map (λ t. task_places t members)) (task-at task below))
 
--- so the areas of a line tell what its layout does
-pub placed-told : (groups : List Declared) (task : ℕ) (key : Key) → task < TASKS
+-- so the areas of a line say what its layout does
+pub placed-answer_given : (groups : List Declared) (task : ℕ) (key : Key) → task < TASKS
     → place_of key (list_by task (areas_by_rank groups)) ≡ placed_in (layout_of (line_from 1 groups)) task key
-placed-told groups task key below = place-told groups task key ∙ sym (placed-in-line (line_from 1 groups) task key below)
+placed-answer_given groups task key below = place-answer_given groups task key ∙ sym (placed-in-line (line_from 1 groups) task key below)

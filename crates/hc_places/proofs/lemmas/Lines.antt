@@ -11,9 +11,9 @@ use Rattle.hc_records.specs.Project.{lowest_fault}
 use Rattle.hc_records.specs.TaskList.{Keyed, task_list}
 use Rattle.hc_records.proofs.lemmas.Inside.{packed-inside}
 use Rattle.hc_cuts.specs.Areas.{areas_by_rank, list_by}
-use Rattle.hc_cuts.proofs.lemmas.Told.{task-listed}
-use Rattle.hc_places.specs.Loads.{load_in, load_of, table_at}
-use Rattle.hc_places.specs.Loads.{counted_inside}
+use Rattle.hc_cuts.proofs.lemmas.AnswerGiven.{task-listed}
+use Rattle.hc_places.specs.DatagramUses.{datagram_use_in, datagram_use_of, table_at}
+use Rattle.hc_places.specs.DatagramUses.{counted_inside}
 use Rattle.hc_places.specs.Table.{task_table}
 use Rattle.hc_places.proofs.Configurable.{project-configurable}
 use Rattle.hc_places.proofs.lemmas.Ranks.{expected-low}
@@ -24,7 +24,7 @@ pub table-loaded : (groups : List Declared) (task : ℕ) → lowest_fault (group
     → task_table (line_from 1 groups) task ≡ table_at task (task_places task (line_from 1 groups))
 table-loaded groups task none = sym (table-same task (line_from 1 groups) (project-configurable groups none))
 
--- so its list tells it
+-- so its list gives it
 pub same-table : (old new : List Declared) (task : ℕ) → lowest_fault (groups_of old) ≡ None → lowest_fault (groups_of new) ≡ None
     → task_list task (line_from 1 old) ≡ task_list task (line_from 1 new) → task_table (line_from 1 old) task ≡ task_table (line_from 1 new) task
 same-table old new task none none' same = grind (arith, table-loaded)
@@ -33,14 +33,14 @@ same-table old new task none none' same = grind (arith, table-loaded)
 pub record IsDatagramOf (groups : List Declared) (task datagram : ℕ) (areas : List Placed) : Type 0 where
   pub inside : All LiesInside areas
   pub counted : counted_inside datagram areas < 65536
-  pub load : load_in areas datagram ≡ load_in (task_places task (line_from 1 groups)) datagram
+  pub datagram_use : datagram_use_in areas datagram ≡ datagram_use_in (task_places task (line_from 1 groups)) datagram
 
-kept-by : {X : Type 0} (here : Bool) (test : X → Bool) (x : X) (kept : List X) → test x ≡ here → filter test kept ≡ kept → filter test (cond here (x ∷ kept) kept) ≡ cond here (x ∷ kept) kept
-kept-by here test x kept is rest = grind arith
+unchanged-by : {X : Type 0} (here : Bool) (test : X → Bool) (x : X) (unchanged : List X) → test x ≡ here → filter test unchanged ≡ unchanged → filter test (cond here (x ∷ unchanged) unchanged) ≡ cond here (x ∷ unchanged) unchanged
+unchanged-by here test x unchanged is rest = grind arith
 
-kept-twice : {X : Type 0} (test : X → Bool) (xs : List X) → filter test (filter test xs) ≡ filter test xs
-kept-twice test [] = refl
-kept-twice test (x ∷ xs) = kept-by (test x) test x (filter test xs) refl (kept-twice test xs)
+unchanged-twice : {X : Type 0} (test : X → Bool) (xs : List X) → filter test (filter test xs) ≡ filter test xs
+unchanged-twice test [] = refl
+unchanged-twice test (x ∷ xs) = unchanged-by (test x) test x (filter test xs) refl (unchanged-twice test xs)
 
 pub datagram-of : (groups : List Declared) (task datagram : ℕ) (areas : List Placed) → lowest_fault (groups_of groups) ≡ None
     → areas ≡ inside datagram (packed opening (list_by task (areas_by_rank groups))) → IsDatagramOf groups task datagram areas
@@ -49,8 +49,8 @@ datagram-of groups task datagram areas none is =
     let configurable = project-configurable groups none in
     let here : areas ≡ inside datagram (task_places task line) = is ∙ ap (λ (list : List Keyed). inside datagram (packed opening list)) (sym (task-listed task groups)) in
     let own : inside datagram areas ≡ inside datagram (task_places task line) =
-    ap (inside datagram) here ∙ kept-twice (λ (area : Placed). area.datagram == datagram) (task_places task line) in
-    let same : counted_inside datagram areas ≡ counted_inside datagram (task_places task line) = ap (λ (load : _). load.expected) (ap load_of own) in
+    ap (inside datagram) here ∙ unchanged-twice (λ (area : Placed). area.datagram == datagram) (task_places task line) in
+    let same : counted_inside datagram areas ≡ counted_inside datagram (task_places task line) = ap (λ (datagram_use : _). datagram_use.expected) (ap datagram_use_of own) in
     let expected = configurable.counted task datagram in
     let low = expected-low task datagram line in
     let slaves = configurable.few in
@@ -58,5 +58,5 @@ datagram-of groups task datagram areas none is =
       inside = subst (λ (all : List Placed). All LiesInside all) (sym here)
           (All-filter (λ area. area.datagram == datagram) LiesInside (task_places task line) (packed-inside opening (task_list task line) (configurable.packable task)));
       counted = omega (arith, same, expected, low, slaves);
-      load = ap load_of own;
+      datagram_use = ap datagram_use_of own;
     }

@@ -24,10 +24,10 @@ use Rattle.hc_records.proofs.lemmas.Lines.{declared_slaves, ranked}
 use Rattle.hc_records.proofs.lemmas.Lists.{All-flat_map, All-from_none}
 use Rattle.hc_records.proofs.lemmas.Projects.{project-assigned, project-names}
 use Rattle.hc_records.proofs.lemmas.Tasks.{listed}
-use Rattle.hc_places.specs.Table.{Row}
+use Rattle.hc_places.specs.Table.{VariableRow}
 use Rattle.hc_places.proofs.lemmas.Totals.{total, total-append, total-enumerate, total-filter, total-flat_map, total-less, total-map, total-plus, total-same, total-swap, total-within, total-zero, total-zip}
 
--- how often a variable stands at a number, in an entry, in an area's assigned entries, in a row, in an area's offered entries
+-- how often a variable is at a number, in an entry, in an area's assigned entries, in a row, in an area's offered entries
 
 abbrev pub own : ℕ → ℕ → ℕ
 own variable number = cond (variable == number) 1 0
@@ -38,7 +38,7 @@ held variable entry = option_map_or (own variable) entry.0 0
 abbrev pub weight : ℕ → Area → ℕ
 weight variable area = total (held variable) (assigned_entries area)
 
-abbrev pub of_row : ℕ → Row → ℕ
+abbrev pub of_row : ℕ → VariableRow → ℕ
 of_row variable row = own variable row.0
 
 abbrev of_pdo : ℕ → Pdo → ℕ
@@ -47,7 +47,7 @@ of_pdo variable pdo = total (held variable) pdo.entries
 abbrev offers : ℕ → Area → ℕ
 offers variable area = total (of_pdo variable) area.offered
 
--- what stands once in a list counts once
+-- what is once in a list counts once
 
 apart : (k x y : ℕ) → (y == x) ≡ false → k ≡ x → (k == y) ≡ false
 apart k x y other same = grind (arith, nat_tests)

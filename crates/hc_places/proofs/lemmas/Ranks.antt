@@ -17,7 +17,7 @@ use Rattle.hc_records.proofs.lemmas.Lines.{RanksBelow}
 use Rattle.hc_records.proofs.lemmas.Packed.{area_of, packed-areas}
 use Rattle.hc_records.proofs.lemmas.Tasks.{listed, task-list-all}
 use Rattle.hc_registers.proofs.lemmas.Counting.{ascending-counted}
-use Rattle.hc_places.specs.Loads.{counted_inside, keys_inside}
+use Rattle.hc_places.specs.DatagramUses.{counted_inside, keys_inside}
 
 -- the keys of areas ascend
 abbrev AreInOrder : List Placed → Type 0

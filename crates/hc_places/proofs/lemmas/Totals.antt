@@ -20,12 +20,12 @@ pub total-map : {X Y : Type 0} (f : Y → ℕ) (made : X → Y) (xs : List X) �
 total-map f made [] = refl
 total-map f made (x ∷ xs) = let rest = total-map f made xs in omega arith
 
-kept-total : {X : Type 0} (passes : Bool) (f : X → ℕ) (x : X) (kept : List X) → total f (cond passes (x ∷ kept) kept) ≡ cond passes (f x) 0 + total f kept
-kept-total passes f x kept = grind arith
+unchanged-total : {X : Type 0} (passes : Bool) (f : X → ℕ) (x : X) (unchanged : List X) → total f (cond passes (x ∷ unchanged) unchanged) ≡ cond passes (f x) 0 + total f unchanged
+unchanged-total passes f x unchanged = grind arith
 
 pub total-filter : {X : Type 0} (f : X → ℕ) (test : X → Bool) (xs : List X) → total f (filter test xs) ≡ total (λ x. cond (test x) (f x) 0) xs
 total-filter f test [] = refl
-total-filter f test (x ∷ xs) = grind (arith, kept-total, total-filter f test xs)
+total-filter f test (x ∷ xs) = grind (arith, unchanged-total, total-filter f test xs)
 
 pub total-enumerate : {X : Type 0} (f : X → ℕ) (number : ℕ) (xs : List X) → total (λ e. f e.1) (enumerate_from number xs) ≡ total f xs
 total-enumerate f number [] = refl

@@ -5,15 +5,15 @@ use Rattle.hc_records.specs.declared.records.Dir.{Dir}
 use Rattle.hc_records.specs.Packing.{Placed}
 use Rattle.hc_records.specs.Image.{datagram_count, datagram_length}
 use Rattle.hc_records.specs.Laws.{IsDatagramLength, LiesInside}
-use Rattle.hc_places.specs.Loads.{counted_inside}
-use Rattle.hc_places.specs.Table.{Row}
+use Rattle.hc_places.specs.DatagramUses.{counted_inside}
+use Rattle.hc_places.specs.Table.{VariableRow}
 
 -- the row of a variable of an area, with its first bit and its bits
-abbrev pub row_at : ℕ → ℕ → Dir → ℕ × (ℕ × ℕ) → Row
+abbrev pub row_at : ℕ → ℕ → Dir → ℕ × (ℕ × ℕ) → VariableRow
 row_at task datagram dir found =
     (found.0, record { task = task; datagram = datagram; bit = found.1.0; bits = found.1.1; dir = dir })
 
--- places whose datagrams can be sent: at most 16, none of which is empty or too long, or expects a working counter over its 16 bits
+-- places whose datagrams can be sent: at most 16; none is empty or too long, or expects a working counter over its 16 bits
 pub record AreSendable (areas : List Placed) : Type 0 where
   pub few : datagram_count areas ≤ MOST_DATAGRAMS
   pub inside : All LiesInside areas

@@ -1,7 +1,7 @@
 -- Two lists in the order of their numbers, walked at once.
 use Rattle.std.specs.Prelude.{ℕ, nat_lt, if◌then◌else◌, List, [], ◌∷◌, ◌++◌, Option}
 use Rattle.std.specs.List.{flat_map}
-use Rattle.hc_places.specs.Table.{Row}
+use Rattle.hc_places.specs.Table.{VariableRow}
 use Rattle.hc_records.specs.Image.{VariablePlace}
 use Rattle.hc_places.specs.Swap.{new_row}
 
@@ -19,13 +19,13 @@ walked_past gives second rest (first ∷ firsts) =
     else if nat_lt second.0 first.0 then gives.second second ++ rest (first ∷ firsts)
     else gives.both first second ++ rest firsts
 
--- what two lists in the order of their numbers give, walked at once: each element where its number stands in one list alone, else two of one number together
+-- what two lists in the order of their numbers give, walked at once: each element where its number is in one list alone, else two of one number together
 abbrev pub walked : {X Y Z : Type 0} → Gives X Y Z → List (ℕ × Y) → List (ℕ × X) → List Z
 walked gives [] firsts = flat_map gives.first firsts
 walked gives (second ∷ seconds) firsts = walked_past gives second (λ left. walked gives seconds left) firsts
 
 -- a changed variable has its new row, and any other row stays
-abbrev pub merges : Gives (Option VariablePlace) VariablePlace Row
+abbrev pub merges : Gives (Option VariablePlace) VariablePlace VariableRow
 merges = record {
   first = new_row;
   second = λ row. row ∷ [];

@@ -21,7 +21,7 @@ use Rattle.hc_records.proofs.lemmas.Tasks.{task-list-all}
 use Rattle.hc_records.proofs.lemmas.VariablePlaces.{same_dir-same}
 use Rattle.hc_plan.proofs.lemmas.Elements.{contains-order, numbered-at}
 
--- a key of a task's list is that of an area of a slave of the line, which is in the task
+-- an area of a slave of the line, which is in the task, has a key of the task's list
 pub record HasArea (line : List Member) (task : ℕ) (keyed : Keyed) : Type 0 where
   pub member : Member
   pub index : ℕ

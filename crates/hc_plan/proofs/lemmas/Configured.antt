@@ -1,4 +1,4 @@
--- The blocks that a line is configured with are those of its slaves.
+-- The blocks that a line is configured with are its slaves'.
 use Rattle.std.proofs.Common.{◌≡◌, ℕ, ◌<◌, ◌==◌, Bool, true, false, cond, List, [], ◌∷◌, Contains, refl, sym, ap, subst, ◌∙◌, ⊎_elim, arith, rules}
 use Rattle.std.specs.Prelude.{Option, Some, None, find, option_and_then, option_map, slice_get}
 use Rattle.std.specs.List.{flat_map, list_any}
@@ -11,7 +11,7 @@ use Rattle.hc_registers.specs.Blocks.{LineBlock, RegisterBlock, member_blocks, n
 use Rattle.hc_plan.proofs.Numbered.{get-numbered-from-0}
 use Rattle.hc_records.proofs.lemmas.Stations.{IsAbsent, stations}
 
--- an element that stands at an index is contained, and a contained one stands at an index
+-- an element that is at an index is contained, and a contained one is at an index
 
 pub at-contained : {X : Type 0} (xs : List X) (i : ℕ) (x : X) → slice_get xs i ≡ Some x → Contains xs x
 at-contained xs i x is = (i, slice_get_within xs i x is, get_or_from_slice_get xs i x x is)
@@ -47,23 +47,23 @@ contained-own station blocks found at =
 abbrev pub block_of : List Member → ℕ → Option Member → Option RegisterBlock
 block_of whole number member = option_and_then (λ m. slice_get (slave_blocks whole m) number) member
 
-here-or-behind : (whole members : List Member) (member : Member) (station number : ℕ) (block : RegisterBlock) (same : Bool) → (member.slave.station == station) ≡ same
+here-or-after_it : (whole members : List Member) (member : Member) (station number : ℕ) (block : RegisterBlock) (same : Bool) → (member.slave.station == station) ≡ same
     → block_of whole number (cond same (Some member) (find (is_at station) members)) ≡ Some block
     → (block_of whole number (find (is_at station) members) ≡ Some block → Contains (flat_map (member_blocks whole) members) (record { station = station; number = number; block = block }))
     → Contains (flat_map (member_blocks whole) (member ∷ members)) (record { station = station; number = number; block = block })
-here-or-behind whole members member station number block true is at behind =
+here-or-after_it whole members member station number block true is at after_it =
     Contains-append_left (member_blocks whole member) (flat_map (member_blocks whole) members) (record { station = station; number = number; block = block })
     (subst (λ (n : ℕ). Contains (member_blocks whole member) (record { station = n; number = number; block = block })) (eqb-true member.slave.station station is)
     (own-contained member.slave.station number (slave_blocks whole member) block at))
-here-or-behind whole members member station number block false is at behind = search (rules, Contains-append_right)
+here-or-after_it whole members member station number block false is at after_it = search (rules, Contains-append_right)
 
 pub block-configured : (whole members : List Member) (station number : ℕ) (block : RegisterBlock) → block_of whole number (find (is_at station) members) ≡ Some block
     → Contains (flat_map (member_blocks whole) members) (record { station = station; number = number; block = block })
 block-configured whole [] station number block is = cc
 block-configured whole (member ∷ members) station number block is =
-    here-or-behind whole members member station number block (member.slave.station == station) refl is (block-configured whole members station number block)
+    here-or-after_it whole members member station number block (member.slave.station == station) refl is (block-configured whole members station number block)
 
--- a slave that stands first has no other with its station address behind it
+-- a slave that is first has no other with its station address after it
 
 none-at : (station : ℕ) (members : List Member) → IsAbsent station (stations members) → find (is_at station) members ≡ None
 none-at station [] absent = refl
@@ -79,7 +79,7 @@ own-found whole members member found own same is = search rules
 later-found : (whole members : List Member) (member : Member) (found : LineBlock) → IsAbsent member.slave.station (stations members)
     → block_of whole found.number (find (is_at found.station) members) ≡ Some found.block → (same : Bool) → (member.slave.station == found.station) ≡ same
     → block_of whole found.number (cond same (Some member) (find (is_at found.station) members)) ≡ Some found.block
-later-found whole members member found absent behind same is = search (rules, eqb-true, none-at)
+later-found whole members member found absent after_it same is = search (rules, eqb-true, none-at)
 
 pub configured-block : (whole members : List Member) (found : LineBlock) → has_repeat (stations members) ≡ false → Contains (flat_map (member_blocks whole) members) found
     → block_of whole found.number (find (is_at found.station) members) ≡ Some found.block
@@ -88,5 +88,5 @@ configured-block whole (member ∷ members) found distinct at =
     let parts = or_parts (list_any (λ y. y == member.slave.station) (stations members)) (has_repeat (stations members)) distinct in
     ⊎_elim
     (λ own. own-found whole members member found (contained-own member.slave.station (slave_blocks whole member) found own) (member.slave.station == found.station) refl)
-    (λ behind. later-found whole members member found parts.0 (configured-block whole members found parts.1 behind) (member.slave.station == found.station) refl)
+    (λ after_it. later-found whole members member found parts.0 (configured-block whole members found parts.1 after_it) (member.slave.station == found.station) refl)
     (Contains-append_cases (member_blocks whole member) (flat_map (member_blocks whole) members) found at)

@@ -21,11 +21,11 @@ use Rattle.hc_records.proofs.lemmas.Lists.{All-flat_map, All-passing}
 use Rattle.hc_registers.specs.declared.registers.TheConstants.{FMMU_BLOCKS, FMMU_BLOCK_BYTES, SYNC_MANAGER_BLOCKS, SYNC_MANAGER_BLOCK_BYTES}
 use Rattle.hc_registers.specs.Blocks.{LineBlock, RegisterBlock, area_blocks, line_blocks, member_blocks, numbered, same_block, slave_blocks}
 use Rattle.hc_registers.specs.Ranked.{RankedBlock, member_ranked, moved_ranked, ranked, ranked_blocks}
-use Rattle.hc_registers.specs.RankDifferences.{Differ, IsGone, StandsIn, StoodAt, block_place, first_gone}
+use Rattle.hc_registers.specs.RankDifferences.{Differ, IsGone, IsAtItsPlace, StoodAt, block_place, first_gone}
 use Rattle.hc_registers.specs.RankLaws.{HasPlaces}
 use Rattle.hc_registers.specs.RankPlaces.{place, places}
 use Rattle.hc_registers.proofs.lemmas.RanksGapless.{Few, few-areas, length-member}
-use Rattle.hc_registers.proofs.lemmas.RanksStanding.{StandsOf, length-places, members-stand, standing-of}
+use Rattle.hc_registers.proofs.lemmas.RanksStanding.{IsPlacedOf, length-places, members-are_placed, standing-of}
 use Rattle.hc_groups.specs.declared.changes.PresenceChange.{PresenceChange}
 use Rattle.hc_groups.specs.declared.prepared.Prepared.{Prepared}
 use Rattle.hc_groups.specs.declared.prepared.Prepared.TheVariants.{Presence, Areas}
@@ -34,7 +34,7 @@ use Rattle.hc_groups.specs.Rows.{ChangesRow, Ranked, by_rank, row}
 use Rattle.hc_groups.proofs.lemmas.Accepted.{accepted-groups, accepted-project}
 use Rattle.hc_groups.proofs.lemmas.CarriedOut.{carried-after}
 use Rattle.hc_groups.proofs.lemmas.Concerned.{change-of-row}
-use Rattle.hc_changes.proofs.lemmas.Bare.{bare, bare_slave, edit-keeps}
+use Rattle.hc_changes.proofs.lemmas.Bare.{bare, bare_slave, edit-stays}
 use Rattle.hc_changes.proofs.lemmas.Lists.{contains-filtered, contains-flat_map, flat_map-piece}
 use Rattle.hc_changes.proofs.lemmas.OneProject.{AreOfOneProject, edit-one-project}
 use Rattle.hc_plan.specs.Gone.{gone_of, none_gone}
@@ -45,9 +45,9 @@ use Rattle.hc_plan.proofs.lemmas.Configured.{at-contained, contained-own, get-ow
 -- the declared slaves before and after, by rank
 
 abbrev SameSlaves : List Declared → List Declared → Type 0
-SameSlaves olds news = map bare_slave (declared_slaves news) ≡ map bare_slave (declared_slaves olds)
+SameSlaves olds updates = map bare_slave (declared_slaves updates) ≡ map bare_slave (declared_slaves olds)
 
--- an element stands at each index within
+-- an element is at each index within
 pub there : {X : Type 0} (xs : List X) (i : ℕ) → i < length xs → (x : X) × (slice_get xs i ≡ Some x)
 there [] i low = absurd (omega (arith, low))
 there (x ∷ xs) zero low = (x, refl)
@@ -56,8 +56,8 @@ there (x ∷ xs) (suc i) low = there xs i (omega (arith, low))
 rank-length : (groups : List Declared) → length (by_rank groups) ≡ length (declared_slaves groups)
 rank-length groups = sym (length-map (by_rank groups) (λ (one : Ranked). one.slave)) ∙ ap (λ (slaves : List Slave). length slaves) (all-slaves groups)
 
-as-many : (olds news : List Declared) → SameSlaves olds news → length (declared_slaves news) ≡ length (declared_slaves olds)
-as-many olds news same = search (rules, length-map)
+as-many : (olds updates : List Declared) → SameSlaves olds updates → length (declared_slaves updates) ≡ length (declared_slaves olds)
+as-many olds updates same = search (rules, length-map)
 
 bare-at : (groups : List Declared) (i : ℕ) (one : Ranked) → slice_get (by_rank groups) i ≡ Some one → slice_get (map bare_slave (declared_slaves groups)) i ≡ Some (bare_slave one.slave)
 bare-at groups i one at = search (rules, all-slaves, slice_get-map)
@@ -72,7 +72,7 @@ record Leads (old new : State) (change : Prepared) : Type 0 where
   after : new.groups ≡ changed_groups change old.groups
   same : SameSlaves old.groups new.groups
   before : lowest_fault (groups_of old.groups) ≡ None
-  behind : lowest_fault (groups_of new.groups) ≡ None
+  after_it : lowest_fault (groups_of new.groups) ≡ None
   one : AreOfOneProject (line old) (line new)
 
 -- it declares no group
@@ -87,7 +87,7 @@ changes-no groups (Declare group) change is = cc
 leads : (old new : State) (edit : Edit) (change : Prepared) → lowest_fault (groups_of old.groups) ≡ None → edited old edit ≡ Ok new → change_by old.groups edit ≡ Some change → Leads old new change
 leads old new edit change project accepted changes =
     let groups = accepted-groups old new edit accepted in
-    let same = edit-keeps old.groups edit (changes-no old.groups edit change changes) in
+    let same = edit-stays old.groups edit (changes-no old.groups edit change changes) in
     search (rules, change-of-row, carried-after, accepted-project, edit-one-project)
 
 -- which slaves leave
@@ -126,8 +126,8 @@ gone-absent (Presence change) old new n made gone = by change.present refl
         let rows = made.row in
         let own = row (Presence change) (changed_groups (Presence change) old.groups) in
         let all = ap (λ (l : List Ranked). length l) rows.after in
-        let parts = length-append rows.front (own ++ rows.behind) in
-        let rest = length-append own rows.behind in
+        let parts = length-append rows.front (own ++ rows.after_it) in
+        let rest = length-append own rows.after_it in
         let here = there (by_rank (changed_groups (Presence change) old.groups)) i (omega (arith, all, parts, rest)) in
         let inside : InRow (Presence change) i = (omega arith, omega arith) in
         let absent = presence-in-row change old.groups i here.0 rows inside here.1 ∙ is in
@@ -137,16 +137,16 @@ gone-absent (Presence change) old new n made gone = by change.present refl
 
 -- what stays
 
--- a slave that is present before is present behind, unless it leaves
+-- a slave that is present before is present after, unless it leaves
 stays-present : (change : Prepared) (old new : State) (n : ℕ) (was is : Ranked) → Leads old new change → slice_get (by_rank old.groups) (n / 16) ≡ Some was → slice_get (by_rank new.groups) (n / 16) ≡ Some is
     → was.present ≡ true → (is.present ≡ true) ⊎ IsGone (gone_of change) n
 stays-present change old new n was is made before after present = search (rules, areas-presence, side, same_Some, beside-same, presence-in-row, row-goes)
 
--- a place with a block before has one behind, unless its slave leaves
+-- a place with a block before has one after, unless its slave leaves
 stays-full : (change : Prepared) (old new : State) (n : ℕ) (block : LineBlock) → Leads old new change → slice_get (places old) n ≡ Some (Some block) → slice_get (places new) n ≡ Some None → IsGone (gone_of change) n
 stays-full change old new n block made stood none =
     elim (stays-present change old new n was.0 is.0 made was.1 is.1 present) [
-      | inl still ↦ absurd (some-block (member_blocks (line new) (member_at (1 + i) is.0)) (n % 16) (omega (arith, low, before, behind, alike)) (now still))
+      | inl still ↦ absurd (some-block (member_blocks (line new) (member_at (1 + i) is.0)) (n % 16) (omega (arith, low, before, after_it, alike)) (now still))
       | inr gone ↦ gone
     ]
   where
@@ -179,8 +179,8 @@ stays-full change old new n block made stood none =
     before : length (member_blocks (line old) (member_at (1 + i) was.0)) ≡ 2 * length was.0.slave.areas
     before = length-member (line old) (member_at (1 + i) was.0)
 
-    behind : length (member_blocks (line new) (member_at (1 + i) is.0)) ≡ 2 * length is.0.slave.areas
-    behind = length-member (line new) (member_at (1 + i) is.0)
+    after_it : length (member_blocks (line new) (member_at (1 + i) is.0)) ≡ 2 * length is.0.slave.areas
+    after_it = length-member (line new) (member_at (1 + i) is.0)
 
     alike : length was.0.slave.areas ≡ length is.0.slave.areas
     alike = bare-count was.0.slave is.0.slave
@@ -206,24 +206,24 @@ number-is station first (suc k) (b ∷ blocks) block at = let next = number-is s
 all-at : {X : Type 0} (P : X → Type 0) (xs : List X) → ((k : ℕ) (x : X) → slice_get xs k ≡ Some x → P x) → All P xs
 all-at P xs each k d within = each k (slice_index_or xs k d) (slice_get-get_or xs k d within)
 
--- each block of a line stands at its place
-member-stand : (state : State) (member : Member) → Contains (line state) member → Few member.slave → All (StandsIn (places state)) (member_ranked (line state) member)
-member-stand state member on few =
-    All-map (StandsIn (places state)) (ranked member.rank) (member_blocks (line state) member)
-    (all-at (λ block. StandsIn (places state) (ranked member.rank block)) (member_blocks (line state) member)
+-- each block of a line is at its place
+member-are_placed : (state : State) (member : Member) → Contains (line state) member → Few member.slave → All (IsAtItsPlace (places state)) (member_ranked (line state) member)
+member-are_placed state member on few =
+    All-map (IsAtItsPlace (places state)) (ranked member.rank) (member_blocks (line state) member)
+    (all-at (λ block. IsAtItsPlace (places state) (ranked member.rank block)) (member_blocks (line state) member)
     (λ k block at.
     let number = number-is member.slave.station 0 k (slave_blocks (line state) member) block at in
     let within = slice_get_within (member_blocks (line state) member) k block at in
     let size = length-member (line state) member in
     ap (λ (n : ℕ). slice_get (places state) (place member.rank n)) (omega (arith, number))
-    ∙ All-contains (HasPlaces state) (line state) member (members-stand state) on k (omega (arith, within, size, few)) ∙ ap Some at))
+    ∙ All-contains (HasPlaces state) (line state) member (members-are_placed state) on k (omega (arith, within, size, few)) ∙ ap Some at))
 
-line-stand : (state : State) → lowest_fault (groups_of state.groups) ≡ None → All (StandsIn (places state)) (ranked_blocks (line state))
-line-stand state none =
-    All-flat_map (StandsIn (places state)) (member_ranked (line state)) (line state)
+line-are_placed : (state : State) → lowest_fault (groups_of state.groups) ≡ None → All (IsAtItsPlace (places state)) (ranked_blocks (line state))
+line-are_placed state none =
+    All-flat_map (IsAtItsPlace (places state)) (member_ranked (line state)) (line state)
     (λ k d within.
     let member = slice_index_or (line state) k d in
-    member-stand state member (at-contained (line state) k member (slice_get-get_or (line state) k d within)) (line-slaves Few 1 state.groups (few-areas state.groups none) k d within))
+    member-are_placed state member (at-contained (line state) k member (slice_get-get_or (line state) k d within)) (line-slaves Few 1 state.groups (few-areas state.groups none) k d within))
 
 member-ranks : (whole : List Member) (member : Member) → 1 ≤ member.rank → All (λ block. 1 ≤ block.rank) (member_ranked whole member)
 member-ranks whole member some = All-map (λ block. 1 ≤ block.rank) (ranked member.rank) (member_blocks whole member) (λ k d within. some)
@@ -254,7 +254,7 @@ slave-registers whole member = area-registers whole member.rank 0 member.slave.a
 same-registers : (whole others : List Member) (a b : Member) → bare_slave a.slave ≡ bare_slave b.slave → registers (slave_blocks whole a) ≡ registers (slave_blocks others b)
 same-registers whole others a b alike = slave-registers whole a ∙ ap (λ (s : ℕ × List Area). registers_from 0 s.1) alike ∙ sym (slave-registers others b)
 
--- a block that is none of the moved ones stood in the old line, with its bytes at its register
+-- a block that is none of the moved ones was in the old line, with its bytes at its register
 unmoved : (old new : List Member) (rank : ℕ) (block : LineBlock) → Contains (ranked_blocks new) (ranked rank block) → All (λ other. block_place other ≢ place rank block.number) (moved_ranked old new)
     → list_any (same_block block) (line_blocks old) ≡ true
 unmoved old new rank block among others = by (list_any (same_block block) (line_blocks old)) refl
@@ -273,17 +273,21 @@ record SameBlock (a b : LineBlock) : Type 0 where
 same-parts : (a b : LineBlock) → same_block a b ≡ true → SameBlock a b
 same-parts a b same = search rules
 
--- so one with its bytes stood at its place
-stood-there : (change : Prepared) (old new : State) (n : ℕ) (block : LineBlock) → Leads old new change → StandsOf (line new) (line new) 1 n block → All (λ other. block_place other ≢ n) (moved_ranked (line old) (line new)) → StoodAt (places old) n block
+whole-block : (a b : RegisterBlock) → a.register ≡ b.register → a.bytes ≡ b.bytes → a ≡ b
+whole-block a b register bytes =
+    ap (λ (n : ℕ). record { register = n; bytes = a.bytes }) register ∙ ap (λ (list : List ℕ). record { register = b.register; bytes = list }) bytes
+
+-- so one with its bytes were at its place
+stood-there : (change : Prepared) (old new : State) (n : ℕ) (block : LineBlock) → Leads old new change → IsPlacedOf (line new) (line new) 1 n block → All (λ other. block_place other ≢ n) (moved_ranked (line old) (line new)) → StoodAt (places old) n block
 stood-there change old new n block lead here others =
     let a = here.member in
     let blocks = slave_blocks (line new) a in
-    let number : block.number ≡ 0 + here.number = number-is a.slave.station 0 here.number blocks block here.stands in
-    let own = at-contained (member_blocks (line new) a) here.number block here.stands in
+    let number : block.number ≡ 0 + here.number = number-is a.slave.station 0 here.number blocks block here.is_placed in
+    let own = at-contained (member_blocks (line new) a) here.number block here.is_placed in
     let mine = contained-own a.slave.station blocks block own in
     let at : n ≡ place a.rank block.number = omega (arith, number) in
     let among = contains-flat_map (member_ranked (line new)) (line new) a (ranked a.rank block) here.on
-    (at-contained (member_ranked (line new) a) here.number (ranked a.rank block) (slice_get-map (ranked a.rank) (member_blocks (line new) a) here.number ∙ ap (option_map (ranked a.rank)) here.stands)) in
+    (at-contained (member_ranked (line new) a) here.number (ranked a.rank block) (slice_get-map (ranked a.rank) (member_blocks (line new) a) here.number ∙ ap (option_map (ranked a.rank)) here.is_placed)) in
     let had = unmoved (line old) (line new) a.rank block among (subst (λ (k : ℕ). All (λ other. block_place other ≢ k) (moved_ranked (line old) (line new))) at others) in
     let some = Any-from_list_any (same_block block) (line_blocks (line old)) had in
     let before : LineBlock = some.1 in
@@ -303,7 +307,8 @@ stood-there change old new n block lead here others =
     let other_at : slice_get (member_blocks (line old) b) block.number ≡ Some other = search (rules, get-own) in
     let standing = contains-flat_map (member_blocks (line old)) (line old) b other piece.among (at-contained (member_blocks (line old) b) block.number other other_at) in
     let one = one-block old.groups other before lead.before standing stood (sym theirs.0) (was.2 ∙ same.register) in
-    search (rules, All-contains, members-stand)
+    let whole : before.block ≡ block.block = whole-block before.block block.block (sym same.register) (sym same.bytes) in
+    search (rules, All-contains, members-are_placed)
 
 -- the two lines differ by the slaves that leave, those that come, and the moved blocks
 
@@ -319,4 +324,4 @@ edits-differ old new edit change project accepted changes =
     let after = length-places new in
     let many = as-many old.groups new.groups made.same in
     let test : RankedBlock → Bool = λ block. not (list_any (same_block block.found) (line_blocks (line old))) in
-    search (rules, gone-absent, stays-full, All-passing, All-weaker, line-ranks, line-stand, stood-there, standing-of)
+    search (rules, gone-absent, stays-full, All-passing, All-weaker, line-ranks, line-are_placed, stood-there, standing-of)

@@ -39,23 +39,23 @@ unmapped-at f (z ∷ xs) (suc k) y low is =
 pub contains-unmapped : {X Y : Type 0} (f : X → Y) (xs : List X) (y : Y) → Contains (map f xs) y → (x : X) × Contains xs x × (f x ≡ y)
 contains-unmapped f xs y (k, low, is) = unmapped-at f xs k y low is
 
-kept-first : {X : Type 0} (passes : Bool) (x : X) (kept : List X) → passes ≡ true → Contains (cond passes (x ∷ kept) kept) x
-kept-first true x kept is = contains-first x kept
-kept-first false x kept is = cc
+unchanged-first : {X : Type 0} (passes : Bool) (x : X) (unchanged : List X) → passes ≡ true → Contains (cond passes (x ∷ unchanged) unchanged) x
+unchanged-first true x unchanged is = contains-first x unchanged
+unchanged-first false x unchanged is = cc
 
-kept-later : {X : Type 0} (passes : Bool) (first x : X) (kept : List X) → Contains kept x → Contains (cond passes (first ∷ kept) kept) x
-kept-later true first x kept has = contains-later first x kept has
-kept-later false first x kept has = has
+unchanged-later : {X : Type 0} (passes : Bool) (first x : X) (unchanged : List X) → Contains unchanged x → Contains (cond passes (first ∷ unchanged) unchanged) x
+unchanged-later true first x unchanged has = contains-later first x unchanged has
+unchanged-later false first x unchanged has = has
 
-kept-at : {X : Type 0} (test : X → Bool) (xs : List X) (k : ℕ) (x : X) → k < length xs → slice_index_or xs k x ≡ x → test x ≡ true → Contains (filter test xs) x
-kept-at test [] k x low is passes = absurd (omega arith)
-kept-at test (z ∷ xs) zero x low is passes =
-    subst (λ w. Contains (cond (test z) (z ∷ filter test xs) (filter test xs)) w) is (kept-first (test z) z (filter test xs) (ap test is ∙ passes))
-kept-at test (z ∷ xs) (suc k) x low is passes = kept-later (test z) z x (filter test xs) (kept-at test xs k x (omega arith) is passes)
+unchanged-at : {X : Type 0} (test : X → Bool) (xs : List X) (k : ℕ) (x : X) → k < length xs → slice_index_or xs k x ≡ x → test x ≡ true → Contains (filter test xs) x
+unchanged-at test [] k x low is passes = absurd (omega arith)
+unchanged-at test (z ∷ xs) zero x low is passes =
+    subst (λ w. Contains (cond (test z) (z ∷ filter test xs) (filter test xs)) w) is (unchanged-first (test z) z (filter test xs) (ap test is ∙ passes))
+unchanged-at test (z ∷ xs) (suc k) x low is passes = unchanged-later (test z) z x (filter test xs) (unchanged-at test xs k x (omega arith) is passes)
 
 -- an element that passes is kept
-pub contains-kept : {X : Type 0} (test : X → Bool) (xs : List X) (x : X) → Contains xs x → test x ≡ true → Contains (filter test xs) x
-contains-kept test xs x (k, low, is) passes = kept-at test xs k x low is passes
+pub contains-unchanged : {X : Type 0} (test : X → Bool) (xs : List X) (x : X) → Contains xs x → test x ≡ true → Contains (filter test xs) x
+contains-unchanged test xs x (k, low, is) passes = unchanged-at test xs k x low is passes
 
 -- an element at an index, as the numbered list has it
 pub contains-numbered : {X : Type 0} (n index : ℕ) (xs : List X) (x : X) → slice_get xs index ≡ Some x → Contains (enumerate_from n xs) (n + index, x)
@@ -75,7 +75,7 @@ pub numbered-at : {X : Type 0} (n : ℕ) (xs : List X) → All (λ e. (n ≤ e.0
 numbered-at n [] = grind (arith, common_steps)
 numbered-at n (x ∷ xs) = grind (arith, common_steps, numbered-at (n + 1) xs)
 
--- two elements of a list are one, or one stands before the other
+-- two elements of a list are one, or one is before the other
 pub contains-order : {X : Type 0} (R : X → X → Type 0) (xs : List X) (x y : X) → AllPairs R xs → Contains xs x → Contains xs y → (x ≡ y) ⊎ (R x y ⊎ R y x)
 contains-order R xs x y pairs has has' =
     let a = at_from_Contains xs x has in

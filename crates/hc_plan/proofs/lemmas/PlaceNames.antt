@@ -1,4 +1,4 @@
--- Under which names blocks stand at places: in one line, and before and after an accepted edit.
+-- Under which names blocks are at places: in one line, and before and after an accepted edit.
 use Rattle.std.proofs.Common.{◌≡◌, ℕ, zero, suc, ◌+◌, ◌/◌, ◌%◌, ◌≤◌, Bool, true, false, cond, Contains, List, [], ◌∷◌, ◌++◌, append-nil, map, refl, sym, ap, subst, ◌∙◌, arith, rules}
 use Rattle.std.specs.Prelude.{None, Some, Ok, Option, find, is_some, slice_get}
 use Rattle.std.proofs.lemmas.Bool.{eq-eqb, eqb-true}
@@ -18,11 +18,11 @@ use Rattle.hc_registers.specs.Blocks.{LineBlock, member_blocks, slave_blocks}
 use Rattle.hc_registers.specs.RankLaws.{HasPlaces}
 use Rattle.hc_registers.specs.RankPlaces.{places, stations}
 use Rattle.hc_registers.proofs.lemmas.RanksGapless.{length-member}
-use Rattle.hc_registers.proofs.lemmas.RanksStanding.{members-stand, standing-of}
+use Rattle.hc_registers.proofs.lemmas.RanksStanding.{members-are_placed, standing-of}
 use Rattle.hc_records.proofs.lemmas.Lists.{get-front}
 use Rattle.hc_registers.proofs.lemmas.RanksDeclared.{declared-stations}
 use Rattle.hc_groups.proofs.lemmas.Accepted.{accepted-groups, accepted-state}
-use Rattle.hc_changes.proofs.lemmas.Bare.{bare_slave, edit-keeps}
+use Rattle.hc_changes.proofs.lemmas.Bare.{bare_slave, edit-stays}
 use Rattle.hc_changes.proofs.lemmas.Lists.{found-among}
 use Rattle.hc_changes.proofs.lemmas.OneProject.{AreOfOneProject, edit-one-project, line-declared, one-index}
 use Rattle.hc_plan.proofs.lemmas.Configured.{at-contained, contained-own}
@@ -37,18 +37,18 @@ record NamedBy (state : State) (n : ℕ) (block : LineBlock) : Type 0 where
   index : member.rank ≡ 1 + n / 16
   station : block.station ≡ member.slave.station
   number : block.number ≡ n % 16
-  stands : slice_get (member_blocks (line state) member) (n % 16) ≡ Some block
+  is_placed : slice_get (member_blocks (line state) member) (n % 16) ≡ Some block
 
 named-by : (state : State) (n : ℕ) (block : LineBlock) → slice_get (places state) n ≡ Some (Some block) → NamedBy state n block
 named-by state n block at =
     let here = standing-of state n block at in
     let member = here.member in
     let from = here.from in
-    let number = number-is member.slave.station 0 here.number (slave_blocks (line state) member) block here.stands in
-    let own = contained-own member.slave.station (slave_blocks (line state) member) block (at-contained (member_blocks (line state) member) here.number block here.stands) in
+    let number = number-is member.slave.station 0 here.number (slave_blocks (line state) member) block here.is_placed in
+    let own = contained-own member.slave.station (slave_blocks (line state) member) block (at-contained (member_blocks (line state) member) here.number block here.is_placed) in
     search rules
 
--- the station address stands at the rank, and the number is that of the place
+-- the station address is at the rank, and the number is the place's
 pub record IsNameAt (state : State) (n : ℕ) (block : LineBlock) : Type 0 where
   pub station : slice_get (stations state) (n / 16) ≡ Some block.station
   pub number : block.number ≡ n % 16
@@ -59,7 +59,7 @@ name-at state n block at =
     let declared = line-declared 1 state.groups here.member here.on in
     search (rules, slice_get-map)
 
--- one name stands at one place of a project's line
+-- one name is at one place of a project's line
 pub one-place : (state : State) (i n : ℕ) (a b : LineBlock) → lowest_fault (groups_of state.groups) ≡ None → slice_get (places state) i ≡ Some (Some a) → slice_get (places state) n ≡ Some (Some b)
     → a.station ≡ b.station → a.number ≡ b.number → i ≡ n
 one-place state i n a b project at other station number =
@@ -68,7 +68,7 @@ one-place state i n a b project at other station number =
     let first = line-declared 1 state.groups one.member one.on in
     let second = line-declared 1 state.groups two.member two.on in
     let same = one-index (λ (slave : Slave). slave.station) (declared_slaves state.groups) first.index second.index one.member.slave two.member.slave
-    (project-inside (groups_of state.groups) project).stations first.stands second.stands (sym one.station ∙ station ∙ two.station) in
+    (project-inside (groups_of state.groups) project).stations first.is_placed second.is_placed (sym one.station ∙ station ∙ two.station) in
     omega (arith, same, number)
 
 -- a block of the line is one of a slave that the line has
@@ -80,8 +80,8 @@ find-some test [] x (k, within, is) passes = absurd (omega arith)
 find-some test (y ∷ ys) x (zero, within, is) passes = ap (λ (b : Bool). is_some (cond b (Some y) (find test ys))) (ap test is ∙ passes)
 find-some test (y ∷ ys) x (suc k, within, is) passes = some-by (test y) y (find test ys) (find-some test ys x (k, omega arith, is) passes)
 
-pub stands-on : (state : State) (n : ℕ) (block : LineBlock) → slice_get (places state) n ≡ Some (Some block) → is_some (slave_at state block.station) ≡ true
-stands-on state n block at =
+pub is_placed-on : (state : State) (n : ℕ) (block : LineBlock) → slice_get (places state) n ≡ Some (Some block) → is_some (slave_at state block.station) ≡ true
+is_placed-on state n block at =
     let here = named-by state n block at in
     find-some (is_at block.station) (line state) here.member here.on (eq-eqb here.member.slave.station block.station (sym here.station))
 
@@ -91,11 +91,11 @@ one-project : (old new : State) (edit : Edit) → lowest_fault (groups_of old.gr
 one-project old new edit project accepted =
     subst (λ (g : List Declared). AreOfOneProject (line old) (line_from 1 g)) (sym (accepted-groups old new edit accepted)) (edit-one-project old.groups edit project)
 
--- the declared slaves keep their station addresses, and where no group is declared none comes behind them
+-- the declared slaves keep their station addresses, and where no group is declared none comes after them
 pub same-stations : (old new : State) (edit : Edit) → declares edit ≡ false → edited old edit ≡ Ok new → stations old ≡ stations new
 same-stations old new edit changes accepted =
     bare-stations (declared_slaves old.groups)
-    ∙ ap (map (λ (s : ℕ × List Area). s.0)) (sym (ap (λ (g : List Declared). map bare_slave (declared_slaves g)) (accepted-groups old new edit accepted) ∙ edit-keeps old.groups edit changes))
+    ∙ ap (map (λ (s : ℕ × List Area). s.0)) (sym (ap (λ (g : List Declared). map bare_slave (declared_slaves g)) (accepted-groups old new edit accepted) ∙ edit-stays old.groups edit changes))
     ∙ sym (bare-stations (declared_slaves new.groups))
   where
     bare-stations : (slaves : List Slave) → map (λ slave. slave.station) slaves ≡ map (λ (s : ℕ × List Area). s.0) (map bare_slave slaves)
@@ -142,10 +142,10 @@ came old new edit n block project accepted none at = by (slave_at old block.stat
         let alike = one.alike m here.member found.among here.on rank in
         let index = here.index in
         let stood : Some (slice_get (member_blocks (line old) m) (n % 16)) ≡ Some None =
-        sym (All-contains (HasPlaces old) (line old) m (members-stand old) found.among (n % 16) (omega arith)) ∙ ap (slice_get (places old)) (omega (arith, rank, index)) ∙ none in
-        let low = slice_get_within (member_blocks (line new) here.member) (n % 16) block here.stands in
+        sym (All-contains (HasPlaces old) (line old) m (members-are_placed old) found.among (n % 16) (omega arith)) ∙ ap (slice_get (places old)) (omega (arith, rank, index)) ∙ none in
+        let low = slice_get_within (member_blocks (line new) here.member) (n % 16) block here.is_placed in
         let before = length-member (line old) m in
-        let behind = length-member (line new) here.member in
+        let after_it = length-member (line new) here.member in
         let many = bare-count m.slave here.member.slave alike in
-        let own = there (member_blocks (line old) m) (n % 16) (omega (arith, low, before, behind, many)) in
+        let own = there (member_blocks (line old) m) (n % 16) (omega (arith, low, before, after_it, many)) in
         cc

@@ -9,7 +9,7 @@ use Rattle.hc_records.specs.declared.records.Declared.{Declared}
 use Rattle.hc_records.specs.Area.{width}
 use Rattle.hc_records.specs.Line.{Member, groups_of, line_from}
 use Rattle.hc_records.specs.Packing.{Placed}
-use Rattle.hc_records.specs.Edits.{crowded_task}
+use Rattle.hc_records.specs.Edits.{over_limit_task}
 use Rattle.hc_records.specs.Project.{lowest_fault}
 use Rattle.hc_registers.specs.declared.fmmu.Mapping.{Mapping}
 use Rattle.hc_registers.specs.Blocks.{IsMappable, RegisterBlock, fmmu_block, mapping_at, sync_manager_block}
@@ -40,13 +40,13 @@ area_block_in layout rank number e = if number % 2 == 0 then sync_manager_block 
 abbrev pub slave_blocks_in : List (List Placed) → Member → List RegisterBlock
 slave_blocks_in layout member = flat_map (area_blocks_in layout member.rank) (enumerate_from 0 member.slave.areas)
 
--- a layout is that of the line of a project's groups, in which no task is crowded
+-- a layout of the line of a project's groups, where no task is over its limit
 pub record IsLayoutOf (groups : List Declared) (layout : List (List Placed)) : Type 0 where
   pub project : lowest_fault (groups_of groups) ≡ None
-  pub uncrowded : crowded_task (line_from 1 groups) ≡ None
-  pub stands : layout ≡ layout_of (line_from 1 groups)
+  pub uncrowded : over_limit_task (line_from 1 groups) ≡ None
+  pub is_placed : layout ≡ layout_of (line_from 1 groups)
 
--- an area whose blocks can be written, where its slave has a rank and it an index; a layout tells its width
+-- an area whose blocks can be written, where its slave has a rank and it an index; a layout gives its width
 pub record IsMappedArea (layout : List (List Placed)) (rank index : ℕ) (area : Area) : Type 0 where
   pub manager : area.sm ≤ LAST_SYNC_MANAGER
   pub task : area.task < TASKS

@@ -1,4 +1,4 @@
--- What declaring a group behind those of a plan takes.
+-- What declaring a group after those of a plan takes.
 use Rattle.std.specs.Prelude.{◌≡◌, ℕ, ◌+◌, ◌==◌, ◌≤◌, nat_lt, Bool, false, List, [], ◌∷◌, None, Option, Some, length}
 use Rattle.std.specs.List.{list_any}
 use Rattle.std.specs.Option.{option_map_or}
@@ -16,14 +16,14 @@ use Rattle.hc_records.specs.Line.{State, groups_of, line}
 use Rattle.hc_records.specs.Lists.{lowest}
 use Rattle.hc_records.specs.Project.{lowest_fault, slave_names}
 use Rattle.hc_bitsum.specs.Tree.{HasRoom}
-use Rattle.hc_cuts.specs.Starts.{Kept}
-use Rattle.hc_groups.specs.Room.{IsRoomFor}
+use Rattle.hc_cuts.specs.Starts.{TaskCuts}
+use Rattle.hc_groups.specs.Room.{IsIndexRoomFor}
 use Rattle.hc_cuts.specs.Areas.{areas_by_rank}
-use Rattle.hc_cuts.specs.Kept.{line_kept}
+use Rattle.hc_cuts.specs.TaskCuts.{line_cuts}
 use Rattle.hc_cuts.specs.Room.{with_absent}
 use Rattle.hc_plan.specs.declared.declaring.Declaration.{Declaration}
 use Rattle.hc_plan.specs.declared.report.Report.{Report}
-use Rattle.hc_plan.specs.Reports.{Tells}
+use Rattle.hc_plan.specs.Reports.{ReportsEdit}
 
 -- the variable that an entry names, if it names one, is declared already
 abbrev pub names_taken : List Declared → Entry → Bool
@@ -37,7 +37,7 @@ pdos_take groups pdos = list_any (λ pdo. list_any (names_taken groups) pdo.entr
 abbrev pub areas_take : List Declared → List Area → Bool
 areas_take groups areas = list_any (λ area. pdos_take groups area.offered) areas
 
--- the faults of a declared group by what is taken already; those by the limits stand behind them in `declaring_faults`
+-- the faults of a declared group by what is taken already; those by the limits are after them in `declaring_faults`
 abbrev pub taken_faults : List Declared → Group → List (Bool × EditFault)
 taken_faults groups group =
     (list_any (λ declared. declared.group.alias == group.alias) groups, AliasTaken)
@@ -51,20 +51,20 @@ limit_faults groups slaves group =
     (nat_lt MOST_GROUPS (groups + 1), TooManyGroups) ∷ (nat_lt MOST_SLAVES (slaves + length group.slaves), TooManySlaves) ∷ []
 
 -- trees for so many slaves, of whom tasks have the first ones: their own, which have room, or wider ones
-abbrev pub AreTrees : List Kept → ℕ → Option (List Kept) → Type 0
-AreTrees tasks slaves None = (line : List (List Area)) → tasks ≡ line_kept line → HasRoom (length line) slaves
+abbrev pub AreTrees : List TaskCuts → ℕ → Option (List TaskCuts) → Type 0
+AreTrees tasks slaves None = (line : List (List Area)) → tasks ≡ line_cuts line → HasRoom (length line) slaves
 AreTrees tasks slaves (Some wider) =
-    (line : List (List Area)) (count : ℕ) → tasks ≡ line_kept line → slaves ≡ length line + count → wider ≡ line_kept (with_absent count line)
+    (line : List (List Area)) (count : ℕ) → tasks ≡ line_cuts line → slaves ≡ length line + count → wider ≡ line_cuts (with_absent count line)
 
--- the group may be declared behind those of a project, and there is memory for it in their list, in their index and in the trees of their line's tasks
+-- the group may be declared after those of a project, and there is memory for it in their list, in their index and in the trees of their line's tasks
 pub record CanDeclare (groups : List Declared) (declaration : Declaration) : Type 0 where
   pub project : lowest_fault (groups_of groups) ≡ None
   pub free : lowest (declaring_faults groups declaration.group) ≡ None
   pub slaves : declaration.slaves ≡ length (areas_by_rank groups) + length declaration.group.slaves
   pub list : length groups + 1 ≤ declaration.groups
-  pub index : IsRoomFor groups declaration.group declaration.index
-  pub trees : AreTrees (line_kept (areas_by_rank groups)) declaration.slaves declaration.wider
+  pub index : IsIndexRoomFor groups declaration.group declaration.index
+  pub trees : AreTrees (line_cuts (areas_by_rank groups)) declaration.slaves declaration.wider
 
--- a report of an edit that leaves the line as it was: it tells of any state behind it with the same line
-abbrev pub TellsNothing : State → Edit → Report → Type 0
-TellsNothing old edit report = (new : State) → line new ≡ line old → new.epoch ≡ old.epoch + 1 → Tells old edit new report
+-- a report of an edit that leaves the line as it was: it says of any state after it with the same line
+abbrev pub ShowsNothing : State → Edit → Report → Type 0
+ShowsNothing old edit report = (new : State) → line new ≡ line old → new.epoch ≡ old.epoch + 1 → ReportsEdit old edit new report

@@ -7,10 +7,10 @@ use Rattle.hc_records.specs.Project.{lowest_fault}
 use Rattle.hc_registers.specs.declared.ranked.Gone.{Gone}
 use Rattle.hc_registers.specs.Ranked.{RankedBlock}
 use Rattle.hc_cuts.specs.Areas.{areas_by_rank}
-use Rattle.hc_cuts.specs.Turn.{AreStartsOf}
+use Rattle.hc_cuts.specs.ApplyWidths.{AreStartsOf}
 use Rattle.hc_groups.specs.Changes.{change_by, changed_groups}
 use Rattle.hc_groups.specs.Rows.{ChangesRow}
-use Rattle.hc_places.specs.Room.{IsRoomFor}
+use Rattle.hc_places.specs.Room.{IsRowRoomFor}
 use Rattle.hc_places.specs.Table.{table_of}
 use Rattle.hc_plan.specs.declared.report.Report.{Report}
 use Rattle.hc_plan.specs.declared.work.LineWork.{LineWork}
@@ -21,9 +21,9 @@ use Rattle.hc_plan.specs.inner.Declaring.{CanDeclare}
 use Rattle.hc_plan.specs.Prepared.{IsPrepared, PreparedEdit}
 
 -- the declared groups that an edit leaves, by what was worked out of it
-abbrev pub left_by : Work → List Declared → List Declared
-left_by (NewLine work) groups = changed_groups work.change groups
-left_by (NewGroup declaration) groups = groups ++ absent declaration.group ∷ []
+abbrev pub groups_left_by : Work → List Declared → List Declared
+groups_left_by (NewLine work) groups = changed_groups work.change groups
+groups_left_by (NewGroup declaration) groups = groups ++ absent declaration.group ∷ []
 
 -- the slaves that leave the line with it
 abbrev pub gone_by : Work → Gone
@@ -34,7 +34,7 @@ gone_by (NewGroup declaration) = none_gone
 abbrev pub prepared_of : State → Work → Report → List RankedBlock → PreparedEdit
 prepared_of old work report blocks = record {
   old = old;
-  new = record { groups = left_by work old.groups; epoch = old.epoch + 1 };
+  new = record { groups = groups_left_by work old.groups; epoch = old.epoch + 1 };
   report = report;
   gone = gone_by work;
   blocks = blocks;
@@ -48,15 +48,15 @@ pub record IsLineReady (old : State) (report : Report) (work : LineWork) : Type 
   pub project : lowest_fault (groups_of (changed_groups work.change old.groups)) ≡ None
   pub row : ChangesRow work.change old.groups
   pub starts : AreStartsOf (areas_by_rank (changed_groups work.change old.groups)) work.starts
-  pub rows : IsRoomFor report.swap.change (table_of (line old)) work.rows
+  pub rows : IsRowRoomFor report.swap.change (table_of (line old)) work.rows
 
 -- what was worked out can be carried out in the state that it was worked out in
-abbrev pub IsReady : State → Report → Work → Type 0
-IsReady old report (NewLine work) = IsLineReady old report work
-IsReady old report (NewGroup declaration) = CanDeclare old.groups declaration
+abbrev pub IsWorkReady : State → Report → Work → Type 0
+IsWorkReady old report (NewLine work) = IsLineReady old report work
+IsWorkReady old report (NewGroup declaration) = CanDeclare old.groups declaration
 
--- so it is, and a prepared edit tells it
+-- so it is, and a prepared edit gives it
 pub record CanCarry (old : State) (report : Report) (work : Work) : Type 0 where
-  pub ready : IsReady old report work
+  pub ready : IsWorkReady old report work
   pub blocks : List RankedBlock
   pub prepared : IsPrepared (prepared_of old work report blocks)

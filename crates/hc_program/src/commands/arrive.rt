@@ -3,7 +3,7 @@ ghost use Rattle.std.specs.Prelude.{◌≡◌, ◌≤◌, ◌+◌, ◌*◌, ◌+
 ghost use Rattle.std.specs.List.{flat_map};
 ghost use Rattle.std.specs.String.{string_capacity, string_len};
 ghost use Rattle.hc_events.specs.Steps.{Arrives};
-ghost use Rattle.hc_program.specs.Answers.{outcome_text, pair_text, told};
+ghost use Rattle.hc_program.specs.Answers.{outcome_text, pair_text, answer_given};
 ghost use Rattle.hc_program.specs.Standings.{stepped};
 
 use crate::refusals::push_refusal;
@@ -22,14 +22,14 @@ const LONGEST_OUTCOME: usize = 14 + 2 * MOST_DIGITS;
 /// never sends, nothing. `AllocError` where a growth was
 /// refused; nothing has then arrived, and `out` may have a front of the lines. Room for the longest lines
 /// is taken before the bytes are handed in.
-#[tactic(auto, unfolding(crate::specs::Answers::told))]
+#[tactic(auto, unfolding(crate::specs::Answers::answer_given))]
 pub fn reply(
     alloc: Global,
     bytes: &[u8],
     session: &mut Session,
     out: &mut String,
 ) -> Result<(), AllocError>
-    ensures text { OnOk result (string_bytes out.new ≡ string_bytes out.old ++ told session.old.past (Arrives bytes.now)) }
+    ensures text { OnOk result (string_bytes out.new ≡ string_bytes out.old ++ answer_given session.old.history (Arrives bytes.now)) }
     ensures next { OnOk result (session.new ≡ stepped session.old (Arrives bytes.now)) }
     ensures unchanged { OnErr result (session.new ≡ session.old) }
 {
@@ -45,7 +45,7 @@ pub fn reply(
         Answer::Stale => add_text("stale\n", out),
         // the program sends no frame of several register writes, so such an answer has no text
         Answer::Written(_) => {}
-        // what can be read is refused in want of memory alone
+        // what can be read is refused with `Memory` alone
         Answer::Refused(_) => return Err(AllocError),
         _ => unreachable!(),
     }
@@ -63,7 +63,7 @@ fn room_of(lines: usize) -> Result<usize, AllocError>
     }
 }
 
-/// Adds the lines of what an arrival is for the datagrams that it answers, for which there is room.
+/// Adds the lines of what an arrival is for the datagrams that it answers; there is room.
 fn add_outcomes(outcomes: &[Outcome], out: &mut String)
     requires { string_len out.old + LONGEST_OUTCOME * length outcomes.now ≤ string_capacity out.old }
     ensures { string_bytes out.new ≡ string_bytes out.old ++ flat_map outcome_text outcomes.now }
@@ -73,7 +73,7 @@ fn add_outcomes(outcomes: &[Outcome], out: &mut String)
     }
 }
 
-/// Adds the line of what an arrival is for a datagram, for which there is room.
+/// Adds the line of what an arrival is for a datagram; there is room.
 #[tactic(auto, unfolding(crate::specs::Answers::outcome_text))]
 fn add_outcome(outcome: Outcome, out: &mut String)
     requires { string_len out.old + LONGEST_OUTCOME ≤ string_capacity out.old }
@@ -96,7 +96,7 @@ fn add_outcome(outcome: Outcome, out: &mut String)
     }
 }
 
-/// Adds two numbers and the end of the line, for which there is room.
+/// Adds two numbers and the end of the line; there is room.
 fn add_pair(first: u64, second: u64, out: &mut String)
     requires { string_len out.old + 2 + 2 * MOST_DIGITS ≤ string_capacity out.old }
     ensures bytes { string_bytes out.new ≡ string_bytes out.old ++ pair_text first second }

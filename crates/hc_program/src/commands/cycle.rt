@@ -7,9 +7,9 @@ ghost use Rattle.hc_program.specs.Stops.{StopsInCycle};
 
 use super::arrive;
 use crate::frames::LARGEST_FRAME;
-use crate::refusals::tell_refusal;
+use crate::refusals::say_refusal;
 use crate::session::Session;
-use crate::stops::Want;
+use crate::stops::RefusedGrowth;
 use hc_core::keeping::Core;
 use hc_events::sending::Sending;
 use hc_events::together::Together;
@@ -20,10 +20,10 @@ use std::thread::Threads;
 
 /// A frame of the present line in a box, with the values that its datagrams' output variables have now.
 fn boxed(alloc: Global, core: &Core, frame: &Sending) -> Result<FrameBox, AllocError>
-    requires { CanBeFilled core.now.past frame.now }
-    ensures { IfOk result (λ boxed. boxed ≡ sent_text core.now.past frame.now) }
+    requires { CanBeFilled core.now.history frame.now }
+    ensures { IfOk result (λ boxed. boxed ≡ sent_text core.now.history frame.now) }
 {
-    // its datagrams fit a frame, so that its size is at most that of the largest
+    // its datagrams fit a frame, so that it is no larger than the largest
     let _ = frame.datagrams();
     let mut bytes = [0u8; LARGEST_FRAME];
     let bytes = &mut bytes[..frame.size()];
@@ -33,8 +33,8 @@ fn boxed(alloc: Global, core: &Core, frame: &Sending) -> Result<FrameBox, AllocE
 
 /// The same of each of these frames.
 fn all_boxed(alloc: Global, core: &Core, frames: &[Sending]) -> Result<Vec<FrameBox>, AllocError>
-    requires { All (CanBeFilled core.now.past) frames.now }
-    ensures { IfOk result (λ all. all.items ≡ map (sent_text core.now.past) frames.now) }
+    requires { All (CanBeFilled core.now.history) frames.now }
+    ensures { IfOk result (λ all. all.items ≡ map (sent_text core.now.history) frames.now) }
 {
     let mut all = Vec::new(alloc);
     for frame in frames {
@@ -51,7 +51,7 @@ fn take_all_in(
     session: &mut Session,
     out: &mut String,
 ) -> Result<(), AllocError>
-    ensures text { OnOk result (string_bytes out.new ≡ string_bytes out.old ++ arrivals_text session.old.past frames.now) }
+    ensures text { OnOk result (string_bytes out.new ≡ string_bytes out.old ++ arrivals_text session.old.history frames.now) }
     ensures next { OnOk result (session.new ≡ cycle_arrived session.old frames.now) }
     ensures stops { OnErr result ((n : ℕ) × (session.new ≡ cycle_arrived session.old (take n frames.now))) }
 {
@@ -68,7 +68,7 @@ fn take_back(
     session: &mut Session,
     out: &mut String,
 ) -> Result<(), AllocError>
-    ensures text { OnOk result (string_bytes out.new ≡ string_bytes out.old ++ back_text session.old.past frames.now) }
+    ensures text { OnOk result (string_bytes out.new ≡ string_bytes out.old ++ back_text session.old.history frames.now) }
     ensures next { OnOk result (session.new ≡ cycle_arrived session.old frames.now) }
     ensures stops { OnErr result ((n : ℕ) × (session.new ≡ cycle_arrived session.old (take n frames.now))) }
 {
@@ -79,7 +79,7 @@ fn take_back(
 }
 
 /// Sends tasks along the line, takes in what comes back, and adds what that is, `no frame` where the tasks have no
-/// datagram, or why the sending is refused. A `Want` where a growth was refused: what was done stands, and `out` may have a
+/// datagram, or why the sending is refused. A `RefusedGrowth` where a growth was refused: what was done is, and `out` may have a
 /// front of the lines. The frames are there before they are sent.
 #[tactic(auto, unfolding(crate::specs::Cycles::cycle_text, crate::specs::Cycles::cycled, crate::specs::Cycles::cycle_back, crate::specs::Cycles::cycle_frames))]
 pub fn reply<R: Threads + Wait + Sync>(
@@ -88,14 +88,14 @@ pub fn reply<R: Threads + Wait + Sync>(
     tasks: &Together,
     session: &mut Session,
     out: &mut String,
-) -> Result<(), Want>
+) -> Result<(), RefusedGrowth>
     ensures text { OnOk result (string_bytes out.new ≡ string_bytes out.old ++ cycle_text session.old tasks.now) }
     ensures next { OnOk result (session.new ≡ cycled session.old tasks.now) }
-    ensures stops { IfErr result (λ want. StopsInCycle session.old tasks.now want session.new) }
+    ensures stops { IfErr result (λ refused_growth. StopsInCycle session.old tasks.now refused_growth session.new) }
 {
     let sendings = match session.core().propose(alloc, tasks.as_slice()) {
         Ok(sendings) => sendings,
-        Err(fault) => return Ok(tell_refusal(fault, out)?),
+        Err(fault) => return Ok(say_refusal(fault, out)?),
     };
     let frames = all_boxed(alloc, session.core(), &sendings)?;
     session.commit(&sendings);

@@ -2,10 +2,10 @@
 ghost use Rattle.std.specs.Prelude.{◌≡◌, ◌≤◌, ◌+◌, ◌++◌, OnErr, OnOk, string_bytes};
 ghost use Rattle.std.specs.String.{string_capacity, string_len};
 ghost use Rattle.hc_events.specs.Steps.{Edits};
-ghost use Rattle.hc_program.specs.Standings.{edited};
-ghost use Rattle.hc_program.specs.Answers.{report_text, told};
+ghost use Rattle.hc_program.specs.Standings.{session_edited};
+ghost use Rattle.hc_program.specs.Answers.{report_text, answer_given};
 
-use crate::refusals::tell_refusal;
+use crate::refusals::say_refusal;
 use crate::session::Session;
 use hc_events::answer::Answer;
 use hc_records::edit::Edit;
@@ -19,15 +19,15 @@ const LONGEST_REPORT: usize = 21 + 3 * MOST_DIGITS;
 /// leaves it, and machines came or went with their group. `AllocError` where a growth was refused; nothing was then
 /// accepted, and `out` may have a front of the line. Room for the line and for the machines is taken before the
 /// edit is carried out.
-#[tactic(auto, unfolding(crate::specs::Answers::told))]
+#[tactic(auto, unfolding(crate::specs::Answers::answer_given))]
 pub fn reply(
     alloc: Global,
     edit: &Edit,
     session: &mut Session,
     out: &mut String,
 ) -> Result<(), AllocError>
-    ensures text { OnOk result (string_bytes out.new ≡ string_bytes out.old ++ told session.old.past (Edits edit.now)) }
-    ensures next { OnOk result (session.new ≡ edited session.old edit.now) }
+    ensures text { OnOk result (string_bytes out.new ≡ string_bytes out.old ++ answer_given session.old.history (Edits edit.now)) }
+    ensures next { OnOk result (session.new ≡ session_edited session.old edit.now) }
     ensures unchanged { OnErr result (session.new ≡ session.old) }
 {
     out.reserve(LONGEST_REPORT)?;
@@ -42,12 +42,12 @@ pub fn reply(
             add_report(epoch, recut, moved, out);
             Ok(())
         }
-        Answer::Refused(fault) => tell_refusal(fault, out),
+        Answer::Refused(fault) => say_refusal(fault, out),
         _ => unreachable!(),
     }
 }
 
-/// Adds the line of an accepted edit, as `epoch 1 recut 1 moved 4`, for which there is room.
+/// Adds the line of an accepted edit, as `epoch 1 recut 1 moved 4`; there is room.
 #[tactic(auto, unfolding(crate::specs::Answers::report_text))]
 fn add_report(epoch: u32, recut: u32, moved: u32, out: &mut String)
     requires { string_len out.old + LONGEST_REPORT ≤ string_capacity out.old }

@@ -1,6 +1,6 @@
 //! The command `layout`.
 ghost use Rattle.std.specs.Prelude.{◌≡◌, ◌++◌, ◌<◌, OnOk, string_bytes};
-ghost use Rattle.hc_program.specs.Layout.{datagram_text, datagrams_text, layout_text, numbered_text, part_text, table_text, task_text};
+ghost use Rattle.hc_program.specs.Layout.{datagram_text, datagrams_text, layout_text, numbered_text, task_part_text, table_text, task_text};
 
 use hc_places::table::{Datagram, Places};
 use hc_plan::plan::Plan;
@@ -19,6 +19,7 @@ pub fn reply(plan: &Plan, out: &mut String) -> Result<(), AllocError>
     push_table(plan.places(), out)
 }
 
+/// Adds the lines of all eight tasks. `AllocError` if a growth is refused.
 #[tactic(auto, unfolding(crate::specs::Layout::table_text))]
 fn push_table(places: &Places, out: &mut String) -> Result<(), AllocError>
     ensures { OnOk result (string_bytes out.new ≡ string_bytes out.old ++ table_text places.now) }
@@ -41,13 +42,15 @@ fn push_task(places: &Places, task: u8, out: &mut String) -> Result<(), AllocErr
     push_datagrams(places, task, out)
 }
 
+/// Adds the line with the sizes of a task's outputs and inputs, in bytes.
 fn push_part(task: u8, part: (u16, u16), out: &mut String) -> Result<(), AllocError>
-    ensures { OnOk result (string_bytes out.new ≡ string_bytes out.old ++ part_text task part) }
+    ensures { OnOk result (string_bytes out.new ≡ string_bytes out.old ++ task_part_text task part) }
 {
     let (outputs, inputs) = part;
     write!(out, "task {task} parts {outputs} {inputs}\n")
 }
 
+/// Adds the lines of a task's datagrams, in order.
 #[tactic(auto, unfolding(crate::specs::Layout::datagrams_text))]
 fn push_datagrams(places: &Places, task: u8, out: &mut String) -> Result<(), AllocError>
     ensures { OnOk result (string_bytes out.new ≡ string_bytes out.old ++ datagrams_text places.now task) }
@@ -68,6 +71,7 @@ fn push_numbered(places: &Places, task: u8, number: u8, out: &mut String) -> Res
     }
 }
 
+/// Adds the line of a datagram: its number, logical address, length in bytes and expected working counter.
 #[tactic(auto, unfolding(crate::specs::Layout::datagram_text))]
 fn push_datagram(number: u8, datagram: Datagram, out: &mut String) -> Result<(), AllocError>
     ensures { OnOk result (string_bytes out.new ≡ string_bytes out.old ++ datagram_text number datagram) }

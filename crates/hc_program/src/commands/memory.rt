@@ -1,7 +1,7 @@
 //! The commands `poke` and `peek`.
 ghost use Rattle.std.specs.Prelude.{◌≡◌, ◌<◌, ◌+◌, ◌++◌, [], IfOk, OnErr, OnOk, length, slice_index_or, string_bytes};
 ghost use Rattle.hc_machine.specs.declared.limits.TheConstants.{MEMORY_BYTES};
-ghost use Rattle.hc_program.specs.Memories.{machine_at, memory_text, peek_text, poke_text, poked_standing};
+ghost use Rattle.hc_program.specs.Memories.{machine_at, memory_text, peek_text, poke_text, poked_session_state};
 
 use crate::refusals::push_refusal;
 use crate::session::Session;
@@ -16,7 +16,7 @@ use std::alloc::AllocError;
 #[tactic(auto, unfolding(crate::specs::Memories::machine_at))]
 fn machine_at(session: &Session, station: u16) -> Result<usize, CoreFault>
     ensures at { result ≡ machine_at session.now station }
-    ensures stands { IfOk result (λ position. position < length session.now.machines) }
+    ensures is_placed { IfOk result (λ position. position < length session.now.machines) }
 {
     match session.core().plan().position(station) {
         Ok(position) => {
@@ -35,7 +35,7 @@ fn machine_at(session: &Session, station: u16) -> Result<usize, CoreFault>
 /// nothing was then written, and `out` may have a front of the line.
 pub fn reply_poke(poke: &Poke, session: &mut Session, out: &mut String) -> Result<(), AllocError>
     ensures text { OnOk result (string_bytes out.new ≡ string_bytes out.old ++ poke_text session.old poke.now) }
-    ensures next { OnOk result (session.new ≡ poked_standing session.old poke.now) }
+    ensures next { OnOk result (session.new ≡ poked_session_state session.old poke.now) }
     ensures unchanged { OnErr result (session.new ≡ session.old) }
 {
     let (station, at, bytes) = poke.parts();
@@ -77,6 +77,7 @@ pub fn reply_peek(peek: &Peek, session: &Session, out: &mut String) -> Result<()
     }
 }
 
+/// Adds the line of bytes that are read from an address, both in hexadecimal.
 #[tactic(auto, unfolding(crate::specs::Memories::memory_text))]
 fn push_memory(at: u16, bytes: &[u8], out: &mut String) -> Result<(), AllocError>
     ensures { OnOk result (string_bytes out.new ≡ string_bytes out.old ++ memory_text at bytes.now) }

@@ -4,7 +4,7 @@ ghost use Rattle.std.specs.String.{string_capacity, string_len};
 ghost use Rattle.hc_program.specs.Setups.{name_text, named, named_text};
 
 use crate::session::Session;
-use crate::stops::Want;
+use crate::stops::RefusedGrowth;
 use hc_text::room::{MOST_DIGITS, add_number, add_text};
 use std::alloc::Global;
 use std::sync::Wait;
@@ -13,7 +13,7 @@ use std::thread::Threads;
 /// The bytes of the longest line: its word, a number, and the line feed.
 const LONGEST_NAMED: usize = 7 + MOST_DIGITS;
 
-/// Gives each slave its station address along the line and adds how many took it. A `Want` where a growth was
+/// Gives each slave its station address along the line and adds how many took it. A `RefusedGrowth` where a growth was
 /// refused: no slave was written to then. Room for the line is taken before.
 #[tactic(auto, unfolding(crate::specs::Setups::name_text))]
 pub fn reply<R: Threads + Wait + Sync>(
@@ -21,7 +21,7 @@ pub fn reply<R: Threads + Wait + Sync>(
     alloc: Global,
     session: &mut Session,
     out: &mut String,
-) -> Result<(), Want>
+) -> Result<(), RefusedGrowth>
     ensures text { OnOk result (string_bytes out.new ≡ string_bytes out.old ++ name_text session.old) }
     ensures next { OnOk result (session.new ≡ named session.old) }
     ensures unchanged { OnErr result (session.new ≡ session.old) }
@@ -32,7 +32,7 @@ pub fn reply<R: Threads + Wait + Sync>(
     Ok(())
 }
 
-/// Adds the line, for which there is room.
+/// Adds the line; there is room.
 fn add_named(count: usize, out: &mut String)
     requires { string_len out.old + LONGEST_NAMED ≤ string_capacity out.old }
     ensures { string_bytes out.new ≡ string_bytes out.old ++ named_text count }

@@ -2,13 +2,13 @@
 ghost use Rattle.std.specs.Prelude.{◌≡◌, ◌≢◌, ◌⊎◌, ◌++◌, IfErr, OnOk, string_bytes};
 ghost use Rattle.hc_conductor.specs.declared.one_thread.refusals.PostRefusal.TheVariants as why;
 ghost use Rattle.hc_program.specs.declared.stops.Stop.TheVariants as stop;
-ghost use Rattle.hc_program.specs.declared.stops.Want.TheVariants as want;
-ghost use Rattle.hc_program.specs.Posts.{post_refusal_name, post_refusal_number, post_refusal_text, post_text, posted};
+ghost use Rattle.hc_program.specs.declared.stops.RefusedGrowth.TheVariants as refused_growth;
+ghost use Rattle.hc_program.specs.Posts.{post_refusal_name, post_refusal_number, post_refusal_text, post_text, session_posted};
 ghost use Rattle.hc_program.specs.Stops.{Unviewed};
 
 use crate::refusals::push_refusal;
 use crate::session::Session;
-use crate::stops::{Stop, Want};
+use crate::stops::{RefusedGrowth, Stop};
 use hc_conductor::one_thread::refusals::PostRefusal;
 use hc_events::faults::CoreFault;
 use hc_records::limits::TASKS;
@@ -19,7 +19,7 @@ use std::alloc::{AllocError, Global};
 /// The bytes of the line of an accepted post.
 const POSTED: usize = 7;
 
-/// A task posts values, and `posted` is added; or why nothing is posted, or the refusal of a task over 7. A `Stop` where a
+/// A task posts values, and `session_posted` is added; or why nothing is posted, or the refusal of a task over 7. A `Stop` where a
 /// growth was refused or the task's seat was given no view: nothing was then posted, and `out` may have a front of the
 /// line. Room for the line is taken before anything is posted.
 #[tactic(auto, unfolding(crate::specs::Posts::post_text))]
@@ -30,7 +30,7 @@ pub fn reply(
     out: &mut String,
 ) -> Result<(), Stop>
     ensures text { OnOk result (string_bytes out.new ≡ string_bytes out.old ++ post_text session.old posting.now) }
-    ensures next { OnOk result (session.new ≡ posted session.old posting.now) }
+    ensures next { OnOk result (session.new ≡ session_posted session.old posting.now) }
     ensures stops { IfErr result (λ why. Unviewed session.old why session.new) }
 {
     if posting.task >= TASKS {
@@ -42,23 +42,24 @@ pub fn reply(
             add_text("posted\n", out);
             Ok(())
         }
-        Err(refusal) => tell_post_refusal(refusal, out),
+        Err(refusal) => say_post_refusal(refusal, out),
     }
 }
 
-/// Adds why nothing is posted. A `Stop` where that is the want of a view or of memory.
-fn tell_post_refusal(refusal: PostRefusal, out: &mut String) -> Result<(), Stop>
+/// Adds why nothing is posted. A `Stop` where that is a view or memory that is missing.
+fn say_post_refusal(refusal: PostRefusal, out: &mut String) -> Result<(), Stop>
     ensures text { OnOk result (string_bytes out.new ≡ string_bytes out.old ++ post_refusal_text refusal) }
     ensures judged { OnOk result ((refusal ≢ why.NoEntry) × (refusal ≢ why.Memory)) }
-    ensures stops { IfErr result (λ told. (told ≡ stop.Want want.Memory) ⊎ (told ≡ stop.NoEntry)) }
+    ensures stops { IfErr result (λ answer_given. (answer_given ≡ stop.RefusedGrowth refused_growth.Memory) ⊎ (answer_given ≡ stop.NoEntry)) }
 {
     match refusal {
         PostRefusal::NoEntry => Err(Stop::NoEntry),
-        PostRefusal::Memory => Err(Stop::Want(Want::Memory)),
+        PostRefusal::Memory => Err(Stop::RefusedGrowth(RefusedGrowth::Memory)),
         refusal => Ok(push_post_refusal(refusal, out)?),
     }
 }
 
+/// The number that is printed for a refused post.
 fn post_refusal_number(refusal: PostRefusal) -> u8
     ensures { result ≡ post_refusal_number refusal }
 {
@@ -84,6 +85,7 @@ fn push_post_refusal(refusal: PostRefusal, out: &mut String) -> Result<(), Alloc
     out.push_str("\n")
 }
 
+/// Adds the name of a post's refusal.
 fn push_post_refusal_name(refusal: PostRefusal, out: &mut String) -> Result<(), AllocError>
     ensures { OnOk result (string_bytes out.new ≡ string_bytes out.old ++ post_refusal_name refusal) }
 {

@@ -3,14 +3,14 @@ ghost use Rattle.std.specs.Prelude.{◌≡◌, ◌≤◌, ◌+◌, ◌++◌, ◌
 ghost use Rattle.std.specs.String.{string_capacity, string_len};
 ghost use Rattle.hc_events.specs.Steps.{Arrives, answer_to};
 ghost use Rattle.hc_segment.specs.Line.{frame_through};
-ghost use Rattle.hc_program.specs.declared.stops.Want.TheVariants.{Memory};
+ghost use Rattle.hc_program.specs.declared.stops.RefusedGrowth.TheVariants.{Memory};
 ghost use Rattle.hc_program.specs.Programs.{WritesOnce, program_text, programmed, programmed_text, says_done};
 ghost use Rattle.hc_program.specs.Standings.{passed, stepped};
 ghost use Rattle.hc_program.specs.Stops.{StopsInWrite, StopsProgram};
 
 use super::write::WRITE_FRAME;
 use crate::session::Session;
-use crate::stops::Want;
+use crate::stops::RefusedGrowth;
 use hc_events::answer::Answer;
 use hc_events::faults::CoreFault;
 use hc_rings::FrameBox;
@@ -22,14 +22,14 @@ use std::thread::Threads;
 /// The bytes of the longest line: its words, two numbers, and the line feed.
 const LONGEST_PROGRAMMED: usize = 15 + 2 * MOST_DIGITS;
 
-/// Passes a frame along the line, and answers it as it comes back. A `Want` where a growth was refused: no machine has
+/// Passes a frame along the line, and answers it as it comes back. A `RefusedGrowth` where a growth was refused: no machine has
 /// met it then.
 fn pass<R: Threads + Wait + Sync>(
     rt: &R,
     alloc: Global,
     session: &mut Session,
     frame: &[u8],
-) -> Result<FrameBox, Want>
+) -> Result<FrameBox, RefusedGrowth>
     requires { length frame.now ≤ WRITE_FRAME }
     ensures back { IfOk result (λ back. back ≡ frame_through session.old.machines frame.now) }
     ensures next { OnOk result (session.new ≡ passed session.old (frame.now ∷ [])) }
@@ -44,29 +44,29 @@ fn pass<R: Threads + Wait + Sync>(
     }
 }
 
-/// Takes a frame in, and tells whether it says that a block was written. A `Want` where a growth was refused: it has not
+/// Takes a frame in, and says whether it says that a block was written. A `RefusedGrowth` where a growth was refused: it has not
 /// arrived then.
-fn take_in(alloc: Global, frame: &[u8], session: &mut Session) -> Result<bool, Want>
-    ensures done { IfOk result (λ done. done ≡ says_done (answer_to session.old.past (Arrives frame.now))) }
+fn take_in(alloc: Global, frame: &[u8], session: &mut Session) -> Result<bool, RefusedGrowth>
+    ensures done { IfOk result (λ done. done ≡ says_done (answer_to session.old.history (Arrives frame.now))) }
     ensures next { OnOk result (session.new ≡ stepped session.old (Arrives frame.now)) }
-    ensures unchanged { IfErr result (λ want. (want ≡ Memory) × (session.new ≡ session.old)) }
+    ensures unchanged { IfErr result (λ refused_growth. (refused_growth ≡ Memory) × (session.new ≡ session.old)) }
 {
     match session.arrive(alloc, frame) {
         Answer::WriteDone => Ok(true),
-        Answer::Refused(CoreFault::Memory) => Err(Want::Memory),
+        Answer::Refused(CoreFault::Memory) => Err(RefusedGrowth::Memory),
         _ => Ok(false),
     }
 }
 
 /// Sends the next write along the line and takes in what comes back: whether the block was written. Nothing is sent where
-/// no block is owed or no serial is left. A `Want` where a growth was refused.
+/// no block is owed or no serial is left. A `RefusedGrowth` where a growth was refused.
 fn write_once<R: Threads + Wait + Sync>(
     rt: &R,
     alloc: Global,
     session: &mut Session,
-) -> Result<bool, Want>
+) -> Result<bool, RefusedGrowth>
     ensures once { IfOk result (λ done. WritesOnce session.old done session.new) }
-    ensures stops { IfErr result (λ want. StopsInWrite session.old want session.new) }
+    ensures stops { IfErr result (λ refused_growth. StopsInWrite session.old refused_growth session.new) }
 {
     let mut frame = [0u8; WRITE_FRAME];
     match session.next_write(&mut frame) {
@@ -83,9 +83,9 @@ fn write_all<R: Threads + Wait + Sync>(
     rt: &R,
     alloc: Global,
     session: &mut Session,
-) -> Result<u64, Want>
-    ensures programmed { IfOk result (λ count. programmed session.old ≡ record { standing = session.new; written = count }) }
-    ensures stops { IfErr result (λ want. StopsProgram session.old want session.new) }
+) -> Result<u64, RefusedGrowth>
+    ensures programmed { IfOk result (λ count. programmed session.old ≡ record { session_state = session.new; written = count }) }
+    ensures stops { IfErr result (λ refused_growth. StopsProgram session.old refused_growth session.new) }
 {
     let mut count = 0u64;
     while write_once(rt, alloc, session)? {
@@ -95,18 +95,18 @@ fn write_all<R: Threads + Wait + Sync>(
 }
 
 /// Writes owed blocks along the line, the first one again and again, until nothing is owed or a write isn't done, and adds
-/// how many were done and how many are owed then. A `Want` where a growth was refused: what was done stands. Room for the
-/// line is taken before.
+/// how many were done and how many are owed then. A `RefusedGrowth` where a growth was refused: what was done is. Room for the line
+/// is taken before.
 #[tactic(auto, unfolding(crate::specs::Programs::program_text))]
 pub fn reply<R: Threads + Wait + Sync>(
     rt: &R,
     alloc: Global,
     session: &mut Session,
     out: &mut String,
-) -> Result<(), Want>
+) -> Result<(), RefusedGrowth>
     ensures text { OnOk result (string_bytes out.new ≡ string_bytes out.old ++ program_text session.old) }
-    ensures next { OnOk result (session.new ≡ (programmed session.old).standing) }
-    ensures stops { IfErr result (λ want. StopsProgram session.old want session.new) }
+    ensures next { OnOk result (session.new ≡ (programmed session.old).session_state) }
+    ensures stops { IfErr result (λ refused_growth. StopsProgram session.old refused_growth session.new) }
 {
     out.reserve(LONGEST_PROGRAMMED)?;
     let count = write_all(rt, alloc, session)?;
@@ -114,7 +114,7 @@ pub fn reply<R: Threads + Wait + Sync>(
     Ok(())
 }
 
-/// Adds the line, for which there is room.
+/// Adds the line; there is room.
 fn add_programmed(done: u64, owed: u32, out: &mut String)
     requires { string_len out.old + LONGEST_PROGRAMMED ≤ string_capacity out.old }
     ensures { string_bytes out.new ≡ string_bytes out.old ++ programmed_text done owed }

@@ -1,7 +1,7 @@
 //! The command `read`.
 ghost use Rattle.std.specs.Prelude.{◌≡◌, ◌++◌, OnOk, string_bytes};
 ghost use Rattle.hc_events.specs.Steps.{Reads};
-ghost use Rattle.hc_program.specs.Answers.{data_text, image_text, slot_text, slots_text, told};
+ghost use Rattle.hc_program.specs.Answers.{data_text, image_text, slot_text, slots_text, answer_given};
 
 use crate::refusals::push_refusal;
 use hc_core::keeping::Core;
@@ -12,9 +12,9 @@ use std::alloc::{AllocError, Global};
 
 /// Adds what a task reads: the epoch, and of each datagram its data or none; or the refusal of a task over
 /// 7. `AllocError` where a growth was refused; `out` may then have a front of the lines.
-#[tactic(auto, unfolding(crate::specs::Answers::told))]
+#[tactic(auto, unfolding(crate::specs::Answers::answer_given))]
 pub fn reply(alloc: Global, task: u8, core: &Core, out: &mut String) -> Result<(), AllocError>
-    ensures { OnOk result (string_bytes out.new ≡ string_bytes out.old ++ told core.now.past (Reads task)) }
+    ensures { OnOk result (string_bytes out.new ≡ string_bytes out.old ++ answer_given core.now.history (Reads task)) }
 {
     match core.read(alloc, task)? {
         Answer::Image { epoch, slots } => push_image(epoch, slots.as_slice(), out),
@@ -23,6 +23,7 @@ pub fn reply(alloc: Global, task: u8, core: &Core, out: &mut String) -> Result<(
     }
 }
 
+/// Adds the line of the epoch, and the lines of a task's datagrams.
 #[tactic(auto, unfolding(crate::specs::Answers::image_text))]
 fn push_image(epoch: u32, slots: &[Option<Items<u8>>], out: &mut String) -> Result<(), AllocError>
     ensures { OnOk result (string_bytes out.new ≡ string_bytes out.old ++ image_text epoch slots.now) }
@@ -43,6 +44,7 @@ fn push_slots(slots: &[Option<Items<u8>>], out: &mut String) -> Result<(), Alloc
     Ok(())
 }
 
+/// Adds the line of a datagram: its number, and its data or `none`.
 #[tactic(auto, unfolding(crate::specs::Answers::slot_text))]
 fn push_slot(number: usize, slot: &Option<Items<u8>>, out: &mut String) -> Result<(), AllocError>
     ensures { OnOk result (string_bytes out.new ≡ string_bytes out.old ++ slot_text number slot.now) }

@@ -29,6 +29,7 @@ pub fn reply(plan: &Plan, station: u16, out: &mut String) -> Result<(), AllocErr
     }
 }
 
+/// Adds the lines of all register blocks of a slave, in order.
 #[tactic(auto, unfolding(crate::specs::Regs::blocks_text))]
 fn push_blocks(plan: &Plan, station: u16, out: &mut String) -> Result<(), AllocError>
     ensures { OnOk result (string_bytes out.new ≡ string_bytes out.old ++ blocks_text (line plan.now) station) }
@@ -49,6 +50,7 @@ fn push_numbered(plan: &Plan, station: u16, number: u8, out: &mut String) -> Res
     }
 }
 
+/// Adds the line of a register block: its sync manager or FMMU, its register and its bytes.
 #[tactic(auto, unfolding(crate::specs::Regs::block_text))]
 fn push_block(block: &Block, out: &mut String) -> Result<(), AllocError>
     ensures { OnOk result (string_bytes out.new ≡ string_bytes out.old ++ block_text block.now) }

@@ -4,12 +4,12 @@ ghost use Rattle.hc_program.specs.Setups.{alias_text, aliases_text, scan_text, s
 ghost use Rattle.hc_program.specs.Stops.{StopsScan};
 
 use crate::session::Session;
-use crate::stops::Want;
+use crate::stops::RefusedGrowth;
 use std::alloc::{AllocError, Global};
 use std::sync::Wait;
 use std::thread::Threads;
 
-/// Reads the alias of each slave along the line and adds them, position by position. A `Want` where a growth was
+/// Reads the alias of each slave along the line and adds them, position by position. A `RefusedGrowth` where a growth was
 /// refused: `out` may then have a front of the lines.
 #[tactic(auto, unfolding(crate::specs::Setups::scan_text))]
 pub fn reply<R: Threads + Wait + Sync>(
@@ -17,16 +17,17 @@ pub fn reply<R: Threads + Wait + Sync>(
     alloc: Global,
     session: &mut Session,
     out: &mut String,
-) -> Result<(), Want>
+) -> Result<(), RefusedGrowth>
     ensures text { OnOk result (string_bytes out.new ≡ string_bytes out.old ++ scan_text session.old) }
     ensures next { OnOk result (session.new ≡ scanned session.old) }
-    ensures stops { IfErr result (λ want. StopsScan session.old want session.new) }
+    ensures stops { IfErr result (λ refused_growth. StopsScan session.old refused_growth session.new) }
 {
     let aliases = session.scan(rt, alloc)?;
     push_aliases(&aliases, out)?;
     Ok(())
 }
 
+/// Adds a line for each slave of the segment, in order: its position and its alias.
 fn push_aliases(aliases: &[u16], out: &mut String) -> Result<(), AllocError>
     ensures { OnOk result (string_bytes out.new ≡ string_bytes out.old ++ aliases_text 0 aliases.now) }
 {
@@ -38,6 +39,7 @@ fn push_aliases(aliases: &[u16], out: &mut String) -> Result<(), AllocError>
     Ok(())
 }
 
+/// Adds the line of a slave's position and alias.
 #[tactic(auto, unfolding(crate::specs::Setups::alias_text))]
 fn push_alias(position: usize, alias: u16, out: &mut String) -> Result<(), AllocError>
     ensures { OnOk result (string_bytes out.new ≡ string_bytes out.old ++ alias_text position alias) }

@@ -3,35 +3,35 @@ ghost use Rattle.std.specs.Prelude.{◌≡◌, ◌++◌, All, OnErr, OnOk, strin
 ghost use Rattle.std.specs.List.{flat_map};
 ghost use Rattle.hc_core.specs.Filled.{CanBeFilled};
 ghost use Rattle.hc_events.specs.Steps.{SendsTasks};
-ghost use Rattle.hc_program.specs.Answers.{told};
+ghost use Rattle.hc_program.specs.Answers.{answer_given};
 ghost use Rattle.hc_program.specs.Frames.{proposed_line, proposed_text};
 ghost use Rattle.hc_program.specs.Standings.{stepped};
 
 use crate::frames::push_frame;
-use crate::refusals::tell_refusal;
+use crate::refusals::say_refusal;
 use crate::session::Session;
 use hc_core::keeping::Core;
 use hc_events::sending::Sending;
 use hc_events::together::Together;
 use std::alloc::{AllocError, Global};
 
-/// Sends tasks and adds the frames in which they are sent, `no frame` where they have no datagram, or why
+/// Sends tasks and adds the frames where they are sent, `no frame` where they have no datagram, or why
 /// the sending is refused. `AllocError` where a growth was refused; nothing was then sent, and `out` may
 /// have a front of the lines. The frames are sent when their lines are there.
-#[tactic(auto, unfolding(crate::specs::Answers::told))]
+#[tactic(auto, unfolding(crate::specs::Answers::answer_given))]
 pub fn reply(
     alloc: Global,
     tasks: &Together,
     session: &mut Session,
     out: &mut String,
 ) -> Result<(), AllocError>
-    ensures text { OnOk result (string_bytes out.new ≡ string_bytes out.old ++ told session.old.past (SendsTasks tasks.now)) }
+    ensures text { OnOk result (string_bytes out.new ≡ string_bytes out.old ++ answer_given session.old.history (SendsTasks tasks.now)) }
     ensures next { OnOk result (session.new ≡ stepped session.old (SendsTasks tasks.now)) }
     ensures unchanged { OnErr result (session.new ≡ session.old) }
 {
     let frames = match session.core().propose(alloc, tasks.as_slice()) {
         Ok(frames) => frames,
-        Err(fault) => return tell_refusal(fault, out),
+        Err(fault) => return say_refusal(fault, out),
     };
     push_frames(session.core(), &frames, out)?;
     session.commit(&frames);
@@ -40,8 +40,8 @@ pub fn reply(
 
 /// Adds the lines of frames of the present line, or that there is none.
 fn push_frames(core: &Core, frames: &[Sending], out: &mut String) -> Result<(), AllocError>
-    requires { All (CanBeFilled core.now.past) frames.now }
-    ensures { OnOk result (string_bytes out.new ≡ string_bytes out.old ++ proposed_text core.now.past frames.now) }
+    requires { All (CanBeFilled core.now.history) frames.now }
+    ensures { OnOk result (string_bytes out.new ≡ string_bytes out.old ++ proposed_text core.now.history frames.now) }
 {
     if frames.is_empty() {
         return out.push_str("no frame\n");
@@ -51,8 +51,8 @@ fn push_frames(core: &Core, frames: &[Sending], out: &mut String) -> Result<(), 
 
 /// Adds the lines of frames of the present line.
 fn push_sent(core: &Core, frames: &[Sending], out: &mut String) -> Result<(), AllocError>
-    requires { All (CanBeFilled core.now.past) frames.now }
-    ensures { OnOk result (string_bytes out.new ≡ string_bytes out.old ++ flat_map (proposed_line core.now.past) frames.now) }
+    requires { All (CanBeFilled core.now.history) frames.now }
+    ensures { OnOk result (string_bytes out.new ≡ string_bytes out.old ++ flat_map (proposed_line core.now.history) frames.now) }
 {
     for frame in frames {
         push_frame("sent ", core, frame, out)?;

@@ -14,7 +14,7 @@ use std::alloc::AllocError;
 /// the line.
 #[tactic(auto, unfolding(crate::specs::Show::show_text, crate::specs::Show::frame_or_none))]
 pub fn reply(core: &Core, task: u8, number: u8, out: &mut String) -> Result<(), AllocError>
-    ensures { OnOk result (string_bytes out.new ≡ string_bytes out.old ++ show_text core.now.past task number) }
+    ensures { OnOk result (string_bytes out.new ≡ string_bytes out.old ++ show_text core.now.history task number) }
 {
     if task >= TASKS {
         return push_refusal(CoreFault::NoSuchTask, out);

@@ -1,7 +1,7 @@
 //! The command `take`.
 ghost use Rattle.std.specs.Prelude.{◌≡◌, ◌≤◌, ◌+◌, ◌++◌, OnErr, OnOk, string_bytes};
 ghost use Rattle.std.specs.String.{string_capacity, string_len};
-ghost use Rattle.hc_program.specs.Takings.{take_text, taken_text, took};
+ghost use Rattle.hc_program.specs.Takings.{take_text, taken_text, session_taken};
 
 use crate::session::Session;
 use hc_text::room::{MOST_DIGITS, add_number, add_text};
@@ -15,7 +15,7 @@ const LONGEST_TAKEN: usize = 16 + 2 * MOST_DIGITS;
 #[tactic(auto, unfolding(crate::specs::Takings::take_text))]
 pub fn reply(session: &mut Session, out: &mut String) -> Result<(), AllocError>
     ensures text { OnOk result (string_bytes out.new ≡ string_bytes out.old ++ take_text session.old) }
-    ensures next { OnOk result (session.new ≡ took session.old) }
+    ensures next { OnOk result (session.new ≡ session_taken session.old) }
     ensures unchanged { OnErr result (session.new ≡ session.old) }
 {
     out.reserve(LONGEST_TAKEN)?;
@@ -24,7 +24,7 @@ pub fn reply(session: &mut Session, out: &mut String) -> Result<(), AllocError>
     Ok(())
 }
 
-/// Adds the line, for which there is room.
+/// Adds the line; there is room.
 #[tactic(auto, unfolding(crate::specs::Takings::taken_text))]
 fn add_taken(accepted: u32, refused: u32, out: &mut String)
     requires { string_len out.old + LONGEST_TAKEN ≤ string_capacity out.old }

@@ -12,7 +12,7 @@ use hc_publish::view_faults::ViewFault;
 use hc_records::limits::TASKS;
 use std::alloc::AllocError;
 
-/// Adds what a task views of a variable: the epoch and the value, or why it is told none, or the refusal of a task over
+/// Adds what a task views of a variable: the epoch and the value, or why it gets none, or the refusal of a task over
 /// 7. A `Stop` where a growth was refused or the task's seat was given no view; `out` may then have a front of the line.
 #[tactic(auto, unfolding(crate::specs::Views::view_text))]
 pub fn reply(task: u8, variable: u32, session: &mut Session, out: &mut String) -> Result<(), Stop>
@@ -37,6 +37,7 @@ fn push_viewed(viewed: Viewed, variable: u32, out: &mut String) -> Result<(), Al
     }
 }
 
+/// Adds the line of a viewed variable: the epoch, its number and its value.
 #[tactic(auto, unfolding(crate::specs::Views::value_text))]
 fn push_value(epoch: u32, variable: u32, value: u64, out: &mut String) -> Result<(), AllocError>
     ensures { OnOk result (string_bytes out.new ≡ string_bytes out.old ++ value_text epoch variable value) }
@@ -55,6 +56,7 @@ fn push_view_fault(fault: ViewFault, out: &mut String) -> Result<(), AllocError>
     out.push_str("\n")
 }
 
+/// Adds the name of the fault for which a task has no value.
 fn push_view_fault_name(fault: ViewFault, out: &mut String) -> Result<(), AllocError>
     ensures { OnOk result (string_bytes out.new ≡ string_bytes out.old ++ view_fault_name fault) }
 {

@@ -2,7 +2,7 @@
 ghost use Rattle.std.specs.Prelude.{◌≡◌, ◌≤◌, ◌+◌, ◌++◌, length, OnErr, OnOk, string_bytes};
 ghost use Rattle.std.specs.String.{string_capacity, string_len};
 ghost use Rattle.hc_events.specs.Steps.{SendsWrite};
-ghost use Rattle.hc_program.specs.Answers.{told};
+ghost use Rattle.hc_program.specs.Answers.{answer_given};
 ghost use Rattle.hc_program.specs.Frames.{sent_line};
 ghost use Rattle.hc_program.specs.Standings.{stepped};
 
@@ -22,9 +22,9 @@ const LONGEST_SENT: usize = 8 + MOST_DIGITS + 2 * WRITE_FRAME;
 /// Sends the first owed register block and adds its frame, or why the write is refused. `AllocError`
 /// where a growth was refused; nothing was then sent, and `out` may have a front of the line. Room for the
 /// line is taken before the block is sent.
-#[tactic(auto, unfolding(crate::specs::Answers::told))]
+#[tactic(auto, unfolding(crate::specs::Answers::answer_given))]
 pub fn reply(session: &mut Session, out: &mut String) -> Result<(), AllocError>
-    ensures text { OnOk result (string_bytes out.new ≡ string_bytes out.old ++ told session.old.past SendsWrite) }
+    ensures text { OnOk result (string_bytes out.new ≡ string_bytes out.old ++ answer_given session.old.history SendsWrite) }
     ensures next { OnOk result (session.new ≡ stepped session.old SendsWrite) }
     ensures unchanged { OnErr result (session.new ≡ session.old) }
 {
@@ -40,7 +40,7 @@ pub fn reply(session: &mut Session, out: &mut String) -> Result<(), AllocError>
     }
 }
 
-/// Adds the line of a frame that is sent, for which there is room.
+/// Adds the line of a frame that is sent; there is room.
 #[tactic(auto, unfolding(crate::specs::Frames::frame_line))]
 fn add_sent(serial: u64, frame: &[u8], out: &mut String)
     requires frame { length frame.now ≤ WRITE_FRAME }

@@ -2,7 +2,7 @@
 ghost use Rattle.std.specs.Prelude.{◌≡◌, ◌⊎◌, ◌+◌, ◌<◌, ◌≤◌, IfOk, IfSome, OnErr, OnOk, length, option_map, slice_get};
 ghost use Rattle.std.specs.Option.{option_copied, option_map_or};
 ghost use Rattle.hc_events.specs.Points.{line_of, state_of};
-ghost use Rattle.hc_segment.specs.Machines.{poked, replaced, replacement};
+ghost use Rattle.hc_segment.specs.Machines.{poked, machines_replaced, replacement};
 ghost use Rattle.hc_segment.specs.Setup.{aliases_read, named_count};
 ghost use Rattle.hc_machine.specs.declared.limits.TheConstants.{MEMORY_BYTES};
 ghost use Rattle.hc_segment.specs.Line.{frames_through};
@@ -54,7 +54,7 @@ impl Session {
         rt: &R,
         alloc: Global,
     ) -> Result<usize, ChainFault>
-        ensures named { IfOk result (λ count. count ≡ named_count self.old.machines (line_of self.old.past)) }
+        ensures named { IfOk result (λ count. count ≡ named_count self.old.machines (line_of self.old.history)) }
         ensures next { OnOk result (self.new ≡ named self.old) }
         ensures unchanged { OnErr result (self.new ≡ self.old) }
     {
@@ -65,7 +65,7 @@ impl Session {
     /// What an edit would change of the machines; none where it would change nothing. `AllocError` where a growth was
     /// refused.
     pub(crate) fn prepare(&self, alloc: Global, edit: &Edit) -> Result<Option<LineEdit>, AllocError>
-        ensures replacement { IfOk result (λ ready. option_map (λ r. r.replacement) ready ≡ replacement (state_of self.now.past).groups edit.now) }
+        ensures replacement { IfOk result (λ ready. option_map (λ r. r.replacement) ready ≡ replacement (state_of self.now.history).groups edit.now) }
         ensures count { IfOk result (λ ready. IfSome ready (λ r. r.count ≡ length self.now.machines)) }
     {
         self.line
@@ -75,7 +75,7 @@ impl Session {
     /// Machines come and go as it was prepared, if anything was.
     pub(crate) fn carry_out(&mut self, ready: Option<LineEdit>)
         requires { IfSome ready (λ r. r.count ≡ length self.old.machines) }
-        ensures { self.new ≡ with_machines self.old (option_map_or (λ r. replaced r self.old.machines) (option_map (λ r. r.replacement) ready) self.old.machines) }
+        ensures { self.new ≡ with_machines self.old (option_map_or (λ r. machines_replaced r self.old.machines) (option_map (λ r. r.replacement) ready) self.old.machines) }
     {
         if let Some(ready) = ready {
             self.line.carry_out(ready);

@@ -7,7 +7,7 @@ ghost use Rattle.hc_program.specs.Postings.{post_judged, with_posted};
 use super::Session;
 use hc_conductor::one_thread::refusals::PostRefusal;
 use hc_conductor::one_thread::settings::Setting;
-use hc_events::laws::changes_tell_all;
+use hc_events::laws::changes_show_all;
 use std::alloc::Global;
 
 impl Session {
@@ -27,7 +27,7 @@ impl Session {
         ensures unchanged { OnErr result (self.new ≡ self.old) }
     {
         // what is shown is the table of the line that was published last
-        changes_tell_all();
+        changes_show_all();
         self.master.post(alloc, task, settings)
     }
 }

@@ -5,7 +5,7 @@ use Rattle.std.proofs.Crossing.{crosses}
 use Rattle.left_right.proofs.reader.Reader.TheSendSync as reader
 use Rattle.hc_publish.proofs.lemmas.ShownCrossing.{shown_sync}
 use Rattle.hc_events.proofs.lemmas.Crossing.{good_answer_send}
-use Rattle.hc_publish.proofs.book.Front.TheSendSync as front
+use Rattle.hc_publish.proofs.publication_log.LogPrefix.TheSendSync as front
 use Rattle.hc_publish.proofs.publisher.Note.TheSendSync as note
 use Rattle.hc_publish.specs.contracts.copies.Copy as Copy
 use Rattle.hc_publish.specs.contracts.publisher.Note as Note

@@ -2,7 +2,7 @@
 use Rattle.std.proofs.Common.{◌≡◌, List, [], ◌∷◌, refl, sym, ap}
 use Rattle.hc_records.specs.declared.records.Group.{Group}
 use Rattle.hc_records.specs.Line.{groups_of, opened}
-use Rattle.hc_publish.specs.Told.{IsOpening}
+use Rattle.hc_publish.specs.ChangesSince.{IsOpening}
 
 pub opened-groups : (groups : List Group) → groups_of (opened groups).groups ≡ groups
 opened-groups [] = refl

@@ -1,14 +1,14 @@
 //! What the publisher does.
 ghost use Rattle.std.specs.Prelude.{◌≡◌, [], ◌∷◌, ◌++◌, false, IfOk, MatchResult};
 ghost use Rattle.hc_events.specs.Changes.{AreLegal};
-ghost use Rattle.hc_publish.specs.Board.{published, pending, origin_of};
-ghost use Rattle.hc_publish.specs.Published.{IsReady, AreSame};
+ghost use Rattle.hc_publish.specs.PublishedState.{published, pending, origin_of};
+ghost use Rattle.hc_publish.specs.Published.{IsReadyToShow, AreSame, ShowsPending, ShowsNoMore};
 ghost use Rattle.hc_publish.specs.Rule.{AreFew};
-ghost use Rattle.hc_publish.specs.Seats.{carried, note_origin, known, seat_origin};
+ghost use Rattle.hc_publish.specs.Seats.{noted_changes, note_origin, known, seat_origin};
 
 use super::{Copies, Kept, Note, Publisher};
 use crate::absorb::Step;
-use crate::book::Add;
+use crate::publication_log::Add;
 use crate::rule::{Binds, Looks};
 use crate::seat::Seat;
 use crate::shown::Shown;
@@ -20,9 +20,9 @@ use std::sync::Wait;
 
 impl Plain<Copies, Shown, u64> for Add {
     ghost use Rattle.std.specs.Prelude.{None, drop, ◌++◌};
-    ghost use Rattle.hc_publish.specs.Rule.{behind_steps};
+    ghost use Rattle.hc_publish.specs.Rule.{after_steps};
 
-    ghost ask = { λ writer. behind_steps writer.desk.shown.value.shown (drop writer.behind writer.log.items) };
+    ghost ask = { λ writer. after_steps writer.desk.shown.value.shown (drop writer.behind writer.log.items) };
 
     ghost state = { λ writer. None };
 }
@@ -32,7 +32,7 @@ impl Publisher {
     pub fn append(&mut self, change: Change) -> Result<(), Kept>
         requires { AreLegal (origin_of self.old).groups (published self.old ++ pending self.old ++ change ∷ []) }
         ensures published { published self.new ≡ published self.old }
-        ensures pending { MatchResult result (λ _. pending self.new ≡ pending self.old ++ change ∷ []) (λ kept. (kept.0 ≡ change) × (pending self.new ≡ pending self.old)) }
+        ensures pending { MatchResult result (λ _. pending self.new ≡ pending self.old ++ change ∷ []) (λ unchanged. (unchanged.0 ≡ change) × (pending self.new ≡ pending self.old)) }
         ensures origin { origin_of self.new ≡ origin_of self.old }
     {
         match self.writer.append(Step::Changed(change)) {
@@ -45,11 +45,12 @@ impl Publisher {
         }
     }
 
-    // Puts what is about to be shown into the book, and a seal behind the pending changes.
+    /// Adds what is about to be shown to the publication log, and a seal after the pending changes. `AllocError` if a growth is
+    /// refused; what is published and pending stays as it was.
     fn seal(&mut self) -> Result<(), AllocError>
         requires { AreFew false self.old.steps }
         ensures same { AreSame self.old self.new }
-        ensures ready { IfOk result (λ _. IsReady self.new) }
+        ensures ready { IfOk result (λ _. IsReadyToShow self.new) }
     {
         let Some(next) = self.front.with::<Copies, Add>(&self.head, &self.writer) else {
             return Err(AllocError);
@@ -67,12 +68,11 @@ impl Publisher {
         }
     }
 
-    // The exchange of the copies.
+    /// The publisher after it exchanged the copies, so that the pending changes are published. `AllocError` if a growth is
+    /// refused; then they stay pending.
     fn exchanged<R: Wait>(self, rt: &R) -> (Publisher, Result<(), AllocError>)
-        requires { IsReady self }
-        ensures lists { MatchResult result.1
-            (λ _. (published result.0 ≡ published self ++ pending self) × (pending result.0 ≡ []))
-            (λ _. (published result.0 ≡ published self) × (pending result.0 ≡ pending self)) }
+        requires { IsReadyToShow self }
+        ensures lists { MatchResult result.1 (λ _. ShowsPending self result.0) (λ _. ShowsNoMore self result.0) }
         ensures origin { origin_of result.0 ≡ origin_of self }
     {
         let Publisher {
@@ -103,10 +103,10 @@ impl Publisher {
         }
     }
 
-    // All that is pending has its seal from now on.
+    /// Puts a seal after the pending changes, unless they have one. The errors are those of `seal`.
     fn be_sealed(&mut self) -> Result<(), AllocError>
         ensures same { AreSame self.old self.new }
-        ensures ready { IfOk result (λ _. IsReady self.new) }
+        ensures ready { IfOk result (λ _. IsReadyToShow self.new) }
     {
         if self.is_sealed {
             return Ok(());
@@ -117,9 +117,7 @@ impl Publisher {
     /// Shows the views to come all pending changes at once. It waits while a view of the old copy lives.
     /// `AllocError` where a growth was refused: then nothing new is published, and all stays pending.
     pub fn publish<R: Wait>(&mut self, rt: &R) -> Result<(), AllocError>
-        ensures lists { MatchResult result
-            (λ _. (published self.new ≡ published self.old ++ pending self.old) × (pending self.new ≡ []))
-            (λ _. (published self.new ≡ published self.old) × (pending self.new ≡ pending self.old)) }
+        ensures lists { MatchResult result (λ _. ShowsPending self.old self.new) (λ _. ShowsNoMore self.old self.new) }
         ensures origin { origin_of self.new ≡ origin_of self.old }
     {
         if !self.writer.has_pending_operations() {
@@ -130,10 +128,8 @@ impl Publisher {
             self,
             rt,
             |publisher: Publisher, rt: &R| -> (Publisher, Result<(), AllocError>)
-                requires { IsReady publisher }
-                ensures lists { MatchResult result.1
-                    (λ _. (published result.0 ≡ published publisher ++ pending publisher) × (pending result.0 ≡ []))
-                    (λ _. (published result.0 ≡ published publisher) × (pending result.0 ≡ pending publisher)) }
+                requires { IsReadyToShow publisher }
+                ensures lists { MatchResult result.1 (λ _. ShowsPending publisher result.0) (λ _. ShowsNoMore publisher result.0) }
                 ensures origin { origin_of result.0 ≡ origin_of publisher }
             { publisher.exchanged(rt) },
         )
@@ -141,7 +137,7 @@ impl Publisher {
 
     /// A note of what is published, for a seat of this publisher to learn.
     pub fn note(&self) -> Note
-        ensures carried { carried result ≡ published self.now }
+        ensures carried { noted_changes result ≡ published self.now }
         ensures origin { note_origin result ≡ origin_of self.now }
     {
         Note {
@@ -150,8 +146,8 @@ impl Publisher {
     }
 
     /// A good answer that both copies have taken in, for its memory; none where none is left. Up to 128 of those that
-    /// the last publishing took in for the second time are there; who takes them out behind each publishing, and
-    /// fills them with the next answers, has a cycle of answers and one publishing that takes no memory. It waits for
+    /// the last publishing took in for the second time are there; who takes them out after each publishing, and fills
+    /// them with the next answers, has a cycle of answers and one publishing that takes no memory. It waits for
     /// nobody.
     pub fn spare(&self) -> Option<GoodAnswer> {
         let mut used = self.writer.published().used.try_lock()?;

@@ -1,8 +1,8 @@
 //! What a seat does.
 ghost use Rattle.std.specs.Prelude.{◌≡◌, ◌⊎◌, MatchResult, IfOk};
 ghost use mathlib.Core.List.{IsPrefix};
-ghost use Rattle.hc_publish.specs.Told.{IsLegal};
-ghost use Rattle.hc_publish.specs.Seats.{known, seat_origin, carried, note_origin};
+ghost use Rattle.hc_publish.specs.ChangesSince.{IsLegal};
+ghost use Rattle.hc_publish.specs.Seats.{known, seat_origin, noted_changes, note_origin};
 ghost use Rattle.hc_publish.specs.Looks.{shown, view_origin};
 
 use super::Seat;
@@ -15,7 +15,7 @@ impl Seat {
     /// comes back as it was where there was no entry. It waits for nobody and takes no memory.
     pub fn view(self) -> Result<View, Seat>
         ensures begins { MatchResult result (λ view. IsPrefix (known self) (shown view)) (λ seat. known seat ≡ known self) }
-        ensures legal { IfOk result (λ view. IsLegal view.told) }
+        ensures legal { IfOk result (λ view. IsLegal view.changes_since) }
         ensures origin { MatchResult result (λ view. view_origin view ≡ seat_origin self) (λ seat. seat_origin seat ≡ seat_origin self) }
         ensures task { MatchResult result (λ view. view.task ≡ self.task) (λ seat. seat.task ≡ self.task) }
     {
@@ -49,9 +49,9 @@ impl Seat {
     /// no memory.
     pub fn view_of(self, note: &Note) -> Result<View, Seat>
         requires { note_origin note.now ≡ seat_origin self }
-        ensures exact { MatchResult result (λ view. shown view ≡ carried note.now) (λ seat. known seat ≡ known self) }
+        ensures exact { MatchResult result (λ view. shown view ≡ noted_changes note.now) (λ seat. known seat ≡ known self) }
         ensures begins { IfOk result (λ view. IsPrefix (known self) (shown view)) }
-        ensures legal { IfOk result (λ view. IsLegal view.told) }
+        ensures legal { IfOk result (λ view. IsLegal view.changes_since) }
         ensures origin { MatchResult result (λ view. view_origin view ≡ seat_origin self) (λ seat. seat_origin seat ≡ seat_origin self) }
         ensures task { MatchResult result (λ view. view.task ≡ self.task) (λ seat. seat.task ≡ self.task) }
     {
@@ -76,9 +76,9 @@ impl Seat {
     /// begins with the other. It waits for nobody and takes no memory.
     pub fn learn(&mut self, note: Note)
         requires { note_origin note ≡ seat_origin self.old }
-        ensures one { (known self.new ≡ known self.old) ⊎ (known self.new ≡ carried note) }
+        ensures one { (known self.new ≡ known self.old) ⊎ (known self.new ≡ noted_changes note) }
         ensures own { IsPrefix (known self.old) (known self.new) }
-        ensures told { IsPrefix (carried note) (known self.new) }
+        ensures changes_since { IsPrefix (noted_changes note) (known self.new) }
         ensures same { (seat_origin self.new ≡ seat_origin self.old) × (self.new.task ≡ self.old.task) }
     {
         if self.front.is_within(&note.front) {

@@ -3,9 +3,9 @@ ghost use Rattle.std.specs.Prelude.{◌≡◌, IfSome, true};
 ghost use Rattle.std.specs.Option.{option_copied};
 ghost use Rattle.hc_places.specs.Ranges.{IsDatagram};
 ghost use Rattle.hc_places.specs.Table.{datagram_in, part_in, place_in};
-ghost use Rattle.hc_publish.specs.Told.{data_shown, epoch_shown, table_shown};
+ghost use Rattle.hc_publish.specs.ChangesSince.{data_shown, epoch_shown, table_shown};
 ghost use Rattle.hc_publish.specs.Values.{value_shown};
-ghost use Rattle.hc_publish.specs.Seats.{carried, known, note_origin, seat_origin};
+ghost use Rattle.hc_publish.specs.Seats.{noted_changes, known, note_origin, seat_origin};
 ghost use Rattle.hc_publish.specs.Looks.{shown, view_origin};
 
 use super::View;
@@ -18,29 +18,29 @@ use hc_records::records::VarId;
 impl View {
     /// The epoch: the number of swaps among the changes.
     pub fn epoch(&self) -> u32
-        ensures { result ≡ epoch_shown self.now.told }
+        ensures { result ≡ epoch_shown self.now.changes_since }
     {
         self.reading.get().shown.epoch()
     }
 
     /// The bytes of the outputs, which come first, and of the inputs of the task's image.
     pub fn part(&self) -> (u16, u16)
-        ensures { result ≡ part_in (table_shown self.now.told) self.now.task }
+        ensures { result ≡ part_in (table_shown self.now.changes_since) self.now.task }
     {
         self.reading.get().shown.part(self.task)
     }
 
     /// A datagram of the task by its number; none where the task has fewer.
     pub fn datagram(&self, number: u8) -> Option<Datagram>
-        ensures datagram { result ≡ datagram_in (table_shown self.now.told) self.now.task number }
+        ensures datagram { result ≡ datagram_in (table_shown self.now.changes_since) self.now.task number }
         ensures ranges { IfSome result IsDatagram }
     {
         self.reading.get().shown.datagram(self.task, number)
     }
 
-    /// Where a variable stands, of any task; none where it has no place in the line.
+    /// Where a variable is, of any task; none where it has no place in the line.
     pub fn place(&self, variable: VarId) -> Option<Place>
-        ensures { result ≡ place_in (table_shown self.now.told) variable }
+        ensures { result ≡ place_in (table_shown self.now.changes_since) variable }
     {
         self.reading.get().shown.place(variable)
     }
@@ -48,7 +48,7 @@ impl View {
     /// The bytes of a datagram of the task, lent from the published copy: those of its last good answer in the
     /// epoch, or none; none too where the line has no such datagram.
     pub fn inputs(&self, datagram: u8) -> Option<&[u8]>
-        ensures { option_copied result ≡ data_shown self.now.told self.now.task datagram }
+        ensures { option_copied result ≡ data_shown self.now.changes_since self.now.task datagram }
     {
         self.reading.get().shown.data(self.task, datagram)
     }
@@ -57,7 +57,7 @@ impl View {
     /// that holds: `NoSuchVariable` where it has no place in the line, `IsOutput` where it is an output,
     /// `OtherTask` where it lies in another task, `NotAnswered` where its datagram has no good answer in the epoch.
     pub fn value(&self, variable: VarId) -> Result<u64, ViewFault>
-        ensures { result ≡ value_shown self.now.told self.now.task variable }
+        ensures { result ≡ value_shown self.now.changes_since self.now.task variable }
     {
         self.reading.get().shown.value(self.task, variable)
     }
@@ -66,7 +66,7 @@ impl View {
     /// it made the note. Where it says no, nothing is known.
     pub fn is_of(&self, note: &Note) -> bool
         requires { note_origin note.now ≡ view_origin self.now }
-        ensures { result ≡ true → shown self.now ≡ carried note.now }
+        ensures { result ≡ true → shown self.now ≡ noted_changes note.now }
     {
         let front = &self.reading.get().front;
         front.is_within(&note.front) && note.front.is_within(front)

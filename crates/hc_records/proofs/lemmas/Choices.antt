@@ -1,7 +1,7 @@
 -- Two truths by their cases, and what numbers and lists say by comparison.
-use Rattle.std.specs.Prelude.{Contains, nat_lt, ◌&&◌, ◌==◌, ◌||◌, ◌≢◌}
+use Rattle.std.specs.Prelude.{Contains, nat_lt, ◌==◌, ◌||◌, ◌≢◌}
 use Rattle.std.specs.List.{flat_map}
-use Rattle.std.proofs.Common.{◌≡◌, ℕ, suc, ◌+◌, ◌-◌, ◌<◌, ◌≤◌, Bool, true, false, not, List, [], ◌∷◌, refl, rules, arith}
+use Rattle.std.proofs.Common.{◌≡◌, ℕ, suc, ◌<◌, Bool, true, false, List, [], ◌∷◌, refl, rules, arith}
 use Rattle.std.proofs.lemmas.Bool.Decides.{nat_tests}
 use Rattle.std.proofs.lemmas.Grind.{flat_map-append}
 

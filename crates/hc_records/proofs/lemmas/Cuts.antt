@@ -5,42 +5,42 @@ use Rattle.std.proofs.lemmas.Bool.Decides.{nat_tests}
 use Rattle.std.proofs.lemmas.List.Elements.{All-head, All-tail}
 use Rattle.hc_records.specs.declared.keys.Key.{Key}
 use Rattle.hc_records.specs.TaskList.{Keyed}
-use Rattle.hc_records.specs.Packing.{Front, Placed, opening, beginning, fits, placed_at, behind, packed}
+use Rattle.hc_records.specs.Packing.{Front, Placed, opening, beginning, fits, placed_at, front_with, packed}
 use Rattle.hc_records.specs.Image.{datagram_count}
 use Rattle.hc_records.specs.Boundaries.{begins_later, later_keys}
 use Rattle.hc_records.specs.Laws.{IsPackable, front_after, cuts_from}
 use Rattle.hc_records.proofs.lemmas.Packed.{place}
-use Rattle.hc_records.proofs.Apart.{beginning-behind}
+use Rattle.hc_records.proofs.Apart.{beginning-after_it}
 use Rattle.hc_records.proofs.Counts.{count-front_after}
 
 -- the first datagram is being filled, or one that has a bit
 abbrev pub IsBegun : Front → Type 0
 IsBegun front = (front.datagram ≡ 0) ⊎ (0 < front.bit)
 
--- once an area with a width stands in it
-place-IsBegun : (fitting : Bool) (front : Front) (area : Keyed) → 0 < area.1 → IsBegun (behind (place fitting front area))
+-- once an area with a width is in it
+place-IsBegun : (fitting : Bool) (front : Front) (area : Keyed) → 0 < area.1 → IsBegun (front_with (place fitting front area))
 place-IsBegun true front area some = inr (omega arith)
 place-IsBegun false front area some = inr (omega arith)
 
-behind-IsBegun : (front : Front) (area : Keyed) → 0 < area.1 → IsBegun (behind (placed_at front area))
-behind-IsBegun front area some = place-IsBegun (fits front area) front area some
+after_it-IsBegun : (front : Front) (area : Keyed) → 0 < area.1 → IsBegun (front_with (placed_at front area))
+after_it-IsBegun front area some = place-IsBegun (fits front area) front area some
 
 pub front_after-IsBegun : (front : Front) (list : List Keyed) → IsBegun front → All IsPackable list → IsBegun (front_after front list)
 front_after-IsBegun front [] begun all = begun
 front_after-IsBegun front (area ∷ areas) begun all =
-    front_after-IsBegun (behind (placed_at front area)) areas (behind-IsBegun front area (All-head IsPackable area areas all).some) (All-tail IsPackable area areas all)
+    front_after-IsBegun (front_with (placed_at front area)) areas (after_it-IsBegun front area (All-head IsPackable area areas all).some) (All-tail IsPackable area areas all)
 
 later_not : (datagram bit front : ℕ) → (datagram ≡ 0) ⊎ (0 < front) → front ≤ bit → ((bit == 0) && nat_lt 0 datagram) ≡ false
 later_not datagram bit front begun low = grind (arith, nat_tests)
 
 -- an area that fits begins no later datagram, and one that doesn't begins one
 pub fitting-begins : (front : Front) (area : Keyed) → IsBegun front → begins_later (place true front area) ≡ false
-fitting-begins front area begun = later_not front.datagram (beginning front area) front.bit begun (beginning-behind front area)
+fitting-begins front area begun = later_not front.datagram (beginning front area) front.bit begun (beginning-after_it front area)
 
 pub other-begins : (front : Front) (area : Keyed) → begins_later (place false front area) ≡ true
 other-begins front area = grind (arith, nat_tests)
 
--- the keys of the areas at which a later datagram begins
+-- the keys of the areas where a later datagram begins
 abbrev begun_keys : List Placed → List Key
 begun_keys areas = map (λ area. area.key) (filter begins_later areas)
 
@@ -52,9 +52,9 @@ begun_keys-place false front area rest keys begun same = rw (other-begins front 
 begun_keys-packed : (front : Front) (list : List Keyed) → IsBegun front → All IsPackable list → begun_keys (packed front list) ≡ cuts_from front list
 begun_keys-packed front [] begun all = refl
 begun_keys-packed front (area ∷ areas) begun all =
-    let front' = behind (placed_at front area) in
+    let front' = front_with (placed_at front area) in
     begun_keys-place (fits front area) front area (packed front' areas) (cuts_from front' areas) begun
-    (begun_keys-packed front' areas (behind-IsBegun front area (All-head IsPackable area areas all).some) (All-tail IsPackable area areas all))
+    (begun_keys-packed front' areas (after_it-IsBegun front area (All-head IsPackable area areas all).some) (All-tail IsPackable area areas all))
 
 pub later_keys-cuts : (list : List Keyed) → All IsPackable list → later_keys list ≡ cuts_from opening list
 later_keys-cuts list all = begun_keys-packed opening list (inl refl) all
@@ -68,7 +68,7 @@ cut-datagram false front area keys last same = omega arith
 cuts-datagram : (front : Front) (list : List Keyed) → (front_after front list).datagram ≡ front.datagram + length (cuts_from front list)
 cuts-datagram front [] = omega arith
 cuts-datagram front (area ∷ areas) =
-    let front' = behind (placed_at front area) in
+    let front' = front_with (placed_at front area) in
     cut-datagram (fits front area) front area (cuts_from front' areas) (front_after front' areas).datagram (cuts-datagram front' areas)
 
 pub count-cuts : (area : Keyed) (areas : List Keyed) → datagram_count (packed opening (area ∷ areas)) ≡ length (cuts_from opening (area ∷ areas)) + 1

@@ -1,4 +1,5 @@
--- A group that is declared behind those of a project: they are a project's again, condition by condition, their line is the same, and nothing is cut anew.
+-- A group that is declared after the groups of a project: they are a project's again, condition by condition, their line is the same, and nothing is cut
+-- anew.
 use Rattle.std.proofs.Common.{◌≡◌, ℕ, ◌∙◌, Bool, true, false, not, List, [], ◌∷◌, ◌++◌, Option, Some, None, length, refl, sym, ap, length-append, arith}
 use Rattle.std.specs.Prelude.{◌+◌, ◌==◌, ◌||◌, filter, is_some, map, nat_lt, sum_by}
 use Rattle.std.specs.List.{flat_map, list_any}
@@ -17,14 +18,14 @@ use Rattle.hc_records.specs.declared.faults.EditFault.TheVariants.{EpochsSpent}
 use Rattle.hc_records.specs.Boundaries.{is_touched_task, recut, unsettled_spans}
 use Rattle.hc_records.specs.Image.{tasks}
 use Rattle.hc_records.specs.TaskList.{task_list}
-use Rattle.hc_records.specs.Edits.{absent, alone, declaring_faults, has_station, is_declared_variable}
+use Rattle.hc_records.specs.Edits.{absent, smallest_project, declaring_faults, has_station, is_declared_variable}
 use Rattle.hc_records.specs.Line.{Member, groups_of, line_from, members_from, present_slaves}
 use Rattle.hc_records.specs.Lists.{has_repeat, lowest}
 use Rattle.hc_records.specs.Project.{area_names, has_outside, has_overlap, has_repeated_alias, has_repeated_station, has_repeated_variable, has_unknown_pdo, is_bare, is_misplaced, is_wide, lowest_fault, project_faults, repeats_sync_manager, slave_names, slave_outside, slaves_of, some_area, some_slave}
 use Rattle.hc_records.proofs.Settled.{untouched-spans}
 use Rattle.hc_records.proofs.lemmas.Lists.{none-holds}
 
--- numbers behind others, of which none is among these
+-- numbers after others; none is among these
 
 -- one of the later numbers is among the earlier ones
 abbrev meets : List ℕ → List ℕ → Bool
@@ -86,7 +87,7 @@ slaves-joined : (groups : List Group) (group : Group) → slaves_of (groups ++ g
 slaves-joined groups group =
     flat_map-append (λ (g : Group). g.slaves) groups (group ∷ []) ∙ ap (λ (slaves : List Slave). slaves_of groups ++ slaves) (append-nil group.slaves)
 
-some-joined : (test : Slave → Bool) (groups : List Group) (group : Group) → some_slave test groups ≡ false → some_slave test (alone group) ≡ false → some_slave test (groups ++ group ∷ []) ≡ false
+some-joined : (test : Slave → Bool) (groups : List Group) (group : Group) → some_slave test groups ≡ false → some_slave test (smallest_project group) ≡ false → some_slave test (groups ++ group ∷ []) ≡ false
 some-joined test groups group first second =
     list_any-append (λ (g : Group). list_any test g.slaves) groups (group ∷ [])
     ∙ or_from (some_slave test groups) (some_slave test (group ∷ [])) first second
@@ -102,7 +103,7 @@ misplaced-joined (mandatory ∷ groups) group placed comes =
 -- the values of declared groups and of the group are in their ranges
 record AreInside (groups : List Group) (group : Group) : Type 0 where
   before : has_outside groups ≡ false
-  own : has_outside (alone group) ≡ false
+  own : has_outside (smallest_project group) ≡ false
   few_groups : nat_lt MOST_GROUPS (length groups + 1) ≡ false
   few_slaves : nat_lt MOST_SLAVES (length (slaves_of groups) + length group.slaves) ≡ false
 
@@ -110,17 +111,17 @@ outside-joined : (groups : List Group) (group : Group) → AreInside groups grou
 outside-joined groups group inside =
     let all = groups ++ group ∷ [] in
     let many : List Group → Bool = λ gs. nat_lt MOST_GROUPS (length gs) in
-    let crowded : List Group → Bool = λ gs. nat_lt MOST_SLAVES (length (slaves_of gs)) in
-    let three = or_parts (is_misplaced groups || many groups || crowded groups) (some_slave slave_outside groups) inside.before in
-    let two = or_parts (is_misplaced groups || many groups) (crowded groups) three.0 in
+    let over_limit : List Group → Bool = λ gs. nat_lt MOST_SLAVES (length (slaves_of gs)) in
+    let three = or_parts (is_misplaced groups || many groups || over_limit groups) (some_slave slave_outside groups) inside.before in
+    let two = or_parts (is_misplaced groups || many groups) (over_limit groups) three.0 in
     let one = or_parts (is_misplaced groups) (many groups) two.0 in
-    let own_three = or_parts (is_misplaced (alone group) || many (alone group) || crowded (alone group)) (some_slave slave_outside (alone group)) inside.own in
-    let own_two = or_parts (is_misplaced (alone group) || many (alone group)) (crowded (alone group)) own_three.0 in
-    let own_one = or_parts (is_misplaced (alone group)) (many (alone group)) own_two.0 in
+    let own_three = or_parts (is_misplaced (smallest_project group) || many (smallest_project group) || over_limit (smallest_project group)) (some_slave slave_outside (smallest_project group)) inside.own in
+    let own_two = or_parts (is_misplaced (smallest_project group) || many (smallest_project group)) (over_limit (smallest_project group)) own_three.0 in
+    let own_one = or_parts (is_misplaced (smallest_project group)) (many (smallest_project group)) own_two.0 in
     let comes = or_parts (is_bare group) false own_one.0 in
     let size = ap length (slaves-joined groups group) ∙ length-append (slaves_of groups) group.slaves in
-    or_from (is_misplaced all || many all || crowded all) (some_slave slave_outside all)
-    (or_from (is_misplaced all || many all) (crowded all)
+    or_from (is_misplaced all || many all || over_limit all) (some_slave slave_outside all)
+    (or_from (is_misplaced all || many all) (over_limit all)
     (or_from (is_misplaced all) (many all) (misplaced-joined groups group one.0 comes.0) (ap (nat_lt MOST_GROUPS) (length-append groups (group ∷ [])) ∙ inside.few_groups))
     (ap (nat_lt MOST_SLAVES) size ∙ inside.few_slaves))
     (some-joined slave_outside groups group three.1 own_three.1)
@@ -133,7 +134,7 @@ aliases-joined groups group once free =
     ∙ joined-once (aliases (groups_of groups)) (group.alias ∷ []) once refl
     (or_from (list_any (λ x. x == group.alias) (aliases (groups_of groups))) false (sym (alias-met groups group.alias) ∙ free) refl)
 
-stations-joined : (groups : List Declared) (group : Group) → has_repeated_station (groups_of groups) ≡ false → has_repeated_station (alone group) ≡ false →
+stations-joined : (groups : List Declared) (group : Group) → has_repeated_station (groups_of groups) ≡ false → has_repeated_station (smallest_project group) ≡ false →
     list_any (λ slave. list_any (λ declared. has_station slave.station declared.group.slaves) groups) group.slaves ≡ false →
     has_repeated_station (groups_of groups ++ group ∷ []) ≡ false
 stations-joined groups group once own free =
@@ -147,7 +148,7 @@ stations-joined groups group once own free =
     ∙ ap has_repeat (map-append (λ (slave : Slave). slave.station) (slaves_of (groups_of groups)) group.slaves)
     ∙ joined-once all (stations group.slaves) once distinct apart
 
-variables-joined : (groups : List Declared) (group : Group) → has_repeated_variable (groups_of groups) ≡ false → has_repeated_variable (alone group) ≡ false →
+variables-joined : (groups : List Declared) (group : Group) → has_repeated_variable (groups_of groups) ≡ false → has_repeated_variable (smallest_project group) ≡ false →
     list_any (is_declared_variable groups) (slave_names group.slaves) ≡ false → has_repeated_variable (groups_of groups ++ group ∷ []) ≡ false
 variables-joined groups group once own free =
     let all = slave_names (slaves_of (groups_of groups)) in
@@ -175,9 +176,9 @@ declared-keep groups group none free =
     let gs = groups_of groups in
     let all = gs ++ group ∷ [] in
     let judged = none-holds (declaring_faults groups group) free in
-    let sound = bare-fault (lowest_fault (alone group)) (judged 0 (false, EpochsSpent) (omega arith)) in
+    let sound = bare-fault (lowest_fault (smallest_project group)) (judged 0 (false, EpochsSpent) (omega arith)) in
     let holds = none-holds (project_faults gs) none in
-    let own = none-holds (project_faults (alone group)) sound in
+    let own = none-holds (project_faults (smallest_project group)) sound in
     let few : nat_lt MOST_GROUPS (length gs + 1) ≡ false =
     ap (λ (n : ℕ). nat_lt MOST_GROUPS (n + 1)) (length-map groups (λ (declared : Declared). declared.group)) ∙ judged 4 (false, EpochsSpent) (omega arith) in
     ap lowest_fault (map-append (λ (declared : Declared). declared.group) groups (absent group ∷ []))
@@ -197,11 +198,11 @@ declared-keep groups group none free =
     (some-joined (λ slave. list_any has_unknown_pdo slave.areas) gs group (holds 6 (false, OutOfRange) (omega arith)) (own 6 (false, OutOfRange) (omega arith)))
     (some-joined (λ slave. list_any is_wide slave.areas) gs group (holds 7 (false, OutOfRange) (omega arith)) (own 7 (false, OutOfRange) (omega arith)))
 
--- an absent group behind the others adds no slave to the line
+-- an absent group after the others adds no slave to the line
 pub line-absent : (rank : ℕ) (groups : List Declared) (group : Group) → line_from rank (groups ++ absent group ∷ []) ≡ line_from rank groups
 line-absent rank [] group = refl
 line-absent rank (declared ∷ groups) group =
-    ap (λ (behind : List Member). members_from rank (present_slaves declared) ++ behind) (line-absent (rank + length declared.group.slaves) groups group)
+    ap (λ (after_it : List Member). members_from rank (present_slaves declared) ++ after_it) (line-absent (rank + length declared.group.slaves) groups group)
 
 -- so nothing is cut anew
 

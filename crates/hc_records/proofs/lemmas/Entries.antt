@@ -38,7 +38,7 @@ assigned-all P area all =
 
 area-widths : (area : Area) → IsAreaInside area → HasEntryWidths area
 area-widths area inside =
-    assigned-all IsEntryInside area (All-weaker IsPdoInside (λ pdo. All IsEntryInside pdo.entries) (λ pdo kept. kept.entries) area.offered inside.pdos)
+    assigned-all IsEntryInside area (All-weaker IsPdoInside (λ pdo. All IsEntryInside pdo.entries) (λ pdo unchanged. unchanged.entries) area.offered inside.pdos)
 
 -- the assigned entries of every slave of the line of a project
 pub line-widths : (state : State) → lowest_fault (groups_of state.groups) ≡ None → All (λ member. All HasEntryWidths member.slave.areas) (line state)

@@ -46,11 +46,11 @@ pub found-two : {Y : Type 0} (R : ℕ × Y → ℕ × Y → Type 0) (first secon
     find (λ x. x.0 == first) xs ≡ Some a → find (λ x. x.0 == second) xs ≡ Some b → R a b ⊎ R b a
 found-two R first second [] a b other pairs is is' = cc
 found-two R first second (x ∷ xs) a b other pairs is is' =
-    let behind = AllPairs-head R x xs pairs in
+    let after_it = AllPairs-head R x xs pairs in
     two-by R (x.0 == first) (x.0 == second) x a b (find (λ y. y.0 == first) xs) (find (λ y. y.0 == second) xs)
     (λ same same'. other (sym (eqb-true x.0 first same) ∙ eqb-true x.0 second same'))
-    (λ found. found-all (R x) (λ y. y.0 == second) xs b behind found)
-    (λ found. found-all (R x) (λ y. y.0 == first) xs a behind found)
+    (λ found. found-all (R x) (λ y. y.0 == second) xs b after_it found)
+    (λ found. found-all (R x) (λ y. y.0 == first) xs a after_it found)
     (found-two R first second xs a b other (AllPairs-tail R x xs pairs))
     is is'
 

@@ -61,7 +61,7 @@ within-from_before a b before = or_left (is_before a b) (same_key a b) before
 pub within-refl : (a : Key) → is_within a a ≡ true
 within-refl a = or_right (is_before a a) (same_key a a) (same_key-refl a)
 
--- what the tests tell of two keys
+-- what the tests say of two keys
 
 abbrev is_first : ℕ → ℕ → ℕ → ℕ → Bool
 is_first rank area rank' area' = nat_lt rank rank' || ((rank == rank') && nat_lt area area')

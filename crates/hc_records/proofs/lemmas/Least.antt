@@ -8,7 +8,7 @@ use Rattle.hc_records.specs.declared.limits.TheConstants.{MOST_AREA_BITS}
 use Rattle.hc_records.specs.declared.keys.Key.{Key}
 use Rattle.hc_records.specs.Keys.{is_turn}
 use Rattle.hc_records.specs.TaskList.{Keyed}
-use Rattle.hc_records.specs.Packing.{Front, opening, next_byte, beginning, fits, placed_at, behind, packed}
+use Rattle.hc_records.specs.Packing.{Front, opening, next_byte, beginning, fits, placed_at, front_with, packed}
 use Rattle.hc_records.specs.Image.{datagram_count}
 use Rattle.hc_records.specs.Laws.{FitsOneDatagram, front_after, cuts_from}
 use Rattle.hc_records.proofs.lemmas.Packed.{place}
@@ -47,13 +47,13 @@ fits-below low high area below fitting =
     let most = leb-true (beginning high area + area.1) MOST_AREA_BITS fitting in
     le-leb (beginning low area + area.1) MOST_AREA_BITS (omega arith)
 
-both-fit : (low high : Front) (area : Keyed) → beginning low area ≤ beginning high area → IsBelow (behind (place true low area)) (behind (place true high area))
+both-fit : (low high : Front) (area : Keyed) → beginning low area ≤ beginning high area → IsBelow (front_with (place true low area)) (front_with (place true high area))
 both-fit low high area less = record { bit = omega arith; last = inl refl }
 
-neither-fits : (low high : Front) (area : Keyed) → IsBelow (behind (place false low area)) (behind (place false high area))
+neither-fits : (low high : Front) (area : Keyed) → IsBelow (front_with (place false low area)) (front_with (place false high area))
 neither-fits low high area = record { bit = omega arith; last = inl refl }
 
-one-fits : (low high : Front) (area : Keyed) → IsBelow (behind (place false low area)) (behind (place true high area))
+one-fits : (low high : Front) (area : Keyed) → IsBelow (front_with (place false low area)) (front_with (place true high area))
 one-fits low high area = record { bit = omega arith; last = inl refl }
 
 -- a lower front begins no more datagrams, and any front at most one more than another
@@ -61,31 +61,31 @@ record IsFewer (list : List Keyed) : Type 0 where
   pub lower : (low high : Front) → IsBelow low high → cut_count low list ≤ cut_count high list
   pub any : (one other : Front) → cut_count other list ≤ suc (cut_count one list)
 
--- the datagrams that an area and those behind it begin
+-- the datagrams that an area and those after it begin
 abbrev with_area : Bool → Front → Keyed → List Keyed → ℕ
 with_area fitting front area areas =
-    length (if fitting then cuts_from (behind (place fitting front area)) areas else area.0 ∷ cuts_from (behind (place fitting front area)) areas)
+    length (if fitting then cuts_from (front_with (place fitting front area)) areas else area.0 ∷ cuts_from (front_with (place fitting front area)) areas)
 
 lower-area : (low_fits high_fits : Bool) (low high : Front) (area : Keyed) (areas : List Keyed) → IsFewer areas → beginning low area ≤ beginning high area →
     (high_fits ≡ true → low_fits ≡ true) → with_area low_fits low area areas ≤ with_area high_fits high area areas
-lower-area true true low high area areas fewer less fitting = fewer.lower (behind (place true low area)) (behind (place true high area)) (both-fit low high area less)
-lower-area true false low high area areas fewer less fitting = fewer.any (behind (place false high area)) (behind (place true low area))
+lower-area true true low high area areas fewer less fitting = fewer.lower (front_with (place true low area)) (front_with (place true high area)) (both-fit low high area less)
+lower-area true false low high area areas fewer less fitting = fewer.any (front_with (place false high area)) (front_with (place true low area))
 lower-area false true low high area areas fewer less fitting = let none : false ≡ true = fitting refl in cc
 lower-area false false low high area areas fewer less fitting =
-    let rest = fewer.lower (behind (place false low area)) (behind (place false high area)) (neither-fits low high area) in
+    let rest = fewer.lower (front_with (place false low area)) (front_with (place false high area)) (neither-fits low high area) in
     omega arith
 
 any-area : (one_fits other_fits : Bool) (one other : Front) (area : Keyed) (areas : List Keyed) → IsFewer areas →
     with_area other_fits other area areas ≤ suc (with_area one_fits one area areas)
-any-area true true one other area areas fewer = fewer.any (behind (place true one area)) (behind (place true other area))
+any-area true true one other area areas fewer = fewer.any (front_with (place true one area)) (front_with (place true other area))
 any-area false true one other area areas fewer =
-    let rest = fewer.any (behind (place false one area)) (behind (place true other area)) in
+    let rest = fewer.any (front_with (place false one area)) (front_with (place true other area)) in
     omega arith
 any-area true false one other area areas fewer =
-    let rest = fewer.lower (behind (place false other area)) (behind (place true one area)) (one-fits other one area) in
+    let rest = fewer.lower (front_with (place false other area)) (front_with (place true one area)) (one-fits other one area) in
     omega arith
 any-area false false one other area areas fewer =
-    let rest = fewer.any (behind (place false one area)) (behind (place false other area)) in
+    let rest = fewer.any (front_with (place false one area)) (front_with (place false other area)) in
     omega arith
 
 fewer : (list : List Keyed) → IsFewer list
@@ -107,7 +107,7 @@ count_by-append false key first second both more same = omega arith
 cut_count-append : (front : Front) (first second : List Keyed) → cut_count front (first ++ second) ≡ cut_count front first + cut_count (front_after front first) second
 cut_count-append front [] second = omega arith
 cut_count-append front (area ∷ first) second =
-    let front' = behind (placed_at front area) in
+    let front' = front_with (placed_at front area) in
     count_by-append (fits front area) area.0 (cuts_from front' first) (cuts_from (front_after front' first) second) (cuts_from front' (first ++ second))
     (cut_count (front_after front' first) second) (cut_count-append front' first second)
 

@@ -6,7 +6,7 @@ use Rattle.std.proofs.lemmas.List.Elements.{All-head, All-tail, All-filter}
 use Rattle.hc_records.specs.declared.limits.TheConstants.{MOST_AREA_BITS, MOST_DATAGRAM_BYTES}
 use Rattle.hc_records.specs.Keys.{is_turn}
 use Rattle.hc_records.specs.TaskList.{Keyed}
-use Rattle.hc_records.specs.Packing.{Front, Placed, opening, next_byte, beginning, fits, placed_at, behind, packed}
+use Rattle.hc_records.specs.Packing.{Front, Placed, opening, next_byte, beginning, fits, placed_at, front_with, packed}
 use Rattle.hc_records.specs.Image.{inside, end_of, datagram_count, datagram_length}
 use Rattle.hc_records.specs.Laws.{IsPackable, LiesInside, IsDatagramLength, front_after}
 use Rattle.hc_records.proofs.lemmas.Greatest.{greatest, greatest-first, greatest-most}
@@ -14,15 +14,15 @@ use Rattle.hc_records.proofs.lemmas.Packed.{place}
 use Rattle.hc_records.proofs.lemmas.Inside.{packed-inside}
 use Rattle.hc_records.proofs.Counts.{count-front_after}
 
--- the first bit behind an area
-abbrev pub bit_behind : Placed → ℕ
-bit_behind area = area.bit + area.bits
+-- the first bit after an area
+abbrev pub bit_after : Placed → ℕ
+bit_after area = area.bit + area.bits
 
 -- an area with a width in the datagram is a bit of it; else a later area is
 reached-here : (here : Bool) (end datagram : ℕ) (area : Placed) (rest : List Placed) → (area.datagram == datagram) ≡ here → 0 < area.bits →
-    (area.datagram ≢ datagram → 0 < greatest bit_behind end (inside datagram rest)) → 0 < greatest bit_behind end (inside datagram (area ∷ rest))
+    (area.datagram ≢ datagram → 0 < greatest bit_after end (inside datagram rest)) → 0 < greatest bit_after end (inside datagram (area ∷ rest))
 reached-here true end datagram area rest test some later =
-    let least = greatest-first bit_behind (max end (bit_behind area)) (inside datagram rest) in
+    let least = greatest-first bit_after (max end (bit_after area)) (inside datagram rest) in
     rw test (omega arith)
 reached-here false end datagram area rest test some later = rw test (later (eqb-false area.datagram datagram test))
 
@@ -34,17 +34,17 @@ place-bits : (fitting : Bool) (front : Front) (area : Keyed) → (place fitting 
 place-bits true front area = refl
 place-bits false front area = refl
 
--- a datagram behind the one being filled, up to the last one, has a bit
+-- a datagram after the one being filled, up to the last one, has a bit
 reached-some : (front : Front) (list : List Keyed) (datagram end : ℕ) → All IsPackable list → front.datagram < datagram → datagram ≤ (front_after front list).datagram →
-    0 < greatest bit_behind end (inside datagram (packed front list))
+    0 < greatest bit_after end (inside datagram (packed front list))
 reached-some front [] datagram end all low high = absurd (omega arith)
 reached-some front (area ∷ areas) datagram end all low high =
     let placed = placed_at front area in
     let next : placed.datagram ≤ front.datagram + 1 = place-datagram (fits front area) front area in
     let bits : placed.bits ≡ area.1 = place-bits (fits front area) front area in
     let some = (All-head IsPackable area areas all).some in
-    reached-here (placed.datagram == datagram) end datagram placed (packed (behind placed) areas) refl (omega arith)
-    (λ other. reached-some (behind placed) areas datagram end (All-tail IsPackable area areas all) (omega arith) high)
+    reached-here (placed.datagram == datagram) end datagram placed (packed (front_with placed) areas) refl (omega arith)
+    (λ other. reached-some (front_with placed) areas datagram end (All-tail IsPackable area areas all) (omega arith) high)
 
 -- the first area begins at bit 0, where it fits if it is no wider than a datagram
 first_by : (aligned : Bool) → (if aligned then next_byte 0 else 0) ≡ 0
@@ -70,7 +70,7 @@ end_of-some (area ∷ areas) zero all within =
     let placed = placed_at opening area in
     let first : placed.datagram ≡ 0 = opening-datagram area narrow in
     let bits : placed.bits ≡ area.1 = place-bits (fits opening area) opening area in
-    reached-here (placed.datagram == 0) 0 0 placed (packed (behind placed) areas) refl (omega arith) (λ other. absurd (other first))
+    reached-here (placed.datagram == 0) 0 0 placed (packed (front_with placed) areas) refl (omega arith) (λ other. absurd (other first))
 end_of-some (area ∷ areas) (suc datagram) all within =
     let count = count-front_after area areas in
     reached-some opening (area ∷ areas) (suc datagram) 0 all (omega arith) (omega arith)
@@ -88,5 +88,5 @@ length-sendable list datagram all within =
     let lie : All LiesInside (inside datagram areas) = All-filter (λ area. area.datagram == datagram) LiesInside areas (packed-inside opening list all) in
     record {
       some = bytes-some (end_of (inside datagram areas)) (end_of-some list datagram all within);
-      most = bytes-most (end_of (inside datagram areas)) (greatest-most bit_behind 0 MOST_AREA_BITS (inside datagram areas) (omega arith) lie);
+      most = bytes-most (end_of (inside datagram areas)) (greatest-most bit_after 0 MOST_AREA_BITS (inside datagram areas) (omega arith) lie);
     }

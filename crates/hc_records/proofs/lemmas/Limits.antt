@@ -1,4 +1,4 @@
--- A project keeps every limit: what each record of specs/Limits asks follows from the conditions of the faults, none of which holds.
+-- A project keeps every limit: what each record of specs/Limits asks follows where none of the faults' conditions holds.
 use Rattle.std.proofs.Common.{◌≡◌, ℕ, ◌+◌, ◌≤◌, Bool, true, false, List, [], ◌∷◌, length, refl, sym, arith}
 use Rattle.std.specs.Prelude.{All, None, map, nat_lt, not, slice_index_or, ◌&&◌, ◌||◌, ◌==◌, ◌-◌, ◌≢◌}
 use Rattle.std.specs.List.{list_any}
@@ -84,11 +84,11 @@ keep-apart a b none byte first second =
     let some : nat_lt 0 (reach a) ≡ true = lt-ltb 0 (reach a) (omega arith) in
     let other : nat_lt 0 (reach b) ≡ true = lt-ltb 0 (reach b) (omega arith) in
     let before : nat_lt a.phys (b.phys + reach b) ≡ true = lt-ltb a.phys (b.phys + reach b) (omega arith) in
-    let behind : nat_lt b.phys (a.phys + reach a) ≡ true = lt-ltb b.phys (a.phys + reach a) (omega arith) in
+    let after_it : nat_lt b.phys (a.phys + reach a) ≡ true = lt-ltb b.phys (a.phys + reach a) (omega arith) in
     let two = and_from (nat_lt 0 (reach a)) (nat_lt 0 (reach b)) some other in
     let three = and_from (nat_lt 0 (reach a) && nat_lt 0 (reach b)) (nat_lt a.phys (b.phys + reach b)) two before in
     both_ways (overlap a b) none
-    (and_from (nat_lt 0 (reach a) && nat_lt 0 (reach b) && nat_lt a.phys (b.phys + reach b)) (nat_lt b.phys (a.phys + reach a)) three behind)
+    (and_from (nat_lt 0 (reach a) && nat_lt 0 (reach b) && nat_lt a.phys (b.phys + reach b)) (nat_lt b.phys (a.phys + reach a)) three after_it)
 
 -- no condition of a fault holds of a slave
 record IsSound (slave : Slave) : Type 0 where
@@ -144,9 +144,9 @@ project-inside groups none =
     let judged = none-holds (project_faults groups) none in
     let misplaced = is_misplaced groups in
     let many = nat_lt MOST_GROUPS (length groups) in
-    let crowded = nat_lt MOST_SLAVES (length (slaves_of groups)) in
-    let three = or_parts (misplaced || many || crowded) (some_slave slave_outside groups) (judged 0 (false, OutOfRange) (omega arith)) in
-    let two = or_parts (misplaced || many) crowded three.0 in
+    let over_limit = nat_lt MOST_SLAVES (length (slaves_of groups)) in
+    let three = or_parts (misplaced || many || over_limit) (some_slave slave_outside groups) (judged 0 (false, OutOfRange) (omega arith)) in
+    let two = or_parts (misplaced || many) over_limit three.0 in
     let one = or_parts misplaced many two.0 in
     let ranges = all-slaves slave_outside groups three.1 in
     let managers = all-slaves repeats_sync_manager groups (judged 3 (false, OutOfRange) (omega arith)) in

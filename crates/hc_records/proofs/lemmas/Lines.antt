@@ -61,7 +61,7 @@ line-ascends rank (declared ∷ groups) =
     (present-pairs RanksBelow declared.present rank slaves (members-ascend rank slaves)) (line-ascends next groups)
     (present-all (λ first. All (RanksBelow first) (line_from next groups)) declared.present rank slaves
     (All-weaker (RankWithin rank next) (λ first. All (RanksBelow first) (line_from next groups))
-    (λ first before. All-weaker (RankWithin next (next + length (declared_slaves groups))) (RanksBelow first) (λ second behind. omega arith) (line_from next groups) (line-within next groups))
+    (λ first before. All-weaker (RankWithin next (next + length (declared_slaves groups))) (RanksBelow first) (λ second after_it. omega arith) (line_from next groups) (line-within next groups))
     (members_from rank slaves) (members-within rank slaves)))
 
 -- what holds of all declared slaves holds of each group's
@@ -100,12 +100,12 @@ line-pairs R rank [] pairs = AllPairs-nil (λ a b. R a.slave b.slave)
 line-pairs R rank (declared ∷ groups) pairs =
     let slaves = declared.group.slaves in
     let next = rank + length slaves in
-    let behind = line_from next groups in
-    AllPairs-append (λ a b. R a.slave b.slave) (members_from rank (present_slaves declared)) behind
+    let after_it = line_from next groups in
+    AllPairs-append (λ a b. R a.slave b.slave) (members_from rank (present_slaves declared)) after_it
     (present-pairs (λ a b. R a.slave b.slave) declared.present rank slaves (members-pairs R rank slaves (AllPairs-append_left R slaves (declared_slaves groups) pairs)))
     (line-pairs R next groups (AllPairs-append_right R slaves (declared_slaves groups) pairs))
-    (present-all (λ a. All (λ b. R a.slave b.slave) behind) declared.present rank slaves
-    (members-all (λ slave. All (λ b. R slave b.slave) behind) rank slaves
-    (All-weaker (λ slave. All (R slave) (declared_slaves groups)) (λ slave. All (λ b. R slave b.slave) behind)
+    (present-all (λ a. All (λ b. R a.slave b.slave) after_it) declared.present rank slaves
+    (members-all (λ slave. All (λ b. R slave b.slave) after_it) rank slaves
+    (All-weaker (λ slave. All (R slave) (declared_slaves groups)) (λ slave. All (λ b. R slave b.slave) after_it)
     (λ slave all. line-slaves (R slave) next groups (each-group (R slave) groups all)) slaves
     (AllPairs-between R slaves (declared_slaves groups) pairs))))

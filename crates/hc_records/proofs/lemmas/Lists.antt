@@ -128,7 +128,7 @@ AllPairs-from_none related (x ∷ xs) none =
     let parts = or_parts (list_any (related x) xs) (some_pair related xs) none in
     AllPairs-cons (λ x y. related x y ≡ false) x xs (All-from_none (related x) xs parts.0) (AllPairs-from_none related xs parts.1)
 
--- numbers of which none stands twice differ
+-- numbers that occur once each differ
 pub AllPairs-from_once : (xs : List ℕ) → has_repeat xs ≡ false → AllPairs (λ x y. x ≢ y) xs
 AllPairs-from_once xs once =
     AllPairs-weaker (λ x y. (y == x) ≡ false) (λ x y. x ≢ y) (λ x y differ same. eqb-false y x differ (sym same)) xs
@@ -136,15 +136,15 @@ AllPairs-from_once xs once =
 
 -- a filter keeps no more elements than there are
 
-kept-few : {X : Type 0} (passes : Bool) (x : X) (kept xs : List X) → length kept ≤ length xs → length (cond passes (x ∷ kept) kept) ≤ suc (length xs)
-kept-few true x kept xs few = omega arith
-kept-few false x kept xs few = omega arith
+unchanged-few : {X : Type 0} (passes : Bool) (x : X) (unchanged xs : List X) → length unchanged ≤ length xs → length (cond passes (x ∷ unchanged) unchanged) ≤ suc (length xs)
+unchanged-few true x unchanged xs few = omega arith
+unchanged-few false x unchanged xs few = omega arith
 
 pub filter-few : {X : Type 0} (test : X → Bool) (xs : List X) → length (filter test xs) ≤ length xs
 filter-few test [] = omega arith
-filter-few test (x ∷ xs) = kept-few (test x) x (filter test xs) xs (filter-few test xs)
+filter-few test (x ∷ xs) = unchanged-few (test x) x (filter test xs) xs (filter-few test xs)
 
--- what stands at an index of joined lists
+-- what is at an index of joined lists
 
 pub get-front : {X : Type 0} (xs ys : List X) (n : ℕ) → n < length xs → slice_get (xs ++ ys) n ≡ slice_get xs n
 get-front [] ys n inside = absurd (omega arith)
@@ -152,9 +152,9 @@ get-front (x ∷ xs) ys zero inside = refl
 get-front (x ∷ xs) ys (suc n) inside = get-front xs ys n (omega arith)
 
 pub get-back : {X : Type 0} (xs ys : List X) (n : ℕ) → length xs ≤ n → slice_get (xs ++ ys) n ≡ slice_get ys (n - length xs)
-get-back [] ys n past = ap (λ (k : ℕ). slice_get ys k) (omega arith)
-get-back (x ∷ xs) ys zero past = absurd (omega arith)
-get-back (x ∷ xs) ys (suc n) past = get-back xs ys n (omega arith) ∙ ap (slice_get ys) (omega arith)
+get-back [] ys n history = ap (λ (k : ℕ). slice_get ys k) (omega arith)
+get-back (x ∷ xs) ys zero history = absurd (omega arith)
+get-back (x ∷ xs) ys (suc n) history = get-back xs ys n (omega arith) ∙ ap (slice_get ys) (omega arith)
 
 -- where there is no lowest fault, none of the conditions holds
 

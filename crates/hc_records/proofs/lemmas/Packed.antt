@@ -1,8 +1,8 @@
--- The places of a list are those of its areas.
+-- The places of a list are its areas'.
 use Rattle.std.proofs.Common.{◌≡◌, ◌+◌, Bool, true, false, List, [], ◌∷◌, ◌++◌, refl, ap}
 use Rattle.std.specs.Prelude.{map, if◌then◌else◌}
 use Rattle.hc_records.specs.TaskList.{Keyed}
-use Rattle.hc_records.specs.Packing.{Front, Placed, beginning, fits, placed_at, behind, packed}
+use Rattle.hc_records.specs.Packing.{Front, Placed, beginning, fits, placed_at, front_with, packed}
 use Rattle.hc_records.specs.Laws.{front_after}
 
 -- the place of an area that fits, or doesn't
@@ -24,10 +24,10 @@ pub packed-areas : (front : Front) (list : List Keyed) → map area_of (packed f
 packed-areas front [] = refl
 packed-areas front (area ∷ areas) =
     let one : area_of (placed_at front area) ≡ area = place-area_of (fits front area) front area in
-    let rest = packed-areas (behind (placed_at front area)) areas in
+    let rest = packed-areas (front_with (placed_at front area)) areas in
     cc
 
--- a list joined to another is packed behind it
+-- a list joined to another is packed after it
 pub packed-append : (front : Front) (first second : List Keyed) → packed front (first ++ second) ≡ packed front first ++ packed (front_after front first) second
 packed-append front [] second = refl
-packed-append front (area ∷ first) second = ap (λ rest. placed_at front area ∷ rest) (packed-append (behind (placed_at front area)) first second)
+packed-append front (area ∷ first) second = ap (λ rest. placed_at front area ∷ rest) (packed-append (front_with (placed_at front area)) first second)

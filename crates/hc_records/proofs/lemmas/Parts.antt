@@ -1,4 +1,4 @@
--- The outputs of a task's image stand before its inputs.
+-- The outputs of a task's image are before its inputs.
 use Rattle.std.proofs.Common.{◌≡◌, ℕ, ◌+◌, ◌-◌, ◌*◌, ◌/◌, ◌≤◌, inl, inr, zero, suc, Bool, true, false, List, [], ◌∷◌, ◌++◌, Option, Some, None, get_or, refl, sym, ap, subst, ◌∙◌, arith}
 use Rattle.std.specs.Prelude.{All, AllPairs, IsTrue, find, nat_le, ◌==◌, ◌||◌}
 use Rattle.std.proofs.lemmas.Bool.{eq-eqb, or_right}
@@ -9,17 +9,17 @@ use Rattle.hc_records.specs.declared.records.Dir.TheVariants.{Out, In}
 use Rattle.hc_records.specs.declared.keys.Key.{Key}
 use Rattle.hc_records.specs.Keys.{same_dir, is_turn, is_before}
 use Rattle.hc_records.specs.TaskList.{Keyed}
-use Rattle.hc_records.specs.Packing.{Front, Placed, opening, fits, placed_at, behind, packed}
+use Rattle.hc_records.specs.Packing.{Front, Placed, opening, fits, placed_at, front_with, packed}
 use Rattle.hc_records.specs.Image.{inside, end_of, datagram_count, datagram_length, datagram_offset, first_byte, image_length, output_length}
-use Rattle.hc_records.specs.Laws.{StandsBefore, Ascends, image_bit, KeepsToItsPart}
+use Rattle.hc_records.specs.Laws.{LiesBefore, Ascends, area_image_bit, KeepsToItsPart}
 use Rattle.hc_records.proofs.lemmas.Lists.{All-from_filter, All-unmap, AllPairs-head, AllPairs-tail, AllPairs-across, AllPairs-append_right}
 use Rattle.hc_records.proofs.lemmas.Greatest.{greatest-all}
 use Rattle.hc_records.proofs.lemmas.Packed.{place, area_of, packed-areas}
 use Rattle.hc_records.proofs.Apart.{packed-apart}
-use Rattle.hc_records.proofs.lemmas.Lengths.{bit_behind}
+use Rattle.hc_records.proofs.lemmas.Lengths.{bit_after}
 use Rattle.hc_records.proofs.lemmas.Spans.{place-key}
 
--- a later datagram begins behind an earlier one
+-- a later datagram begins after an earlier one
 offset-rises : (areas : List Placed) (more datagram : ℕ) → datagram_offset areas datagram ≤ datagram_offset areas (more + datagram)
 offset-rises areas zero datagram = let same : 0 + datagram ≡ datagram = omega arith in rw same (omega arith)
 offset-rises areas (suc more) datagram =
@@ -42,14 +42,14 @@ ends-in-datagram areas k d within =
     let number = area.datagram in
     let end = end_of (inside number areas) in
     let here : area.bit + area.bits ≤ end =
-    All-from_filter (λ other. bit_behind other ≤ end) (λ other. other.datagram == number) areas (greatest-all bit_behind 0 (inside number areas)) k d within (eq-eqb number number refl) in
+    All-from_filter (λ other. bit_after other ≤ end) (λ other. other.datagram == number) areas (greatest-all bit_after 0 (inside number areas)) k d within (eq-eqb number number refl) in
     omega arith
 
--- an area ends by the bit at which a later one begins
+-- an area ends by the bit where a later one begins
 abbrev EndsBefore : List Placed → Placed → Placed → Type 0
-EndsBefore areas a b = image_bit areas a + a.bits ≤ image_bit areas b
+EndsBefore areas a b = area_image_bit areas a + a.bits ≤ area_image_bit areas b
 
-ends-before : (areas : List Placed) (a b : Placed) → EndsInDatagram areas a → StandsBefore a b → EndsBefore areas a b
+ends-before : (areas : List Placed) (a b : Placed) → EndsInDatagram areas a → LiesBefore a b → EndsBefore areas a b
 ends-before areas a b end (inl less) =
     let next : datagram_offset areas (suc a.datagram) ≤ datagram_offset areas b.datagram = offset-le areas (suc a.datagram) b.datagram (omega arith) in
     omega arith
@@ -67,7 +67,7 @@ IsOutput area = area.key.dir ≡ Out
 abbrev IsInput : Placed → Type 0
 IsInput area = area.key.dir ≡ In
 
--- outputs, and then inputs, the first of which begins a byte
+-- outputs, and then inputs, which begin with a byte
 record IsSplit (areas outputs inputs : List Placed) (first : Placed) : Type 0 where
   pub whole : areas ≡ outputs ++ first ∷ inputs
   pub out : All IsOutput outputs
@@ -112,7 +112,7 @@ split-area In area rest is input output =
 packed-all : (P : Keyed → Type 0) (front : Front) (list : List Keyed) → All P list → All (λ placed. P (area_of placed)) (packed front list)
 packed-all P front list all = All-unmap P area_of (packed front list) (subst (λ areas. All P areas) (sym (packed-areas front list)) all)
 
--- the first input behind outputs begins a byte
+-- the first input after outputs begins a byte
 input-byte : (fitting : Bool) (front : Front) (area : Keyed) → front.last ≡ Out → area.0.dir ≡ In → 8 * ((place fitting front area).bit / 8) ≡ (place fitting front area).bit
 input-byte true front area last input =
     let turn : is_turn front.last area.0.dir ≡ true = ap (λ dir. is_turn dir area.0.dir) last ∙ ap (is_turn Out) input in
@@ -120,34 +120,34 @@ input-byte true front area last input =
     rw aligned (omega arith)
 input-byte false front area last input = refl
 
--- what comes behind an input is an input
-behind-input : (dir : Dir) (a b : Key) → a.dir ≡ In → b.dir ≡ dir → IsTrue (is_before a b) → dir ≡ In
-behind-input Out a b input is before = let none : false ≡ true = sym (rw (input, is) refl) ∙ before in cc
-behind-input In a b input is before = refl
+-- what comes after an input is an input
+after_it-input : (dir : Dir) (a b : Key) → a.dir ≡ In → b.dir ≡ dir → IsTrue (is_before a b) → dir ≡ In
+after_it-input Out a b input is before = let none : false ≡ true = sym (rw (input, is) refl) ∙ before in cc
+after_it-input In a b input is before = refl
 
 split-packed : (front : Front) (list : List Keyed) → front.last ≡ Out → Ascends list → Split (packed front list) (first_input (packed front list))
 split-packed front [] last ascends = All-nil IsOutput
 split-packed front (area ∷ areas) last ascends =
     let placed = placed_at front area in
-    let rest = packed (behind placed) areas in
+    let rest = packed (front_with placed) areas in
     let key : placed.key ≡ area.0 = place-key (fits front area) front area in
     let dir : placed.key.dir ≡ area.0.dir = ap (λ (k : Key). k.dir) key in
     split-area placed.key.dir placed rest refl
     (λ input.
     let is : area.0.dir ≡ In = sym dir ∙ input in (
       input-byte (fits front area) front area last is,
-      packed-all (λ other. other.0.dir ≡ In) (behind placed) areas
-          (All-weaker (λ other. IsTrue (is_before area.0 other.0)) (λ other. other.0.dir ≡ In) (λ other before. behind-input other.0.dir area.0 other.0 is refl before) areas
+      packed-all (λ other. other.0.dir ≡ In) (front_with placed) areas
+          (All-weaker (λ other. IsTrue (is_before area.0 other.0)) (λ other. other.0.dir ≡ In) (λ other before. after_it-input other.0.dir area.0 other.0 is refl before) areas
           (AllPairs-head (λ a b. IsTrue (is_before a.0 b.0)) area areas ascends)),
     ))
-    (λ output. split-packed (behind placed) areas output (AllPairs-tail (λ a b. IsTrue (is_before a.0 b.0)) area areas ascends))
+    (λ output. split-packed (front_with placed) areas output (AllPairs-tail (λ a b. IsTrue (is_before a.0 b.0)) area areas ascends))
 
--- an output that ends by the inputs' first bit, and an input at or behind it
-output-keeps : (areas : List Placed) (area : Placed) → IsOutput area → image_bit areas area + area.bits ≤ 8 * output_length areas → KeepsToItsPart areas area
-output-keeps areas area output end = record { output = λ same. end; input = λ input. (let none : Out ≡ In = sym output ∙ input in cc) }
+-- an output that ends by the inputs' first bit, and an input at or after it
+output-stays : (areas : List Placed) (area : Placed) → IsOutput area → area_image_bit areas area + area.bits ≤ 8 * output_length areas → KeepsToItsPart areas area
+output-stays areas area output end = record { output = λ same. end; input = λ input. (let none : Out ≡ In = sym output ∙ input in cc) }
 
-input-keeps : (areas : List Placed) (area : Placed) → IsInput area → 8 * output_length areas ≤ image_bit areas area → KeepsToItsPart areas area
-input-keeps areas area input start = record { output = λ output. (let none : In ≡ Out = sym input ∙ output in cc); input = λ same. start }
+input-stays : (areas : List Placed) (area : Placed) → IsInput area → 8 * output_length areas ≤ area_image_bit areas area → KeepsToItsPart areas area
+input-stays areas area input start = record { output = λ output. (let none : In ≡ Out = sym input ∙ output in cc); input = λ same. start }
 
 -- the outputs alone end within the image
 outputs-alone : (areas : List Placed) → output_length areas ≡ image_length areas → All IsOutput areas → All (KeepsToItsPart areas) areas
@@ -156,25 +156,25 @@ outputs-alone areas length outputs k d within =
     let end = ends-in-datagram areas k d within in
     let counted : area.datagram + 1 ≤ datagram_count areas = greatest-all (λ (other : Placed). other.datagram + 1) 0 areas k d within in
     let last : datagram_offset areas (suc area.datagram) ≤ image_length areas = offset-le areas (suc area.datagram) (datagram_count areas) (omega arith) in
-    output-keeps areas area (outputs k d within) (omega arith)
+    output-stays areas area (outputs k d within) (omega arith)
 
-split-keeps : (areas outputs inputs : List Placed) (first : Placed) → output_length areas ≡ first_byte areas first → AllPairs (EndsBefore areas) areas → IsSplit areas outputs inputs first →
+split-stays : (areas outputs inputs : List Placed) (first : Placed) → output_length areas ≡ first_byte areas first → AllPairs (EndsBefore areas) areas → IsSplit areas outputs inputs first →
     All (KeepsToItsPart areas) areas
-split-keeps areas outputs inputs first length pairs split =
+split-stays areas outputs inputs first length pairs split =
     let whole : AllPairs (EndsBefore areas) (outputs ++ first ∷ inputs) = subst (λ all. AllPairs (EndsBefore areas) all) split.whole pairs in
     let before = AllPairs-across (EndsBefore areas) outputs first inputs whole in
-    let behind = AllPairs-head (EndsBefore areas) first inputs (AllPairs-append_right (EndsBefore areas) outputs (first ∷ inputs) whole) in
+    let front_with = AllPairs-head (EndsBefore areas) first inputs (AllPairs-append_right (EndsBefore areas) outputs (first ∷ inputs) whole) in
     let byte = split.byte in
     subst (λ all. All (KeepsToItsPart areas) all) (sym split.whole)
     (All-append (KeepsToItsPart areas) outputs (first ∷ inputs)
-    (λ k d within. let end = before k d within in output-keeps areas (get_or outputs k d) (split.out k d within) (omega arith))
-    (All-cons (KeepsToItsPart areas) first inputs (input-keeps areas first split.input (omega arith))
-    (λ k d within. let start = behind k d within in input-keeps areas (get_or inputs k d) (split.more k d within) (omega arith))))
+    (λ k d within. let end = before k d within in output-stays areas (get_or outputs k d) (split.out k d within) (omega arith))
+    (All-cons (KeepsToItsPart areas) first inputs (input-stays areas first split.input (omega arith))
+    (λ k d within. let start = front_with k d within in input-stays areas (get_or inputs k d) (split.more k d within) (omega arith))))
 
 parts-keep : (areas : List Placed) (found : Option Placed) → first_input areas ≡ found → AllPairs (EndsBefore areas) areas → Split areas found → All (KeepsToItsPart areas) areas
 parts-keep areas None is pairs outputs = outputs-alone areas (ap (λ found. option_map_or (first_byte areas) found (image_length areas)) is) outputs
 parts-keep areas (Some first) is pairs (outputs, inputs, split) =
-    split-keeps areas outputs inputs first (ap (λ found. option_map_or (first_byte areas) found (image_length areas)) is) pairs split
+    split-stays areas outputs inputs first (ap (λ found. option_map_or (first_byte areas) found (image_length areas)) is) pairs split
 
 pub outputs-first : (list : List Keyed) → Ascends list → All (KeepsToItsPart (packed opening list)) (packed opening list)
 outputs-first list ascends =

@@ -12,12 +12,12 @@ use Rattle.hc_records.specs.Keys.{same_dir, same_key, is_before, is_within}
 use Rattle.hc_records.specs.TaskList.{Keyed}
 use Rattle.hc_records.specs.Packing.{opening}
 use Rattle.hc_records.specs.Boundaries.{Interval, boundaries, hull, is_settled, is_touched, later_keys, meets_hull, spans, touched, widened, width_in}
-use Rattle.hc_records.specs.SpanLaws.{CarriesTheSame, IsTaskList, areas_from, carried, seen_area, span_areas}
+use Rattle.hc_records.specs.SpanLaws.{CarriesTheSame, IsTaskList, areas_from, places_in_span, seen_area, span_areas}
 use Rattle.hc_records.proofs.lemmas.KeyOrder.{before-other, other-sym, same_dir-refl, same_key-same, within-else, within-refl}
 use Rattle.hc_records.proofs.lemmas.Lists.{All-append_left, All-append_right, All-from_filter, All-unmap}
 use Rattle.hc_records.proofs.lemmas.SpanCuts.{areas-from, span-alone, span-begins}
 use Rattle.hc_records.proofs.lemmas.Spans.{Agree, same-cut, width-here, width-skip}
-use Rattle.hc_records.proofs.Touched.{IsIn, IsInHull, fold-keeps, meets-either, span-meets, spans_from}
+use Rattle.hc_records.proofs.Touched.{IsIn, IsInHull, fold-stays, meets-either, span-meets, spans_from}
 
 -- a hull holds the keys that it is the hull of
 
@@ -37,7 +37,7 @@ hull-all : (begun : Option Interval) (keys : List Key) → All (λ key. IsInHull
 hull-all begun [] = All-nil (λ key. IsInHull key begun)
 hull-all begun (key ∷ keys) =
     let next = widened begun key in
-    All-cons (λ other. IsInHull other (fold widened next keys)) key keys (fold-keeps key next keys (widened-has key begun)) (hull-all next keys)
+    All-cons (λ other. IsInHull other (fold widened next keys)) key keys (fold-stays key next keys (widened-has key begun)) (hull-all next keys)
 
 -- a key of either list, where it is touched, is in the hull of its direction
 abbrev IsHeld : List Keyed → List Keyed → Dir → Key → Type 0
@@ -68,8 +68,8 @@ held-by old new key (inr held) second touched = held touched (same_dir-refl key.
 held-by old new key (inl none) (inr held) touched = held touched (same_dir-refl key.dir)
 held-by old new key (inl none) (inl none') touched =
     let same : (width_in old key == width_in new key) ≡ true = eq-eqb (width_in old key) (width_in new key) (none ∙ sym none') in
-    let kept : (width_in old key == width_in new key) ≡ false = not-true (width_in old key == width_in new key) touched in
-    let never : true ≡ false = sym same ∙ kept in
+    let unchanged : (width_in old key == width_in new key) ≡ false = not-true (width_in old key == width_in new key) touched in
+    let never : true ≡ false = sym same ∙ unchanged in
     cc
 
 touched-held : (old new : List Keyed) (key : Key) → is_touched old new key ≡ true → IsInHull key (hull key.dir (touched old new))
@@ -97,15 +97,15 @@ clear-agrees old new span clear = record {
 }
 
 -- the areas from a key on have the widths of the list
-from-by : (kept same : Bool) (first : Key) (area : Keyed) (areas : List Keyed) (key : Key) → is_within first area.0 ≡ kept → same_key area.0 key ≡ same → is_within first key ≡ true →
-    width_in (areas_from first areas) key ≡ width_in areas key → width_in (if kept then area ∷ areas_from first areas else areas_from first areas) key ≡ width_in (area ∷ areas) key
-from-by true true first area areas key kept same low rest = width-here area (areas_from first areas) key same ∙ sym (width-here area areas key same)
-from-by true false first area areas key kept same low rest = width-skip area (areas_from first areas) key same ∙ rest ∙ sym (width-skip area areas key same)
-from-by false true first area areas key kept same low rest =
+from-by : (unchanged same : Bool) (first : Key) (area : Keyed) (areas : List Keyed) (key : Key) → is_within first area.0 ≡ unchanged → same_key area.0 key ≡ same → is_within first key ≡ true →
+    width_in (areas_from first areas) key ≡ width_in areas key → width_in (if unchanged then area ∷ areas_from first areas else areas_from first areas) key ≡ width_in (area ∷ areas) key
+from-by true true first area areas key unchanged same low rest = width-here area (areas_from first areas) key same ∙ sym (width-here area areas key same)
+from-by true false first area areas key unchanged same low rest = width-skip area (areas_from first areas) key same ∙ rest ∙ sym (width-skip area areas key same)
+from-by false true first area areas key unchanged same low rest =
     let is = ap (is_within first) (same_key-same area.0 key same) in
-    let never : true ≡ false = sym low ∙ sym is ∙ kept in
+    let never : true ≡ false = sym low ∙ sym is ∙ unchanged in
     cc
-from-by false false first area areas key kept same low rest = rest ∙ sym (width-skip area areas key same)
+from-by false false first area areas key unchanged same low rest = rest ∙ sym (width-skip area areas key same)
 
 pub width-from : (first : Key) (list : List Keyed) (key : Key) → is_within first key ≡ true → width_in (areas_from first list) key ≡ width_in list key
 width-from first [] key low = refl
@@ -140,10 +140,10 @@ next-span from [] key (suc k, within, found) = absurd (omega arith)
 next-span from (next ∷ later) key (zero, within, found) = (next, (0, omega arith, ap (λ (k : Key). (k, next)) found))
 next-span from (next ∷ later) key (suc k, within, found) = next-shifted from next key later (next-span next later key (k, omega arith, found))
 
--- a span of one list that begins at a boundary of another, and in which both lists give each key the same width, is a span of the other and carries the same
-span-kept : (list other : List Keyed) (span : Interval) → IsTaskList list → IsTaskList other → Contains (spans (boundaries list)) span → Contains (START ∷ later_keys other) span.0 →
+-- a span of one list that begins at a boundary of another, and where both lists give each key the same width, is a span of the other and carries the same
+span-unchanged : (list other : List Keyed) (span : Interval) → IsTaskList list → IsTaskList other → Contains (spans (boundaries list)) span → Contains (START ∷ later_keys other) span.0 →
     Agree span.0 span.1 list other → CarriesTheSame other list span
-span-kept list other span is is' contains begins agree =
+span-unchanged list other span is is' contains begins agree =
     let alone = span-alone list span is contains in
     let next = next-span START (later_keys other) span.0 begins in
     let last = next.0 in
@@ -157,7 +157,7 @@ span-kept list other span is is' contains begins agree =
       areas =
           alone.areas
           ∙ ap (map seen_area) (sym same.1)
-          ∙ sym (subst (λ (key : Key). span_areas other (span.0, key) ≡ map seen_area (carried opening (areas_from span.0 other))) end alone'.areas);
+          ∙ sym (subst (λ (key : Key). span_areas other (span.0, key) ≡ map seen_area (places_in_span opening (areas_from span.0 other))) end alone'.areas);
     }
 
 pub agree-sym : (first last : Key) (xs ys : List Keyed) → Agree first last xs ys → Agree first last ys xs
@@ -167,6 +167,6 @@ pub settled-stays : (old new : List Keyed) (span : Interval) → IsTaskList old 
 settled-stays old new span is is' contains settled =
     let parts = and_parts (list_any (same_key span.0) (boundaries old)) (not (meets_some old new span)) settled in
     let other = before-other span.0 END (span-begins new span is' contains) in
-    span-kept new old span is' is contains
+    span-unchanged new old span is' is contains
     (boundary-key span.0 (START ∷ later_keys old) (other-sym END span.0 other) parts.0)
     (agree-sym span.0 span.1 old new (clear-agrees old new span (not-true (meets_some old new span) parts.1)))

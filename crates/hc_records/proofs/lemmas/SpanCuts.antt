@@ -8,17 +8,17 @@ use Rattle.hc_records.specs.declared.keys.Key.{Key}
 use Rattle.hc_records.specs.declared.keys.TheConstants.Key.{START, END}
 use Rattle.hc_records.specs.Keys.{is_before, is_within}
 use Rattle.hc_records.specs.TaskList.{Keyed}
-use Rattle.hc_records.specs.Packing.{Front, Placed, opening, fits, placed_at, behind, packed}
+use Rattle.hc_records.specs.Packing.{Front, Placed, opening, fits, placed_at, front_with, packed}
 use Rattle.hc_records.specs.Image.{datagram_count}
 use Rattle.hc_records.specs.Boundaries.{Interval, begins_later, boundaries, spans}
 use Rattle.hc_records.specs.Laws.{IsPackable, cuts_from, front_after, raised}
-use Rattle.hc_records.specs.SpanLaws.{IsCutAlone, IsTaskList, areas_from, carried, lies_in, next_cut, seen_area}
+use Rattle.hc_records.specs.SpanLaws.{IsCutAlone, IsTaskList, areas_from, places_in_span, lies_in, next_cut, seen_area}
 use Rattle.hc_records.proofs.lemmas.Cuts.{later_keys-cuts, other-begins}
 use Rattle.hc_records.proofs.lemmas.KeyOrder.{before-apart, within-from_before, within-refl}
 use Rattle.hc_records.proofs.lemmas.Lengths.{opening-fits}
 use Rattle.hc_records.proofs.lemmas.Lists.{All-append_right, AllPairs-across, AllPairs-append_right, AllPairs-head}
 use Rattle.hc_records.proofs.lemmas.Packed.{place}
-use Rattle.hc_records.proofs.lemmas.Spans.{IsListFrom, carried-areas, cut-raised, drops-behind, filter-drops, filter-keeps, key_lies_in, seen-raised}
+use Rattle.hc_records.proofs.lemmas.Spans.{IsListFrom, carried-areas, cut-raised, drops-after_it, filter-drops, filter-stays, key_lies_in, seen-raised}
 use Rattle.hc_records.proofs.Alone.{before-count, first-raised, packed-alone}
 use Rattle.hc_records.proofs.Touched.{spans_from}
 
@@ -27,26 +27,26 @@ record IsCutAt (front : Front) (list : List Keyed) (span : Interval) (before : L
   pub whole : list ≡ before ++ area ∷ after
   pub other : fits (front_after front before) area ≡ false
   pub first : area.0 ≡ span.0
-  pub next : span.1 ≡ next_cut (behind (placed_at (front_after front before) area)) after
+  pub next : span.1 ≡ next_cut (front_with (placed_at (front_after front before) area)) after
 
 -- a span that begins at the first key, or at such an area
 abbrev IsSpanOf : Front → List Keyed → Key → Interval → Type 0
 IsSpanOf front list begun span =
     ((span.0 ≡ begun) × (span.1 ≡ next_cut front list)) ⊎ ((before : List Keyed) × (area : Keyed) × (after : List Keyed) × IsCutAt front list span before area after)
 
-behind-first : (front : Front) (first : Keyed) (list : List Keyed) (span : Interval) (before : List Keyed) (area : Keyed) (after : List Keyed) →
-    IsCutAt (behind (placed_at front first)) list span before area after → IsCutAt front (first ∷ list) span (first ∷ before) area after
-behind-first front first list span before area after at = record { whole = ap (λ (rest : List Keyed). first ∷ rest) at.whole; other = at.other; first = at.first; next = at.next }
+after_it-first : (front : Front) (first : Keyed) (list : List Keyed) (span : Interval) (before : List Keyed) (area : Keyed) (after : List Keyed) →
+    IsCutAt (front_with (placed_at front first)) list span before area after → IsCutAt front (first ∷ list) span (first ∷ before) area after
+after_it-first front first list span before area after at = record { whole = ap (λ (rest : List Keyed). first ∷ rest) at.whole; other = at.other; first = at.first; next = at.next }
 
-fits-step : (front : Front) (first : Keyed) (list : List Keyed) (begun : Key) (span : Interval) → fits front first ≡ true → IsSpanOf (behind (placed_at front first)) list begun span →
+fits-step : (front : Front) (first : Keyed) (list : List Keyed) (begun : Key) (span : Interval) → fits front first ≡ true → IsSpanOf (front_with (placed_at front first)) list begun span →
     IsSpanOf front (first ∷ list) begun span
-fits-step front first list begun span test (inl (is, cut)) = inl (is, cut ∙ sym (cond-true (fits front first) (next_cut (behind (placed_at front first)) list) first.0 test))
-fits-step front first list begun span test (inr (before, area, after, at)) = inr (first ∷ before, area, after, behind-first front first list span before area after at)
+fits-step front first list begun span test (inl (is, cut)) = inl (is, cut ∙ sym (cond-true (fits front first) (next_cut (front_with (placed_at front first)) list) first.0 test))
+fits-step front first list begun span test (inr (before, area, after, at)) = inr (first ∷ before, area, after, after_it-first front first list span before area after at)
 
-cut-step : (front : Front) (first : Keyed) (list : List Keyed) (begun : Key) (span : Interval) → fits front first ≡ false → IsSpanOf (behind (placed_at front first)) list first.0 span →
+cut-step : (front : Front) (first : Keyed) (list : List Keyed) (begun : Key) (span : Interval) → fits front first ≡ false → IsSpanOf (front_with (placed_at front first)) list first.0 span →
     IsSpanOf front (first ∷ list) begun span
 cut-step front first list begun span test (inl (is, cut)) = inr ([], first, list, record { whole = refl; other = test; first = sym is; next = cut })
-cut-step front first list begun span test (inr (before, area, after, at)) = inr (first ∷ before, area, after, behind-first front first list span before area after at)
+cut-step front first list begun span test (inr (before, area, after, at)) = inr (first ∷ before, area, after, after_it-first front first list span before area after at)
 
 -- the first span, or a later one
 first-or : (begun next : Key) (rest : List Interval) (span : Interval) → Contains ((begun, next) ∷ rest) span → ((span.0 ≡ begun) × (span.1 ≡ next)) ⊎ Contains rest span
@@ -54,13 +54,13 @@ first-or begun next rest span (zero, within, found) = inl (ap (λ (s : Interval)
 first-or begun next rest span (suc k, within, found) = inr (k, omega arith, found)
 
 walk-cut : (front : Front) (first : Keyed) (list : List Keyed) (begun : Key) (span : Interval) (cuts : List Key) → fits front first ≡ false →
-    ((from : Key) → Contains (spans_from from cuts) span → IsSpanOf (behind (placed_at front first)) list from span) →
+    ((from : Key) → Contains (spans_from from cuts) span → IsSpanOf (front_with (placed_at front first)) list from span) →
     ((span.0 ≡ begun) × (span.1 ≡ first.0)) ⊎ Contains (spans_from first.0 cuts) span → IsSpanOf front (first ∷ list) begun span
-walk-cut front first list begun span cuts test later (inl (is, next)) = inl (is, next ∙ sym (cond-false (fits front first) (next_cut (behind (placed_at front first)) list) first.0 test))
+walk-cut front first list begun span cuts test later (inl (is, next)) = inl (is, next ∙ sym (cond-false (fits front first) (next_cut (front_with (placed_at front first)) list) first.0 test))
 walk-cut front first list begun span cuts test later (inr rest) = cut-step front first list begun span test (later first.0 rest)
 
 walk-by : (fitting : Bool) (front : Front) (first : Keyed) (list : List Keyed) (begun : Key) (span : Interval) (cuts : List Key) → fits front first ≡ fitting →
-    ((from : Key) → Contains (spans_from from cuts) span → IsSpanOf (behind (placed_at front first)) list from span) →
+    ((from : Key) → Contains (spans_from from cuts) span → IsSpanOf (front_with (placed_at front first)) list from span) →
     Contains (spans_from begun (if fitting then cuts else first.0 ∷ cuts)) span → IsSpanOf front (first ∷ list) begun span
 walk-by true front first list begun span cuts test later contains = fits-step front first list begun span test (later begun contains)
 walk-by false front first list begun span cuts test later contains =
@@ -73,7 +73,7 @@ last-span front begun span (inr (k, within, found)) = absurd (omega arith)
 span-walk : (front : Front) (list : List Keyed) (begun : Key) (span : Interval) → Contains (spans_from begun (cuts_from front list)) span → IsSpanOf front list begun span
 span-walk front [] begun span contains = last-span front begun span (first-or begun END [] span contains)
 span-walk front (first ∷ list) begun span contains =
-    let front' = behind (placed_at front first) in
+    let front' = front_with (placed_at front first) in
     walk-by (fits front first) front first list begun span (cuts_from front' list) refl (λ from. span-walk front' list from span) contains
 
 list-span : (list : List Keyed) (span : Interval) → All IsPackable list → Contains (spans (boundaries list)) span → IsSpanOf opening list START span
@@ -92,7 +92,7 @@ areas-from first list is = record {
 -- from START on they are all of them
 pub all-from : (list : List Keyed) → IsTaskList list → areas_from START list ≡ list
 all-from list is =
-    filter-keeps (λ area. is_within START area.0) list
+    filter-stays (λ area. is_within START area.0) list
     (All-weaker (λ area. is_before START area.0 ≡ true) (λ area. is_within START area.0 ≡ true) (λ area above. within-from_before START area.0 above) list is.between.above)
 
 -- so the whole list is one from START on
@@ -105,10 +105,10 @@ start-alone list is =
       next = ap (next_cut opening) (sym whole);
       areas =
           ap (map seen_area) (carried-areas (START, next_cut opening list) opening list (task-list-from list is) refl)
-          ∙ ap (λ (areas : List Keyed). map seen_area (carried opening areas)) (sym whole);
+          ∙ ap (λ (areas : List Keyed). map seen_area (places_in_span opening areas)) (sym whole);
     }
 
--- from a cut on they are those that stand there
+-- from a cut on they are those that are there
 cut-areas : (before : List Keyed) (area : Keyed) (after : List Keyed) → IsTaskList (before ++ area ∷ after) → areas_from area.0 (before ++ area ∷ after) ≡ area ∷ after
 cut-areas before area after is =
     let test = λ (other : Keyed). is_within area.0 other.0 in
@@ -117,12 +117,12 @@ cut-areas before area after is =
     filter-append test before (area ∷ after)
     ∙ ap (λ (front : List Keyed). front ++ filter test (area ∷ after))
     (filter-drops test before (All-weaker (λ a. is_before a.0 area.0 ≡ true) (λ a. is_within area.0 a.0 ≡ false) (λ a low. before-apart a.0 area.0 low) before lower))
-    ∙ filter-keeps test (area ∷ after)
+    ∙ filter-stays test (area ∷ after)
     (All-cons (λ a. is_within area.0 a.0 ≡ true) area after (within-refl area.0)
     (All-weaker (λ a. is_before area.0 a.0 ≡ true) (λ a. is_within area.0 a.0 ≡ true) (λ a high. within-from_before area.0 a.0 high) after higher))
 
 cut-alone : (before : List Keyed) (area : Keyed) (after : List Keyed) → IsTaskList (before ++ area ∷ after) → fits (front_after opening before) area ≡ false →
-    IsCutAlone (before ++ area ∷ after) (area.0, next_cut (behind (placed_at (front_after opening before) area)) after)
+    IsCutAlone (before ++ area ∷ after) (area.0, next_cut (front_with (placed_at (front_after opening before) area)) after)
 cut-alone before area after is other =
     let list = before ++ area ∷ after in
     let rest = area ∷ after in
@@ -131,12 +131,12 @@ cut-alone before area after is other =
     let narrow = (All-head IsPackable area after (All-append_right IsPackable before rest is.packable)).narrow in
     let own = cut-areas before area after is in
     let placed = first-raised count front area narrow (before-count before area narrow other) other in
-    let end = next_cut (behind (placed_at front area)) after in
+    let end = next_cut (front_with (placed_at front area)) after in
     let span : Interval = (area.0, end) in
     let alone : end ≡ next_cut opening rest =
-    ap (λ (p : Placed). next_cut (behind p) after) placed
-    ∙ cut-raised count (behind (placed_at opening area)) after
-    ∙ sym (cond-true (fits opening area) (next_cut (behind (placed_at opening area)) after) area.0 (opening-fits area narrow)) in
+    ap (λ (p : Placed). next_cut (front_with p) after) placed
+    ∙ cut-raised count (front_with (placed_at opening area)) after
+    ∙ sym (cond-true (fits opening area) (next_cut (front_with (placed_at opening area)) after) area.0 (opening-fits area narrow)) in
     let later : begins_later (placed_at front area) ≡ true = ap (λ fitting. begins_later (place fitting front area)) other ∙ other-begins front area in
     let lower = AllPairs-across (λ a b. IsTrue (is_before a.0 b.0)) before area after is.ascends in
     let list_from = subst (λ (areas : List Keyed). IsListFrom area.0 areas) own (areas-from area.0 list is) in
@@ -146,12 +146,12 @@ cut-alone before area after is other =
           ap (λ (places : List Placed). map seen_area (filter (lies_in span) places)) (packed-alone before area after is.packable later)
           ∙ ap (map seen_area) (filter-append (lies_in span) (packed opening before) (map (raised count) (packed opening rest)))
           ∙ ap (λ (front : List Placed). map seen_area (front ++ filter (lies_in span) (map (raised count) (packed opening rest))))
-          (drops-behind span opening before
+          (drops-after_it span opening before
           (All-weaker (λ a. is_before a.0 area.0 ≡ true) (λ a. key_lies_in span a.0 ≡ false)
           (λ a low. and_left (is_within area.0 a.0) (is_before a.0 end) (before-apart a.0 area.0 low)) before lower))
           ∙ seen-raised span count (packed opening rest)
           ∙ ap (map seen_area) (carried-areas span opening rest list_from (sym alone))
-          ∙ ap (λ (areas : List Keyed). map seen_area (carried opening areas)) (sym own);
+          ∙ ap (λ (areas : List Keyed). map seen_area (places_in_span opening areas)) (sym own);
     }
 
 alone-by : (list : List Keyed) (span : Interval) → IsTaskList list → IsSpanOf opening list START span → IsCutAlone list span

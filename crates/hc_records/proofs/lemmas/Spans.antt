@@ -7,10 +7,10 @@ use Rattle.hc_records.specs.declared.keys.Key.{Key}
 use Rattle.hc_records.specs.declared.keys.TheConstants.Key.{END}
 use Rattle.hc_records.specs.Keys.{same_key, is_before, is_within}
 use Rattle.hc_records.specs.TaskList.{Keyed}
-use Rattle.hc_records.specs.Packing.{Front, Placed, fits, placed_at, behind, packed}
+use Rattle.hc_records.specs.Packing.{Front, Placed, fits, placed_at, front_with, packed}
 use Rattle.hc_records.specs.Boundaries.{Interval, width_in}
 use Rattle.hc_records.specs.Laws.{Ascends, IsPackable, raised}
-use Rattle.hc_records.specs.SpanLaws.{carried, lies_in, next_cut, seen_area}
+use Rattle.hc_records.specs.SpanLaws.{places_in_span, lies_in, next_cut, seen_area}
 use Rattle.hc_records.proofs.lemmas.KeyOrder.{before-other, before-trans, key-order, same_key-refl, same_key-same, within-apart, within-from_before, within-refl, within-trans}
 use Rattle.hc_records.proofs.lemmas.Lists.{AllPairs-head, AllPairs-tail}
 use Rattle.hc_records.proofs.lemmas.Packed.{place}
@@ -18,11 +18,11 @@ use Rattle.hc_records.proofs.Alone.{raised_front, place-raised}
 
 -- what a filter leaves
 
-pub filter-keeps : {X : Type 0} (test : X → Bool) (xs : List X) → All (λ x. test x ≡ true) xs → filter test xs ≡ xs
-filter-keeps test [] all = refl
-filter-keeps test (x ∷ xs) all =
+pub filter-stays : {X : Type 0} (test : X → Bool) (xs : List X) → All (λ x. test x ≡ true) xs → filter test xs ≡ xs
+filter-stays test [] all = refl
+filter-stays test (x ∷ xs) all =
     cond-true (test x) (x ∷ filter test xs) (filter test xs) (All-head (λ y. test y ≡ true) x xs all)
-    ∙ ap (λ (rest : List _). x ∷ rest) (filter-keeps test xs (All-tail (λ y. test y ≡ true) x xs all))
+    ∙ ap (λ (rest : List _). x ∷ rest) (filter-stays test xs (All-tail (λ y. test y ≡ true) x xs all))
 
 pub filter-drops : {X : Type 0} (test : X → Bool) (xs : List X) → All (λ x. test x ≡ false) xs → filter test xs ≡ []
 filter-drops test [] all = refl
@@ -45,14 +45,14 @@ list-tail first area areas is = record {
   below = All-tail (λ a. is_before a.0 END ≡ true) area areas is.below;
 }
 
-pub list-behind : (first : Key) (area : Keyed) (areas : List Keyed) → IsListFrom first (area ∷ areas) → All (λ other. is_before area.0 other.0 ≡ true) areas
-list-behind first area areas is = AllPairs-head (λ a b. IsTrue (is_before a.0 b.0)) area areas is.ascends
+pub list-after_it : (first : Key) (area : Keyed) (areas : List Keyed) → IsListFrom first (area ∷ areas) → All (λ other. is_before area.0 other.0 ≡ true) areas
+list-after_it first area areas is = AllPairs-head (λ a b. IsTrue (is_before a.0 b.0)) area areas is.ascends
 
 -- what holds of each key of a list, and of END, holds of the next cut
 pub cut-all : (P : Key → Type 0) (front : Front) (list : List Keyed) → All (λ area. P area.0) list → P END → P (next_cut front list)
 cut-all P front [] all end = end
 cut-all P front (area ∷ areas) all end =
-    let front' = behind (placed_at front area) in
+    let front' = front_with (placed_at front area) in
     cond_both (fits front area) (next_cut front' areas) area.0 P (λ yes. cut-all P front' areas (All-tail (λ a. P a.0) area areas all) end) (λ no. All-head (λ a. P a.0) area areas all)
 
 -- the next cut isn't before the first area
@@ -60,7 +60,7 @@ cut-from : (first : Key) (front : Front) (area : Keyed) (areas : List Keyed) →
 cut-from first front area areas is =
     cut-all (λ key. is_within area.0 key ≡ true) front (area ∷ areas)
     (All-cons (λ other. is_within area.0 other.0 ≡ true) area areas (within-refl area.0)
-    (All-weaker (λ other. is_before area.0 other.0 ≡ true) (λ other. is_within area.0 other.0 ≡ true) (λ other before. within-from_before area.0 other.0 before) areas (list-behind first area areas is)))
+    (All-weaker (λ other. is_before area.0 other.0 ≡ true) (λ other. is_within area.0 other.0 ≡ true) (λ other before. within-from_before area.0 other.0 before) areas (list-after_it first area areas is)))
     (within-from_before area.0 END (All-head (λ a. is_before a.0 END ≡ true) area areas is.below))
 
 -- widths
@@ -89,7 +89,7 @@ pub agree-by : (same : Bool) (first : Key) (x : Keyed) (xs ys : List Keyed) (key
 agree-by true first x xs ys key test is is' agree =
     let here = same_key-same x.0 key test in
     subst (λ (k : Key). width_in xs k ≡ width_in ys k) here
-    (width-before xs x.0 (list-behind first x xs is) ∙ sym (width-before ys x.0 (list-behind first x ys is')))
+    (width-before xs x.0 (list-after_it first x xs is) ∙ sym (width-before ys x.0 (list-after_it first x ys is')))
 agree-by false first x xs ys key test is is' agree = sym (width-skip x xs key test) ∙ agree ∙ width-skip x ys key test
 
 agree-tail : (first last : Key) (x : Keyed) (xs ys : List Keyed) → IsListFrom first (x ∷ xs) → IsListFrom first (x ∷ ys) → Agree first last (x ∷ xs) (x ∷ ys) → Agree first last xs ys
@@ -99,7 +99,7 @@ agree-tail first last x xs ys is is' agree = record {
 
 -- two lists that agree up to the next cut of the one have the same next cut, and carry the same up to it
 abbrev pub IsCutSame : Front → Key → List Keyed → List Keyed → Type 0
-IsCutSame front last xs ys = (next_cut front ys ≡ last) × (carried front ys ≡ carried front xs)
+IsCutSame front last xs ys = (next_cut front ys ≡ last) × (places_in_span front ys ≡ places_in_span front xs)
 
 same-by : (fitting : Bool) (first cut cut' last : Key) (placed : Placed) (carry carry' : List Placed) → (if fitting then cut else first) ≡ last →
     (cut ≡ last → (cut' ≡ last) × (carry' ≡ carry)) →
@@ -115,7 +115,7 @@ not-first : (first : Key) (x : Keyed) (xs : List Keyed) (y : Keyed) (ys : List K
     width_in (x ∷ xs) x.0 ≡ width_in (y ∷ ys) x.0 → is_before x.0 y.0 ≡ true → ⊥
 not-first first x xs y ys is is' agrees before =
     let absent = width-before (y ∷ ys) x.0 (All-cons (λ a. is_before x.0 a.0 ≡ true) y ys before
-    (All-weaker (λ a. is_before y.0 a.0 ≡ true) (λ a. is_before x.0 a.0 ≡ true) (λ a behind. before-trans x.0 y.0 a.0 before behind) ys (list-behind first y ys is'))) in
+    (All-weaker (λ a. is_before y.0 a.0 ≡ true) (λ a. is_before x.0 a.0 ≡ true) (λ a front_with. before-trans x.0 y.0 a.0 before front_with) ys (list-after_it first y ys is'))) in
     let here = width-here x xs x.0 (same_key-refl x.0) in
     none-some x.1 (sym absent ∙ sym agrees ∙ here) (All-head IsPackable x xs is.packable).some
 
@@ -151,12 +151,12 @@ same-cut first last front (x ∷ xs) [] is is' cut agree =
 same-cut first last front (x ∷ xs) (y ∷ ys) is is' cut agree =
     let low = subst (λ (k : Key). is_within x.0 k ≡ true) cut (cut-from first front x xs is) in
     let same = first-area first last x xs y ys is is' low agree in
-    let front' = behind (placed_at front x) in
+    let front' = front_with (placed_at front x) in
     let back = sym same in
     let is'' = subst (λ (z : Keyed). IsListFrom first (z ∷ ys)) back is' in
     let agree' = agree-tail first last x xs ys is is'' (subst (λ (z : Keyed). Agree first last (x ∷ xs) (z ∷ ys)) back agree) in
     subst (λ (z : Keyed). IsCutSame front last (x ∷ xs) (z ∷ ys)) same
-    (same-by (fits front x) x.0 (next_cut front' xs) (next_cut front' ys) last (placed_at front x) (carried front' xs) (carried front' ys) cut
+    (same-by (fits front x) x.0 (next_cut front' xs) (next_cut front' ys) last (placed_at front x) (places_in_span front' xs) (places_in_span front' ys) cut
     (λ cut'. same-cut first last front' xs ys (list-tail first x xs is) (list-tail first x ys is'') cut' agree'))
 
 -- what is packed from a key on, up to the next cut
@@ -170,14 +170,14 @@ place-key true front area = refl
 place-key false front area = refl
 
 -- the places of areas whose keys aren't in a span
-pub drops-behind : (span : Interval) (front : Front) (list : List Keyed) → All (λ area. key_lies_in span area.0 ≡ false) list → filter (lies_in span) (packed front list) ≡ []
-drops-behind span front [] all = refl
-drops-behind span front (area ∷ areas) all =
+pub drops-after_it : (span : Interval) (front : Front) (list : List Keyed) → All (λ area. key_lies_in span area.0 ≡ false) list → filter (lies_in span) (packed front list) ≡ []
+drops-after_it span front [] all = refl
+drops-after_it span front (area ∷ areas) all =
     let placed = placed_at front area in
     let outside : lies_in span placed ≡ false =
     ap (key_lies_in span) (place-key (fits front area) front area) ∙ All-head (λ a. key_lies_in span a.0 ≡ false) area areas all in
-    cond-false (lies_in span placed) (placed ∷ filter (lies_in span) (packed (behind placed) areas)) (filter (lies_in span) (packed (behind placed) areas)) outside
-    ∙ drops-behind span (behind placed) areas (All-tail (λ a. key_lies_in span a.0 ≡ false) area areas all)
+    cond-false (lies_in span placed) (placed ∷ filter (lies_in span) (packed (front_with placed) areas)) (filter (lies_in span) (packed (front_with placed) areas)) outside
+    ∙ drops-after_it span (front_with placed) areas (All-tail (λ a. key_lies_in span a.0 ≡ false) area areas all)
 
 carried-by : (fitting : Bool) (span : Interval) (cut first : Key) (placed : Placed) (rest carry : List Placed) →
     (if fitting then cut else first) ≡ span.1 → placed.key ≡ first → is_within span.0 first ≡ true → (fitting ≡ true → is_before first cut ≡ true) →
@@ -193,16 +193,16 @@ carried-by false span cut first placed rest carry next key low below goes stops 
     cond-false (lies_in span placed) (placed ∷ filter (lies_in span) rest) (filter (lies_in span) rest) outside ∙ stops next
 
 -- the areas from a key on that lie in the span up to the next cut are those that are carried
-pub carried-areas : (span : Interval) (front : Front) (list : List Keyed) → IsListFrom span.0 list → next_cut front list ≡ span.1 → filter (lies_in span) (packed front list) ≡ carried front list
+pub carried-areas : (span : Interval) (front : Front) (list : List Keyed) → IsListFrom span.0 list → next_cut front list ≡ span.1 → filter (lies_in span) (packed front list) ≡ places_in_span front list
 carried-areas span front [] is next = refl
 carried-areas span front (area ∷ areas) is next =
-    let front' = behind (placed_at front area) in
-    let rest = list-behind span.0 area areas is in
-    carried-by (fits front area) span (next_cut front' areas) area.0 (placed_at front area) (packed front' areas) (carried front' areas) next
+    let front' = front_with (placed_at front area) in
+    let rest = list-after_it span.0 area areas is in
+    carried-by (fits front area) span (next_cut front' areas) area.0 (placed_at front area) (packed front' areas) (places_in_span front' areas) next
     (place-key (fits front area) front area) (All-head (λ a. is_within span.0 a.0 ≡ true) area areas is.from)
     (λ fitting. cut-all (λ key. is_before area.0 key ≡ true) front' areas rest (All-head (λ a. is_before a.0 END ≡ true) area areas is.below))
     (λ cut. carried-areas span front' areas (list-tail span.0 area areas is) cut)
-    (λ stop. drops-behind span front' areas
+    (λ stop. drops-after_it span front' areas
     (All-weaker (λ other. is_before area.0 other.0 ≡ true) (λ other. key_lies_in span other.0 ≡ false)
     (λ other before. and_right (is_within span.0 other.0) (is_before other.0 span.1)
     (within-apart span.1 other.0 (subst (λ (k : Key). is_within k other.0 ≡ true) stop (within-from_before area.0 other.0 before))))
@@ -210,14 +210,14 @@ carried-areas span front (area ∷ areas) is next =
 
 -- a front with more datagrams before it is cut where it would be cut, and its areas are seen the same
 
-raised-behind : (fitting : Bool) (datagrams : ℕ) (front : Front) (area : Keyed) → behind (place fitting (raised_front datagrams front) area) ≡ raised_front datagrams (behind (place fitting front area))
-raised-behind fitting datagrams front area = ap behind (place-raised fitting datagrams front area)
+raised-after_it : (fitting : Bool) (datagrams : ℕ) (front : Front) (area : Keyed) → front_with (place fitting (raised_front datagrams front) area) ≡ raised_front datagrams (front_with (place fitting front area))
+raised-after_it fitting datagrams front area = ap front_with (place-raised fitting datagrams front area)
 
 pub cut-raised : (datagrams : ℕ) (front : Front) (list : List Keyed) → next_cut (raised_front datagrams front) list ≡ next_cut front list
 cut-raised datagrams front [] = refl
 cut-raised datagrams front (area ∷ areas) =
     ap (λ (cut : Key). if fits front area then cut else area.0)
-    (ap (λ (f : Front). next_cut f areas) (raised-behind (fits front area) datagrams front area) ∙ cut-raised datagrams (behind (placed_at front area)) areas)
+    (ap (λ (f : Front). next_cut f areas) (raised-after_it (fits front area) datagrams front area) ∙ cut-raised datagrams (front_with (placed_at front area)) areas)
 
 seen-by : (inside : Bool) (datagrams : ℕ) (area : Placed) (rest rest' : List Placed) → map seen_area rest ≡ map seen_area rest' →
     map seen_area (if inside then raised datagrams area ∷ rest else rest) ≡ map seen_area (if inside then area ∷ rest' else rest')

@@ -23,20 +23,20 @@ absent-parts n xs ys absent = or_parts (list_any (λ y. y == n) xs) (list_any (�
 absent-both : (n : ℕ) (xs ys : List ℕ) → IsAbsent n xs → IsAbsent n ys → IsAbsent n (xs ++ ys)
 absent-both n xs ys left right = list_any-append (λ y. y == n) xs ys ∙ ap (λ (b : Bool). b || list_any (λ y. y == n) ys) left ∙ right
 
--- what is distinct stays so when numbers behind it go
+-- what is distinct stays so when numbers after it go
 
-distinct-behind : (xs ys : List ℕ) → has_repeat (xs ++ ys) ≡ false → has_repeat ys ≡ false
-distinct-behind [] ys distinct = distinct
-distinct-behind (x ∷ xs) ys distinct =
-    distinct-behind xs ys (or_parts (list_any (λ y. y == x) (xs ++ ys)) (has_repeat (xs ++ ys)) distinct).1
+distinct-after_it : (xs ys : List ℕ) → has_repeat (xs ++ ys) ≡ false → has_repeat ys ≡ false
+distinct-after_it [] ys distinct = distinct
+distinct-after_it (x ∷ xs) ys distinct =
+    distinct-after_it xs ys (or_parts (list_any (λ y. y == x) (xs ++ ys)) (has_repeat (xs ++ ys)) distinct).1
 
-distinct-fewer : (xs ys kept : List ℕ) → has_repeat (xs ++ ys) ≡ false → ((n : ℕ) → IsAbsent n ys → IsAbsent n kept) → has_repeat kept ≡ false → has_repeat (xs ++ kept) ≡ false
-distinct-fewer [] ys kept distinct fewer own = own
-distinct-fewer (x ∷ xs) ys kept distinct fewer own =
+distinct-fewer : (xs ys unchanged : List ℕ) → has_repeat (xs ++ ys) ≡ false → ((n : ℕ) → IsAbsent n ys → IsAbsent n unchanged) → has_repeat unchanged ≡ false → has_repeat (xs ++ unchanged) ≡ false
+distinct-fewer [] ys unchanged distinct fewer own = own
+distinct-fewer (x ∷ xs) ys unchanged distinct fewer own =
     let parts = or_parts (list_any (λ y. y == x) (xs ++ ys)) (has_repeat (xs ++ ys)) distinct in
     let here = absent-parts x xs ys parts.0 in
-    ap (λ (b : Bool). b || has_repeat (xs ++ kept)) (absent-both x xs kept here.0 (fewer x here.1))
-    ∙ distinct-fewer xs ys kept parts.1 fewer own
+    ap (λ (b : Bool). b || has_repeat (xs ++ unchanged)) (absent-both x xs unchanged here.0 (fewer x here.1))
+    ∙ distinct-fewer xs ys unchanged parts.1 fewer own
 
 -- the station addresses of slaves and of the line
 
@@ -62,9 +62,9 @@ stations-first rank slaves rest =
 
 absent-first : (present : Bool) (n rank : ℕ) (slaves : List Slave) (rest : List Member) → IsAbsent n (slave_stations slaves) → IsAbsent n (stations rest)
     → IsAbsent n (stations (members_from rank (cond present slaves []) ++ rest))
-absent-first true n rank slaves rest own behind =
-    ap (list_any (λ y. y == n)) (stations-first rank slaves rest) ∙ absent-both n (slave_stations slaves) (stations rest) own behind
-absent-first false n rank slaves rest own behind = behind
+absent-first true n rank slaves rest own after_it =
+    ap (list_any (λ y. y == n)) (stations-first rank slaves rest) ∙ absent-both n (slave_stations slaves) (stations rest) own after_it
+absent-first false n rank slaves rest own after_it = after_it
 
 absent-line : (n rank : ℕ) (groups : List Declared) → IsAbsent n (all_stations groups) → IsAbsent n (stations (line_from rank groups))
 absent-line n rank [] absent = refl
@@ -74,12 +74,12 @@ absent-line n rank (declared ∷ groups) absent =
     (ap (list_any (λ y. y == n)) (sym (map-append (λ (slave : Slave). slave.station) slaves (slaves_of (map (λ (d : Declared). d.group) groups)))) ∙ absent) in
     absent-first declared.present n rank slaves (line_from (rank + length slaves) groups) parts.0 (absent-line n (rank + length slaves) groups parts.1)
 
-distinct-first : (present : Bool) (rank : ℕ) (slaves : List Slave) (rest : List Member) (behind : List ℕ) → has_repeat (slave_stations slaves ++ behind) ≡ false
-    → ((n : ℕ) → IsAbsent n behind → IsAbsent n (stations rest)) → has_repeat (stations rest) ≡ false
+distinct-first : (present : Bool) (rank : ℕ) (slaves : List Slave) (rest : List Member) (after_it : List ℕ) → has_repeat (slave_stations slaves ++ after_it) ≡ false
+    → ((n : ℕ) → IsAbsent n after_it → IsAbsent n (stations rest)) → has_repeat (stations rest) ≡ false
     → has_repeat (stations (members_from rank (cond present slaves []) ++ rest)) ≡ false
-distinct-first true rank slaves rest behind distinct fewer own =
-    ap has_repeat (stations-first rank slaves rest) ∙ distinct-fewer (slave_stations slaves) behind (stations rest) distinct fewer own
-distinct-first false rank slaves rest behind distinct fewer own = own
+distinct-first true rank slaves rest after_it distinct fewer own =
+    ap has_repeat (stations-first rank slaves rest) ∙ distinct-fewer (slave_stations slaves) after_it (stations rest) distinct fewer own
+distinct-first false rank slaves rest after_it distinct fewer own = own
 
 distinct-line : (rank : ℕ) (groups : List Declared) → has_repeat (all_stations groups) ≡ false → has_repeat (stations (line_from rank groups)) ≡ false
 distinct-line rank [] distinct = refl
@@ -90,7 +90,7 @@ distinct-line rank (declared ∷ groups) distinct =
     let next = rank + length slaves in
     distinct-first declared.present rank slaves (line_from next groups) (all_stations groups) whole
     (λ n absent. absent-line n next groups absent)
-    (distinct-line next groups (distinct-behind (slave_stations slaves) (all_stations groups) whole))
+    (distinct-line next groups (distinct-after_it (slave_stations slaves) (all_stations groups) whole))
 
 -- a project repeats no station address, so neither does its line
 

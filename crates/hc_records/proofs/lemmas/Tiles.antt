@@ -15,7 +15,7 @@ use Rattle.hc_records.proofs.lemmas.Greatest.{greatest-all}
 use Rattle.hc_records.proofs.lemmas.Lengths.{length-sendable}
 use Rattle.hc_records.proofs.lemmas.Parts.{ends-in-datagram, offset-le}
 
--- the offset of a datagram is that of the one before it and its length
+-- the offset of a datagram is the offset of the one before it and its length
 offset-next : (areas : List Placed) (datagram : ℕ) → datagram_offset areas (datagram + 1) ≡ datagram_offset areas datagram + datagram_length areas datagram
 offset-next areas datagram = let next : datagram + 1 ≡ suc datagram = omega arith in rw next refl
 

@@ -8,7 +8,7 @@ use Rattle.hc_records.specs.Line.{Member, line}
 use Rattle.hc_records.specs.TaskList.{Listed, task_areas, task_list}
 use Rattle.hc_records.specs.Packing.{Placed, opening}
 use Rattle.hc_records.specs.Image.{VariablePlace, area_variables, task_places, task_variables, tasks, variable_place, variables_from}
-use Rattle.hc_records.specs.Laws.{StandsBefore}
+use Rattle.hc_records.specs.Laws.{LiesBefore}
 use Rattle.hc_records.specs.ImageLaws.{SharesNoBit}
 use Rattle.hc_records.proofs.lemmas.Finds.{found-all, found-two, mapped-some, tasks-ascend}
 use Rattle.hc_records.proofs.lemmas.Lists.{All-flat_map, AllPairs-flat_map, AllPairs-map, AllPairs-weaker}
@@ -23,7 +23,7 @@ found-place Q line variable place all is =
     let found = mapped-some (λ (f : ℕ × VariablePlace). f.1) (find (λ f. f.0 == variable) all_variables) place is in
     rw (← found.2) (found-all (λ f. Q f.1) (λ f. f.0 == variable) all_variables found.0 all found.1)
 
--- of two places in one datagram, the first ends at or before the bit at which the second begins
+-- of two places in one datagram, the first ends at or before the bit where the second begins
 abbrev IsFirst : ℕ × VariablePlace → ℕ × VariablePlace → Type 0
 IsFirst a b = a.1.task ≡ b.1.task → a.1.datagram ≡ b.1.datagram → a.1.bit + a.1.bits ≤ b.1.bit
 
@@ -45,13 +45,13 @@ area-inside task pair placed =
     area-variables-all IsAnything (IsAreaVariable task pair) task pair placed (λ k d within. refl)
     (λ found within. record { in_task = refl; in_datagram = refl; from = within.from; to = within.to })
 
--- an area that stands before another
+-- an area that is before another
 record Precedes (a b : Listed × Placed) : Type 0 where
   pub first : IsPlaced a
   pub second : IsPlaced b
-  pub before : StandsBefore a.1 b.1
+  pub before : LiesBefore a.1 b.1
 
-first-by : (task : ℕ) (a b : Listed × Placed) (x y : ℕ × VariablePlace) → StandsBefore a.1 b.1 → IsAreaVariable task a x.1 → IsAreaVariable task b y.1 → IsFirst x y
+first-by : (task : ℕ) (a b : Listed × Placed) (x y : ℕ × VariablePlace) → LiesBefore a.1 b.1 → IsAreaVariable task a x.1 → IsAreaVariable task b y.1 → IsFirst x y
 first-by task a b x y (inl less) in_a in_b same same' =
     let left = in_a.in_datagram in
     let right = in_b.in_datagram in
@@ -73,7 +73,7 @@ task-apart line task =
     (λ i j d lower within. record {
       first = pairs-placed line task i d (omega arith);
       second = pairs-placed line task j d within;
-      before = zip-pairs StandsBefore (task_areas task line) (task_places task line) (packed-apart opening (task_list task line)) i j d lower within;
+      before = zip-pairs LiesBefore (task_areas task line) (task_places task line) (packed-apart opening (task_list task line)) i j d lower within;
     })
 
 of-task : (line : List Member) (task : ℕ) → All (λ variable. variable.1.task ≡ task) (task_variables line task)

@@ -1,4 +1,4 @@
--- The datagram in which a variable of a line lies, and its part of the image.
+-- The datagram where a variable of a line lies, and its part of the image.
 use Rattle.std.proofs.Common.{◌≡◌, ℕ, ◌+◌, ◌≤◌, true, List, Some, None, get_or, refl, sym, ap, ◌∙◌, arith}
 use Rattle.std.specs.Prelude.{All, nat_lt, ◌==◌, ◌&&◌}
 use Rattle.std.specs.List.{enumerate_from}
@@ -15,7 +15,7 @@ use Rattle.hc_records.specs.Packing.{Placed}
 use Rattle.hc_records.specs.Image.{VariablePlace, datagram_count, task_places, variable_place}
 use Rattle.hc_records.specs.Project.{lowest_fault}
 use Rattle.hc_records.specs.Laws.{KeepsToItsPart}
-use Rattle.hc_records.specs.ImageLaws.{LiesInDatagram, StandsInItsPart}
+use Rattle.hc_records.specs.ImageLaws.{LiesInDatagram, IsInItsPart}
 use Rattle.hc_records.specs.Limits.{IsEntryWidth}
 use Rattle.hc_records.proofs.lemmas.Ascending.{keys-ascend, every}
 use Rattle.hc_records.proofs.lemmas.Entries.{HasEntryWidths, task-areas-all, task-widths}
@@ -66,20 +66,20 @@ task-dirs line task =
     (λ member. every (λ e. belongs task dir e.1 ≡ true → (listed dir member.rank e).key.dir ≡ e.1.dir) (enumerate_from 0 member.slave.areas)
     (λ e belonging. belongs-dir task dir e.1 belonging)))
 
-pub variables-stand : (state : State) (variable : ℕ) (place : VariablePlace) → variable_place variable (line state) ≡ Some place → StandsInItsPart (line state) place
-variables-stand state variable place =
-    found-place (StandsInItsPart (line state)) (line state) variable place
-    (line-variables-all (StandsInItsPart (line state)) (line state)
+pub variables-are_placed : (state : State) (variable : ℕ) (place : VariablePlace) → variable_place variable (line state) ≡ Some place → IsInItsPart (line state) place
+variables-are_placed state variable place =
+    found-place (IsInItsPart (line state)) (line state) variable place
+    (line-variables-all (IsInItsPart (line state)) (line state)
     (λ task low k d within.
     let areas = task_areas task (line state) in
     let places = task_places task (line state) in
     let pair = get_or (task_pairs (line state) task) k d in
     let placed : IsPlaced pair = pairs-placed (line state) task k d within in
-    let keeps : KeepsToItsPart places pair.1 = zip-right (KeepsToItsPart places) areas places (outputs-first (task_list task (line state)) (keys-ascend state task)) k d within in
+    let stays : KeepsToItsPart places pair.1 = zip-right (KeepsToItsPart places) areas places (outputs-first (task_list task (line state)) (keys-ascend state task)) k d within in
     let own : pair.0.key.dir ≡ pair.0.area.dir = zip-left (λ area. area.key.dir ≡ area.area.dir) areas places (task-dirs (line state) task) k d within in
     let dir : pair.1.key.dir ≡ pair.0.area.dir = ap (λ (key : Key). key.dir) placed.key ∙ own in
-    area-variables-all IsAnything (StandsInItsPart (line state)) task pair placed (λ i e inside. refl)
+    area-variables-all IsAnything (IsInItsPart (line state)) task pair placed (λ i e inside. refl)
     (λ found inside. record {
-      output = λ is. (let end = keeps.output (dir ∙ is) in let to = inside.to in omega arith);
-      input = λ is. (let start = keeps.input (dir ∙ is) in let from = inside.from in omega arith);
+      output = λ is. (let end = stays.output (dir ∙ is) in let to = inside.to in omega arith);
+      input = λ is. (let start = stays.input (dir ∙ is) in let from = inside.from in omega arith);
     })))

@@ -7,10 +7,10 @@ use Rattle.std.proofs.lemmas.List.Elements.{All-nil, All-cons, All-head, All-tai
 use Rattle.std.proofs.lemmas.List.Kept.{AllPairs-cons}
 use Rattle.std.proofs.lemmas.List.Sums.{sum_by-cons}
 use Rattle.hc_records.specs.declared.limits.TheConstants.{TASKS}
-use Rattle.hc_records.specs.Area.{Entry, assigned_entries, bits_of, width}
+use Rattle.hc_records.specs.Area.{Entry, assigned_entries, entry_bits, width}
 use Rattle.hc_records.specs.Line.{Member}
 use Rattle.hc_records.specs.TaskList.{Listed, keyed, task_areas}
-use Rattle.hc_records.specs.Packing.{Front, Placed, fits, opening, packed, placed_at, behind}
+use Rattle.hc_records.specs.Packing.{Front, Placed, fits, opening, packed, placed_at, front_with}
 use Rattle.hc_records.specs.Image.{VariablePlace, area_variables, task_places, task_variables, tasks, variables_from}
 use Rattle.hc_records.proofs.lemmas.Finds.{all-tasks}
 use Rattle.hc_records.proofs.lemmas.Lists.{All-flat_map, AllPairs-append, AllPairs-head, AllPairs-nil, AllPairs-tail}
@@ -35,19 +35,19 @@ named-pairs R None bit bits = AllPairs-nil R
 named-pairs R (Some v) bit bits = AllPairs-cons R (v, (bit, bits)) [] (All-nil (R (v, (bit, bits)))) (AllPairs-nil R)
 
 pub entry-variables : (P : ℕ → Type 0) (bit : ℕ) (entries : List Entry) → All (λ entry. P entry.1) entries →
-    All (IsEntryVariable P bit (bit + bits_of entries)) (variables_from bit entries)
-entry-variables P bit [] all = All-nil (IsEntryVariable P bit (bit + bits_of []))
+    All (IsEntryVariable P bit (bit + entry_bits entries)) (variables_from bit entries)
+entry-variables P bit [] all = All-nil (IsEntryVariable P bit (bit + entry_bits []))
 entry-variables P bit (entry ∷ entries) all =
     let next = bit + entry.1 in
-    let end = bit + bits_of (entry ∷ entries) in
-    let sum : bits_of (entry ∷ entries) ≡ entry.1 + bits_of entries = sum_by-cons (λ (e : Entry). e.1) entry entries in
+    let end = bit + entry_bits (entry ∷ entries) in
+    let sum : entry_bits (entry ∷ entries) ≡ entry.1 + entry_bits entries = sum_by-cons (λ (e : Entry). e.1) entry entries in
     All-append (IsEntryVariable P bit end) (named entry.0 bit entry.1) (variables_from next entries)
     (named-all (IsEntryVariable P bit end) entry.0 bit entry.1 (λ v. record { from = omega arith; to = omega arith; is = All-head (λ (e : Entry). P e.1) entry entries all }))
-    (All-weaker (IsEntryVariable P next (next + bits_of entries)) (IsEntryVariable P bit end)
+    (All-weaker (IsEntryVariable P next (next + entry_bits entries)) (IsEntryVariable P bit end)
     (λ found within. record { from = let from = within.from in omega arith; to = let to = within.to in omega arith; is = within.is })
     (variables_from next entries) (entry-variables P next entries (All-tail (λ (e : Entry). P e.1) entry entries all)))
 
--- each ends at or before the bit at which a later one begins
+-- each ends at or before the bit where a later one begins
 abbrev pub EndsFirst : ℕ × (ℕ × ℕ) → ℕ × (ℕ × ℕ) → Type 0
 EndsFirst a b = a.1.0 + a.1.1 ≤ b.1.0
 
@@ -60,7 +60,7 @@ entry-variables-apart bit (entry ∷ entries) =
     let next = bit + entry.1 in
     AllPairs-append EndsFirst (named entry.0 bit entry.1) (variables_from next entries) (named-pairs EndsFirst entry.0 bit entry.1) (entry-variables-apart next entries)
     (named-all (λ first. All (EndsFirst first) (variables_from next entries)) entry.0 bit entry.1
-    (λ v. All-weaker (IsEntryVariable IsAnything next (next + bits_of entries)) (EndsFirst (v, (bit, entry.1))) (λ found within. within.from)
+    (λ v. All-weaker (IsEntryVariable IsAnything next (next + entry_bits entries)) (EndsFirst (v, (bit, entry.1))) (λ found within. within.from)
     (variables_from next entries) (entry-variables IsAnything next entries (λ k d within. refl))))
 
 -- the two sides of a zipped list
@@ -81,7 +81,7 @@ zip-pairs R (x ∷ xs) [] pairs = AllPairs-nil (λ a b. R a.1 b.1)
 zip-pairs R (x ∷ xs) (y ∷ ys) pairs =
     AllPairs-cons (λ a b. R a.1 b.1) (x, y) (zip xs ys) (zip-right (R y) xs ys (AllPairs-head R y ys pairs)) (zip-pairs R xs ys (AllPairs-tail R y ys pairs))
 
--- an area of a task stands at a place of its own key and width
+-- an area of a task is at a place of its own key and width
 pub record IsPlaced (pair : Listed × Placed) : Type 0 where
   pub key : pair.1.key ≡ pair.0.key
   pub bits : pair.1.bits ≡ width pair.0.area
@@ -94,7 +94,7 @@ zip-placed : (front : Front) (areas : List Listed) → All IsPlaced (zip areas (
 zip-placed front [] = All-nil IsPlaced
 zip-placed front (listed ∷ areas) =
     let first = placed_at front (keyed listed) in
-    All-cons IsPlaced (listed, first) (zip areas (packed (behind first) (map keyed areas))) (place-is (fits front (keyed listed)) front listed) (zip-placed (behind first) areas)
+    All-cons IsPlaced (listed, first) (zip areas (packed (front_with first) (map keyed areas))) (place-is (fits front (keyed listed)) front listed) (zip-placed (front_with first) areas)
 
 -- the areas of a task with their places
 abbrev pub task_pairs : List Member → ℕ → List (Listed × Placed)
@@ -112,9 +112,9 @@ pub area-variables-all : (P : ℕ → Type 0) (Q : VariablePlace → Type 0) (ta
     ((found : ℕ × (ℕ × ℕ)) → IsEntryVariable P pair.1.bit (pair.1.bit + pair.1.bits) found → Q (place_of task pair found)) → All (λ variable. Q variable.1) (area_variables task pair)
 area-variables-all P Q task pair placed all each =
     let entries = assigned_entries pair.0.area in
-    let bits : pair.1.bits ≡ bits_of entries = placed.bits in
+    let bits : pair.1.bits ≡ entry_bits entries = placed.bits in
     All-map (λ variable. Q variable.1) (λ found. (found.0, place_of task pair found)) (variables_from pair.1.bit entries)
-    (All-weaker (IsEntryVariable P pair.1.bit (pair.1.bit + bits_of entries)) (λ found. Q (place_of task pair found))
+    (All-weaker (IsEntryVariable P pair.1.bit (pair.1.bit + entry_bits entries)) (λ found. Q (place_of task pair found))
     (λ found within. each found (record { from = within.from; to = let to = within.to in omega arith; is = within.is }))
     (variables_from pair.1.bit entries) (entry-variables P pair.1.bit entries all))
 

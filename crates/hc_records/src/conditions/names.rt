@@ -1,5 +1,5 @@
-//! Whether a name of the whole project stands twice: an alias, a station address, a variable. The
-//! names go through an ordered set.
+//! Whether a name of the whole project is twice: an alias, a station address, a variable. The names
+//! go through an ordered set.
 ghost use Rattle.std.specs.Prelude.{◌≡◌, ◌++◌, IfOk, OnOk, map};
 ghost use Rattle.hc_records.specs.Lists.{has_repeat};
 ghost use Rattle.hc_records.specs.Project.{area_names, entry_names, has_repeated_alias, has_repeated_station, has_repeated_variable, pdo_names, slave_names};
@@ -8,7 +8,7 @@ use crate::records::{Area, Entry, Group, Pdo, Slave};
 use std::alloc::{AllocError, Global};
 use std::collections::BTreeSet;
 
-/// Whether a number stands twice, by a set of those seen.
+/// Whether a number is twice, by a set of those seen.
 fn repeats(alloc: Global, numbers: &[u32]) -> Result<bool, AllocError>
     ensures { IfOk result (λ found. found ≡ has_repeat numbers.now) }
 {
@@ -32,6 +32,7 @@ pub fn repeats_alias(alloc: Global, groups: &[Group]) -> Result<bool, AllocError
     repeats(alloc, &aliases)
 }
 
+/// Adds the station addresses of slaves, in order. `AllocError` if a growth is refused.
 fn add_stations(stations: &mut Vec<u32>, slaves: &[Slave]) -> Result<(), AllocError>
     ensures { OnOk result (stations.new.items ≡ stations.old.items ++ map (λ slave. slave.station) slaves.now) }
 {
@@ -52,6 +53,7 @@ pub fn repeats_station(alloc: Global, groups: &[Group]) -> Result<bool, AllocErr
     repeats(alloc, &stations)
 }
 
+/// Adds the variables of a PDO's entries, in order. An entry without a variable adds none. `AllocError` if a growth is refused.
 fn add_entry_names(names: &mut Vec<u32>, entries: &[Entry]) -> Result<(), AllocError>
     ensures { OnOk result (names.new.items ≡ names.old.items ++ entry_names entries.now) }
 {
@@ -63,6 +65,7 @@ fn add_entry_names(names: &mut Vec<u32>, entries: &[Entry]) -> Result<(), AllocE
     Ok(())
 }
 
+/// Adds the variables of PDOs, in order. `AllocError` if a growth is refused.
 fn add_pdo_names(names: &mut Vec<u32>, pdos: &[Pdo]) -> Result<(), AllocError>
     ensures { OnOk result (names.new.items ≡ names.old.items ++ pdo_names pdos.now) }
 {
@@ -72,6 +75,7 @@ fn add_pdo_names(names: &mut Vec<u32>, pdos: &[Pdo]) -> Result<(), AllocError>
     Ok(())
 }
 
+/// Adds the variables that areas offer, assigned or not, in order. `AllocError` if a growth is refused.
 fn add_area_names(names: &mut Vec<u32>, areas: &[Area]) -> Result<(), AllocError>
     ensures { OnOk result (names.new.items ≡ names.old.items ++ area_names areas.now) }
 {
@@ -92,7 +96,7 @@ pub fn add_slave_names(names: &mut Vec<u32>, slaves: &[Slave]) -> Result<(), All
     Ok(())
 }
 
-/// Whether a variable stands in two entries.
+/// Whether a variable is in two entries.
 pub fn repeats_variable(alloc: Global, groups: &[Group]) -> Result<bool, AllocError>
     ensures { IfOk result (λ found. found ≡ has_repeated_variable groups.now) }
 {

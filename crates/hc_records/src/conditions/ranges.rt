@@ -82,6 +82,8 @@ impl Condition<Group> for Bare {
     }
 }
 
+/// Whether the first group isn't the mandatory one, with alias 0, or a later group lacks an alias or a slave. It also holds for
+/// no groups.
 fn are_misplaced(groups: &[Group]) -> bool
     ensures { result ≡ is_misplaced groups.now }
 {

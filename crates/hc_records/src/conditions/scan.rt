@@ -12,6 +12,7 @@ pub trait Condition<T> {
     /// What is tested.
     ghost condition: { T → Bool };
 
+    /// Whether an item meets the condition.
     fn holds(item: &T) -> bool
         ensures { result ≡ condition item.now };
 }
@@ -21,6 +22,7 @@ pub trait Relation<T> {
     /// What is tested.
     ghost relation: { T → T → Bool };
 
+    /// Whether an earlier item is related to a later one.
     fn holds(earlier: &T, later: &T) -> bool
         ensures { result ≡ relation earlier.now later.now };
 }

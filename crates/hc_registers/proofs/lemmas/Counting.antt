@@ -11,13 +11,13 @@ use Rattle.hc_records.specs.declared.records.Dir.{Dir}
 use Rattle.hc_records.specs.declared.records.Dir.TheVariants.{Out, In}
 use Rattle.hc_records.specs.declared.keys.Key.{Key}
 use Rattle.hc_records.specs.Keys.{is_before, same_dir}
-use Rattle.hc_records.specs.Image.{counter_share, is_of}
+use Rattle.hc_records.specs.Image.{counter_share, area_is_of}
 use Rattle.hc_records.proofs.lemmas.Lists.{AllPairs-head, AllPairs-tail}
 use Rattle.hc_registers.specs.Counting.{weight, counted_from}
 
 -- what the area with a key adds, before the areas of other keys: nothing where one of them is of its slave and direction
 abbrev share_before : Key → List Key → ℕ
-share_before key keys = if list_any (is_of key.rank key.dir) keys then 0 else weight key.dir
+share_before key keys = if list_any (area_is_of key.rank key.dir) keys then 0 else weight key.dir
 
 -- what the areas of these keys add, so counted
 abbrev counted_back : List Key → ℕ
@@ -28,9 +28,9 @@ abbrev of_dir : Dir → Bool → Bool → Bool
 of_dir Out outputs inputs = outputs
 of_dir In outputs inputs = inputs
 
-any-of_dir : (dir : Dir) (a b : ℕ) (keys : List Key) → a ≡ b → list_any (is_of a dir) keys ≡ of_dir dir (list_any (is_of b Out) keys) (list_any (is_of b In) keys)
-any-of_dir Out a b keys same = ap (λ rank. list_any (is_of rank Out) keys) same
-any-of_dir In a b keys same = ap (λ rank. list_any (is_of rank In) keys) same
+any-of_dir : (dir : Dir) (a b : ℕ) (keys : List Key) → a ≡ b → list_any (area_is_of a dir) keys ≡ of_dir dir (list_any (area_is_of b Out) keys) (list_any (area_is_of b In) keys)
+any-of_dir Out a b keys same = ap (λ rank. list_any (area_is_of rank Out) keys) same
+any-of_dir In a b keys same = ap (λ rank. list_any (area_is_of rank In) keys) same
 
 -- an area of a slave adds to its share, unless there is another of the same direction
 share-by : (dir : Dir) (own outputs inputs other : Bool) → (own ≡ true → other ≡ of_dir dir outputs inputs) →
@@ -46,7 +46,7 @@ share-by In true outputs false other is = rw (is refl) (omega arith)
 share-cons : (key : Key) (keys : List Key) (rank : ℕ)
     → counter_share (key ∷ keys) rank ≡ counter_share keys rank + (if key.rank == rank then share_before key keys else 0)
 share-cons key keys rank =
-    share-by key.dir (key.rank == rank) (list_any (is_of rank Out) keys) (list_any (is_of rank In) keys) (list_any (is_of key.rank key.dir) keys)
+    share-by key.dir (key.rank == rank) (list_any (area_is_of rank Out) keys) (list_any (area_is_of rank In) keys) (list_any (area_is_of key.rank key.dir) keys)
     (λ own. any-of_dir key.dir key.rank rank keys (eqb-true key.rank rank own))
 
 sum_by-plus : (f g h : ℕ → ℕ) → ((x : ℕ) → f x ≡ g x + h x) → (xs : List ℕ) → sum_by f xs ≡ sum_by g xs + sum_by h xs
@@ -119,14 +119,14 @@ same-weight In In own same = refl
 abbrev Precedes : Key → Key → Type 0
 Precedes a b = IsTrue (is_before a b)
 
--- behind a key of another slave or direction there is none of the first one's
+-- after a key of another slave or direction there is none of the first one's
 none-later : (before key : Key) (keys : List Key) → AllPairs Precedes (before ∷ key ∷ keys)
-    → ((before.rank == key.rank) && same_dir before.dir key.dir) ≡ false → list_any (is_of before.rank before.dir) (key ∷ keys) ≡ false
+    → ((before.rank == key.rank) && same_dir before.dir key.dir) ≡ false → list_any (area_is_of before.rank before.dir) (key ∷ keys) ≡ false
 none-later before key keys ascend differs =
     let first = All-head (Precedes before) key keys (AllPairs-head Precedes before (key ∷ keys) ascend) in
-    list_any_none (is_of before.rank before.dir) (key ∷ keys)
-    (All-cons (λ later. is_of before.rank before.dir later ≡ false) key keys (same-sym before.dir key.dir before.rank key.rank ∙ differs)
-    (All-weaker (Precedes key) (λ later. is_of before.rank before.dir later ≡ false)
+    list_any_none (area_is_of before.rank before.dir) (key ∷ keys)
+    (All-cons (λ later. area_is_of before.rank before.dir later ≡ false) key keys (same-sym before.dir key.dir before.rank key.rank ∙ differs)
+    (All-weaker (Precedes key) (λ later. area_is_of before.rank before.dir later ≡ false)
     (λ later second. between-by before.dir key.dir later.dir before.rank before.area key.rank key.area later.rank later.area first second differs)
     keys (AllPairs-head Precedes key keys (AllPairs-tail Precedes before (key ∷ keys) ascend))))
 
@@ -139,9 +139,9 @@ pair-by false other first second rest back found alike none counted = rw (none r
 counted-back : (before : Key) (keys : List Key) → AllPairs Precedes (before ∷ keys) → weight before.dir + counted_from (Some before) keys ≡ counted_back (before ∷ keys)
 counted-back before [] ascend = omega arith
 counted-back before (key ∷ keys) ascend =
-    pair-by ((before.rank == key.rank) && same_dir before.dir key.dir) (list_any (is_of before.rank before.dir) (key ∷ keys))
+    pair-by ((before.rank == key.rank) && same_dir before.dir key.dir) (list_any (area_is_of before.rank before.dir) (key ∷ keys))
     (weight before.dir) (weight key.dir) (counted_from (Some key) keys) (counted_back (key ∷ keys))
-    (λ same. or_left (is_of before.rank before.dir key) (list_any (is_of before.rank before.dir) keys) (same-sym before.dir key.dir before.rank key.rank ∙ same))
+    (λ same. or_left (area_is_of before.rank before.dir key) (list_any (area_is_of before.rank before.dir) keys) (same-sym before.dir key.dir before.rank key.rank ∙ same))
     (same-weight before.dir key.dir (before.rank == key.rank))
     (none-later before key keys ascend)
     (counted-back key keys (AllPairs-tail Precedes before (key ∷ keys) ascend))

@@ -1,4 +1,4 @@
--- A group that is declared behind the others, absent: its slaves' places are empty, and stand behind those of the others; nothing else of the line differs.
+-- A group that is declared after the others, absent: its slaves' places are empty, and are after those of the others; nothing else of the line differs.
 use Rattle.std.proofs.Common.{◌≡◌, ℕ, zero, suc, ◌+◌, ◌*◌, ◌≤◌, false, List, [], ◌∷◌, ◌++◌, length, map, refl, sym, ap, ◌∙◌, append_assoc, arith, length-append}
 use Rattle.std.specs.Prelude.{Some, None, Option, replicate, slice_get}
 use Rattle.std.specs.List.{flat_map}
@@ -15,7 +15,7 @@ use Rattle.hc_records.specs.Project.{slaves_of}
 use Rattle.hc_records.proofs.lemmas.Declaring.{line-absent}
 use Rattle.hc_records.proofs.lemmas.Lists.{get-front}
 use Rattle.hc_registers.specs.Blocks.{LineBlock}
-use Rattle.hc_registers.specs.RankDifferences.{Differ, StandsIn}
+use Rattle.hc_registers.specs.RankDifferences.{Differ, IsAtItsPlace}
 use Rattle.hc_registers.specs.RankPlaces.{numbers, places, places_from, slave_places, stations}
 
 abbrev Places : Type 0
@@ -42,7 +42,7 @@ slaves-empty line rank (slave ∷ slaves) =
     let rest = flat_map (slave_places line false) (members_from (rank + 1) slaves) in
     let more : 16 + 16 * length slaves ≡ 16 * length (slave ∷ slaves) = omega arith in
     ap (λ (own : Places). own ++ rest) (slave-empty line member)
-    ∙ ap (λ (behind : Places). empty_places 16 ++ behind) (slaves-empty line (rank + 1) slaves)
+    ∙ ap (λ (after_it : Places). empty_places 16 ++ after_it) (slaves-empty line (rank + 1) slaves)
     ∙ empty-sum 16 (16 * length slaves)
     ∙ ap empty_places more
 
@@ -53,7 +53,7 @@ places-more line rank (declared ∷ groups) group =
     let slaves = declared.group.slaves in
     let own = flat_map (slave_places line declared.present) (members_from rank slaves) in
     let next = rank + length slaves in
-    ap (λ (behind : Places). own ++ behind) (places-more line next groups group)
+    ap (λ (after_it : Places). own ++ after_it) (places-more line next groups group)
     ∙ sym (append_assoc own (places_from line next groups) (empty_places (16 * length group.slaves)))
 
 declared-line : (state : State) (group : Group) → line (changed state (Declare group)) ≡ line state
@@ -74,17 +74,17 @@ declared-stations state group =
     let station : Slave → ℕ = λ slave. slave.station in
     ap (map station) (slaves-more state.groups group) ∙ map-append station (slaves_of (groups_of state.groups)) group.slaves
 
--- a block that stands among these stood at its place
+-- a block that is among these was at its place
 
 empty-at : (count n : ℕ) (block : LineBlock) → slice_get (empty_places count) n ≡ Some (Some block) → ⊥
 empty-at zero n block is = cc
 empty-at (suc count) zero block is = cc
 empty-at (suc count) (suc n) block is = empty-at count n block is
 
-kept-at : (all : Places) (count n : ℕ) (block : LineBlock) → slice_get (all ++ empty_places count) n ≡ Some (Some block) → slice_get all n ≡ Some (Some block)
-kept-at [] count n block is = absurd (empty-at count n block is)
-kept-at (first ∷ all) count zero block is = is
-kept-at (first ∷ all) count (suc n) block is = kept-at all count n block is
+unchanged-at : (all : Places) (count n : ℕ) (block : LineBlock) → slice_get (all ++ empty_places count) n ≡ Some (Some block) → slice_get all n ≡ Some (Some block)
+unchanged-at [] count n block is = absurd (empty-at count n block is)
+unchanged-at (first ∷ all) count zero block is = is
+unchanged-at (first ∷ all) count (suc n) block is = unchanged-at all count n block is
 
 more-differ : (old new : Places) (count : ℕ) → new ≡ old ++ empty_places count → Differ old new (record { rank = 1; slaves = 0 }) []
 more-differ old new count is =
@@ -97,8 +97,8 @@ more-differ old new count is =
       stays = λ n before stood empty. absurd (never n before stood empty);
       names = record {
         ranks = All-nil (λ block. 1 ≤ block.rank);
-        stand = All-nil (StandsIn new);
-        others = λ n block at others. record { before = block; stood = kept-at old count n block (ap (λ (l : Places). slice_get l n) (sym is) ∙ at); same = refl };
+        are_placed = All-nil (IsAtItsPlace new);
+        others = λ n block at others. record { before = block; stood = unchanged-at old count n block (ap (λ (l : Places). slice_get l n) (sym is) ∙ at); same = refl };
       };
     }
   where

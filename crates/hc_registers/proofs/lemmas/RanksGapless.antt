@@ -44,42 +44,42 @@ shifted : (x : LineBlock) (xs : List LineBlock) (a n : ℕ) → map (slice_get (
 shifted x xs a zero = refl
 shifted x xs a (suc n) = search (rules, shifted x xs (a + 1) n)
 
-none-stands : (a n : ℕ) → standing (map (slice_get []) (range_with_len a n)) ≡ []
-none-stands a zero = refl
-none-stands a (suc n) = none-stands (a + 1) n
+none-is_placed : (a n : ℕ) → standing (map (slice_get []) (range_with_len a n)) ≡ []
+none-is_placed a zero = refl
+none-is_placed a (suc n) = none-is_placed (a + 1) n
 
-all-stand : (xs : List LineBlock) (n : ℕ) → length xs ≤ n → standing (map (slice_get xs) (range_with_len 0 n)) ≡ xs
-all-stand [] n few = none-stands 0 n
-all-stand (x ∷ xs) zero few = absurd (omega (arith, few))
-all-stand (x ∷ xs) (suc n) few =
-    ap (λ (rest : List (Option LineBlock)). x ∷ standing rest) (shifted x xs 0 n) ∙ ap (λ (rest : List LineBlock). x ∷ rest) (all-stand xs n (omega (arith, few)))
+all-are_placed : (xs : List LineBlock) (n : ℕ) → length xs ≤ n → standing (map (slice_get xs) (range_with_len 0 n)) ≡ xs
+all-are_placed [] n few = none-is_placed 0 n
+all-are_placed (x ∷ xs) zero few = absurd (omega (arith, few))
+all-are_placed (x ∷ xs) (suc n) few =
+    ap (λ (rest : List (Option LineBlock)). x ∷ standing rest) (shifted x xs 0 n) ∙ ap (λ (rest : List LineBlock). x ∷ rest) (all-are_placed xs n (omega (arith, few)))
 
-slave-stands : (line : List Member) (member : Member) → Few member.slave → standing (slave_places line true member) ≡ member_blocks line member
+slave-is_placed : (line : List Member) (member : Member) → Few member.slave → standing (slave_places line true member) ≡ member_blocks line member
 unfolding numbers
-slave-stands line member few = let size = length-member line member in all-stand (member_blocks line member) 16 (omega (arith, size, few))
+slave-is_placed line member few = let size = length-member line member in all-are_placed (member_blocks line member) 16 (omega (arith, size, few))
 
-absent-stands : (line : List Member) (member : Member) → standing (slave_places line false member) ≡ []
+absent-is_placed : (line : List Member) (member : Member) → standing (slave_places line false member) ≡ []
 unfolding numbers
-absent-stands line member = none-stands 0 16
+absent-is_placed line member = none-is_placed 0 16
 
 -- those of slaves in a row, and of groups
 
-members-stand : (line : List Member) (rank : ℕ) (present : Bool) (slaves : List Slave) → All Few slaves
+members-are_placed : (line : List Member) (rank : ℕ) (present : Bool) (slaves : List Slave) → All Few slaves
     → standing (flat_map (slave_places line present) (members_from rank slaves)) ≡ flat_map (member_blocks line) (members_from rank (cond present slaves []))
-members-stand line rank true [] few = refl
-members-stand line rank false [] few = refl
-members-stand line rank true (slave ∷ slaves) few =
-    search (rules, flat_map-append, slave-stands, All-head, members-stand line (rank + 1) true slaves (All-tail Few slave slaves few))
-members-stand line rank false (slave ∷ slaves) few =
-    search (rules, flat_map-append, absent-stands, members-stand line (rank + 1) false slaves (All-tail Few slave slaves few))
+members-are_placed line rank true [] few = refl
+members-are_placed line rank false [] few = refl
+members-are_placed line rank true (slave ∷ slaves) few =
+    search (rules, flat_map-append, slave-is_placed, All-head, members-are_placed line (rank + 1) true slaves (All-tail Few slave slaves few))
+members-are_placed line rank false (slave ∷ slaves) few =
+    search (rules, flat_map-append, absent-is_placed, members-are_placed line (rank + 1) false slaves (All-tail Few slave slaves few))
 
-groups-stand : (line : List Member) (rank : ℕ) (groups : List Declared) → HaveFewAreas groups → standing (places_from line rank groups) ≡ flat_map (member_blocks line) (line_from rank groups)
-groups-stand line rank [] few = refl
-groups-stand line rank (declared ∷ groups) few =
+groups-are_placed : (line : List Member) (rank : ℕ) (groups : List Declared) → HaveFewAreas groups → standing (places_from line rank groups) ≡ flat_map (member_blocks line) (line_from rank groups)
+groups-are_placed line rank [] few = refl
+groups-are_placed line rank (declared ∷ groups) few =
     let slaves = declared.group.slaves in
     let next = rank + length slaves in
     let all = λ (d : Declared). All Few d.group.slaves in
-    search (rules, flat_map-append, members-stand, All-head, groups-stand line next groups (All-tail all declared groups few))
+    search (rules, flat_map-append, members-are_placed, All-head, groups-are_placed line next groups (All-tail all declared groups few))
 
 pub places-hold : PlacesHoldTheLine
-places-hold state none = groups-stand (line_from 1 state.groups) 1 state.groups (few-areas state.groups none)
+places-hold state none = groups-are_placed (line_from 1 state.groups) 1 state.groups (few-areas state.groups none)

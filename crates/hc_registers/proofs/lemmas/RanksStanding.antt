@@ -1,4 +1,4 @@
--- What stands at a place: a slave's block by its number, and of which slave a standing block is.
+-- What is at a place: a slave's block by its number, and whose block is in a place.
 use Rattle.std.proofs.Common.{◌≡◌, ℕ, zero, suc, ◌+◌, ◌-◌, ◌*◌, ◌<◌, ◌≤◌, Bool, true, false, cond, Contains, List, [], ◌∷◌, ◌++◌, length, ◌⊎◌, inl, inr, refl, sym, ap, ◌∙◌, arith, length-append, rules}
 use Rattle.std.specs.Prelude.{All, Some, Option, slice_get}
 use Rattle.std.specs.List.{flat_map}
@@ -40,7 +40,7 @@ length-groups line rank (d ∷ groups) =
 pub length-places : (state : State) → length (places state) ≡ 16 * length (declared_slaves state.groups)
 length-places state = length-groups (line state) 1 state.groups
 
--- what stands at a slave's place with a number
+-- what is at a slave's place with a number
 
 own-number : (number : ℕ) → number < 16 → slice_get numbers number ≡ Some number
 unfolding numbers
@@ -51,60 +51,60 @@ pub at-number : (line : List Member) (present : Bool) (member : Member) (number 
 at-number line present member number low = search (rules, slice_get-map, own-number)
 
 -- each slave of a line has its places, which are counted from those of a first rank
-record StandsFrom (line : List Member) (rank : ℕ) (all : List (Option LineBlock)) (member : Member) : Type 0 where
+record IsPlacedFrom (line : List Member) (rank : ℕ) (all : List (Option LineBlock)) (member : Member) : Type 0 where
   from : rank ≤ member.rank
   at : (number : ℕ) → number < 16 → slice_get all (16 * (member.rank - rank) + number) ≡ Some (slice_get (member_blocks line member) number)
 
-own-stands : (line : List Member) (member : Member) (behind : List (Option LineBlock)) → StandsFrom line member.rank (slave_places line true member ++ behind) member
-own-stands line member behind =
+own-is_placed : (line : List Member) (member : Member) (after_it : List (Option LineBlock)) → IsPlacedFrom line member.rank (slave_places line true member ++ after_it) member
+own-is_placed line member after_it =
     let own = slave_places line true member in
     let size = length-slave line true member in
     record {
       from = omega arith;
-      at = λ number low. ap (slice_get (own ++ behind)) (omega arith) ∙ get-front own behind number (omega (arith, low, size)) ∙ at-number line true member number low;
+      at = λ number low. ap (slice_get (own ++ after_it)) (omega arith) ∙ get-front own after_it number (omega (arith, low, size)) ∙ at-number line true member number low;
     }
 
-stands-behind : (line : List Member) (rank count : ℕ) (xs ys : List (Option LineBlock)) (member : Member) → length xs ≡ 16 * count → StandsFrom line (rank + count) ys member → StandsFrom line rank (xs ++ ys) member
-stands-behind line rank count xs ys member size stands = search (rules, get-back)
+is_placed-after_it : (line : List Member) (rank count : ℕ) (xs ys : List (Option LineBlock)) (member : Member) → length xs ≡ 16 * count → IsPlacedFrom line (rank + count) ys member → IsPlacedFrom line rank (xs ++ ys) member
+is_placed-after_it line rank count xs ys member size is_placed = search (rules, get-back)
 
-stands-front : (line : List Member) (rank : ℕ) (xs ys : List (Option LineBlock)) (member : Member) → StandsFrom line rank xs member → StandsFrom line rank (xs ++ ys) member
-stands-front line rank xs ys member stands = search (rules, get-front, slice_get_within)
+is_placed-front : (line : List Member) (rank : ℕ) (xs ys : List (Option LineBlock)) (member : Member) → IsPlacedFrom line rank xs member → IsPlacedFrom line rank (xs ++ ys) member
+is_placed-front line rank xs ys member is_placed = search (rules, get-front, slice_get_within)
 
-slaves-stand : (line : List Member) (rank : ℕ) (slaves : List Slave) → All (StandsFrom line rank (flat_map (slave_places line true) (members_from rank slaves))) (members_from rank slaves)
-slaves-stand line rank [] = All-nil (StandsFrom line rank [])
-slaves-stand line rank (slave ∷ slaves) =
+slaves-are_placed : (line : List Member) (rank : ℕ) (slaves : List Slave) → All (IsPlacedFrom line rank (flat_map (slave_places line true) (members_from rank slaves))) (members_from rank slaves)
+slaves-are_placed line rank [] = All-nil (IsPlacedFrom line rank [])
+slaves-are_placed line rank (slave ∷ slaves) =
     let member : Member = record { rank = rank; slave = slave } in
     let own = slave_places line true member in
     let rest = flat_map (slave_places line true) (members_from (rank + 1) slaves) in
     let size : length own ≡ 16 * 1 = length-slave line true member in
-    All-cons (StandsFrom line rank (own ++ rest)) member (members_from (rank + 1) slaves) (own-stands line member rest)
-    (All-weaker (StandsFrom line (rank + 1) rest) (StandsFrom line rank (own ++ rest)) (λ m stands. stands-behind line rank 1 own rest m size stands) (members_from (rank + 1) slaves) (slaves-stand line (rank + 1) slaves))
+    All-cons (IsPlacedFrom line rank (own ++ rest)) member (members_from (rank + 1) slaves) (own-is_placed line member rest)
+    (All-weaker (IsPlacedFrom line (rank + 1) rest) (IsPlacedFrom line rank (own ++ rest)) (λ m is_placed. is_placed-after_it line rank 1 own rest m size is_placed) (members_from (rank + 1) slaves) (slaves-are_placed line (rank + 1) slaves))
 
-group-stands : (line : List Member) (present : Bool) (rank : ℕ) (slaves : List Slave) (behind : List (Option LineBlock))
-    → All (StandsFrom line rank (flat_map (slave_places line present) (members_from rank slaves) ++ behind)) (members_from rank (cond present slaves []))
-group-stands line false rank slaves behind = All-nil (StandsFrom line rank (flat_map (slave_places line false) (members_from rank slaves) ++ behind))
-group-stands line true rank slaves behind = search (rules, stands-front, slaves-stand)
+group-is_placed : (line : List Member) (present : Bool) (rank : ℕ) (slaves : List Slave) (after_it : List (Option LineBlock))
+    → All (IsPlacedFrom line rank (flat_map (slave_places line present) (members_from rank slaves) ++ after_it)) (members_from rank (cond present slaves []))
+group-is_placed line false rank slaves after_it = All-nil (IsPlacedFrom line rank (flat_map (slave_places line false) (members_from rank slaves) ++ after_it))
+group-is_placed line true rank slaves after_it = search (rules, is_placed-front, slaves-are_placed)
 
-groups-stand : (line : List Member) (rank : ℕ) (groups : List Declared) → All (StandsFrom line rank (places_from line rank groups)) (line_from rank groups)
-groups-stand line rank [] = All-nil (StandsFrom line rank [])
-groups-stand line rank (d ∷ groups) =
+groups-are_placed : (line : List Member) (rank : ℕ) (groups : List Declared) → All (IsPlacedFrom line rank (places_from line rank groups)) (line_from rank groups)
+groups-are_placed line rank [] = All-nil (IsPlacedFrom line rank [])
+groups-are_placed line rank (d ∷ groups) =
     let slaves = d.group.slaves in
     let next = rank + length slaves in
-    search (rules, All-append, group-stands, All-weaker, stands-behind, length-slaves, groups-stand line next groups)
+    search (rules, All-append, group-is_placed, All-weaker, is_placed-after_it, length-slaves, groups-are_placed line next groups)
 
-pub members-stand : MembersHavePlaces
-members-stand state k d within = (groups-stand (line state) 1 state.groups k d within).at
+pub members-are_placed : MembersHavePlaces
+members-are_placed state k d within = (groups-are_placed (line state) 1 state.groups k d within).at
 
 -- a block at a place is one of the line's slave with that rank
 
-pub record StandsOf (line members : List Member) (rank n : ℕ) (block : LineBlock) : Type 0 where
+pub record IsPlacedOf (line members : List Member) (rank n : ℕ) (block : LineBlock) : Type 0 where
   pub member : Member
   pub number : ℕ
   pub on : Contains members member
   pub low : number < 16
   pub from : rank ≤ member.rank
   pub is : n ≡ 16 * (member.rank - rank) + number
-  pub stands : slice_get (member_blocks line member) number ≡ Some block
+  pub is_placed : slice_get (member_blocks line member) number ≡ Some block
 
 split-get : {X : Type 0} (xs ys : List X) (n : ℕ) (x : X) → slice_get (xs ++ ys) n ≡ Some x → (slice_get xs n ≡ Some x) ⊎ ((length xs ≤ n) × (slice_get ys (n - length xs) ≡ Some x))
 split-get [] ys n x is = inr (omega arith, ap (slice_get ys) (omega arith) ∙ is)
@@ -130,7 +130,7 @@ none-absent line rank (slave ∷ slaves) n block is =
     ]
 
 slaves-place : (line : List Member) (rank : ℕ) (slaves : List Slave) (n : ℕ) (block : LineBlock) → slice_get (flat_map (slave_places line true) (members_from rank slaves)) n ≡ Some (Some block)
-    → StandsOf line (members_from rank slaves) rank n block
+    → IsPlacedOf line (members_from rank slaves) rank n block
 slaves-place line rank [] n block is = cc
 slaves-place line rank (slave ∷ slaves) n block is =
     let member : Member = record { rank = rank; slave = slave } in
@@ -138,7 +138,7 @@ slaves-place line rank (slave ∷ slaves) n block is =
     elim (split-get first (flat_map (slave_places line true) (members_from (rank + 1) slaves)) n (Some block) is) [
       | inl own ↦
           let here = slave-place line true member n block own in
-          record { member = member; number = n; on = (0, omega arith, refl); low = here.0; from = omega arith; is = omega arith; stands = here.1 }
+          record { member = member; number = n; on = (0, omega arith, refl); low = here.0; from = omega arith; is = omega arith; is_placed = here.1 }
       | inr more ↦
           let rest = slaves-place line (rank + 1) slaves (n - length first) block more.1 in
           let size = length-slave line true member in
@@ -150,15 +150,15 @@ slaves-place line rank (slave ∷ slaves) n block is =
             low = rest.low;
             from = omega (arith, from);
             is = omega arith;
-            stands = rest.stands;
+            is_placed = rest.is_placed;
           }
     ]
 
 group-place : (line : List Member) (present : Bool) (rank : ℕ) (slaves : List Slave) (n : ℕ) (block : LineBlock) → slice_get (flat_map (slave_places line present) (members_from rank slaves)) n ≡ Some (Some block)
-    → StandsOf line (members_from rank (cond present slaves [])) rank n block
+    → IsPlacedOf line (members_from rank (cond present slaves [])) rank n block
 group-place line present rank slaves n block is = search (rules, slaves-place, none-absent)
 
-groups-place : (line : List Member) (rank : ℕ) (groups : List Declared) (n : ℕ) (block : LineBlock) → slice_get (places_from line rank groups) n ≡ Some (Some block) → StandsOf line (line_from rank groups) rank n block
+groups-place : (line : List Member) (rank : ℕ) (groups : List Declared) (n : ℕ) (block : LineBlock) → slice_get (places_from line rank groups) n ≡ Some (Some block) → IsPlacedOf line (line_from rank groups) rank n block
 groups-place line rank [] n block is = cc
 groups-place line rank (d ∷ groups) n block is =
     let slaves = d.group.slaves in
@@ -167,7 +167,7 @@ groups-place line rank (d ∷ groups) n block is =
     elim (split-get first (places_from line next groups) n (Some block) is) [
       | inl own ↦
           let here = group-place line d.present rank slaves n block own in
-          record { member = here.member; number = here.number; on = Contains-append_left (members_from rank (present_slaves d)) (line_from next groups) here.member here.on; low = here.low; from = here.from; is = here.is; stands = here.stands }
+          record { member = here.member; number = here.number; on = Contains-append_left (members_from rank (present_slaves d)) (line_from next groups) here.member here.on; low = here.low; from = here.from; is = here.is; is_placed = here.is_placed }
       | inr more ↦
           let rest = groups-place line next groups (n - length first) block more.1 in
           let size = length-slaves line d.present rank slaves in
@@ -179,9 +179,9 @@ groups-place line rank (d ∷ groups) n block is =
             low = rest.low;
             from = omega (arith, from);
             is = omega arith;
-            stands = rest.stands;
+            is_placed = rest.is_placed;
           }
     ]
 
-pub standing-of : (state : State) (n : ℕ) (block : LineBlock) → slice_get (places state) n ≡ Some (Some block) → StandsOf (line state) (line state) 1 n block
+pub standing-of : (state : State) (n : ℕ) (block : LineBlock) → slice_get (places state) n ≡ Some (Some block) → IsPlacedOf (line state) (line state) 1 n block
 standing-of state n block is = groups-place (line state) 1 state.groups n block is

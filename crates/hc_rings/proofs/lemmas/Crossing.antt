@@ -1,4 +1,4 @@
--- The end of a ring at which tasks post may go to another thread.
+-- The end of a ring where tasks post may go to another thread.
 use denote.Param.Send.{IsSend}
 use Rattle.hc_rings.proofs.posts.PostSender.TheSendSync as posts
 use Rattle.hc_rings.specs.contracts.posts.PostSender as PostSender

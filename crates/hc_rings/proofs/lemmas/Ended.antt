@@ -6,7 +6,7 @@ use Rattle.hc_rings.specs.Ring.{taken, left, EndCameAfter}
 use Rattle.hc_rings.specs.declared.posts.PostReceiver.{PostReceiver}
 use Rattle.hc_rings.proofs.Whole.{ended_is, posts_are, whole}
 
--- what was taken, followed by what is left, is what the end came behind
+-- what was taken, followed by what is left, is what the end came after
 pub taken_then_left : (r : PostReceiver) (posts : List Post) → EndCameAfter r posts → taken r ++ left r ≡ posts
 taken_then_left r posts all =
     let items = received r.posts.ring in

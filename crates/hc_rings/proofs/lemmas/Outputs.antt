@@ -9,7 +9,7 @@ use mathlib.Core.Option as maybe
 use types.Logic.{Logic, sem}
 use Rattle.std.specs.Prelude.{Option, None, Some, IfSome, length, ◌+◌}
 use Rattle.std.specs.Option.{option_map}
-use Rattle.hc_rings.specs.Post.{Post, blank_post, count_of, with_written}
+use Rattle.hc_rings.specs.Post.{Post, blank_post, post_count, post_with_written}
 use Rattle.hc_rings.specs.Ring.{posted, HoldsPost}
 use Rattle.hc_rings.specs.declared.posts.PostSender.{PostSender}
 
@@ -21,15 +21,15 @@ pub is_false : (b : Bool) → T (not b) → b ≡ false
 is_false true t = absurd t
 is_false false t = refl
 
-one_as_before : (f : Post → Post) (held : Option Post) → count_of held ≡ count_of (option_map f held)
+one_as_before : (f : Post → Post) (held : Option Post) → post_count held ≡ post_count (option_map f held)
 one_as_before f None = refl
 one_as_before f (Some post) = refl
 
 -- the sender still holds such a post, whatever is written over its bytes
 pub left_outputs : (old now : PostSender) (epoch size : ℕ) (written : List ℕ) → HoldsPost old now (blank_post epoch size)
-    → HoldsPost old (record now { held = option_map (λ post. with_written post written) now.held }) (with_written (blank_post epoch size) written)
+    → HoldsPost old (record now { held = option_map (λ post. post_with_written post written) now.held }) (post_with_written (blank_post epoch size) written)
 left_outputs old now epoch size written h =
-    let write : Post → Post = λ post. with_written post written in
+    let write : Post → Post = λ post. post_with_written post written in
     (h.0, h.1, (ap (option_map write) h.2.0, h.2.1), λ each. h.3 each ∙ ap (λ (k : ℕ). length (posted now) + k) (one_as_before write now.held))
 
 -- what is lent of a blank post

@@ -1,4 +1,4 @@
-//! The end of a sender, shown to the receiver: with it the receiver tells what is left of all that was posted.
+//! The end of a sender, shown to the receiver: with it the receiver says what is left of all that was posted.
 ghost use Rattle.std.specs.Prelude.{◌≡◌, true};
 ghost use Rattle.rtrb.specs.Ring.{all_sent};
 ghost use Rattle.hc_rings.specs.Items.{posts_of, items_of};

@@ -3,7 +3,7 @@ ghost use Rattle.std.specs.Prelude.{◌≡◌, ◌<◌, ◌≤◌, ◌↔◌, []
 ghost use Rattle.std.specs.Borrow.{sem};
 ghost use Rattle.hc_rings.specs.Faults.{post_fault_number};
 ghost use Rattle.hc_rings.specs.Post.{blank_post};
-ghost use Rattle.hc_rings.specs.Ring.{posted, handed_out, held, known_places, known_spares, PostsEach, Holds, HoldsPost, HoldsNothing, SameSender};
+ghost use Rattle.hc_rings.specs.Ring.{posted, handed_out, held, known_places, known_spares, FourWait, PostsEach, HoldsThisPost, HoldsPost, HoldsNothing, SameSender};
 ghost use Rattle.hc_rings.specs.Lending.{LendsBuffer, LendsBytes, LendsHeld, LendsOutputs};
 
 use super::{NoSpare, POSTS_WAITING, PostSender, SPARE_BUFFERS};
@@ -36,17 +36,18 @@ impl PostFault {
 impl PostSender {
     /// Has a buffer of `size` bytes (at most 23,776) that are all 0 held for the next post, for this epoch: the buffer that is
     /// held already, or else a spare. `NoSpare` comes only where none is held and four buffers were handed out before; as
-    /// long as `buffer` is unused these are four posts.
+    /// long as `buffer` is unused these are four posts, and all but four were taken, as far as the sender has seen.
     pub fn hold(&mut self, epoch: u32, size: usize) -> Result<(), NoSpare>
         requires { size ≤ LARGEST_IMAGE }
         ensures ring { SameSender self.old self.new }
         ensures posted { posted self.new ≡ posted self.old }
-        ensures ok { OnOk result (Holds self.old self.new (blank_post epoch size)) }
+        ensures ok { OnOk result (HoldsThisPost self.old self.new (blank_post epoch size)) }
         ensures no_spare { OnErr result ((held self.old ≡ None) × (held self.new ≡ None) × (handed_out self.new ≡ handed_out self.old)) }
         ensures no_spare_only_after_four { OnErr result (SPARE_BUFFERS ≤ handed_out self.old) }
         ensures known { 0 < known_spares self.old → IsOk result }
         ensures places { known_places self.new ≡ known_places self.old }
         ensures posts_each { PostsEach self.old → PostsEach self.new × OnErr result (SPARE_BUFFERS ≤ length (posted self.old)) }
+        ensures four_wait { PostsEach self.old → OnErr result (FourWait self.new) }
     {
         let mut buffer = match self.held.take() {
             Some(buffer) => buffer,
@@ -93,7 +94,7 @@ impl PostSender {
     }
 
     /// Posts the buffer that is held, with its epoch and with its bytes as they were left. `NoBuffer` where none is held. `Full`
-    /// only where four posts were made before.
+    /// only where four posts were made before, and all but four were taken, as far as the sender has seen.
     pub fn post_held(&mut self) -> Result<(), PostFault>
         ensures ring { SameSender self.old self.new }
         ensures handed_out { handed_out self.new ≡ handed_out self.old }
@@ -102,6 +103,7 @@ impl PostSender {
         ensures err { OnErr result ((posted self.new ≡ posted self.old) × (held self.new ≡ held self.old)) }
         ensures full_only_after_four { IsErrOf result PostFault.Full → POSTS_WAITING ≤ length (posted self.old) }
         ensures full_where_no_place { IsErrOf result PostFault.Full → known_places self.old ≤ 1 }
+        ensures four_wait { IsErrOf result PostFault.Full → FourWait self.new }
         ensures posts_each { PostsEach self.old → PostsEach self.new }
     {
         let Some(buffer) = self.held.take() else {

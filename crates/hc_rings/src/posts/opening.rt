@@ -43,7 +43,7 @@ pub fn post_ring(alloc: Global) -> Result<(PostSender, PostReceiver), AllocError
     Ok((sender, receiver))
 }
 
-/// A ring that is full of spare buffers, all of which its consumer knows.
+/// A ring that is full of spare buffers, and its consumer knows them all.
 fn spares(alloc: Global) -> Result<(Producer<PostBuffer>, Consumer<PostBuffer>), AllocError>
     ensures pair { IfOk result (λ r. IsPair r.0 r.1) }
     ensures four { IfOk result (λ r. producer_capacity r.0 ≡ SPARE_BUFFERS) }

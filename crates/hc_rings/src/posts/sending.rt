@@ -17,13 +17,14 @@ pub struct NoSpare;
 pub struct Full(pub PostBuffer);
 
 impl PostSender {
-    /// A spare buffer, to be filled and posted. `NoSpare` only where four buffers were handed out before. What stands in it
-    /// may be of an earlier post.
+    /// A spare buffer, to be filled and posted. `NoSpare` only where four buffers were handed out before. What is in it may
+    /// be of an earlier post.
     pub fn buffer(&mut self) -> Result<PostBuffer, NoSpare>
         ensures ring { SameSender self.old self.new }
         ensures posted { (posted self.new ≡ posted self.old) × (held self.new ≡ held self.old) }
         ensures ok { OnOk result (handed_out self.new ≡ handed_out self.old + 1) }
         ensures no_spare { OnErr result (handed_out self.new ≡ handed_out self.old) }
+        ensures no_spare_known { OnErr result (known_spares self.new ≡ 0) }
         ensures no_spare_only_after_four { OnErr result (SPARE_BUFFERS ≤ handed_out self.old) }
         ensures known { 0 < known_spares self.old → IsOk result }
         ensures places { known_places self.new ≡ known_places self.old }

@@ -1,4 +1,4 @@
--- A line has a machine for each slave, whatever goes through it or is written to it, and behind each edit.
+-- A line has a machine for each slave, whatever goes through it or is written to it, and after each edit.
 use Rattle.std.proofs.Common.{◌≡◌, ◌≢◌, ◌≤◌, ◌+◌, ◌-◌, ℕ, zero, suc, Bool, true, false, cond, All, List, [], ◌∷◌, ◌++◌, length, map, take, drop, refl, ap, ap₂, sym, subst, ◌∙◌, arith, Some, None, length-append, length-take, length-drop}
 use Rattle.std.specs.Prelude.{Option, AllPairs, sum_by, find, option_and_then}
 use Rattle.std.specs.Option.{option_map_or}
@@ -18,19 +18,19 @@ use Rattle.hc_records.proofs.lemmas.Declaring.{line-absent}
 use Rattle.hc_records.proofs.lemmas.Limits.{project-inside}
 use Rattle.hc_records.proofs.lemmas.Lists.{AllPairs-head, AllPairs-tail}
 use Rattle.hc_machine.specs.Frames.{frame_after}
-use Rattle.hc_segment.specs.Line.{machines_after, machines_behind}
-use Rattle.hc_segment.specs.Machines.{Replacement, coming_at, fresh_machines, going_at, has_alias, machines_behind_edit, machines_of, opened_machines, poked, replaced, slaves_before}
+use Rattle.hc_segment.specs.Line.{machines_after, machines_after_frame}
+use Rattle.hc_segment.specs.Machines.{Replacement, coming_at, fresh_machines, going_at, has_alias, machines_after_edit, machines_of, opened_machines, poked, machines_replaced, slaves_before}
 use Rattle.hc_segment.proofs.Counted.{before-line, found-line, length-fresh, length-line, present-all, present-few, slaves_in}
 
 -- what goes through it
 
-behind-count : (ms : List (List ℕ)) (frame : List ℕ) → length (machines_behind ms frame) ≡ length ms
-behind-count [] frame = refl
-behind-count (m ∷ ms) frame = ap suc (behind-count ms (frame_after m frame))
+after_it-count : (ms : List (List ℕ)) (frame : List ℕ) → length (machines_after_frame ms frame) ≡ length ms
+after_it-count [] frame = refl
+after_it-count (m ∷ ms) frame = ap suc (after_it-count ms (frame_after m frame))
 
 pub after-count : (ms frames : List (List ℕ)) → length (machines_after ms frames) ≡ length ms
 after-count ms [] = refl
-after-count ms (frame ∷ frames) = after-count (machines_behind ms frame) frames ∙ behind-count ms frame
+after-count ms (frame ∷ frames) = after-count (machines_after_frame ms frame) frames ∙ after_it-count ms frame
 
 -- what is written to it
 
@@ -69,7 +69,7 @@ others-stay alias present (declared ∷ groups) others =
     ap (λ (d : Declared). d ∷ map (with_presence alias present) groups) (other-stays alias present declared other)
     ∙ ap (λ (ds : List Declared). declared ∷ ds) (others-stay alias present groups (All-tail (HasOther alias) declared.group (groups_of groups) others))
 
--- behind the first group with the alias the others stay
+-- after the first group with the alias the others stay
 rest-stays : (alias : ℕ) (present : Bool) (declared : Declared) (groups : List Declared) → has_alias alias declared ≡ true → AllPairs AreDistinct (groups_of (declared ∷ groups))
     → map (with_presence alias present) groups ≡ groups
 rest-stays alias present declared groups is distinct =
@@ -151,44 +151,44 @@ changed-total change (declared ∷ groups) =
     let first = sum_by-cons present_in (with_slaves change declared) (map (with_slaves change) groups) in
     omega (arith, one, first, changed-total change groups, total-cons declared groups)
 
--- the machines behind it
+-- the machines after it
 
 replaced-count : (ms coming : List (List ℕ)) (position gone : ℕ) → position + gone ≤ length ms
-    → length (replaced (record { position = position; gone = gone; coming = coming }) ms) + gone ≡ length ms + length coming
+    → length (machines_replaced (record { position = position; gone = gone; coming = coming }) ms) + gone ≡ length ms + length coming
 replaced-count ms coming position gone within =
     omega (arith, within, length-append (take position ms) (coming ++ drop (position + gone) ms), length-append coming (drop (position + gone) ms), length-take position ms, length-drop (position + gone) ms)
 
 came : (alias : ℕ) (groups : List Declared) (ms : List (List ℕ)) (declared : Declared) (present : Bool) → declared.present ≡ present → slaves_before alias groups ≤ length ms
-    → length (option_map_or (λ (r : Replacement). replaced r ms) (coming_at (slaves_before alias groups) declared) ms) ≡ length ms + coming_count (Some declared)
+    → length (option_map_or (λ (r : Replacement). machines_replaced r ms) (coming_at (slaves_before alias groups) declared) ms) ≡ length ms + coming_count (Some declared)
 came alias groups ms declared true is before =
     let here = present-all declared is in
-    ap (λ (b : Bool). length (option_map_or (λ (r : Replacement). replaced r ms) (cond b None (Some (record { position = slaves_before alias groups; gone = 0; coming = fresh_machines declared.group }))) ms)) is
+    ap (λ (b : Bool). length (option_map_or (λ (r : Replacement). machines_replaced r ms) (cond b None (Some (record { position = slaves_before alias groups; gone = 0; coming = fresh_machines declared.group }))) ms)) is
     ∙ omega (arith, here)
 came alias groups ms declared false is before =
     let none = ap (λ (b : Bool). length (cond b declared.group.slaves [])) is in
     let many = replaced-count ms (fresh_machines declared.group) (slaves_before alias groups) 0 (omega (arith, before)) in
-    ap (λ (b : Bool). length (option_map_or (λ (r : Replacement). replaced r ms) (cond b None (Some (record { position = slaves_before alias groups; gone = 0; coming = fresh_machines declared.group }))) ms)) is
+    ap (λ (b : Bool). length (option_map_or (λ (r : Replacement). machines_replaced r ms) (cond b None (Some (record { position = slaves_before alias groups; gone = 0; coming = fresh_machines declared.group }))) ms)) is
     ∙ omega (arith, none, many, length-fresh declared.group.alias declared.group.slaves)
 
 went : (alias : ℕ) (groups : List Declared) (ms : List (List ℕ)) (declared : Declared) (present : Bool) → declared.present ≡ present → (declared.present ≡ true → slaves_before alias groups + slaves_in declared ≤ length ms)
-    → length (option_map_or (λ (r : Replacement). replaced r ms) (going_at (slaves_before alias groups) declared) ms) + going_count (Some declared) ≡ length ms
+    → length (option_map_or (λ (r : Replacement). machines_replaced r ms) (going_at (slaves_before alias groups) declared) ms) + going_count (Some declared) ≡ length ms
 went alias groups ms declared true is within =
     let here = present-all declared is in
     let many = replaced-count ms [] (slaves_before alias groups) (slaves_in declared) (within is) in
-    let left = ap (λ (b : Bool). length (option_map_or (λ (r : Replacement). replaced r ms) (cond b (Some (record { position = slaves_before alias groups; gone = slaves_in declared; coming = [] })) None) ms)) is in
+    let left = ap (λ (b : Bool). length (option_map_or (λ (r : Replacement). machines_replaced r ms) (cond b (Some (record { position = slaves_before alias groups; gone = slaves_in declared; coming = [] })) None) ms)) is in
     omega (arith, here, many, left)
 went alias groups ms declared false is within =
     let none = ap (λ (b : Bool). length (cond b declared.group.slaves [])) is in
-    let left = ap (λ (b : Bool). length (option_map_or (λ (r : Replacement). replaced r ms) (cond b (Some (record { position = slaves_before alias groups; gone = slaves_in declared; coming = [] })) None) ms)) is in
+    let left = ap (λ (b : Bool). length (option_map_or (λ (r : Replacement). machines_replaced r ms) (cond b (Some (record { position = slaves_before alias groups; gone = slaves_in declared; coming = [] })) None) ms)) is in
     omega (arith, none, left)
 
 came-any : (alias : ℕ) (groups : List Declared) (ms : List (List ℕ)) (found : Option Declared) → slaves_before alias groups ≤ length ms
-    → length (option_map_or (λ (r : Replacement). replaced r ms) (option_and_then (coming_at (slaves_before alias groups)) found) ms) ≡ length ms + coming_count found
+    → length (option_map_or (λ (r : Replacement). machines_replaced r ms) (option_and_then (coming_at (slaves_before alias groups)) found) ms) ≡ length ms + coming_count found
 came-any alias groups ms None before = omega arith
 came-any alias groups ms (Some declared) before = came alias groups ms declared declared.present refl before
 
 went-any : (alias : ℕ) (groups : List Declared) (ms : List (List ℕ)) (found : Option Declared) → ((declared : Declared) → found ≡ Some declared → declared.present ≡ true → slaves_before alias groups + slaves_in declared ≤ length ms)
-    → length (option_map_or (λ (r : Replacement). replaced r ms) (option_and_then (going_at (slaves_before alias groups)) found) ms) + going_count found ≡ length ms
+    → length (option_map_or (λ (r : Replacement). machines_replaced r ms) (option_and_then (going_at (slaves_before alias groups)) found) ms) + going_count found ≡ length ms
 went-any alias groups ms None within = omega arith
 went-any alias groups ms (Some declared) within = went alias groups ms declared declared.present refl (within declared refl)
 
@@ -203,9 +203,9 @@ opened-total [] = refl
 opened-total (declared ∷ groups) =
     omega (arith, length-append (machines_of declared) (opened_machines groups), fresh-if declared.present declared refl, opened-total groups, total-cons declared groups)
 
--- behind an edit of a project's groups a line with a machine for each slave has one again
+-- after an edit of a project's groups a line with a machine for each slave has one again
 pub edit-count : (groups : List Declared) (edit : Edit) (ms : List (List ℕ)) → lowest_fault (groups_of groups) ≡ None → length ms ≡ length (line_from 1 groups)
-    → length (machines_behind_edit groups edit ms) ≡ length (line_from 1 (groups_after groups edit))
+    → length (machines_after_edit groups edit ms) ≡ length (line_from 1 (groups_after groups edit))
 edit-count groups (Connect alias) ms project each =
     let found = find (has_alias alias) groups in
     let before = before-line alias 1 groups in

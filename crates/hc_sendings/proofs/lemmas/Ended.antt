@@ -1,4 +1,4 @@
--- An arrival that is news ends what is awaited with its serial, and nothing else.
+-- An arrival that is current ends what is awaited with its serial, and nothing else.
 use Rattle.std.proofs.Common.{◌≡◌, ◌≢◌, ℕ, ◌==◌, ◌<◌, Bool, true, false, cond, not, List, [], ◌∷◌, filter, refl, sym, ap, ◌∙◌, subst, Option, Some, None}
 use Rattle.std.specs.Prelude.{All, find, option_and_then, option_map}
 use Rattle.std.specs.Option.{option_or}
@@ -8,17 +8,17 @@ use Rattle.std.proofs.lemmas.List.Kept.{AllPairs-filter}
 use Rattle.hc_records.specs.Line.{Member}
 use Rattle.hc_records.proofs.lemmas.Choices.{by_bool}
 use Rattle.hc_events.specs.Arrivals.{Arrival}
-use Rattle.hc_events.specs.Accepted.{StandsIn}
+use Rattle.hc_events.specs.Accepted.{IsInLine}
 use Rattle.hc_events.specs.AnswerLaws.{IsAwaited}
-use Rattle.hc_events.specs.Entries.{Record, Came}
+use Rattle.hc_events.specs.Entries.{History, Came}
 use Rattle.hc_events.specs.Points.{line_of, next_serial}
 use Rattle.hc_events.specs.Answering.{Sending, has_heads, is_stale_to, sending_of}
 use Rattle.hc_events.specs.Awaited.{awaited}
 use Rattle.hc_events.proofs.lemmas.Answers.{awaited-answered}
-use Rattle.hc_events.proofs.lemmas.Awaited.{alive_came, same_is, unless_fits, unless-other}
+use Rattle.hc_events.proofs.lemmas.Awaited.{awaited_came, same_is, unless_fits, unless-other}
 use Rattle.hc_sendings.specs.Waiting.{AwaitedFrame, AwaitedWrite, Waiting, ended}
 use Rattle.hc_sendings.specs.Judging.{due_with, found_frame, found_write, frame_due, write_due}
-use Rattle.hc_sendings.specs.Record.{KeepsAwaited, due_by, dues_of}
+use Rattle.hc_sendings.specs.History.{KeepsAwaited, due_by, dues_of}
 
 -- among what is kept
 
@@ -40,16 +40,16 @@ ended_many out false over x rest same = either_none (not out) (cond over None re
 
 -- frames or writes, each with its serial
 module _ {X : Type 0} (number : X → ℕ) where
-  find_kept : (serial : ℕ) (keep : Bool) (one : X) (rest : List X) → find (λ x. number x == serial) (cond keep (one ∷ rest) rest)
+  find_unchanged : (serial : ℕ) (keep : Bool) (one : X) (rest : List X) → find (λ x. number x == serial) (cond keep (one ∷ rest) rest)
       ≡ cond keep (cond (number one == serial) (Some one) (find (λ x. number x == serial) rest)) (find (λ x. number x == serial) rest)
-  find_kept serial true one rest = refl
-  find_kept serial false one rest = refl
+  find_unchanged serial true one rest = refl
+  find_unchanged serial false one rest = refl
 
   found_ended : (n serial : ℕ) (all : List X) → find (λ x. number x == serial) (filter (λ x. not (number x == n)) all)
       ≡ cond (serial == n) None (find (λ x. number x == serial) all)
   found_ended n serial [] = sym (either_none (serial == n) None)
   found_ended n serial (one ∷ all) =
-      find_kept serial (not (number one == n)) one (filter (λ x. not (number x == n)) all)
+      find_unchanged serial (not (number one == n)) one (filter (λ x. not (number x == n)) all)
       ∙ ap (λ rest. cond (not (number one == n)) (cond (number one == serial) (Some one) rest) rest) (found_ended n serial all)
       ∙ ended_many (number one == n) (number one == serial) (serial == n) (Some one) (find (λ x. number x == serial) all) (same_other (number one) serial n)
 
@@ -70,32 +70,32 @@ due_ended line n waiting serial =
 fits_itself : (arrival : Arrival) (sending : Sending) → has_heads sending.heads arrival.parts ≡ true → unless_fits arrival.serial arrival sending ≡ None
 fits_itself arrival sending fit = rw (same_is arrival.serial, fit) refl
 
-due_answered : (past : Record) (arrival : Arrival) (serial : ℕ) → IsAwaited past arrival → due_by (Came arrival ∷ past) serial ≡ cond (serial == arrival.serial) None (due_by past serial)
-due_answered past arrival serial news =
-    ap (option_map dues_of) (alive_came serial arrival (sending_of past serial))
+due_answered : (history : History) (arrival : Arrival) (serial : ℕ) → IsAwaited history arrival → due_by (Came arrival ∷ history) serial ≡ cond (serial == arrival.serial) None (due_by history serial)
+due_answered history arrival serial updates =
+    ap (option_map dues_of) (awaited_came serial arrival (sending_of history serial))
     ∙ by_bool (serial == arrival.serial)
     (λ t. let number : serial ≡ arrival.serial = eqb-true serial arrival.serial t in
-    let over : option_and_then (unless_fits serial arrival) (awaited past serial) ≡ None =
-    subst (λ n. option_and_then (unless_fits n arrival) (awaited past n) ≡ None) (sym number)
-    (ap (option_and_then (unless_fits arrival.serial arrival)) news.there ∙ fits_itself arrival news.sending news.fits) in
-    ap (option_map dues_of) over ∙ sym (ap (λ b. cond b None (due_by past serial)) t))
-    (λ t. ap (option_map dues_of) (unless-other serial arrival (awaited past serial) t) ∙ sym (ap (λ b. cond b None (due_by past serial)) t))
+    let over : option_and_then (unless_fits serial arrival) (awaited history serial) ≡ None =
+    subst (λ n. option_and_then (unless_fits n arrival) (awaited history n) ≡ None) (sym number)
+    (ap (option_and_then (unless_fits arrival.serial arrival)) updates.there ∙ fits_itself arrival updates.sending updates.fits) in
+    ap (option_map dues_of) over ∙ sym (ap (λ b. cond b None (due_by history serial)) t))
+    (λ t. ap (option_map dues_of) (unless-other serial arrival (awaited history serial) t) ∙ sym (ap (λ b. cond b None (due_by history serial)) t))
 
 -- so what is kept then is what the record awaits
 
-pub waits-ended : (past : Record) (waiting : Waiting) (arrival : Arrival) → KeepsAwaited past waiting → is_stale_to past arrival ≡ false
-    → KeepsAwaited (Came arrival ∷ past) (ended arrival.serial waiting)
-waits-ended past waiting arrival waits news =
-    let for = (awaited-answered past arrival).news.0 news in
+pub waits-ended : (history : History) (waiting : Waiting) (arrival : Arrival) → KeepsAwaited history waiting → is_stale_to history arrival ≡ false
+    → KeepsAwaited (Came arrival ∷ history) (ended arrival.serial waiting)
+waits-ended history waiting arrival waits updates =
+    let for = (awaited-answered history arrival).updates.0 updates in
     let keep : AwaitedFrame → Bool = λ frame. not (frame.serial == arrival.serial) in
     let stays : AwaitedWrite → Bool = λ write. not (write.serial == arrival.serial) in
     record {
-      due = λ serial. due_ended (line_of past) arrival.serial waiting serial ∙ ap (cond (serial == arrival.serial) None) (waits.due serial) ∙ sym (due_answered past arrival serial for);
+      due = λ serial. due_ended (line_of history) arrival.serial waiting serial ∙ ap (cond (serial == arrival.serial) None) (waits.due serial) ∙ sym (due_answered history arrival serial for);
       ascend = AllPairs-filter (λ (a b : AwaitedFrame). a.serial < b.serial) keep waiting.frames waits.ascend;
-      below = All-filter keep (λ (frame : AwaitedFrame). frame.serial < next_serial past) waiting.frames waits.below;
-      stands = All-filter keep (λ (frame : AwaitedFrame). All (λ carried. StandsIn (line_of past) carried.datagram) frame.datagrams) waiting.frames waits.stands;
+      below = All-filter keep (λ (frame : AwaitedFrame). frame.serial < next_serial history) waiting.frames waits.below;
+      is_placed = All-filter keep (λ (frame : AwaitedFrame). All (λ carried. IsInLine (line_of history) carried.datagram) frame.datagrams) waiting.frames waits.is_placed;
       in_order = AllPairs-filter (λ (a b : AwaitedWrite). a.serial < b.serial) stays waiting.writes waits.in_order;
-      given = All-filter stays (λ (write : AwaitedWrite). write.serial < next_serial past) waiting.writes waits.given;
+      given = All-filter stays (λ (write : AwaitedWrite). write.serial < next_serial history) waiting.writes waits.given;
       apart = All-filter stays (λ (write : AwaitedWrite). All (λ (frame : AwaitedFrame). frame.serial ≢ write.serial) (filter keep waiting.frames)) waiting.writes
           (All-weaker (λ (write : AwaitedWrite). All (λ (frame : AwaitedFrame). frame.serial ≢ write.serial) waiting.frames) (λ (write : AwaitedWrite). All (λ (frame : AwaitedFrame). frame.serial ≢ write.serial) (filter keep waiting.frames))
           (λ write all. All-filter keep (λ (frame : AwaitedFrame). frame.serial ≢ write.serial) waiting.frames all) waiting.writes waits.apart);

@@ -21,7 +21,7 @@ use Rattle.hc_records.proofs.lemmas.Tasks.{task-list-all}
 use Rattle.hc_records.specs.Image.{datagram_count, task_places}
 use Rattle.hc_places.specs.declared.table.Datagram.{Datagram}
 use Rattle.hc_places.specs.Table.{datagram_of, datagrams_in, table_of}
-use Rattle.hc_events.specs.Sendings.{length_of}
+use Rattle.hc_events.specs.Sendings.{line_data_length}
 
 abbrev Numbered : List Member → ℕ → List Datagram
 Numbered line task = map (datagram_of line task) (range_with_len 0 (datagram_count (task_places task line)))
@@ -90,7 +90,7 @@ listed-count state task datagrams none is =
 -- and each has its length
 pub listed-length : (state : State) (task number : ℕ) (datagrams : List Datagram) (other : Datagram) → lowest_fault (groups_of state.groups) ≡ None
     → datagrams ≡ datagrams_in (table_of (line state)) task → number < length datagrams
-    → (get_or datagrams number other).length ≡ length_of (line state) (task, number)
+    → (get_or datagrams number other).length ≡ line_data_length (line state) (task, number)
 listed-length state task number datagrams other none is inside =
     let count = datagram_count (task_places task (line state)) in
     let within = listed-count state task datagrams none is in
@@ -102,8 +102,8 @@ none_counted : (state : State) (task : ℕ) → lowest_fault (groups_of state.gr
 none_counted state task none high = ap (λ (list : List Keyed). datagram_count (packed opening list)) (further-empty state task none high)
 
 low_or_none : (state : State) (task number : ℕ) → lowest_fault (groups_of state.groups) ≡ None → number < datagram_count (task_places task (line state)) → (task < TASKS) ⊎ (TASKS ≤ task) → task < TASKS
-low_or_none state task number none stands (inl low) = low
-low_or_none state task number none stands (inr high) = let empty = none_counted state task none high in absurd (omega (arith, stands, empty))
+low_or_none state task number none is_placed (inl low) = low
+low_or_none state task number none is_placed (inr high) = let empty = none_counted state task none high in absurd (omega (arith, is_placed, empty))
 
 pub standing-task : (state : State) (task number : ℕ) → lowest_fault (groups_of state.groups) ≡ None → number < datagram_count (task_places task (line state)) → task < TASKS
-standing-task state task number none stands = low_or_none state task number none stands (cases_lt task TASKS)
+standing-task state task number none is_placed = low_or_none state task number none is_placed (cases_lt task TASKS)

@@ -1,4 +1,4 @@
--- What is found with a serial among things that are marked, of which those stay that pass a test, and behind which one more comes.
+-- What is found with a serial among marked things, once those that fail a test have gone and one more has come after the others.
 use Rattle.std.proofs.Common.{◌≡◌, ℕ, ◌==◌, ◌<◌, Bool, true, false, cond, List, [], ◌∷◌, ◌++◌, filter, map, refl, sym, ap, ◌∙◌, arith, Option, Some, None}
 use Rattle.std.specs.Prelude.{All, AllPairs, find, option_and_then}
 use Rattle.std.proofs.lemmas.Bool.Decides.{nat_tests}

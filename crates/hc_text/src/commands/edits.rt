@@ -27,6 +27,7 @@ pub(super) fn edit_command_in(
     }
 }
 
+/// The edit with a name and arguments; none if they spell no edit. `AllocError` if a growth is refused.
 fn edit_of(alloc: Global, name: &[u8], arguments: &[&[u8]]) -> Result<Option<Edit>, AllocError>
     ensures { IfOk result (λ edit. edit ≡ edit_in name.now (map (λ word. word.now) arguments.now)) }
 {
@@ -54,6 +55,8 @@ fn alias_of(arguments: &[&[u8]]) -> Option<u16>
     }
 }
 
+/// The remap that a station address, an area and any number of PDO indexes spell; none if they are no such numbers.
+/// `AllocError` if a growth is refused.
 fn remap_of(alloc: Global, arguments: &[&[u8]]) -> Result<Option<Edit>, AllocError>
     ensures { IfOk result (λ edit. edit ≡ remap_in (map (λ word. word.now) arguments.now)) }
 {
@@ -88,6 +91,7 @@ fn indexes_of(alloc: Global, words: &[&[u8]]) -> Result<Option<Items<u16>>, Allo
     Ok(Some(Items::of(indexes)))
 }
 
+/// The move that a station address, an area and a task spell; none if there are more or fewer words, or one is no such number.
 fn move_of(arguments: &[&[u8]]) -> Option<Edit>
     ensures { result ≡ move_in (map (λ word. word.now) arguments.now) }
 {

@@ -10,7 +10,7 @@ use hc_records::items::Items;
 use std::alloc::{AllocError, Global};
 use std::marker::Model;
 
-/// Bytes to be written to a machine's memory, in which they all lie.
+/// Bytes to be written to a machine's memory, where they all lie.
 #[derive(Debug, Drop)]
 pub struct Poke {
     station: u16,
@@ -45,7 +45,7 @@ impl Poke {
     }
 }
 
-/// Bytes to be read of a machine's memory, in which they all lie.
+/// Bytes to be read of a machine's memory, where they all lie.
 #[derive(Debug, Drop)]
 pub struct Peek {
     station: u16,

@@ -56,6 +56,8 @@ fn settings_of(alloc: Global, words: &[&[u8]]) -> Result<Option<Items<Setting>>,
     Ok(Some(Items::of(settings)))
 }
 
+/// The posting that a task, at most 255, and any number of words `V=X` spell; none if a word is another. `AllocError` if a
+/// growth is refused.
 fn posting_of(alloc: Global, arguments: &[&[u8]]) -> Result<Option<Posting>, AllocError>
     ensures { IfOk result (λ posting. posting ≡ posting_in (map (λ word. word.now) arguments.now)) }
 {

@@ -1,6 +1,6 @@
 //! The commands of at most two arguments, each a number or bytes.
 ghost use Rattle.std.specs.Prelude.{◌≡◌, IfOk, map};
-ghost use Rattle.hc_text.specs.ShortCommands.{alone_in, arrive_in, place_in, read_in, regs_in, show_in, view_in};
+ghost use Rattle.hc_text.specs.ShortCommands.{alone_in, arrive_in, place_command, read_in, regs_in, show_in, view_in};
 
 use super::Command;
 use crate::numbers::{byte_in, bytes_in, double_byte_in, quadruple_byte_in};
@@ -52,7 +52,7 @@ pub(super) fn show_in(arguments: &[&[u8]]) -> Option<Command>
 /// `place`: its argument is the number of a variable, at most 4,294,967,295; none where it is another, or where
 /// there isn't one argument.
 pub(super) fn place_in(arguments: &[&[u8]]) -> Option<Command>
-    ensures { result ≡ place_in (map (λ word. word.now) arguments.now) }
+    ensures { result ≡ place_command (map (λ word. word.now) arguments.now) }
 {
     match arguments {
         [number] => match quadruple_byte_in(number) {

@@ -19,7 +19,7 @@ const DIGITS: [u8; 12] = [
     0x10, 0x32, 0x54, 0x76, 0x98, 0xba, 0xdc, 0xfe, 0x10, 0x32, 0x54, 0x76,
 ];
 
-/// A bit of `READ`, how many bits stand from there, and their value.
+/// A bit of `READ`, how many bits are from there, and their value.
 type Read = (usize, usize, u64);
 
 const READS: [Read; 24] = [
@@ -214,6 +214,7 @@ fn miscopied(rows: &[Copied]) -> Option<(usize, usize, usize)> {
     None
 }
 
+/// Runs of bits are read, written and copied across the edges of bytes and words, and their neighbours stay.
 #[test]
 fn runs_go_over_byte_and_word_edges(rt: HostRuntime) {
     assert_eq!(rt;

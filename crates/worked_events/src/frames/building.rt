@@ -10,21 +10,21 @@ use std::test::Fail;
 
 const OLD: u8 = 0xa5;
 
-/// Bytes that are to stand from a place of a frame on.
+/// Bytes that are to be from a place of a frame on.
 type Piece = (usize, &'static [u8]);
 
-/// Whether bytes stand from a place of a frame on.
-fn stands(out: &[u8], at: usize, bytes: &[u8]) -> bool {
+/// Whether bytes are from a place of a frame on.
+fn is_placed(out: &[u8], at: usize, bytes: &[u8]) -> bool {
     match out.get(at..) {
         Some(rest) => rest.starts_with(bytes),
         None => false,
     }
 }
 
-/// Whether each of the pieces stands at its place.
-fn stand(out: &[u8], pieces: &[Piece]) -> bool {
+/// Whether each of the pieces is at its place.
+fn are_placed(out: &[u8], pieces: &[Piece]) -> bool {
     for (at, bytes) in pieces {
-        if !stands(out, *at, *bytes) {
+        if !is_placed(out, *at, *bytes) {
             return false;
         }
     }
@@ -37,7 +37,7 @@ fn has_head(out: &[u8], serial: u8, low: u8, high: u8) -> bool {
     let head = [
         255, 255, 255, 255, 255, 255, 2, 0, 0, 0, 0, serial, 0x88, 0xa4, low, high,
     ];
-    stands(out, 0, &head)
+    is_placed(out, 0, &head)
 }
 
 const THREE_BYTES: [Piece; 3] = [
@@ -70,9 +70,10 @@ fn is_built(
     };
     let was_blank = data.len() == usize::from(fill.0) && data.iter().all(|byte| *byte == 0);
     data.fill(fill.1);
-    was_blank && has_head(out, serial, header.0, header.1) && stand(out, pieces)
+    was_blank && has_head(out, serial, header.0, header.1) && are_placed(out, pieces)
 }
 
+/// Frames of process data have the head, datagrams and padding that were worked out by hand, up to 1,514 bytes.
 #[test]
 fn process_data_are_built(rt: HostRuntime) {
     let are_built = [
@@ -118,6 +119,7 @@ fn calls_without_room(out: &mut [u8]) -> usize
     calls.iter().filter(|call| **call).count()
 }
 
+/// Each of the five calls refuses 59 bytes, asks for 60, and leaves them as they were.
 #[test]
 fn room_for_process_data(rt: HostRuntime) {
     let mut out = [OLD; 59];
@@ -135,11 +137,12 @@ const WRITTEN: [Piece; 4] = [
     (60, &[OLD; 2]),
 ];
 
+/// A register write to a sync manager has the bytes that were worked out by hand.
 #[test]
 fn write_of_a_sync_manager(rt: HostRuntime) {
     let mut out = [OLD; 62];
     let built = build_write(&mut out, 0, 1001, 0x0810, &BLOCK);
-    assert!(rt; built == Ok(60) && has_head(&out, 0, 0x14, 0x10) && stand(&out, &WRITTEN));
+    assert!(rt; built == Ok(60) && has_head(&out, 0, 0x14, 0x10) && are_placed(&out, &WRITTEN));
 }
 
 const ALIAS_READ: [Piece; 3] = [
@@ -155,11 +158,12 @@ const ALIAS_READ: [Piece; 3] = [
 
 const STATION: [Piece; 1] = [(16, &[2, 255, 0, 0, 0x10, 0, 2, 0, 0, 0, 0xe9, 0x03, 0, 0])];
 
+/// The frames that read an alias and write a station address by position have the bytes that were worked out by hand.
 #[test]
 fn setup_of_a_position(rt: HostRuntime) {
     let mut out = [OLD; 60];
-    let is_read = build_alias_read(&mut out, 2) == Ok(60) && stand(&out, &ALIAS_READ);
-    let is_written = build_station(&mut out, 0, 1001) == Ok(60) && stand(&out, &STATION);
+    let is_read = build_alias_read(&mut out, 2) == Ok(60) && are_placed(&out, &ALIAS_READ);
+    let is_written = build_station(&mut out, 0, 1001) == Ok(60) && are_placed(&out, &STATION);
     assert!(rt; is_read && is_written);
 }
 
@@ -170,6 +174,8 @@ const IN_ONE_FRAME: [Piece; 4] = [
     (60, &[OLD; 1]),
 ];
 
+/// The datagrams of two tasks in one frame are handed out as zeros, one after the other, and have the bytes that were worked
+/// out by hand.
 #[test]
 fn two_tasks_in_one_frame(rt: HostRuntime) -> Result<(), Fail> {
     let mut out = [OLD; 61];
@@ -180,7 +186,7 @@ fn two_tasks_in_one_frame(rt: HostRuntime) -> Result<(), Fail> {
     let is_second = &*second == [0].as_slice();
     second.fill(2);
     let is_handed_out = is_first && is_second && open.next().is_none();
-    assert!(rt; is_handed_out && has_head(&out, 6, 0x1b, 0x10) && stand(&out, &IN_ONE_FRAME));
+    assert!(rt; is_handed_out && has_head(&out, 6, 0x1b, 0x10) && are_placed(&out, &IN_ONE_FRAME));
     Ok(())
 }
 
@@ -206,6 +212,7 @@ fn is_first_built() -> bool {
     is_blank && first == FIRST
 }
 
+/// A head and two datagrams that are built one by one have the bytes that were worked out by hand.
 #[test]
 fn one_frame_from_its_pieces(rt: HostRuntime) {
     let mut start = [OLD; 16];
@@ -213,6 +220,7 @@ fn one_frame_from_its_pieces(rt: HostRuntime) {
     assert!(rt; has_head(&start, 6, 0x1b, 0x10) && is_first_built() && is_second_built());
 }
 
+/// APRD, APWR, FPWR and LRW have the numbers 1, 2, 5 and 12 (ETG.1000.4).
 #[test]
 fn numbers_of_the_commands(rt: HostRuntime) {
     let numbers = [

@@ -9,6 +9,7 @@ const ARRIVED: [u8; 31] = [
     1, 3, 0, 0, 0, 0, 0x34, 0x0a, 3, 0,
 ];
 
+/// The fault of a frame; none if it can be read.
 fn fault_of(frame: &[u8]) -> Option<FrameFault> {
     read_frame(frame).err()
 }
@@ -81,7 +82,7 @@ const WRITE: [u8; 36] = [
     0x10, 8, 8, 0, 0, 0, 1, 2, 3, 4, 5, 6, 7, 8, 0, 0,
 ];
 
-/// The answer with another destination and another first source byte, and with bytes behind its counter.
+/// The answer with another destination and another first source byte, and with bytes after its counter.
 const SURROUNDED: [u8; 34] = [
     1, 0x80, 0xc2, 0, 0, 0x0e, 0xff, 0, 0, 0, 0, 4, 0x88, 0xa4, 0x0f, 0x10, 0x0c, 4, 0, 0, 0, 1, 3,
     0, 0, 0, 0, 0x34, 0x0a, 3, 0, 0xa5, 0xa5, 0xa5,
@@ -97,6 +98,7 @@ const READ: [Read; 4] = [
     (&WRITE, 0, &WRITE_READ),
 ];
 
+/// Frames are read with the serial and datagrams that were worked out by hand.
 #[test]
 fn frames_are_read(rt: HostRuntime) -> Result<(), Fail> {
     for (frame, serial, wanted) in &READ {

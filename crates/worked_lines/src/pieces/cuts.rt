@@ -38,6 +38,7 @@ fn needed(alloc: Global, areas: u16) -> Result<Option<usize>, AllocError> {
     })
 }
 
+/// A datagram begins at the first area that no longer fits. Sixteen datagrams are accepted, and a seventeenth is refused.
 #[test]
 fn datagrams_begin_where_areas_no_longer_fit(rt: HostRuntime) -> Result<(), Fail> {
     let [a, b, c, i] = [out(1), out(2), out(3), input(1)];

@@ -1,4 +1,4 @@
-//! A task whose slaves become more, one at a time, while its areas get other widths: behind each of 2,000 edits that are
+//! A task whose slaves become more, one at a time, while its areas get other widths: after each of 2,000 edits that are
 //! drawn from a fixed seed its boundaries equal those of the plain fold over its list.
 ghost use Rattle.std.specs.Prelude.{◌≡◌, ◌+◌, ◌<◌, ◌≤◌, ◌∷◌, ◌++◌, [], All, IfOk, IsTrue, OnOk};
 ghost use Rattle.hc_records.specs.Boundaries.{boundaries};
@@ -137,7 +137,7 @@ fn is_widened(alloc: Global, cuts: &mut Cuts, slaves: u16) -> Result<bool, Alloc
     Ok(!has_room)
 }
 
-/// How many slaves a task that begins with two of them has behind 2,000 edits, and how many times its tree became a wider
+/// How many slaves a task that begins with two of them has after 2,000 edits, and how many times its tree became a wider
 /// one; none where its boundaries weren't those of the fold.
 fn grown(alloc: Global) -> Result<Option<(u16, u16)>, AllocError> {
     let mut cuts = Cuts::new(alloc, 2)?;
@@ -162,6 +162,8 @@ fn grown(alloc: Global) -> Result<Option<(u16, u16)>, AllocError> {
     Ok(Some((slaves, wider)))
 }
 
+/// A task grows from 2 to 128 slaves over 2,000 edits, its tree is replaced by a wider one six times, and its boundaries always
+/// equal the fold.
 #[test]
 fn a_task_takes_in_slaves_between_edits(rt: HostRuntime) -> Result<(), Fail> {
     // from 2 slaves on the tree is too narrow for 3, 5, 9, 17, 33 and 65 of them

@@ -30,6 +30,7 @@ fn listing(alloc: Global, text: &str) -> Result<String, ProjectFault> {
     Ok(list)
 }
 
+/// Adds a line for each slave, with its areas after it.
 fn list_slaves(list: &mut String, slaves: &[Slave]) -> Result<(), AllocError> {
     for slave in slaves {
         let station = slave.station;
@@ -39,6 +40,7 @@ fn list_slaves(list: &mut String, slaves: &[Slave]) -> Result<(), AllocError> {
     Ok(())
 }
 
+/// Adds a line for each area, with its PDOs after it.
 fn list_areas(list: &mut String, areas: &[Area]) -> Result<(), AllocError> {
     for area in areas {
         let sm = area.sm;
@@ -56,6 +58,7 @@ fn list_areas(list: &mut String, areas: &[Area]) -> Result<(), AllocError> {
     Ok(())
 }
 
+/// Adds the indexes of PDOs, in hexadecimal.
 fn list_indexes(list: &mut String, indexes: &[u16]) -> Result<(), AllocError> {
     for index in indexes {
         let index = *index;
@@ -64,6 +67,7 @@ fn list_indexes(list: &mut String, indexes: &[u16]) -> Result<(), AllocError> {
     Ok(())
 }
 
+/// Adds a line for each PDO, with its entries.
 fn list_pdos(list: &mut String, pdos: &[Pdo]) -> Result<(), AllocError> {
     for pdo in pdos {
         let index = pdo.index;
@@ -74,6 +78,7 @@ fn list_pdos(list: &mut String, pdos: &[Pdo]) -> Result<(), AllocError> {
     Ok(())
 }
 
+/// Adds each entry as its variable's number, 0 for none, and its bits.
 fn list_entries(list: &mut String, entries: &[(Option<VarId>, u8)]) -> Result<(), AllocError> {
     for entry in entries {
         let variable = match entry.0 {

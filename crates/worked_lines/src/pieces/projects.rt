@@ -57,6 +57,7 @@ fn judged(alloc: Global, aliases: &[u16]) -> Result<Option<ProjectFault>, AllocE
     Ok(Project::checked(alloc, groups_of(alloc, aliases)?).err())
 }
 
+/// A project is accepted only if its first group, and no other, has alias 0.
 #[test]
 fn the_first_group_is_the_mandatory_one(rt: HostRuntime) -> Result<(), Fail> {
     for (aliases, fault) in &ROWS {
@@ -73,6 +74,7 @@ fn is_given_back(alloc: Global) -> Result<bool, Fail> {
     Ok(project.into_groups().is_same(&copy))
 }
 
+/// A project gives back the groups that it was made of.
 #[test]
 fn copies_are_the_same(rt: HostRuntime) -> Result<(), Fail> {
     assert!(rt; is_given_back(rt.alloc())?);
@@ -96,6 +98,8 @@ fn doubled(alloc: Global, group: &Group) -> Result<Group, AllocError> {
     })
 }
 
+/// A group with alias 0 can't be declared. A tool's group is copied as it is, and refused with `RepeatedStation` once its
+/// slaves are doubled.
 #[test]
 fn groups_are_judged_alone(rt: HostRuntime) -> Result<(), Fail> {
     for mandatory in groups_of(rt.alloc(), &[0])?.as_slice() {
@@ -125,6 +129,7 @@ fn grown(alloc: Global, count: u16) -> Result<Items<u16>, AllocError> {
     Ok(list)
 }
 
+/// A list that grows one by one in reserved memory has all its items, in order.
 #[test]
 fn lists_grow_into_their_room(rt: HostRuntime) -> Result<(), Fail> {
     let list = grown(rt.alloc(), 9)?;

@@ -9,11 +9,11 @@ use hc_registers::sync_manager::{self, sync_block};
 use std::alloc::{AllocError, Global};
 use std::test::Fail;
 
-/// A direction, an address, a width of at most 64 bits and the bit of datagram 0 of task 0 at which it begins, with
+/// A direction, an address, a width of at most 64 bits and the bit of datagram 0 of task 0 where it begins, with
 /// the bytes of the area's sync manager block and of its FMMU block.
 type Row = (Dir, u16, u8, u16, [u8; 8], [u8; 16]);
 
-/// An output area of 2 bits and an input area of 12 bits behind it; the second and the third of three areas of 3
+/// An output area of 2 bits and an input area of 12 bits after it; the second and the third of three areas of 3
 /// bits; an area of no bits.
 const ROWS: [Row; 5] = [
     (
@@ -98,6 +98,8 @@ fn has_blocks(area: &Area, row: &Row) -> bool {
     sync_block(area) == row.4 && fmmu_block(area, mapping) == row.5
 }
 
+/// An area has the blocks of its sync manager and its FMMU with the bytes that were worked out by hand, also an area without
+/// bits.
 #[test]
 fn areas_have_their_blocks(rt: HostRuntime) -> Result<(), Fail> {
     for row in &ROWS {
@@ -107,6 +109,7 @@ fn areas_have_their_blocks(rt: HostRuntime) -> Result<(), Fail> {
     Ok(())
 }
 
+/// The fields of a sync manager's and an FMMU's block are read from their bytes (ETG.1000.4).
 #[test]
 fn fields_are_read(rt: HostRuntime) {
     let manager = [0x80, 0x11, 0x02, 0x01, 0x20, 0x03, 0x01, 0x04];
@@ -134,6 +137,7 @@ fn fields_are_read(rt: HostRuntime) {
     assert!(rt; are_read);
 }
 
+/// Each slave adds 2 to a datagram's expected working counter if it writes outputs, and 1 if it reads inputs.
 #[test]
 fn counters_count_slaves(rt: HostRuntime) {
     let second = Key { area: 1, ..out(1) };

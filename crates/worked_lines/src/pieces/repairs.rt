@@ -88,8 +88,8 @@ fn are_starts(starts: &[Key], later: &[(Dir, u16)]) -> bool {
 /// An edit of a task: the widths that it sets, in bits, and how many spans it doesn't leave settled.
 type Row = (&'static [Width], u32);
 
-/// Whether edits, one behind another, from an empty task on, leave these numbers of spans, and at the
-/// end the datagrams behind the first begin at the keys.
+/// Whether edits, one after another, from an empty task on, leave these numbers of spans, and at the
+/// end the datagrams after the first begin at the keys.
 fn are_repaired(alloc: Global, rows: &[Row], later: &[(Dir, u16)]) -> Result<bool, AllocError> {
     let mut cuts = Cuts::new(alloc, 20)?;
     for row in rows {
@@ -101,7 +101,7 @@ fn are_repaired(alloc: Global, rows: &[Row], later: &[(Dir, u16)]) -> Result<boo
     Ok(are_starts(cuts.starts(), later))
 }
 
-/// Tasks: the edits from an empty task on, and the keys at which the later datagrams begin behind them. An edit in front
+/// Tasks: the edits from an empty task on, and the keys where the later datagrams begin after them. An edit in front
 /// reaches two spans; a repair begins below the touched key; it goes over both hulls; a touched task has an unsettled
 /// span; an edit at the end keeps the spans before it.
 const TASKS: [(&[Row], &[(Dir, u16)]); 5] = [
@@ -174,6 +174,7 @@ const TASKS: [(&[Row], &[(Dir, u16)]); 5] = [
     ),
 ];
 
+/// The repair after an edit reaches as many spans as were counted by hand, and leaves the right datagrams.
 #[test]
 fn edits_reach_spans(rt: HostRuntime) -> Result<(), Fail> {
     for (rows, later) in &TASKS {
@@ -195,6 +196,7 @@ fn left_by_refusal(alloc: Global) -> Result<Option<usize>, AllocError> {
     Ok(Some(cuts.starts().len()))
 }
 
+/// A repair that would make a seventeenth datagram is refused, and the sixteen stay.
 #[test]
 fn a_refused_repair_leaves_the_boundaries(rt: HostRuntime) -> Result<(), Fail> {
     assert_eq!(rt; left_by_refusal(rt.alloc())?, Some(16));

@@ -73,7 +73,7 @@ fn from_key(tree: &SumTree, from: Key) -> (Key, Key)
     searched::<Brand>(tree, from, Blank::new(1))
 }
 
-/// The bit behind a run that starts at bit 0.
+/// The bit after a run that starts at bit 0.
 fn ends(sum: &Sum) -> Option<u32> {
     match sum {
         Sum::Empty => None,
@@ -81,6 +81,7 @@ fn ends(sum: &Sum) -> Option<u32> {
     }
 }
 
+/// A search in a tree of sums finds the first area without room in a datagram, and the end if all fit.
 #[test]
 fn a_search_finds_the_first_area_without_room(rt: HostRuntime) -> Result<(), Fail> {
     let tree = filled_tree(rt.alloc())?;

@@ -1,6 +1,6 @@
 //! A hundred exchanges among the two thousand edits that `worked_lines` draws: one after each declaration and after every
 //! 22nd edit, accepted or refused, until there are a hundred. Each is an exchange of all eight tasks in turn: frames and
-//! memories are those of the plain body.
+//! memories are the plain body's.
 use crate::exchange::machines::machine_of;
 use crate::exchange::model::{PROCESS, Wanted, exchanged, position};
 use hc_exchange::exchange;
@@ -167,6 +167,8 @@ fn count_right(alloc: Global) -> Result<Count, Fail> {
     Ok(count)
 }
 
+/// A hundred exchanges between drawn edits leave the frames and memories of the plain body. More than ten of them follow a
+/// refused edit, and twelve follow a declaration.
 #[test]
 fn exchanges_are_those_of_the_plain_body(rt: HostRuntime) -> Result<(), Fail> {
     let count = count_right(rt.alloc())?;

@@ -39,22 +39,22 @@ pub fn segment_of(alloc: Global, plan: &Plan, pieces: &[Piece]) -> Result<Segmen
     Ok(Segment::of(machines))
 }
 
-/// Whether bytes stand from a place on.
-pub fn stands(bytes: &[u8], at: usize, wanted: &[u8]) -> bool {
+/// Whether bytes are from a place on.
+pub fn is_placed(bytes: &[u8], at: usize, wanted: &[u8]) -> bool {
     match bytes.get(at..) {
         Some(rest) => rest.starts_with(wanted),
         None => false,
     }
 }
 
-/// Whether these bytes stand in the machines.
-pub fn stand(segment: &Segment, pieces: &[Piece]) -> bool {
+/// Whether these bytes are in the machines.
+pub fn are_placed(segment: &Segment, pieces: &[Piece]) -> bool {
     let machines = segment.machines();
     for (position, register, wanted) in pieces {
         let Some(machine) = machines.get(*position) else {
             return false;
         };
-        if !stands(machine.memory(), usize::from(*register), *wanted) {
+        if !is_placed(machine.memory(), usize::from(*register), *wanted) {
             return false;
         }
     }

@@ -16,7 +16,7 @@ const DATAGRAM_BITS: usize = 11_888;
 
 /// An area in its task's image: its number, its datagram, and its first bit and its bits in the datagram.
 #[derive(Clone, Copy)]
-struct Spot {
+struct Location {
     area: usize,
     datagram: usize,
     bit: usize,
@@ -60,7 +60,7 @@ fn variable_bits(alloc: Global, assigned: u8) -> Result<Vec<bool>, AllocError> {
     Ok(bits)
 }
 
-/// A bit of bytes, the least significant of the first one first; none behind their end.
+/// A bit of bytes, the least significant of the first one first; none after their end.
 fn get(bytes: &[u8], bit: usize) -> bool {
     match bytes.get(bit / 8) {
         Some(byte) => byte >> (bit % 8) & 1 == 1,
@@ -76,7 +76,7 @@ fn set(bytes: &mut [u8], bit: usize, value: bool) {
     }
 }
 
-/// How many slaves of the line stand before a slave.
+/// How many slaves of the line are before a slave.
 pub fn position(line: &Line, slave: usize) -> usize {
     let mut count = 0_usize;
     for other in 0..64 {
@@ -88,8 +88,8 @@ pub fn position(line: &Line, slave: usize) -> usize {
 }
 
 /// The areas of a task with their places: outputs in line order, then inputs. An area of 8 bits or more begins a byte, and so
-/// does the first input; one that would end behind bit 11,888 begins the next datagram.
-fn spots(line: &Line, alloc: Global, task: u8) -> Result<Vec<Spot>, AllocError> {
+/// does the first input; one that would end after bit 11,888 begins the next datagram.
+fn spots(line: &Line, alloc: Global, task: u8) -> Result<Vec<Location>, AllocError> {
     let mut spots = Vec::new(alloc);
     let (mut datagram, mut end, mut inputs) = (0_usize, 0_usize, false);
     for area in 0..AREAS {
@@ -105,7 +105,7 @@ fn spots(line: &Line, alloc: Global, task: u8) -> Result<Vec<Spot>, AllocError> 
                 datagram = datagram.saturating_add(1);
                 bit = 0;
             }
-            spots.push(Spot {
+            spots.push(Location {
                 area,
                 datagram,
                 bit,
@@ -123,23 +123,23 @@ fn spots(line: &Line, alloc: Global, task: u8) -> Result<Vec<Spot>, AllocError> 
 fn carry(
     line: &Line,
     alloc: Global,
-    spot: Spot,
+    location: Location,
     first: usize,
     image: &[u8],
     data: &mut [u8],
     memories: &mut [u8],
 ) -> Result<(), AllocError>
-    requires { spot.area < 128 }
+    requires { location.area < 128 }
 {
-    let phys = if is_input(spot.area) { INPUTS } else { 0 };
-    let byte = position(line, spot.area % 64)
+    let phys = if is_input(location.area) { INPUTS } else { 0 };
+    let byte = position(line, location.area % 64)
         .saturating_mul(PROCESS)
         .saturating_add(phys);
     let memory = byte.saturating_mul(8);
     let mut bit = 0_usize;
-    for is_variable in variable_bits(alloc, line.assigned[spot.area])? {
+    for is_variable in variable_bits(alloc, line.assigned[location.area])? {
         let (at, own) = (first.saturating_add(bit), memory.saturating_add(bit));
-        if is_input(spot.area) {
+        if is_input(location.area) {
             set(data, at, get(memories, own));
         } else {
             let sent = is_variable && get(image, at);
@@ -152,7 +152,7 @@ fn carry(
 }
 
 /// What an exchange of a task is to bring back, with an image of outputs; and it leaves the process memories of the line's
-/// slaves, which stand one after another, as they are to be then.
+/// slaves, which are one after another, as they are to be then.
 pub fn exchanged(
     line: &Line,
     alloc: Global,
@@ -163,12 +163,12 @@ pub fn exchanged(
     let spots = spots(line, alloc, task)?;
     let datagrams = datagrams_of(alloc, &spots)?;
     let mut data = vec![in alloc; 0; offset(&datagrams, AREAS)]?;
-    for spot in &spots {
-        let first = offset(&datagrams, spot.datagram)
+    for location in &spots {
+        let first = offset(&datagrams, location.datagram)
             .saturating_mul(8)
-            .saturating_add(spot.bit);
-        if spot.area < AREAS {
-            carry(line, alloc, *spot, first, image, &mut data, memories)?;
+            .saturating_add(location.bit);
+        if location.area < AREAS {
+            carry(line, alloc, *location, first, image, &mut data, memories)?;
         }
     }
     Ok(Wanted { datagrams, data })
@@ -183,14 +183,14 @@ fn offset(datagrams: &[(usize, u16)], count: usize) -> usize {
     bytes
 }
 
-/// The bytes and the counters of the datagrams of areas that stand in their order: an output area adds 2 to its datagram's
+/// The bytes and the counters of the datagrams of areas that are in their order: an output area adds 2 to its datagram's
 /// counter, and an input area 1.
-fn datagrams_of(alloc: Global, spots: &[Spot]) -> Result<Vec<(usize, u16)>, AllocError> {
+fn datagrams_of(alloc: Global, spots: &[Location]) -> Result<Vec<(usize, u16)>, AllocError> {
     let mut datagrams: Vec<(usize, u16)> = Vec::new(alloc);
-    for spot in spots {
-        let share = if is_input(spot.area) { 1_u16 } else { 2 };
-        let bytes = spot.bit.saturating_add(spot.bits).saturating_add(7) / 8;
-        if datagrams.len() == spot.datagram {
+    for location in spots {
+        let share = if is_input(location.area) { 1_u16 } else { 2 };
+        let bytes = location.bit.saturating_add(location.bits).saturating_add(7) / 8;
+        if datagrams.len() == location.datagram {
             datagrams.push((0, 0))?;
         }
         if let Some(last) = datagrams.last_mut() {

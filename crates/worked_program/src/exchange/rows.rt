@@ -1,5 +1,5 @@
 //! Worked rows: what one exchange sends, what comes back, and what the slaves then hold.
-use crate::exchange::machines::{Piece, segment_of, stand, stands};
+use crate::exchange::machines::{Piece, are_placed, is_placed, segment_of};
 use hc_exchange::{exchange, program};
 use hc_plan::plan::Plan;
 use hc_project::read_project;
@@ -108,8 +108,8 @@ fn is_frame(frames: &[Vec<u8>], wanted: &[u8]) -> bool {
         [frame] => {
             let zeros = [0; 60];
             frame.len() == 60
-                && stands(frame, 0, wanted)
-                && stands(
+                && is_placed(frame, 0, wanted)
+                && is_placed(
                     &zeros,
                     wanted.len(),
                     frame.get(wanted.len()..).unwrap_or(&[1]),
@@ -130,7 +130,7 @@ fn is_right(alloc: Global, row: &Row) -> Result<bool, Fail> {
     let plan = plan_of(alloc, row.project)?;
     let mut segment = segment_of(alloc, &plan, row.before)?;
     let frames = exchange(alloc, &plan, &mut segment, row.task, row.outputs)?;
-    Ok(is_frame(&frames, row.frame) && stand(&segment, row.after))
+    Ok(is_frame(&frames, row.frame) && are_placed(&segment, row.after))
 }
 
 /// The number of the first row that isn't; none where all are.
@@ -145,6 +145,7 @@ fn first_wrong_row(alloc: Global) -> Result<Option<usize>, Fail> {
     Ok(None)
 }
 
+/// An exchange brings the inputs of slaves and carries outputs to them, bit by bit as worked out by hand.
 #[test]
 fn exchanges_bring_inputs_and_carry_outputs(rt: HostRuntime) -> Result<(), Fail> {
     assert_eq!(rt; first_wrong_row(rt.alloc())?, None);
@@ -167,17 +168,18 @@ const BLOCKS: &[Piece] = &[
     ),
 ];
 
-/// The segment of a plan's line behind its programming.
+/// The segment of a plan's line after its programming.
 fn programmed(alloc: Global, plan: &Plan) -> Result<Segment, AllocError> {
     let mut segment = segment_of(alloc, plan, &[])?;
     program(plan, &mut segment);
     Ok(segment)
 }
 
+/// Programming a line leaves its four register blocks in the slave.
 #[test]
 fn a_line_is_programmed(rt: HostRuntime) -> Result<(), Fail> {
     let plan = plan_of(rt.alloc(), ONE_SLAVE)?;
-    assert!(rt; stand(&programmed(rt.alloc(), &plan)?, BLOCKS));
+    assert!(rt; are_placed(&programmed(rt.alloc(), &plan)?, BLOCKS));
     Ok(())
 }
 
@@ -186,9 +188,10 @@ fn answers_of_nothing(alloc: Global, task: u8) -> Result<(usize, bool), Fail> {
     let plan = plan_of(alloc, ONE_SLAVE)?;
     let mut segment = segment_of(alloc, &plan, &[])?;
     let frames = exchange(alloc, &plan, &mut segment, task, &[255; 4])?;
-    Ok((frames.len(), stand(&segment, BLOCKS)))
+    Ok((frames.len(), are_placed(&segment, BLOCKS)))
 }
 
+/// An exchange of a task without datagrams, or over 7, brings no frame. The line is programmed all the same.
 #[test]
 fn a_task_without_datagrams_answers_nothing(rt: HostRuntime) -> Result<(), Fail> {
     let alloc = rt.alloc();
@@ -220,7 +223,9 @@ fn machines_stay_where_an_exchange_is_refused(rt: HostRuntime) -> Result<(), Fai
     let mut segment = segment_of(alloc, &plan, BEFORE)?;
     let unused = segment_of(alloc, &plan, BEFORE)?;
     match exchange(alloc, &plan, &mut segment, 0, &[0x02]) {
-        Ok(frames) => assert!(rt; frames.len() == 1 && stand(&segment, &[(0, 0x1100, &[0xfe])])),
+        Ok(frames) => assert!(rt;
+            frames.len() == 1 && are_placed(&segment, &[(0, 0x1100, &[0xfe])])
+        ),
         Err(_) => assert!(rt; is_untouched(&segment, &unused)),
     }
     Ok(())

@@ -22,8 +22,8 @@ fn is_parted(alloc: Global, conductor: &mut Conductor) -> bool {
 /// Both tasks are sent by `send`.
 fn sent(alloc: Global, conductor: &mut Conductor) -> Sent {
     let mut arena = [9; 64];
-    let told = conductor.send(alloc, &[0, 1], &mut arena);
-    let count = told.map(|frames| frames.len());
+    let answer_given = conductor.send(alloc, &[0, 1], &mut arena);
+    let count = answer_given.map(|frames| frames.len());
     (count, arena, conductor.core().next_serial())
 }
 
@@ -36,24 +36,24 @@ fn sent_at_once<R: Threads + Sync>(
     gate: &WaitsForNext,
 ) -> Sent {
     let mut arena = [9; 64];
-    let told = match arena.get_mut(..room) {
+    let answer_given = match arena.get_mut(..room) {
         Some(front) => conductor.send_at_once(rt, alloc, &[0, 1], front, gate),
         None => Err(CoreFault::Room(64)),
     };
-    let count = told.map(|frames| frames.len());
+    let count = answer_given.map(|frames| frames.len());
     (count, arena, conductor.core().next_serial())
 }
 
 /// What `send` does, from the axis' opening on.
 fn by_send<R: Wait>(rt: &R, alloc: Global) -> Option<Sent> {
     let (mut conductor, _) = opened(rt, alloc)?;
-    let told = if is_parted(alloc, &mut conductor) {
+    let answer_given = if is_parted(alloc, &mut conductor) {
         Some(sent(alloc, &mut conductor))
     } else {
         None
     };
     conductor.finish(rt);
-    told
+    answer_given
 }
 
 /// What workers do, with a byte too few and then with enough.
@@ -63,23 +63,24 @@ fn by_workers<R: Threads + Wait + Sync>(
     gate: &WaitsForNext,
 ) -> Option<(Sent, Sent)> {
     let (mut conductor, _) = opened(rt, alloc)?;
-    let told = if is_parted(alloc, &mut conductor) {
+    let answer_given = if is_parted(alloc, &mut conductor) {
         let short = sent_at_once(rt, alloc, &mut conductor, 59, gate);
         Some((short, sent_at_once(rt, alloc, &mut conductor, 64, gate)))
     } else {
         None
     };
     conductor.finish(rt);
-    told
+    answer_given
 }
 
-/// Refused, nothing is sent and no byte written. The frame is that of `send`, and the first worker saw the second.
+/// Refused, nothing is sent and no byte written. The frame is the one of `send`, and the first worker saw the
+/// second.
 #[test]
 fn workers_write_what_is_sent(rt: HostRuntime) {
     let gate = WaitsForNext::shut();
-    let told = by_workers(&rt, rt.alloc(), &gate);
+    let answer_given = by_workers(&rt, rt.alloc(), &gate);
     let wanted = by_send(&rt, rt.alloc());
     let short = (Err(CoreFault::Room(60)), [9; 64], 6);
-    assert_eq!(rt; told, wanted.map(|sent| (short, sent)));
+    assert_eq!(rt; answer_given, wanted.map(|sent| (short, sent)));
     assert!(rt; gate.has_seen() && matches!(wanted, Some((Ok(1), _, 7))));
 }

@@ -144,7 +144,7 @@ impl Network for Slaves {
 }
 
 impl Slaves {
-    /// A slave joins the line behind the others, with its station address and its inputs, which begin at 0x1180.
+    /// A slave joins the line after the others, with its station address and its inputs, which begin at 0x1180.
     fn join(&mut self, alloc: Global, station: u16, inputs: [u8; 6]) -> Result<(), AllocError> {
         let mut machine = SlaveMachine::new(alloc, 0)?;
         machine.write_memory(0x0010, &station.to_le_bytes());
@@ -251,8 +251,8 @@ fn first_other<R: Wait>(
     let mut number: usize = 0;
     for row in &ROWS {
         let changed = is_changed(alloc, conductor, slaves, row.0);
-        let (back, told) = shown(rt, alloc, conductor, slaves, seats, inputs);
-        if !changed || told != Some(row.1) {
+        let (back, answer_given) = shown(rt, alloc, conductor, slaves, seats, inputs);
+        if !changed || answer_given != Some(row.1) {
             return number;
         }
         seats = back;
@@ -274,6 +274,7 @@ fn first_other_of<R: Wait>(rt: &R, alloc: Global) -> Option<usize> {
     number
 }
 
+/// The loops of the master and of its tasks go on, cycle by cycle, while a gripper comes and goes.
 #[test]
 fn both_loops_go_on_over_tool_changes(rt: HostRuntime) {
     assert_eq!(rt; first_other_of(&rt, rt.alloc()), Some(ROWS.len()));

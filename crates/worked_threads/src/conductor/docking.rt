@@ -1,4 +1,4 @@
-//! The loop of docs/use/CONDUCTOR.md by which a tool docks between two cycles, as it stands there.
+//! The loop of docs/use/CONDUCTOR.md by which a tool docks between two cycles, as it is there.
 use crate::conductor::loops::Network;
 use hc_conductor::conductor::Conductor;
 use hc_events::answer::{Answer, Outcome};
@@ -59,8 +59,8 @@ fn are_written<N: Network>(
     Ok(conductor.core().owed() == 0)
 }
 
-/// A tool docks between two cycles. Whether it is there: a tool of which a block is missed twice is given up, and the line is
-/// as it was before.
+/// A tool docks between two cycles. Whether it is there: where one of its blocks is missed twice, it is given up, and the
+/// line is as it was before.
 pub fn dock<N: Network>(
     alloc: Global,
     conductor: &mut Conductor,

@@ -1,4 +1,4 @@
-//! Cycles in which answers are lost, come twice, and come late, with an edit every hundred.
+//! Cycles where answers are lost, come twice, and come late, with an edit every hundred.
 
 use crate::conductor::lines::{FRAME, are_written};
 use crate::conductor::working::{STEPS, byte_of, moment_of};
@@ -98,7 +98,7 @@ fn come(alloc: Global, conductor: &mut Conductor, frame: &[u8], wanted: Option<u
     if came == wanted { Some(()) } else { None }
 }
 
-/// What the slaves make of a task's frame: each byte of its inputs is that of the step, and its counter the expected one.
+/// What the slaves make of a task's frame: each byte of its inputs is the step's, and its counter the expected one.
 pub fn answer(conductor: &Conductor, task: u8, step: u8, frame: &mut [u8]) -> Option<()> {
     let plan = conductor.core().plan();
     let datagram = plan.places().datagram(task, 0)?;
@@ -180,7 +180,7 @@ fn edited(alloc: Global, conductor: &mut Conductor) -> Option<()> {
     are_written(alloc, conductor, owed).then_some(())
 }
 
-/// A cycle, with an edit in front of it where an epoch's cycles are over.
+/// A cycle, with an edit before it where an epoch's cycles are over.
 fn play<R: Wait>(
     rt: &R,
     alloc: Global,
@@ -206,22 +206,22 @@ fn play<R: Wait>(
     conductor.publish(rt, alloc).ok()
 }
 
-/// Cycles with these numbers, the first edit behind a hundred.
+/// Cycles with these numbers, the first edit after a hundred.
 pub fn play_all<R: Wait>(
     rt: &R,
     alloc: Global,
     conductor: &mut Conductor,
     master: &mut Master,
     first: u32,
-    behind: u32,
+    after_it: u32,
 ) -> Option<()> {
-    for cycle in first..behind {
+    for cycle in first..after_it {
         play(rt, alloc, conductor, master, cycle)?;
     }
     Some(())
 }
 
-/// A last cycle, in which all answers come in time: how far it is then.
+/// A last cycle, where all answers come in time: how far it is then.
 pub fn play_last<R: Wait>(
     rt: &R,
     alloc: Global,

@@ -3,7 +3,7 @@ use hc_lend::Gate;
 use std::sync::atomic::{AtomicBool, Ordering};
 use std::thread;
 
-/// Worker 0 waits for worker 1, for at most 1,000,000 turns, each of which yields.
+/// Worker 0 waits for worker 1, for at most 1,000,000 turns, and yields in each.
 #[derive(Drop)]
 pub struct WaitsForNext {
     begun: AtomicBool,
@@ -24,6 +24,7 @@ impl WaitsForNext {
         self.seen.load(Ordering::SeqCst)
     }
 
+    /// Waits until worker 1 has begun, and remembers that it has; gives up after 1,000,000 turns.
     fn waits(&self) {
         for _ in 0..1_000_000 {
             if self.begun.load(Ordering::SeqCst) {

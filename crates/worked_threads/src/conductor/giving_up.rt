@@ -107,7 +107,7 @@ type Shown = (Option<u64>, Option<u64>, Option<u8>, u32);
 /// Both tasks' seats.
 type Seats = (TaskSeat, TaskSeat);
 
-/// A cycle of all threads, one after the other, in which the axis is at a position.
+/// A cycle of all threads, one after the other, where the axis is at a position.
 fn shown<R: Wait>(
     rt: &R,
     alloc: Global,
@@ -127,10 +127,10 @@ fn shown<R: Wait>(
     ((motion, tool), if gone { Some(shown) } else { None })
 }
 
-/// Cycle by cycle, in which the axis is at 1, 2 and so on, and posts where it is. It sees each position in its own cycle, and its
-/// outputs are those that it posted in the cycle before, but for a post of the epoch before an edit. Before the first cycle
-/// the axis' four blocks are written. A tool docks by one frame of writes; one that has no contact, by two frames before it is
-/// given up. A cycle takes a frame: both datagrams share it.
+/// Cycle by cycle, where the axis is at 1, 2 and so on, and posts where it is. It sees each position in its own cycle, and its
+/// outputs are those that it posted in the cycle before, but for a post of the epoch before an edit. Before the first cycle the
+/// axis' four blocks are written. A tool docks by one frame of writes; one that has no contact, by two frames before it is given
+/// up. A cycle takes a frame: both datagrams share it.
 const ROWS: [(Tool, Shown); 9] = [
     (Stays, (Some(1), None, Some(0), 5)),
     (Stays, (Some(2), None, Some(1), 1)),
@@ -157,8 +157,8 @@ fn first_other<R: Wait>(
     for row in &ROWS {
         let changed = is_changed(alloc, conductor, slaves, row.0);
         let at = number.saturating_add(1);
-        let (back, told) = shown(rt, alloc, conductor, slaves, seats, inputs, at);
-        if !changed || told != Some(row.1) {
+        let (back, answer_given) = shown(rt, alloc, conductor, slaves, seats, inputs, at);
+        if !changed || answer_given != Some(row.1) {
             return usize::from(number);
         }
         seats = back;
@@ -185,6 +185,7 @@ fn first_other_of<R: Wait>(rt: &R, alloc: Global) -> Option<usize> {
     number
 }
 
+/// A tool that doesn't answer is given up, and the axis loses no cycle.
 #[test]
 fn a_tool_is_given_up_without_a_lost_cycle(rt: HostRuntime) {
     assert_eq!(rt; first_other_of(&rt, rt.alloc()), Some(ROWS.len()));

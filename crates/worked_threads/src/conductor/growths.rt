@@ -28,7 +28,7 @@ enum Call {
     Send,
     /// The same by a worker each.
     SendAtOnce,
-    /// What stands in the arena arrives.
+    /// What is in the arena arrives.
     Arrive,
     /// All is published.
     Publish,
@@ -47,7 +47,7 @@ const CALLS: [&[Call]; 2] = [
 const MOVED: Moment = Moment {
     epoch: 1,
     data: Some(b"\x34\x0a"),
-    told: &[(9, Err(1)), (1, Err(2)), (2, Ok(2612))],
+    answer_given: &[(9, Err(1)), (1, Err(2)), (2, Ok(2612))],
 };
 
 /// The first owed block is written, and its slave counts it.
@@ -63,7 +63,7 @@ fn is_written(conductor: &mut Conductor, arena: &mut [u8; ROOM]) -> bool {
     true
 }
 
-/// The axis answers both tasks in one frame: inputs of 0xa34 behind 26 bytes, and counters of 1 and 2.
+/// The axis answers both tasks in one frame: inputs of 0xa34 after 26 bytes, and counters of 1 and 2.
 fn answers(frames: usize, arena: &mut [u8; ROOM]) -> bool {
     arena[26] = 0x34;
     arena[27] = 0x0a;
@@ -209,6 +209,7 @@ fn is_gone<R: Threads + Wait + Sync>(rt: &R, alloc: Global) -> Result<bool, Allo
     gone
 }
 
+/// A refused growth changes nothing in any call of the conductor, and the call succeeds when it is repeated.
 #[test]
 fn refused_growths_change_nothing(rt: HostRuntime) -> Result<(), Fail> {
     assert!(rt; is_gone(&rt, rt.alloc())?);

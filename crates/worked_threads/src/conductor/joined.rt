@@ -57,6 +57,7 @@ fn accepted(posts: u32) -> Taken {
     }
 }
 
+/// All posts that wait are taken once one thread has the conductor and all seats, whatever was taken before.
 #[test]
 fn all_is_taken_after_other_takings(rt: HostRuntime) {
     assert_eq!(rt;

@@ -1,9 +1,9 @@
 //! One axis, its conductor and its seats.
 ghost use Rattle.std.specs.Prelude.{◌≡◌, ◌∷◌, All, IfOk, IfSome, List, map};
-ghost use Rattle.hc_publish.specs.Seats.{IsFresh};
-ghost use Rattle.hc_conductor.specs.Conducting.{origin_of};
+ghost use Rattle.hc_publish.specs.Seats.{SeatIsAtOpening};
+ghost use Rattle.hc_conductor.specs.Conducting.{conductor_origin};
 ghost use Rattle.hc_conductor.specs.Seats.{seat_of, sender};
-ghost use Rattle.hc_conductor.specs.Together.{EachRing, IsWhole};
+ghost use Rattle.hc_conductor.specs.Together.{EachRing, LostNoBuffer};
 ghost use Rattle.hc_conductor.specs.declared.seat.TaskSeat.{TaskSeat};
 
 use crate::projects::{AXIS, project_of};
@@ -20,7 +20,7 @@ pub const FRAME: usize = 60;
 
 /// The line at its opening, or why it isn't opened.
 pub fn opening<R: Wait>(rt: &R, alloc: Global) -> Result<(Conductor, Vec<TaskSeat>), OpenFault>
-    ensures { IfOk result (λ opened. EachRing IsWhole (map sender opened.1.items) opened.0.rings) }
+    ensures { IfOk result (λ opened. EachRing LostNoBuffer (map sender opened.1.items) opened.0.rings) }
 {
     match project_of(alloc, &[AXIS]) {
         Some(project) => open(rt, alloc, project),
@@ -30,14 +30,14 @@ pub fn opening<R: Wait>(rt: &R, alloc: Global) -> Result<(Conductor, Vec<TaskSea
 
 /// The line at its opening.
 pub fn opened<R: Wait>(rt: &R, alloc: Global) -> Option<(Conductor, Vec<TaskSeat>)>
-    ensures { IfSome result (λ opened. All (IsFresh (origin_of opened.0)) (map seat_of opened.1.items)) }
+    ensures { IfSome result (λ opened. All (SeatIsAtOpening (conductor_origin opened.0)) (map seat_of opened.1.items)) }
 {
     opened_line(rt, alloc, AXIS)
 }
 
 /// A line at its opening.
 pub fn opened_line<R: Wait>(rt: &R, alloc: Global, line: &str) -> Option<(Conductor, Vec<TaskSeat>)>
-    ensures { IfSome result (λ opened. All (IsFresh (origin_of opened.0)) (map seat_of opened.1.items)) }
+    ensures { IfSome result (λ opened. All (SeatIsAtOpening (conductor_origin opened.0)) (map seat_of opened.1.items)) }
 {
     match open(rt, alloc, project_of(alloc, &[line])?) {
         Ok(opened) => Some(opened),
@@ -55,10 +55,10 @@ pub fn first_two(seats: Vec<TaskSeat>) -> Option<(TaskSeat, TaskSeat)>
     Some((first, second))
 }
 
-/// Whether the first owed block is written, and answered by the slave that has it: its counter stands behind 26 bytes of
-/// headers and the block, whose length the datagram tells.
+/// Whether the first owed block is written, and answered by the slave that has it: its counter is after 26 bytes of
+/// headers and the block, whose length the datagram gives.
 fn is_written(alloc: Global, conductor: &mut Conductor) -> bool
-    ensures { origin_of conductor.new ≡ origin_of conductor.old }
+    ensures { conductor_origin conductor.new ≡ conductor_origin conductor.old }
 {
     let mut frame = [0; FRAME];
     let Ok(FRAME) = conductor.next_write(&mut frame) else {
@@ -74,7 +74,7 @@ fn is_written(alloc: Global, conductor: &mut Conductor) -> bool
 
 /// Whether so many blocks are written.
 pub fn are_written(alloc: Global, conductor: &mut Conductor, blocks: u32) -> bool
-    ensures { origin_of conductor.new ≡ origin_of conductor.old }
+    ensures { conductor_origin conductor.new ≡ conductor_origin conductor.old }
 {
     for _ in 0..blocks {
         if !is_written(alloc, conductor) {
@@ -86,7 +86,7 @@ pub fn are_written(alloc: Global, conductor: &mut Conductor, blocks: u32) -> boo
 
 /// Whether the four blocks of the axis are written: of each area the sync manager's and the FMMU's.
 pub fn is_programmed(alloc: Global, conductor: &mut Conductor) -> bool
-    ensures { origin_of conductor.new ≡ origin_of conductor.old }
+    ensures { conductor_origin conductor.new ≡ conductor_origin conductor.old }
 {
     are_written(alloc, conductor, 4)
 }
@@ -94,7 +94,7 @@ pub fn is_programmed(alloc: Global, conductor: &mut Conductor) -> bool
 /// Whether the axis answers the frame of task 0 well: a byte of outputs and two of inputs, 0xa34, and the counter 3, 2
 /// for the outputs and 1 for the inputs.
 fn is_good(alloc: Global, conductor: &mut Conductor, frame: &mut [u8; FRAME]) -> bool
-    ensures { origin_of conductor.new ≡ origin_of conductor.old }
+    ensures { conductor_origin conductor.new ≡ conductor_origin conductor.old }
 {
     frame[26] = 2;
     frame[27] = 0x34;
@@ -114,7 +114,7 @@ fn is_good(alloc: Global, conductor: &mut Conductor, frame: &mut [u8; FRAME]) ->
 
 /// Whether task 0 is sent, and answered well.
 pub fn is_answered(alloc: Global, conductor: &mut Conductor) -> bool
-    ensures { origin_of conductor.new ≡ origin_of conductor.old }
+    ensures { conductor_origin conductor.new ≡ conductor_origin conductor.old }
 {
     let mut frame = [0; FRAME];
     match conductor.send(alloc, &[0], &mut frame) {

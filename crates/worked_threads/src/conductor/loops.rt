@@ -1,7 +1,7 @@
-//! The loops of docs/use/CONDUCTOR.md, as they stand there.
+//! The loops of docs/use/CONDUCTOR.md, as they are there.
 ghost use Rattle.std.specs.Prelude.{◌≡◌};
-ghost use Rattle.hc_conductor.specs.Conducting.{origin_of};
-ghost use Rattle.hc_conductor.specs.Seats.{seat_origin};
+ghost use Rattle.hc_conductor.specs.Conducting.{conductor_origin};
+ghost use Rattle.hc_conductor.specs.Seats.{task_seat_origin};
 
 use hc_conductor::conductor::Conductor;
 use hc_conductor::seat::TaskSeat;
@@ -13,7 +13,7 @@ use std::sync::Wait;
 
 /// Where frames go.
 pub trait Network {
-    /// A frame goes out, and what comes back stands in its place.
+    /// A frame goes out, and what comes back is in its place.
     fn exchange(&mut self, frame: &mut [u8]);
 }
 
@@ -76,7 +76,7 @@ pub fn master_cycle<R: Wait, N: Network>(
 
 /// What a task reads, and its seat.
 fn read(seat: TaskSeat, input: VarId) -> (TaskSeat, Option<u64>)
-    ensures { seat_origin result.0 ≡ seat_origin seat }
+    ensures { task_seat_origin result.0 ≡ task_seat_origin seat }
 {
     match seat.view() {
         Ok(view) => {
@@ -89,7 +89,7 @@ fn read(seat: TaskSeat, input: VarId) -> (TaskSeat, Option<u64>)
 
 /// Each byte of the outputs is this one, for the epoch that was viewed last.
 fn post(seat: &mut TaskSeat, byte: u8)
-    ensures { seat_origin seat.new ≡ seat_origin seat.old }
+    ensures { task_seat_origin seat.new ≡ task_seat_origin seat.old }
 {
     if seat.hold().is_err() {
         return; // four posts wait
@@ -100,7 +100,7 @@ fn post(seat: &mut TaskSeat, byte: u8)
 
 /// One cycle of a task's thread: what it read, and the seat for the next one, which is of the same conductor.
 pub fn task_cycle(seat: TaskSeat, input: VarId, byte: u8) -> (TaskSeat, Option<u64>)
-    ensures { seat_origin result.0 ≡ seat_origin seat }
+    ensures { task_seat_origin result.0 ≡ task_seat_origin seat }
 {
     let (mut seat, value) = read(seat, input);
     post(&mut seat, byte);

@@ -62,6 +62,8 @@ fn is_played<R: Threads + Wait>(rt: &R, alloc: Global, cycles: u32) -> bool {
     shown
 }
 
+/// Eight tasks in threads of their own see what was sent over 2,000 cycles, never an older cycle, and all their posts are
+/// taken.
 #[test]
 fn eight_tasks_beside_two_thousand_cycles(rt: HostRuntime) {
     assert!(rt; is_played(&rt, rt.alloc(), 2000));

@@ -1,7 +1,7 @@
 //! What a seat of the axis' task posts: one byte of outputs.
 ghost use Rattle.std.specs.Prelude.{◌≡◌};
 ghost use Rattle.hc_rings.specs.Ring.{SameSender};
-ghost use Rattle.hc_conductor.specs.Seats.{PostsEach, seat_origin, sender};
+ghost use Rattle.hc_conductor.specs.Seats.{SeatPostsEach, task_seat_origin, sender};
 
 use hc_conductor::seat::TaskSeat;
 use hc_rings::{NoSpare, PostFault};
@@ -41,9 +41,9 @@ pub fn post(seat: &mut TaskSeat, byte: u8) -> Result<(), Unposted> {
 
 /// Whether outputs are posted, each byte as this one.
 pub fn is_posted(seat: &mut TaskSeat, byte: u8) -> bool
-    ensures origin { seat_origin seat.new ≡ seat_origin seat.old }
+    ensures origin { task_seat_origin seat.new ≡ task_seat_origin seat.old }
     ensures ring { SameSender (sender seat.old) (sender seat.new) }
-    ensures each { PostsEach seat.old → PostsEach seat.new }
+    ensures each { SeatPostsEach seat.old → SeatPostsEach seat.new }
 {
     if seat.hold().is_err() {
         return false;

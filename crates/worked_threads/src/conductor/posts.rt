@@ -17,7 +17,7 @@ use std::sync::Wait;
 const SENT: &[u8] =
     b"\xff\xff\xff\xff\xff\xff\x02\0\0\0\0\x04\x88\xa4\x0f\x10\x0c\x04\0\0\0\x01\x03\0\0\0\x02";
 
-/// It comes back with inputs of 0xa34 and the expected working counter, cut behind it.
+/// It comes back with inputs of 0xa34 and the expected working counter, cut after it.
 const ANSWER: &[u8] =
     b"\xff\xff\xff\xff\xff\xff\x02\0\0\0\0\x04\x88\xa4\x0f\x10\x0c\x04\0\0\0\x01\x03\0\0\0\x02\x34\x0a\x03\0";
 
@@ -48,7 +48,7 @@ const ROWS: [&[Step]; 5] = [
         See(Moment {
             epoch: 0,
             data: Some(b"\x02\x34\x0a"),
-            told: &[(2, Ok(2612))],
+            answer_given: &[(2, Ok(2612))],
         }),
         Send(
             0,
@@ -57,7 +57,7 @@ const ROWS: [&[Step]; 5] = [
         Come(MISCOUNTED, Came::WrongCount(3, 2)),
         Read(0, Some(b"\x02\x34\x0a")),
     ],
-    // behind an edit the answer to what was sent before it is not shown
+    // after an edit the answer to what was sent before it is not shown
     &[
         Write(4),
         Remap(1),
@@ -71,7 +71,7 @@ const ROWS: [&[Step]; 5] = [
         See(Moment {
             epoch: 4,
             data: None,
-            told: &[(2, Err(4))],
+            answer_given: &[(2, Err(4))],
         }),
     ],
     // a value moves with its variable, and a post for the epoch before is refused
@@ -95,7 +95,7 @@ const ROWS: [&[Step]; 5] = [
         See(Moment {
             epoch: 1,
             data: None,
-            told: &[(2, Err(4))],
+            answer_given: &[(2, Err(4))],
         }),
         Post(Ok(())),
         Take(0, 1),
@@ -112,7 +112,7 @@ const ROWS: [&[Step]; 5] = [
         See(Moment {
             epoch: 1,
             data: None,
-            told: &[],
+            answer_given: &[],
         }),
         Lend(3),
         Post(Ok(())),
@@ -135,6 +135,7 @@ fn wrong_step<R: Wait>(rt: &R, alloc: Global, steps: &[Step]) -> Option<usize> {
     wrong
 }
 
+/// Each step of posts, sendings and answers has the result that was worked out by hand.
 #[test]
 fn steps_come_as_worked_out(rt: HostRuntime) {
     for steps in ROWS {
@@ -150,6 +151,7 @@ type Five = (
     Taken,
 );
 
+/// Posts five times, takes what waits, posts again and takes again; the result of each step.
 fn five_posts(conductor: &mut Conductor, seat: &mut TaskSeat) -> Five {
     let first = post(seat, 2);
     let second = post(seat, 2);

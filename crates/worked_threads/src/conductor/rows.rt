@@ -1,7 +1,7 @@
 //! What the seats of tasks 0 and 1 see of the axis' answer: rows worked out by hand.
 ghost use Rattle.std.specs.Prelude.{◌≡◌};
-ghost use Rattle.hc_conductor.specs.Conducting.{origin_of};
-ghost use Rattle.hc_conductor.specs.Seats.{seat_origin};
+ghost use Rattle.hc_conductor.specs.Conducting.{conductor_origin};
+ghost use Rattle.hc_conductor.specs.Seats.{task_seat_origin};
 
 use crate::conductor::lines::{first_two, is_answered, is_programmed, opened};
 use hc_conductor::conductor::Conductor;
@@ -12,48 +12,48 @@ use std::alloc::Global;
 use std::sync::Wait;
 
 /// A variable's number, and its value or the number of a fault.
-pub type Told = (u32, Result<u64, u8>);
+pub type AnswerGiven = (u32, Result<u64, u8>);
 
-/// What a view shows: the epoch, the data of its task's first datagram, and what it tells of variables.
+/// What a view shows: the epoch, the data of its task's first datagram, and what it says of variables.
 pub struct Moment {
     pub epoch: u32,
     pub data: Option<&'static [u8]>,
-    pub told: &'static [Told],
+    pub answer_given: &'static [AnswerGiven],
 }
 
 /// Before the publishing the answer is not shown.
 pub const OPENED: Moment = Moment {
     epoch: 0,
     data: None,
-    told: &[(9, Err(1)), (1, Err(2)), (2, Err(4))],
+    answer_given: &[(9, Err(1)), (1, Err(2)), (2, Err(4))],
 };
 
 /// The twelve bits from the second byte on are 0xa34.
 pub const ANSWERED: Moment = Moment {
     epoch: 0,
     data: Some(b"\x02\x34\x0a"),
-    told: &[(9, Err(1)), (1, Err(2)), (2, Ok(2612))],
+    answer_given: &[(9, Err(1)), (1, Err(2)), (2, Ok(2612))],
 };
 
 /// Task 1 has no datagram, and the axis' variables are another task's.
 pub const ELSEWHERE: Moment = Moment {
     epoch: 0,
     data: None,
-    told: &[(9, Err(1)), (1, Err(2)), (2, Err(3))],
+    answer_given: &[(9, Err(1)), (1, Err(2)), (2, Err(3))],
 };
 
-/// Whether a view tells this of a variable.
-fn tells(view: &TaskView, row: &Told) -> bool {
+/// Whether a view gives this of a variable.
+fn says(view: &TaskView, row: &AnswerGiven) -> bool {
     match VarId::new(row.0) {
         Some(variable) => view.value(variable).map_err(|fault| fault.number()) == row.1,
         None => false,
     }
 }
 
-/// Whether it tells all of this.
-fn tells_all(view: &TaskView, rows: &[Told]) -> bool {
+/// Whether it says all of this.
+fn says_all(view: &TaskView, rows: &[AnswerGiven]) -> bool {
     for row in rows {
-        if !tells(view, row) {
+        if !says(view, row) {
             return false;
         }
     }
@@ -71,13 +71,13 @@ pub fn has(data: Option<&[u8]>, wanted: Option<&[u8]>) -> bool {
 
 /// A view is taken and left, and whether it showed this.
 pub fn sees(seat: TaskSeat, moment: &Moment) -> (TaskSeat, bool)
-    ensures { seat_origin result.0 ≡ seat_origin seat }
+    ensures { task_seat_origin result.0 ≡ task_seat_origin seat }
 {
     match seat.view() {
         Ok(view) => {
             let seen = view.epoch() == moment.epoch
                 && has(view.inputs(0), moment.data)
-                && tells_all(&view, moment.told);
+                && says_all(&view, moment.answer_given);
             (view.leave(), seen)
         }
         Err(seat) => (seat, false),
@@ -92,7 +92,7 @@ fn is_seen<R: Wait>(
     seat: TaskSeat,
     other: TaskSeat,
 ) -> bool
-    requires { seat_origin seat ≡ origin_of conductor.old }
+    requires { task_seat_origin seat ≡ conductor_origin conductor.old }
 {
     if !is_programmed(alloc, conductor) || !is_answered(alloc, conductor) {
         return false;
@@ -102,9 +102,9 @@ fn is_seen<R: Wait>(
         return false;
     }
     seat.learn(conductor.note());
-    let (_, behind) = sees(seat, &ANSWERED);
+    let (_, after_it) = sees(seat, &ANSWERED);
     let (_, elsewhere) = sees(other, &ELSEWHERE);
-    before && behind && elsewhere
+    before && after_it && elsewhere
 }
 
 /// Opens the line, and whether the two seats see what they are to see.
@@ -120,6 +120,7 @@ fn is_shown<R: Wait>(rt: &R, alloc: Global) -> bool {
     seen
 }
 
+/// The seat of task 0 sees the axis' answer once it is published, and not before. For task 1 the variables are another task's.
 #[test]
 fn an_answer_is_seen_once_it_is_published(rt: HostRuntime) {
     assert!(rt; is_shown(&rt, rt.alloc()));

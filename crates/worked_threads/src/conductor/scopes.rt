@@ -1,7 +1,7 @@
-//! Two scopes of threads: tasks post in the first one, and see the answer behind a note in the second one.
+//! Two scopes of threads: tasks post in the first one, and see the answer after a note in the second one.
 ghost use Rattle.std.specs.Prelude.{◌≡◌, IfSome};
-ghost use Rattle.hc_conductor.specs.Conducting.{origin_of};
-ghost use Rattle.hc_conductor.specs.Seats.{seat_origin};
+ghost use Rattle.hc_conductor.specs.Conducting.{conductor_origin};
+ghost use Rattle.hc_conductor.specs.Seats.{task_seat_origin};
 ghost use Rattle.hc_publish.specs.Seats.{note_origin};
 
 use crate::conductor::lines::{first_two, is_answered, is_programmed, opened};
@@ -16,7 +16,7 @@ use std::thread::{self, Threads, join};
 
 /// The seat of the axis' task, or of the other one, sees the opening and posts: the seat, and whether both went.
 fn worked(seat: TaskSeat, is_own: bool) -> (TaskSeat, bool)
-    ensures { seat_origin result.0 ≡ seat_origin seat }
+    ensures { task_seat_origin result.0 ≡ task_seat_origin seat }
 {
     let moment = if is_own { &OPENED } else { &ELSEWHERE };
     let (mut seat, seen) = sees(seat, moment);
@@ -32,13 +32,13 @@ fn beside<R: Threads, A, F: FnOnce() -> A>(
     work: F,
 ) -> ((TaskSeat, bool), A)
     requires { F.pre work }
-    ensures seat { seat_origin result.0.0 ≡ seat_origin seat }
+    ensures seat { task_seat_origin result.0.0 ≡ task_seat_origin seat }
     ensures done { F.post work result.1 }
 {
     join(
         rt,
         || -> (TaskSeat, bool)
-            ensures { seat_origin result.0 ≡ seat_origin seat }
+            ensures { task_seat_origin result.0 ≡ task_seat_origin seat }
         { worked(seat, is_own) },
         work,
     )
@@ -52,8 +52,8 @@ fn beside_two<R: Threads, A, F: FnOnce() -> A>(
     work: F,
 ) -> ((TaskSeat, bool), ((TaskSeat, bool), A))
     requires { F.pre work }
-    ensures one { seat_origin result.0.0 ≡ seat_origin one }
-    ensures two { seat_origin result.1.0.0 ≡ seat_origin two }
+    ensures one { task_seat_origin result.0.0 ≡ task_seat_origin one }
+    ensures two { task_seat_origin result.1.0.0 ≡ task_seat_origin two }
     ensures done { F.post work result.1.1 }
 {
     beside(
@@ -62,14 +62,14 @@ fn beside_two<R: Threads, A, F: FnOnce() -> A>(
         true,
         || -> ((TaskSeat, bool), A)
             requires { F.pre work }
-            ensures { (seat_origin result.0.0 ≡ seat_origin two) × F.post work result.1 }
+            ensures { (task_seat_origin result.0.0 ≡ task_seat_origin two) × F.post work result.1 }
         { beside(rt, two, false, work) },
     )
 }
 
-/// Posts are taken until two were, for at most 1,000,000 calls, behind each of which it yields.
+/// Posts are taken until two were, for at most 1,000,000 calls, and yields after each.
 fn takes_two(conductor: &mut Conductor) -> bool
-    ensures { origin_of conductor.new ≡ origin_of conductor.old }
+    ensures { conductor_origin conductor.new ≡ conductor_origin conductor.old }
 {
     let mut accepted = 0_u32;
     for _ in 0..1_000_000 {
@@ -83,8 +83,8 @@ fn takes_two(conductor: &mut Conductor) -> bool
 }
 
 /// The posts of both tasks are taken, an answer comes and is published: two notes of that.
-fn told<R: Wait>(rt: &R, alloc: Global, conductor: &mut Conductor) -> Option<(Note, Note)>
-    ensures { IfSome result (λ notes. (note_origin notes.0 ≡ origin_of conductor.old) × (note_origin notes.1 ≡ origin_of conductor.old)) }
+fn answer_given<R: Wait>(rt: &R, alloc: Global, conductor: &mut Conductor) -> Option<(Note, Note)>
+    ensures { IfSome result (λ notes. (note_origin notes.0 ≡ conductor_origin conductor.old) × (note_origin notes.1 ≡ conductor_origin conductor.old)) }
 {
     if !takes_two(conductor) || !is_answered(alloc, conductor) {
         return None;
@@ -93,26 +93,26 @@ fn told<R: Wait>(rt: &R, alloc: Global, conductor: &mut Conductor) -> Option<(No
     Some((conductor.note(), conductor.note()))
 }
 
-/// Whether a view behind a note shows this.
+/// Whether a view after a note shows this.
 fn learned(mut seat: TaskSeat, note: Note, moment: &Moment) -> bool
-    requires { note_origin note ≡ seat_origin seat }
+    requires { note_origin note ≡ task_seat_origin seat }
 {
     seat.learn(note);
     sees(seat, moment).1
 }
 
-/// Whether each seat shows the answer in a thread of its own, behind a note.
+/// Whether each seat shows the answer in a thread of its own, after a note.
 fn both_learned<R: Threads>(rt: &R, one: TaskSeat, two: TaskSeat, first: Note, second: Note) -> bool
-    requires one { note_origin first ≡ seat_origin one }
-    requires two { note_origin second ≡ seat_origin two }
+    requires one { note_origin first ≡ task_seat_origin one }
+    requires two { note_origin second ≡ task_seat_origin two }
 {
     let (shown, also) = join(
         rt,
         || -> bool
-            requires { note_origin first ≡ seat_origin one }
+            requires { note_origin first ≡ task_seat_origin one }
         { learned(one, first, &ANSWERED) },
         || -> bool
-            requires { note_origin second ≡ seat_origin two }
+            requires { note_origin second ≡ task_seat_origin two }
         { learned(two, second, &ELSEWHERE) },
     );
     shown && also
@@ -126,16 +126,16 @@ fn two_scopes<R: Threads + Wait>(
     one: TaskSeat,
     two: TaskSeat,
 ) -> Option<bool>
-    requires one { seat_origin one ≡ origin_of conductor.old }
-    requires two { seat_origin two ≡ origin_of conductor.old }
+    requires one { task_seat_origin one ≡ conductor_origin conductor.old }
+    requires two { task_seat_origin two ≡ conductor_origin conductor.old }
 {
     let ((one, worked), ((two, also), notes)) = beside_two(
         rt,
         one,
         two,
         || -> Option<(Note, Note)>
-            ensures { IfSome result (λ notes. (note_origin notes.0 ≡ origin_of conductor.entry.now) × (note_origin notes.1 ≡ origin_of conductor.entry.now)) }
-        { told(rt, alloc, conductor) },
+            ensures { IfSome result (λ notes. (note_origin notes.0 ≡ conductor_origin conductor.entry.now) × (note_origin notes.1 ≡ conductor_origin conductor.entry.now)) }
+        { answer_given(rt, alloc, conductor) },
     );
     let (first, second) = notes?;
     let shown = both_learned(rt, one, two, first, second);
@@ -156,6 +156,7 @@ fn is_shown<R: Threads + Wait>(rt: &R, alloc: Global) -> bool {
     programmed && shown.unwrap_or(false)
 }
 
+/// Tasks post in one scope of threads, and see the published answer in the next one after they learn a note.
 #[test]
 fn a_note_between_two_scopes(rt: HostRuntime) {
     assert!(rt; is_shown(&rt, rt.alloc()));

@@ -1,5 +1,5 @@
 //! Cycles of eight tasks with the lists and the memory of answers used again: posts, sendings, arrivals and a publishing, all
-//! in one thread. Behind the first ones no growth is met any more, which is counted from outside (`tools/sweep.sh`).
+//! in one thread. After the first ones no growth is met any more, which is counted from outside (`tools/sweep.sh`).
 
 use crate::conductor::fates::answer;
 use crate::conductor::lines::{FRAME, are_written, opened_line};
@@ -30,6 +30,7 @@ struct Lists {
 }
 
 impl Lists {
+    /// Lists with room for the frames of any sending and the outcomes of any answer. `AllocError` if a growth is refused.
     fn new(alloc: Global) -> Result<Lists, AllocError> {
         Ok(Lists {
             frames: Vec::with_capacity(alloc, MOST_FRAMES)?,
@@ -38,7 +39,7 @@ impl Lists {
     }
 }
 
-/// Whether the core reads what the slaves sent as this task's inputs, behind its outputs.
+/// Whether the core reads what the slaves sent as this task's inputs, after its outputs.
 fn is_read(conductor: &Conductor, task: u8, step: u8) -> bool {
     let plan = conductor.core().plan();
     let (outputs, _) = plan.places().part(task);
@@ -110,7 +111,7 @@ fn is_played<R: Wait>(
     Ok(posted && taken.accepted == u32::from(TASKS) && exchanged)
 }
 
-/// Whether so many cycles do, behind the writes of all blocks.
+/// Whether so many cycles do, after the writes of all blocks.
 fn are_played<R: Wait>(
     rt: &R,
     alloc: Global,
@@ -137,6 +138,7 @@ fn is_steady<R: Wait>(rt: &R, alloc: Global, cycles: u8) -> Result<bool, CoreFau
     steady
 }
 
+/// Four cycles of eight tasks go as they should.
 #[test]
 fn few_cycles(rt: HostRuntime) -> Result<(), Fail> {
     assert!(rt; is_steady(&rt, rt.alloc(), 4)?);

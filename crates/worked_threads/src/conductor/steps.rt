@@ -37,7 +37,7 @@ pub enum Step {
     Remap(u32),
     /// The outputs move to task 1: the epoch that begins with it, the spans and the blocks.
     Move(u32, u32, u32),
-    /// A task is sent: what stands in front of zeros.
+    /// A task is sent: what is before zeros.
     Send(u8, &'static [u8]),
     /// A frame arrives.
     Come(&'static [u8], Came),
@@ -54,14 +54,14 @@ pub fn is_edited(
     alloc: Global,
     conductor: &mut Conductor,
     edit: &Edit,
-    told: (u32, u32, u32),
+    answer_given: (u32, u32, u32),
 ) -> bool {
     match conductor.edit(alloc, edit) {
         Answer::Edited {
             epoch,
             recut,
             moved,
-        } => (epoch, recut, moved) == told,
+        } => (epoch, recut, moved) == answer_given,
         _ => false,
     }
 }
@@ -86,7 +86,7 @@ pub const MOVE: Edit = Edit::Move {
     task: 1,
 };
 
-/// Whether one frame of a task is sent, and this stands in it in front of zeros.
+/// Whether one frame of a task is sent, and this is in it before zeros.
 fn is_sent(alloc: Global, conductor: &mut Conductor, task: u8, text: &[u8]) -> bool {
     let mut frame = [0; FRAME];
     let Ok(frames) = conductor.send(alloc, &[task], &mut frame) else {

@@ -14,7 +14,7 @@ pub const STEPS: u8 = 25;
 pub type Worked = (u64, u64);
 
 /// The byte that slaves send in an epoch at this step of it: no other step of it has this byte, and none of the nine
-/// epochs before it and behind it.
+/// epochs before it and after it.
 pub fn byte_of(epoch: u32, step: u8) -> u8 {
     (epoch % 10) as u8 * STEPS + step % STEPS
 }
@@ -193,10 +193,12 @@ pub fn work_eight<R: Threads, A, F: FnOnce() -> A>(
     (both(first, second), done)
 }
 
+/// The last two seats of a list; none if it has fewer.
 fn two_of(seats: &mut Vec<TaskSeat>) -> Option<Two> {
     Some((seats.pop()?, seats.pop()?))
 }
 
+/// The last four seats of a list; none if it has fewer.
 fn four_of(seats: &mut Vec<TaskSeat>) -> Option<Four> {
     Some((two_of(seats)?, two_of(seats)?))
 }

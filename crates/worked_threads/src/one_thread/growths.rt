@@ -13,7 +13,7 @@ use std::test::Fail;
 enum Call {
     /// The first owed block is written.
     Write,
-    /// What stands in the frame arrives.
+    /// What is in the frame arrives.
     Arrive,
     /// Task 0 is sent, and the axis answers.
     Send,
@@ -97,6 +97,7 @@ fn is_gone<R: Wait>(rt: &R, alloc: Global) -> Result<bool, AllocError> {
     gone
 }
 
+/// A refused growth changes nothing in any call of the master, and the call succeeds when it is repeated.
 #[test]
 fn refused_growths_change_nothing(rt: HostRuntime) -> Result<(), Fail> {
     assert!(rt; is_gone(&rt, rt.alloc())?);

@@ -23,8 +23,8 @@ pub fn opened<R: Wait>(rt: &R, alloc: Global) -> Option<Master> {
     opening(rt, alloc).ok()
 }
 
-/// Whether the first owed block is sent, and what stands in the frame once its slave has it: its counter stands behind 26
-/// bytes of headers and the block, whose length the datagram tells.
+/// Whether the first owed block is sent, and what is in the frame once its slave has it: its counter is after 26 bytes of
+/// headers and the block, whose length the datagram gives.
 pub fn is_written(master: &mut Master, frame: &mut [u8; FRAME]) -> bool {
     let Ok(FRAME) = master.next_write(frame) else {
         return false;
@@ -37,7 +37,7 @@ pub fn is_written(master: &mut Master, frame: &mut [u8; FRAME]) -> bool {
     true
 }
 
-/// Whether task 0 is sent with this byte of outputs, and what stands in the frame once the axis has answered: two bytes of
+/// Whether task 0 is sent with this byte of outputs, and what is in the frame once the axis has answered: two bytes of
 /// inputs, 0xa34, and the counter 3, 2 for the outputs and 1 for the inputs.
 pub fn is_sent(alloc: Global, master: &mut Master, outputs: u8, frame: &mut [u8; FRAME]) -> bool {
     let Ok(frames) = master.send(alloc, &[0], frame) else {
@@ -50,7 +50,7 @@ pub fn is_sent(alloc: Global, master: &mut Master, outputs: u8, frame: &mut [u8;
     is_right
 }
 
-/// Whether an arrival is told as inputs of the axis' datagram.
+/// Whether an arrival is reported as inputs of the axis' datagram.
 pub fn are_inputs(answer: &Answer) -> bool {
     let Answer::Answered(outcomes) = answer else {
         return false;

@@ -90,7 +90,7 @@ const ROWS: [&[Step]; 6] = [
         Post(1, &[FOUR], Err(OtherTask)),
         Take(0, 0),
     ],
-    // a value that is refused is told before the want of a buffer, and takes none
+    // a refused value is answered before a missing buffer, and takes none
     &[
         Post(0, &[FOUR], Err(TooWide)),
         Post(0, &[], Ok(())),
@@ -130,6 +130,7 @@ const ROWS: [&[Step]; 6] = [
     ],
 ];
 
+/// Each post in one thread has the result that was worked out by hand.
 #[test]
 fn posts_come_as_worked_out(rt: HostRuntime) {
     for steps in ROWS {

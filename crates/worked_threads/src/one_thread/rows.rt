@@ -50,6 +50,7 @@ const ROWS: [&[Step]; 3] = [
     ],
 ];
 
+/// Each view and publishing in one thread has the result that was worked out by hand.
 #[test]
 fn steps_come_as_worked_out(rt: HostRuntime) {
     for steps in ROWS {

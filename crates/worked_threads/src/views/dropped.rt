@@ -39,6 +39,7 @@ fn is_published<R: Wait>(rt: &R, alloc: Global) -> bool {
     epoch == Some(2)
 }
 
+/// Three edits are published while seats are dropped, and a seat that is left sees the second one.
 #[test]
 fn a_dropped_seat_holds_nobody_up(rt: HostRuntime) {
     assert!(rt; is_published(&rt, rt.alloc()));

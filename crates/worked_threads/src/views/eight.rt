@@ -96,10 +96,12 @@ pub fn watch_eight<R: Threads, A, F: FnOnce() -> A>(
     (both(first, second), done)
 }
 
+/// The last two watchers of a list; none if it has fewer.
 fn two_of(watchers: &mut Vec<Watcher>) -> Option<Two> {
     Some((watchers.pop()?, watchers.pop()?))
 }
 
+/// The last four watchers of a list; none if it has fewer.
 fn four_of(watchers: &mut Vec<Watcher>) -> Option<Four> {
     Some((two_of(watchers)?, two_of(watchers)?))
 }

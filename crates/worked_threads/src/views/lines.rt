@@ -1,9 +1,9 @@
 //! A machine to which a module is docked, with the publisher of its edits.
 ghost use Rattle.std.specs.Prelude.{◌≡◌, [], ◌∷◌, ◌++◌, All, IfSome, List, OnOk};
-ghost use Rattle.hc_publish.specs.Told.{IsOpening};
+ghost use Rattle.hc_publish.specs.ChangesSince.{IsOpening};
 ghost use Rattle.hc_events.specs.Changes.{AreLegal};
-ghost use Rattle.hc_publish.specs.Board.{published, pending, origin_of};
-ghost use Rattle.hc_publish.specs.Seats.{IsFresh, carried, note_origin};
+ghost use Rattle.hc_publish.specs.PublishedState.{published, pending, origin_of};
+ghost use Rattle.hc_publish.specs.Seats.{SeatIsAtOpening, noted_changes, note_origin};
 ghost use Rattle.hc_publish.specs.declared.seat.Seat.{Seat};
 ghost use Rattle.worked_threads.specs.Lines.{LeadsTo};
 
@@ -25,6 +25,7 @@ pub const DOCK: Edit = Edit::Connect(200);
 /// The feeder leaves it.
 pub const UNDOCK: Edit = Edit::Disconnect(200);
 
+/// The plan of a line at its opening, from the texts of its groups; none if they are no project or a growth is refused.
 fn plan_of_line(alloc: Global, texts: &[&str]) -> Option<Plan>
     ensures { IfSome result IsOpening }
 {
@@ -37,7 +38,7 @@ fn plan_of_line(alloc: Global, texts: &[&str]) -> Option<Plan>
 /// The line at its opening, with its publisher and eight seats.
 pub fn opened<R: Wait>(rt: &R, alloc: Global) -> Option<(Plan, Publisher, Vec<Seat>)>
     ensures leads { IfSome result (λ opened. LeadsTo opened.1 opened.0) }
-    ensures seats { IfSome result (λ opened. All (IsFresh (origin_of opened.1)) opened.2.items) }
+    ensures seats { IfSome result (λ opened. All (SeatIsAtOpening (origin_of opened.1)) opened.2.items) }
 {
     opened_line(rt, alloc, &[AXIS, FEEDER])
 }
@@ -49,7 +50,7 @@ pub fn opened_line<R: Wait>(
     texts: &[&str],
 ) -> Option<(Plan, Publisher, Vec<Seat>)>
     ensures leads { IfSome result (λ opened. LeadsTo opened.1 opened.0) }
-    ensures seats { IfSome result (λ opened. All (IsFresh (origin_of opened.1)) opened.2.items) }
+    ensures seats { IfSome result (λ opened. All (SeatIsAtOpening (origin_of opened.1)) opened.2.items) }
 {
     let plan = plan_of_line(alloc, texts)?;
     match open(rt, alloc, &plan) {
@@ -58,7 +59,7 @@ pub fn opened_line<R: Wait>(
     }
 }
 
-/// The first seat, that of task 0.
+/// The first seat, task 0's.
 pub fn first_seat(seats: Vec<Seat>) -> Option<Seat>
     ensures { IfSome result (λ seat. (rest : List Seat) × (seats.items ≡ seat ∷ rest)) }
 {
@@ -126,7 +127,7 @@ pub fn append_answer(
     append(publisher, Change::Good(good))
 }
 
-/// Publishes what is pending, or want of memory, and then it stays so.
+/// Publishes what is pending, or answers `Memory`, and then it stays so.
 pub fn publish<R: Wait>(rt: &R, plan: &Plan, publisher: &mut Publisher) -> Result<(), AllocError>
     requires { LeadsTo publisher.old plan.now }
     ensures leads { LeadsTo publisher.new plan.now }
@@ -146,7 +147,7 @@ pub fn publish_edit<R: Wait>(
 ) -> Option<Note>
     requires { LeadsTo publisher.old plan.old }
     ensures leads { IfSome result (λ _. LeadsTo publisher.new plan.new) }
-    ensures carried { IfSome result (λ note. carried note ≡ published publisher.new) }
+    ensures carried { IfSome result (λ note. noted_changes note ≡ published publisher.new) }
     ensures origin { IfSome result (λ note. note_origin note ≡ origin_of publisher.old) }
     ensures same { origin_of publisher.new ≡ origin_of publisher.old }
 {

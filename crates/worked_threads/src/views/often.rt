@@ -16,7 +16,7 @@ use std::thread::Threads;
 /// So many turns, with four publishings each.
 const TURNS: u32 = 500;
 
-/// Whether each view was of one epoch, none behind an earlier one, and the last ones show all.
+/// Whether each view was of one epoch, none after an earlier one, and the last ones show all.
 fn are_views_whole<R: Threads + Wait>(
     rt: &R,
     alloc: Global,
@@ -55,6 +55,8 @@ fn is_watched<R: Threads + Wait>(rt: &R, alloc: Global) -> bool {
     seen
 }
 
+/// Eight seats view while 2,000 publishings are made: each view is of one epoch, none is older than the one before, and the
+/// last ones show all.
 #[test]
 fn eight_seats_beside_two_thousand_publishings(rt: HostRuntime) {
     assert!(rt; is_watched(&rt, rt.alloc()));

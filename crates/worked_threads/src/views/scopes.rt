@@ -1,8 +1,8 @@
 //! Two scopes of threads, with notes between them.
 ghost use Rattle.std.specs.Prelude.{◌≡◌, IfSome};
 ghost use mathlib.Core.List.{IsPrefix};
-ghost use Rattle.hc_publish.specs.Board.{origin_of};
-ghost use Rattle.hc_publish.specs.Seats.{carried, known, note_origin, seat_origin};
+ghost use Rattle.hc_publish.specs.PublishedState.{origin_of};
+ghost use Rattle.hc_publish.specs.Seats.{noted_changes, known, note_origin, seat_origin};
 ghost use Rattle.worked_threads.specs.Lines.{LeadsTo};
 
 use crate::views::lines::{DOCK, UNDOCK, opened, publish_edit};
@@ -43,17 +43,17 @@ fn looked_often(mut seat: Seat) -> (Seat, bool)
     (seat, ascends)
 }
 
-/// A view behind a note.
+/// A view after a note.
 fn learned(mut seat: Seat, note: Note) -> (Seat, u32)
     requires { note_origin note ≡ seat_origin seat }
-    ensures { IsPrefix (carried note) (known result.0) }
+    ensures { IsPrefix (noted_changes note) (known result.0) }
 {
     seat.learn(note);
     looked(seat)
 }
 
 /// Three edits, each published before the next, and two notes of the last publishing.
-fn told<R: Wait>(
+fn answer_given<R: Wait>(
     rt: &R,
     alloc: Global,
     plan: &mut Plan,
@@ -114,11 +114,11 @@ fn both_learned<R: Threads>(rt: &R, one: Seat, two: Seat, first: Note, second: N
         rt,
         || -> (Seat, u32)
             requires { note_origin first ≡ seat_origin one }
-            ensures { IsPrefix (carried first) (known result.0) }
+            ensures { IsPrefix (noted_changes first) (known result.0) }
         { learned(one, first) },
         || -> (Seat, u32)
             requires { note_origin second ≡ seat_origin two }
-            ensures { IsPrefix (carried second) (known result.0) }
+            ensures { IsPrefix (noted_changes second) (known result.0) }
         { learned(two, second) },
     );
     (at, also)
@@ -144,7 +144,7 @@ fn two_scopes<R: Threads + Wait>(
         || -> Option<(Note, Note)>
             requires { LeadsTo publisher.now plan.now }
             ensures { IfSome result (λ notes. (note_origin notes.0 ≡ origin_of publisher.entry.now) × (note_origin notes.1 ≡ origin_of publisher.entry.now)) }
-        { told(rt, alloc, plan, publisher) },
+        { answer_given(rt, alloc, plan, publisher) },
     );
     let (first, second) = notes?;
     let shown = both_learned(rt, one, two, first, second);
@@ -164,6 +164,8 @@ fn is_seen<R: Threads + Wait>(rt: &R, alloc: Global) -> bool {
     seen.unwrap_or(false)
 }
 
+/// Seats view in one scope of threads while edits are published, and see the last one in the next scope after they learn a
+/// note.
 #[test]
 fn a_note_between_two_scopes(rt: HostRuntime) {
     assert!(rt; is_seen(&rt, rt.alloc()));

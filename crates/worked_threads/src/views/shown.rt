@@ -14,17 +14,17 @@ use std::alloc::{AllocError, Global};
 use std::sync::Wait;
 use std::test::Fail;
 
-/// A variable's number, and what task 0 is told of it: its first bit, if it has a place, and its value or the number
+/// A variable's number, and what task 0 gets for it: its first bit, if it has a place, and its value or the number
 /// of a fault.
-type Told = (u32, Option<u16>, Result<u64, u8>);
+type AnswerGiven = (u32, Option<u16>, Result<u64, u8>);
 
 /// What a view shows: the epoch, the bytes of the task's outputs and of its inputs, the data of its datagram, and what
-/// it tells of variables.
+/// it says of variables.
 struct Moment {
     epoch: u32,
     part: (u16, u16),
     data: Option<&'static [u8]>,
-    told: &'static [Told],
+    answer_given: &'static [AnswerGiven],
 }
 
 /// The axis has a byte of outputs and two of inputs. Variable 9 is none, and variable 3 is of the feeder, which isn't
@@ -33,7 +33,7 @@ const OPENED: Moment = Moment {
     epoch: 0,
     part: (1, 2),
     data: None,
-    told: &[
+    answer_given: &[
         (9, None, Err(1)),
         (3, None, Err(1)),
         (1, Some(0), Err(2)),
@@ -46,7 +46,7 @@ const ANSWERED: Moment = Moment {
     epoch: 0,
     part: (1, 2),
     data: Some(b"\x02\x34\x0a"),
-    told: &[
+    answer_given: &[
         (3, None, Err(1)),
         (1, Some(0), Err(2)),
         (2, Some(8), Ok(2612)),
@@ -58,7 +58,7 @@ const DOCKED: Moment = Moment {
     epoch: 1,
     part: (1, 2),
     data: None,
-    told: &[
+    answer_given: &[
         (3, Some(0), Err(3)),
         (1, Some(0), Err(2)),
         (2, Some(8), Err(4)),
@@ -70,27 +70,27 @@ const WITHOUT_OUTPUTS: Moment = Moment {
     epoch: 2,
     part: (0, 2),
     data: None,
-    told: &[
+    answer_given: &[
         (3, Some(0), Err(3)),
         (1, None, Err(1)),
         (2, Some(0), Err(4)),
     ],
 };
 
-/// Undocked again, and answered: the axis' inputs stand alone in the datagram.
+/// Undocked again, and answered: the axis' inputs are alone in the datagram.
 const UNDOCKED: Moment = Moment {
     epoch: 3,
     part: (0, 2),
     data: Some(b"\x21\x03"),
-    told: &[(3, None, Err(1)), (1, None, Err(1)), (2, Some(0), Ok(801))],
+    answer_given: &[(3, None, Err(1)), (1, None, Err(1)), (2, Some(0), Ok(801))],
 };
 
-/// Docked once more behind another answer, which was of the epoch before, and answered in the new one: 0x234.
+/// Docked once more after another answer, which was of the epoch before, and answered in the new one: 0x234.
 const DOCKED_AGAIN: Moment = Moment {
     epoch: 4,
     part: (0, 2),
     data: Some(b"\x34\xf2"),
-    told: &[(3, Some(0), Err(3)), (2, Some(0), Ok(564))],
+    answer_given: &[(3, Some(0), Err(3)), (2, Some(0), Ok(564))],
 };
 
 /// A change that is appended.
@@ -106,7 +106,7 @@ enum Given {
     LosingOutputs,
 }
 
-/// What is appended before one publishing, and what a view shows behind it.
+/// What is appended before one publishing, and what a view shows after it.
 type Row = (&'static [Given], &'static Moment);
 
 /// One publishing after another.
@@ -126,8 +126,8 @@ const ROWS: &[Row] = &[
     ),
 ];
 
-/// Whether a view tells this of a variable.
-fn tells(view: &View, row: &Told) -> bool {
+/// Whether a view gives this of a variable.
+fn says(view: &View, row: &AnswerGiven) -> bool {
     match VarId::new(row.0) {
         Some(variable) => {
             view.place(variable).map(|place| place.bit) == row.1
@@ -137,10 +137,10 @@ fn tells(view: &View, row: &Told) -> bool {
     }
 }
 
-/// Whether it tells all of this.
-fn tells_all(view: &View, rows: &[Told]) -> bool {
+/// Whether it says all of this.
+fn says_all(view: &View, rows: &[AnswerGiven]) -> bool {
     for row in rows {
-        if !tells(view, row) {
+        if !says(view, row) {
             return false;
         }
     }
@@ -163,7 +163,7 @@ fn sees(seat: Seat, moment: &Moment) -> (Seat, bool) {
             let seen = view.epoch() == moment.epoch
                 && view.part() == moment.part
                 && has(view.inputs(0), moment.data)
-                && tells_all(&view, moment.told);
+                && says_all(&view, moment.answer_given);
             (view.leave(), seen)
         }
         Err(seat) => (seat, false),
@@ -254,7 +254,7 @@ fn is_seen<R: Wait>(
     Ok((seat, waits && stays && seen))
 }
 
-/// The number of the first row of which a seat doesn't see what it should; none where it sees all.
+/// The number of the first row where a seat doesn't see what it should; none where it sees all.
 fn first_unseen<R: Wait>(
     rt: &R,
     alloc: Global,
@@ -291,6 +291,7 @@ fn first_unseen_of<R: Wait>(rt: &R, alloc: Global) -> Result<Option<usize>, Allo
     unseen
 }
 
+/// A view shows what was published last, and the moment before until then.
 #[test]
 fn a_view_shows_what_was_published(rt: HostRuntime) -> Result<(), Fail> {
     assert_eq!(rt; first_unseen_of(&rt, rt.alloc())?, None);

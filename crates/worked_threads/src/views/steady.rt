@@ -1,7 +1,7 @@
-//! Cycles of good answers, in which a seat views, learns and leaves: behind the first ones no growth is met any more,
+//! Cycles of good answers, where a seat views, learns and leaves: after the first ones no growth is met any more,
 //! which is counted from outside.
 ghost use Rattle.std.specs.Prelude.{◌≡◌, OnOk};
-ghost use Rattle.hc_publish.specs.Board.{origin_of};
+ghost use Rattle.hc_publish.specs.PublishedState.{origin_of};
 ghost use Rattle.hc_publish.specs.Seats.{seat_origin};
 ghost use Rattle.worked_threads.specs.Lines.{LeadsTo};
 
@@ -51,7 +51,7 @@ fn value_seen(seat: Seat) -> (Seat, Option<u64>)
     }
 }
 
-/// Whether a seat that learns a note behind each of so many cycles sees the last answer.
+/// Whether a seat that learns a note after each of so many cycles sees the last answer.
 fn is_steady<R: Wait>(
     rt: &R,
     alloc: Global,
@@ -87,6 +87,7 @@ fn is_steady_of<R: Wait>(rt: &R, alloc: Global, cycles: u32) -> Result<bool, All
     steady
 }
 
+/// Four cycles of good answers go as they should, and the seat sees the last one.
 #[test]
 fn few_cycles(rt: HostRuntime) -> Result<(), Fail> {
     assert!(rt; is_steady_of(&rt, rt.alloc(), 4)?);

@@ -15,8 +15,8 @@ returns-then-end-room-clause-fit g c =
     let i = c.loop-area.area in
     let inside : i < length row = let many = c.requires.row.many in let less = c.loop-area-test.true in omega arith in
     let area : Keyed = (key_at c.args.dir (c.args.place + i), get_or row i 0) in
-    let out = scan-out c.args.room c.loop-area.so_far c.behind_area-end.result area (drop (i + 1) (row_areas c.args.dir c.args.place row))
-    (c.behind_area-end.ensures (c.args.place + i)) c.if-end-room.true in
+    let out = scan-out c.args.room c.loop-area.so_far c.after_area-end.result area (drop (i + 1) (row_areas c.args.dir c.args.place row))
+    (c.after_area-end.ensures (c.args.place + i)) c.if-end-room.true in
     ap Found c.key_at.ensures ∙ sym (ap (scan c.args.room c.loop-area.so_far) (row-drop c.args.dir c.args.place i row inside) ∙ out) ∙ c.loop-area.invariant.fit
 
 pub loop-area-preserved : goal.loop-area-preserved
@@ -25,8 +25,8 @@ loop-area-preserved g c =
     let i = c.loop-area.area in
     let inside : i < length row = let many = c.requires.row.many in let less = c.loop-area-test.true in omega arith in
     let area : Keyed = (key_at c.args.dir (c.args.place + i), get_or row i 0) in
-    let within = scan-in c.args.room c.loop-area.so_far c.behind_area-end.result area (drop (i + 1) (row_areas c.args.dir c.args.place row))
-    (c.behind_area-end.ensures (c.args.place + i)) c.if-end-room.false in
+    let within = scan-in c.args.room c.loop-area.so_far c.after_area-end.result area (drop (i + 1) (row_areas c.args.dir c.args.place row))
+    (c.after_area-end.ensures (c.args.place + i)) c.if-end-room.false in
     record {
       fit = sym (ap (scan c.args.room c.loop-area.so_far) (row-drop c.args.dir c.args.place i row inside) ∙ within) ∙ c.loop-area.invariant.fit;
       here = c.if-end-room.false;

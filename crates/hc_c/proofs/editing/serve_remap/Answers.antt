@@ -8,19 +8,19 @@ use Rattle.hc_groups.specs.Edits.{own_fault}
 use Rattle.hc_groups.proofs.lemmas.Refusals.{own-refuses}
 use Rattle.hc_events.specs.Points.{state_of}
 use Rattle.hc_c.specs.Edits.{Serves, edit_number, is_full_for}
-use Rattle.hc_c.specs.Embedded.{past_of}
+use Rattle.hc_c.specs.Embedded.{embedded_history}
 use Rattle.hc_c.proofs.Refusals.{not_done, own-found, same_fault}
 use Rattle.hc_c.proofs.editing.serve_remap.Goals as goal
 
 pub returns-in-Some : goal.returns-in-Some
 returns-in-Some c =
-    let state : State = state_of (past_of c.args.own.now) in let fault = c.in-Some.fault in let number = c.refuse.ensures.number in
+    let state : State = state_of (embedded_history c.args.own.now) in let fault = c.in-Some.fault in let number = c.refuse.ensures.number in
     let edit : Edit = Remap c.args.station c.args.area c.args.pdos.now in
     let groups : c.plan.result.now.groups ≡ state.groups = ap (λ (it : State). it.groups) c.plan.ensures.state in
     let found : own_fault state.groups edit ≡ Some fault = sym (c.in-Some.ensures ∙ ap (λ (it : List Declared). own_fault it edit) groups) in
     let refused : edited state edit ≡ Err fault = own-refuses state edit fault found in
     record {
-      told = λ other. number ∙ sym (ap (edit_number (is_full_for c.args.own.now c.args.asks)) refused);
+      answer_given = λ other. number ∙ sym (ap (edit_number (is_full_for c.args.own.now c.args.asks)) refused);
       own = own-found (own_fault state.groups edit) fault c.refuse.result number found;
       cost = λ is. absurd (not_done fault (sym number ∙ is));
       carried = λ is asks. absurd (not_done fault (sym number ∙ is));

@@ -7,11 +7,11 @@ use Rattle.hc_c.proofs.reading.+put_data.Goals as goal
 
 pub put_slot-requires : goal.put_slot-requires
 put_slot-requires t c =
-    let past = c.args.core.now.past in
+    let history = c.args.core.now.history in
     let cut = c.in-Some.ensures.cases.0 in
-    let lengths = subst (HaveLengths (line_of past) c.args.task c.args.number) cut c.requires.lengths in
+    let lengths = subst (HaveLengths (line_of history) c.args.task c.args.number) cut c.requires.lengths in
     let few = ap length cut in
     let own = c.split_at_mut-own.ensures.front_len in
     let same = c.from.ensures in
-    slot-fits past c.args.task c.args.number (length c.split_at_mut-own.result.0.now) (option_copied c.data.result)
+    slot-fits history c.args.task c.args.number (length c.split_at_mut-own.result.0.now) (option_copied c.data.result)
     (c.data.ensures.slot c.requires.task (omega (arith, few, c.requires.few))) (own ∙ same ∙ lengths.0)

@@ -12,6 +12,6 @@ loop-i-preserved c =
 
 pub returns : goal.returns
 returns c =
-    let past = c.loop-i-test.false in
+    let history = c.loop-i-test.false in
     let many = c.slaves-i-end.ensures.count in
-    gone-end c.args.change.now c.loop-i.i c.loop-i.rows.items _ (omega (arith, past, many)) c.loop-i.invariant
+    gone-end c.args.change.now c.loop-i.i c.loop-i.rows.items _ (omega (arith, history, many)) c.loop-i.invariant

@@ -7,10 +7,10 @@ use Rattle.hc_conductor.proofs.at_once.+put_sizes.Goals as goal
 
 pub put_sizes-requires : goal.put_sizes-requires
 put_sizes-requires t c =
-    let past = c.args.core.now.past in
+    let history = c.args.core.now.history in
     let frames = c.args.frames.now in
     let cut = c.in-Some.ensures.cases.0 in
-    let all = ap (λ (tasks : List ℕ). sum (sizes_of past frames tasks)) cut ∙ sum_by-cons (λ (n : ℕ). n) (part_size (line_of past) c.in-Some.task.now frames) (sizes_of past frames c.in-Some.rest.now) in (
+    let all = ap (λ (tasks : List ℕ). sum (sizes_of history frames tasks)) cut ∙ sum_by-cons (λ (n : ℕ). n) (part_size (line_of history) c.in-Some.task.now frames) (sizes_of history frames c.in-Some.rest.now) in (
       search rules,
       (c.requires.can, (c.requires.few, (omega (arith, c.requires.exact, ap length cut, c.split_at_mut-first.ensures.back_len), omega (arith, c.requires.small, all)))),
     )

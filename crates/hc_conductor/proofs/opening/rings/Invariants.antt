@@ -1,7 +1,7 @@
 use Rattle.std.proofs.Common.{◌≡◌, ◌≤◌, All, vec_len, vec_capacity}
 use Rattle.hc_records.specs.declared.limits.TheConstants.{TASKS}
 use Rattle.hc_conductor.specs.Openings.{AreEnds, IsUnused}
-use Rattle.hc_conductor.specs.Together.{EachRing, IsWhole}
+use Rattle.hc_conductor.specs.Together.{EachRing, LostNoBuffer}
 use Rattle.hc_conductor.proofs.opening.rings.Given as goal
 
 abbrev pub invariant-loop : goal.invariant-loop
@@ -12,5 +12,5 @@ invariant-loop l = record {
   place : TASKS ≤ vec_capacity l.receivers;
   ends : AreEnds l.senders.items l.receivers.items;
   unused : All IsUnused l.senders.items;
-  whole : EachRing IsWhole l.senders.items l.receivers.items;
+  whole : EachRing LostNoBuffer l.senders.items l.receivers.items;
 }

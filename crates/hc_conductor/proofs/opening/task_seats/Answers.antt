@@ -5,9 +5,9 @@ use Rattle.hc_publish.specs.declared.seat.Seat.{Seat}
 use Rattle.hc_publish.specs.Seats.{seat_origin}
 use Rattle.hc_rings.specs.declared.post_buffer.TheConstants.{LARGEST_IMAGE}
 use Rattle.hc_conductor.specs.Openings.{IsOpenable, output_bytes}
-use Rattle.hc_conductor.specs.Seats.{epoch_of, seat_of, sender, size_of}
+use Rattle.hc_conductor.specs.Seats.{seat_epoch, seat_of, sender, outputs_size}
 use Rattle.hc_conductor.specs.declared.seat.TaskSeat.{TaskSeat}
-use Rattle.hc_conductor.proofs.Seatings.{moved-on, told-on}
+use Rattle.hc_conductor.proofs.Seatings.{moved-on, answer_given-on}
 use Rattle.hc_conductor.proofs.opening.task_seats.Goals as goal
 
 abbrev Openable : Seat → Type 0
@@ -36,7 +36,7 @@ loop-seat-preserved c =
       few = omega (arith, i.few, c.in-Some.ensures.steps.1, c.push_reserved.ensures.len);
       senders = moved-on sender old more _ _ _ _ pushed step' i.senders;
       pairs = omega (arith, i.pairs, ap length step, ap length step');
-      epochs = subst (All (λ (seat : TaskSeat). epoch_of seat ≡ 0)) (sym pushed) (All-append (λ (seat : TaskSeat). epoch_of seat ≡ 0) old (_ ∷ []) i.epochs (All-cons (λ (seat : TaskSeat). epoch_of seat ≡ 0) _ [] refl (All-nil (λ (seat : TaskSeat). epoch_of seat ≡ 0))));
-      sizes = told-on size_of (output_bytes c.args.places.now) old more _ pushed size i.sizes;
+      epochs = subst (All (λ (seat : TaskSeat). seat_epoch seat ≡ 0)) (sym pushed) (All-append (λ (seat : TaskSeat). seat_epoch seat ≡ 0) old (_ ∷ []) i.epochs (All-cons (λ (seat : TaskSeat). seat_epoch seat ≡ 0) _ [] refl (All-nil (λ (seat : TaskSeat). seat_epoch seat ≡ 0))));
+      sizes = answer_given-on outputs_size (output_bytes c.args.places.now) old more _ pushed size i.sizes;
       openable = All-tail Openable c.in-Some.seat (into_iter_items c.next.new.self) (subst (All Openable) step i.openable);
     }

@@ -1,6 +1,6 @@
 use Rattle.std.proofs.Common.{◌≡◌, ◌++◌, vec_len}
 use Rattle.std.specs.Prelude.{reverse}
-use Rattle.hc_publish.specs.Board.{origin_of, pending, published}
+use Rattle.hc_publish.specs.PublishedState.{origin_of, pending, published}
 use Rattle.hc_conductor.proofs.publishing.append_all.Given as goal
 
 abbrev pub invariant-loop-change : goal.invariant-loop-change

@@ -26,7 +26,7 @@ pub returns-clause-taken : goal.returns-clause-taken
 returns-clause-taken t c =
     let first = c.take_some-first.result in
     let rest = c.take_all-rest.result in
-    let told : Taken = record { accepted = first.accepted + rest.accepted; refused = first.refused + rest.refused } in
-    subst (λ (rings : List PostReceiver). TakesFromAll c.args.task c.args.core.now c.take_all-rest.new.core rings (c.take_some-first.new.ring ∷ c.take_all-rest.new.rings) told) (sym c.in-Some.ensures.cases.0)
-    (rings-taken c.args.task c.args.core.now c.take_some-first.new.core c.take_all-rest.new.core c.in-Some.ring.now c.take_some-first.new.ring c.in-Some.others.now c.take_all-rest.new.rings told first rest
+    let answer_given : Taken = record { accepted = first.accepted + rest.accepted; refused = first.refused + rest.refused } in
+    subst (λ (rings : List PostReceiver). TakesFromAll c.args.task c.args.core.now c.take_all-rest.new.core rings (c.take_some-first.new.ring ∷ c.take_all-rest.new.rings) answer_given) (sym c.in-Some.ensures.cases.0)
+    (rings-taken c.args.task c.args.core.now c.take_some-first.new.core c.take_all-rest.new.core c.in-Some.ring.now c.take_some-first.new.ring c.in-Some.others.now c.take_all-rest.new.rings answer_given first rest
     (four-taken _ _ _ _ _ _ _ (first-few _ _ _ c.in-Some-split_first.ensures.cases.0 c.requires.few) c.take_some-first.ensures.taken) c.take_all-rest.ensures.taken refl refl)

@@ -1,5 +1,5 @@
 use Rattle.std.proofs.Common.{length, ap, sym, ◌∙◌}
-use Rattle.hc_owed.specs.Board.{kept_of}
+use Rattle.hc_owed.specs.RegisterState.{register_state_of}
 use Rattle.hc_owed.specs.Laws.{known_over}
 use Rattle.hc_registers.specs.RankPlaces.{stations}
 use Rattle.hc_core.proofs.Followed.{can-admit, can-change, declared-next, declares-with}
@@ -18,7 +18,7 @@ returns-in-Some c = λ can.
     let edit = c.args.edit.now in
     let with = declares-with (length (stations edit.old)) edit.report.swap.edit c.args.slaves c.in-Some.room can.slaves c.in-Some.is in
     c.admit.ensures (can-admit c.args.owed.now edit c.args.slaves c.in-Some.room can c.in-Some.is)
-    ∙ ap (kept_of (known_over edit.old can.known)) (sym (declared-next edit with.group can.prepared with.named))
+    ∙ ap (register_state_of (known_over edit.old can.known)) (sym (declared-next edit with.group can.prepared with.named))
 
 pub returns-in-None : goal.returns-in-None
 returns-in-None c = λ can.

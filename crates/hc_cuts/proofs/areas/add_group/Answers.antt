@@ -7,17 +7,17 @@ use Rattle.hc_cuts.specs.Areas.{present_areas}
 use Rattle.hc_cuts.proofs.areas.add_group.Goals as goal
 use Rattle.hc_cuts.proofs.areas.add_group.Goals.{then-declared, else-declared}
 
--- one slave more, and those behind it
+-- one slave more, and those after it
 slaves-on : (own : Slave → List Area) (slaves : List Slave) (i : ℕ) (slave : Slave) (areas : List Area) (done new all : List (List Area)) → i < length slaves → slave ≡ get_or slaves i slave
     → areas ≡ own slave → new ≡ done ++ areas ∷ [] → done ++ map own (drop i slaves) ≡ all → new ++ map own (drop (i + 1) slaves) ≡ all
-slaves-on own slaves i slave areas done new all inside is has added told =
+slaves-on own slaves i slave areas done new all inside is has added answer_given =
     let rest = drop (i + 1) slaves in
     let cut : drop i slaves ≡ slave ∷ rest = drop_more slaves i slave inside ∙ ap (λ (s : Slave). s ∷ rest) (sym is) in
     ap (λ (list : List (List Area)). list ++ map own rest) added
     ∙ append_assoc done (areas ∷ []) (map own rest)
     ∙ ap (λ (a : List Area). done ++ a ∷ map own rest) has
     ∙ ap (λ (left : List Slave). done ++ map own left) (sym cut)
-    ∙ told
+    ∙ answer_given
 
 pub loop-slave-preserved : goal.loop-slave-preserved
 loop-slave-preserved c =

@@ -6,16 +6,16 @@ use Rattle.hc_records.specs.declared.records.Declared.{Declared}
 use Rattle.hc_cuts.specs.Areas.{areas_by_rank, present_areas}
 use Rattle.hc_cuts.proofs.areas.areas_by_rank.Goals as goal
 
--- the slaves of one group more, and those of the groups behind it
+-- the slaves of one group more, and those of the groups after it
 groups-on : (groups : List Declared) (i : ℕ) (declared : Declared) (done new all : List (List Area)) → i < length groups → declared ≡ get_or groups i declared
     → new ≡ done ++ present_areas declared → done ++ flat_map present_areas (drop i groups) ≡ all → new ++ flat_map present_areas (drop (i + 1) groups) ≡ all
-groups-on groups i declared done new all inside is added told =
+groups-on groups i declared done new all inside is added answer_given =
     let rest = drop (i + 1) groups in
     let cut : drop i groups ≡ declared ∷ rest = drop_more groups i declared inside ∙ ap (λ (d : Declared). d ∷ rest) (sym is) in
     ap (λ (list : List (List Area)). list ++ flat_map present_areas rest) added
     ∙ append_assoc done (present_areas declared) (flat_map present_areas rest)
     ∙ ap (λ (left : List Declared). done ++ flat_map present_areas left) (sym cut)
-    ∙ told
+    ∙ answer_given
 
 pub loop-declared-preserved : goal.loop-declared-preserved
 loop-declared-preserved c =

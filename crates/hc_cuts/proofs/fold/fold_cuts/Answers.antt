@@ -18,8 +18,8 @@ returns-clause-keys c =
       empty = c.new-keys.ensures;
       first = c.push.ensures.items;
       opens = c.opening.ensures;
-      stands = c.place.ensures;
-      goes_on = c.behind-front.ensures;
+      is_placed = c.place.ensures;
+      goes_on = c.after_it-front.ensures;
       rest = c.in_ok-add_cuts.ensures.added;
     })
 
@@ -28,16 +28,16 @@ returns-clause-few c = grind (arith, count-added)
 
 pub returns-in_err-add_cuts-clause-refused : goal.returns-in_err-add_cuts-clause-refused
 returns-in_err-add_cuts-clause-refused c =
-    let crowded = c.in_err-add_cuts.ensures.refused in
-    let count = count-added c.args.list.now none (c.push.new.self.items ++ cuts_from c.behind-front.result (take (length c.args.list.now - 1) (drop 1 c.args.list.now))) _ _ _ _ _ (record {
+    let over_limit = c.in_err-add_cuts.ensures.refused in
+    let count = count-added c.args.list.now none (c.push.new.self.items ++ cuts_from c.after_it-front.result (take (length c.args.list.now - 1) (drop 1 c.args.list.now))) _ _ _ _ _ (record {
       some = grind (arith, c.is_empty.ensures, c.if-is_empty.false);
       packable = c.requires;
       empty = c.new-keys.ensures;
       first = c.push.ensures.items;
       opens = c.opening.ensures;
-      stands = c.place.ensures;
-      goes_on = c.behind-front.ensures;
+      is_placed = c.place.ensures;
+      goes_on = c.after_it-front.ensures;
       rest = refl;
     }) in
     let p = err_from_is_err_and c.from_residual.result c.from_residual.ensures.1 in
-    rw p.1 (omega (arith, count, crowded))
+    rw p.1 (omega (arith, count, over_limit))

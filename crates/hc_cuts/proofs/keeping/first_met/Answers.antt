@@ -1,7 +1,7 @@
 use Rattle.std.proofs.Common.{◌∙◌, Option, ap, sym}
 use Rattle.std.specs.Prelude.{not}
 use Rattle.hc_records.specs.Boundaries.{Interval, meets_hull}
-use Rattle.hc_cuts.proofs.KeptBy.{met-first, met-never}
+use Rattle.hc_cuts.proofs.UnchangedBy.{met-first, met-never}
 use Rattle.hc_cuts.proofs.keeping.first_met.Goals as goal
 
 pub returns-in-Some : goal.returns-in-Some

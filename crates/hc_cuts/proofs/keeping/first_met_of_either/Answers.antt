@@ -1,6 +1,6 @@
 use Rattle.std.proofs.Common.{◌∙◌}
 use Rattle.hc_records.specs.Boundaries.{Interval, meets_hull}
-use Rattle.hc_cuts.proofs.KeptBy.{met-either}
+use Rattle.hc_cuts.proofs.UnchangedBy.{met-either}
 use Rattle.hc_cuts.proofs.keeping.first_met_of_either.Goals as goal
 
 pub returns : goal.returns

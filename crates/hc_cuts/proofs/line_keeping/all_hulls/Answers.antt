@@ -27,5 +27,5 @@ loop-task-preserved c = record {
 
 pub returns : goal.returns
 returns c = λ old new lines task low.
-    let past = c.loop-task-test.false in
-    c.loop-task.invariant.so_far old new lines task (omega (arith, past, low))
+    let history = c.loop-task-test.false in
+    c.loop-task.invariant.so_far old new lines task (omega (arith, history, low))

@@ -4,7 +4,7 @@ use Rattle.hc_records.specs.Boundaries.{is_touched}
 use Rattle.hc_records.specs.declared.records.Area.{Area}
 use Rattle.hc_cuts.specs.Hulls.{AreHulls, no_hulls}
 use Rattle.hc_cuts.specs.Areas.{list_by}
-use Rattle.hc_cuts.specs.Turn.{AreLines}
+use Rattle.hc_cuts.specs.ApplyWidths.{AreLines}
 use Rattle.hc_cuts.proofs.line_keeping.all_hulls.Given as goal
 
 -- the hulls of the tasks so far are worked out

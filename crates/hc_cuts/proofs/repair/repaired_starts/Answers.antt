@@ -18,7 +18,7 @@ returns-then-is_same-clause-count g c =
     let holds = c.requires.holds in
     let next = c.span_end-searches.result.0 in
     let last = end-is c.is_same.result next true c.is_same.ensures c.if-is_same.true in
-    let all = ends c.args.task.now c.spans.starts.items c.spans.from next holds c.span_end-searches.ensures.next last c.spans.invariant.stands in
+    let all = ends c.args.task.now c.spans.starts.items c.spans.from next holds c.span_end-searches.ensures.next last c.spans.invariant.is_placed in
     counts-end c.args.hulls.now c.args.old.now c.spans.starts.items c.args.task.now c.spans.from next c.spans.count c.span_end-searches.result.1 holds
     c.span_end-searches.ensures.next last all c.span_end-searches.ensures.searched c.spans.invariant.counts
 
@@ -37,7 +37,7 @@ spans-preserved g c =
     let least = so_far.least in
     let most = so_far.most in
     record {
-      stands = rw c.push-in-spans.ensures.items (goes c.args.task.now c.spans.starts.items c.spans.from next holds found.next other so_far.stands);
+      is_placed = rw c.push-in-spans.ensures.items (goes c.args.task.now c.spans.starts.items c.spans.from next holds found.next other so_far.is_placed);
       begins = inr (goes-place c.args.task.now c.spans.from next holds found.next other);
       counts = counts-go c.args.hulls.now c.args.old.now c.args.task.now c.spans.from next c.spans.count c.span_end-searches.result.1 holds found.next other found.searched so_far.counts;
       some = omega arith;

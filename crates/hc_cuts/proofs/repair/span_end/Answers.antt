@@ -1,14 +1,14 @@
 use Rattle.std.proofs.Common.{arith}
 use Rattle.std.proofs.Common.{◌≡◌, false, refl, sym, ◌∙◌}
-use Rattle.hc_cuts.proofs.Repaired.{begins-apart, firsts, kept-next, kept-settled, met-unsettled, new-unsettled, settles}
+use Rattle.hc_cuts.proofs.Repaired.{begins-apart, firsts, unchanged-next, unchanged-settled, met-unsettled, new-unsettled, settles}
 use Rattle.hc_cuts.proofs.repair.span_end.Goals as goal
 use Rattle.hc_cuts.proofs.repair.span_end.Goals.{in-Some+else-not-meets_either, in_default}
 
 pub returns-then-not-meets_either-clause-next : goal.returns-then-not-meets_either-clause-next
-returns-then-not-meets_either-clause-next g c = grind (arith, kept-next, firsts)
+returns-then-not-meets_either-clause-next g c = grind (arith, unchanged-next, firsts)
 
 pub returns-then-not-meets_either-clause-searched : goal.returns-then-not-meets_either-clause-searched
-returns-then-not-meets_either-clause-searched g c = grind (arith, kept-settled, firsts)
+returns-then-not-meets_either-clause-searched g c = grind (arith, unchanged-settled, firsts)
 
 pub returns-clause-searched : goal.returns-clause-searched
 returns-clause-searched g c =

@@ -10,6 +10,6 @@ loop-area-preserved c =
 pub returns : goal.returns
 returns c =
     let end = c.max-area-end.ensures in
-    let past = c.loop-area-test.false in
+    let history = c.loop-area-test.false in
     areas-all c.args.task c.args.rank c.loop-area.area c.args.old.now c.args.new.now c.args.hulls.now c.loop-area.hulls (omega arith) (omega arith)
     c.loop-area.invariant

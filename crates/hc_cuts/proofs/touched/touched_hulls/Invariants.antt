@@ -1,7 +1,7 @@
 use Rattle.std.proofs.Common.{◌+◌, List, length}
 use Rattle.hc_records.specs.declared.records.Area.{Area}
 use Rattle.hc_cuts.specs.Hulls.{AreHulls}
-use Rattle.hc_cuts.specs.Turn.{AreLines}
+use Rattle.hc_cuts.specs.ApplyWidths.{AreLines}
 use Rattle.hc_cuts.proofs.Taking.{up_to_rank}
 use Rattle.hc_cuts.proofs.touched.touched_hulls.Given as goal
 

@@ -9,6 +9,6 @@ loop-area-preserved c =
 pub returns : goal.returns
 returns c =
     let end = c.max-area-end.ensures in
-    let past = c.loop-area-test.false in
+    let history = c.loop-area-test.false in
     areas-end c.args.task c.args.rank c.loop-area.area c.args.old.now c.args.new.now c.args.cuts.now c.loop-area.cuts (omega arith) (omega arith) c.requires.was
     c.loop-area.invariant

@@ -2,10 +2,10 @@ use Rattle.std.proofs.Common.{◌≡◌, ◌+◌, ℕ, length, arith, ap, subst,
 use Rattle.hc_bitsum.specs.Tree.{Tree}
 use Rattle.hc_cuts.specs.Widths.{IsSetTo}
 use Rattle.hc_cuts.specs.LineChange.{back}
-use Rattle.hc_cuts.proofs.Rows.{lines-behind, lines-front, new-at, old-at, row-kept, row-within, slaves-next}
+use Rattle.hc_cuts.proofs.Rows.{lines-after_it, lines-front, new-at, old-at, row-unchanged, row-within, slaves-next}
 use Rattle.hc_cuts.proofs.Setting.{slaves-begin, slaves-end, slaves-was, up_to}
-use Rattle.hc_cuts.proofs.Turned.{tree-holds, tree-widths}
-use Rattle.hc_cuts.proofs.lemmas.Turning.{back-lines}
+use Rattle.hc_cuts.proofs.WidthsApplied.{tree-holds, tree-widths}
+use Rattle.hc_cuts.proofs.lemmas.Applying.{back-lines}
 use Rattle.hc_cuts.proofs.widths.set_widths.Goals as goal
 
 pub loop-i-init : goal.loop-i-init
@@ -37,7 +37,7 @@ set_slave-requires-clause-old c =
     let r = c.requires in
     let low = row-within c.args.change.now r.old r.new r.lines in
     let rank = r.lines.rank in
-    row-kept r.old (length r.lines.front + c.loop-i.i) c.areas_before.result.now r.lines.old_line
+    row-unchanged r.old (length r.lines.front + c.loop-i.i) c.areas_before.result.now r.lines.old_line
     (old-at c.args.change.now r.old r.new r.lines c.loop-i.i c.areas_before.result.now c.areas_before.ensures (omega (arith, within, many)))
     (omega (arith, within, low, rank, many))
 
@@ -49,7 +49,7 @@ set_slave-requires-clause-new c =
     let same = r.lines.many in
     let rank = r.lines.rank in
     let low = row-within (back c.args.change.now) r.new r.old (back-lines c.args.change.now r.old r.new r.lines) in
-    row-kept r.new (length r.lines.front + c.loop-i.i) c.areas_after.result.now r.lines.new_line
+    row-unchanged r.new (length r.lines.front + c.loop-i.i) c.areas_after.result.now r.lines.new_line
     (new-at c.args.change.now r.old r.new r.lines c.loop-i.i c.areas_after.result.now c.areas_after.ensures (omega (arith, within, many)))
     (omega (arith, within, low, rank, many, same))
 
@@ -74,8 +74,8 @@ loop-i-preserved c = λ old new lines is.
 
 pub returns : goal.returns
 returns c = λ old new lines is.
-    let past = c.loop-i-test.false in
+    let history = c.loop-i-test.false in
     let many = c.slaves-i-end.ensures.count in
     slaves-end c.args.task (length lines.front + c.loop-i.i) old new c.args.cuts.now c.loop-i.cuts
-    (λ rank high. lines-behind c.args.change.now old new lines rank (omega (arith, past, high, many)))
+    (λ rank high. lines-after_it c.args.change.now old new lines rank (omega (arith, history, high, many)))
     (c.loop-i.invariant old new lines is)

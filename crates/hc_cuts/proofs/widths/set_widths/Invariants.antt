@@ -1,7 +1,7 @@
 use Rattle.std.proofs.Common.{◌≡◌, ◌+◌, List, length}
 use Rattle.hc_records.specs.declared.records.Area.{Area}
-use Rattle.hc_cuts.specs.Kept.{tree_by}
-use Rattle.hc_cuts.specs.Turn.{AreLines}
+use Rattle.hc_cuts.specs.TaskCuts.{tree_by}
+use Rattle.hc_cuts.specs.ApplyWidths.{AreLines}
 use Rattle.hc_cuts.specs.Widths.{IsSetTo}
 use Rattle.hc_cuts.proofs.Setting.{up_to}
 use Rattle.hc_cuts.proofs.widths.set_widths.Given as goal

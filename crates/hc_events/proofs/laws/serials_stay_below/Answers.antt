@@ -2,4 +2,4 @@ use Rattle.hc_events.proofs.Serials.{serials-stay_below}
 use Rattle.hc_events.proofs.laws.serials_stay_below.Goals as goal
 
 pub returns : goal.returns
-returns c past serial sending reachable = serials-stay_below past serial sending reachable.few
+returns c history serial sending reachable = serials-stay_below history serial sending reachable.few

@@ -1,6 +1,6 @@
 use Rattle.hc_events.specs.Stale.{without_stale}
-use Rattle.hc_events.proofs.lemmas.SameBehind.{same-behind, same-without}
+use Rattle.hc_events.proofs.lemmas.SameAfter.{same-after_it, same-without}
 use Rattle.hc_events.proofs.laws.stale_arrivals_can_go.Goals as goal
 
 pub returns : goal.returns
-returns c past steps = same-behind past (without_stale past) steps (same-without past)
+returns c history steps = same-after_it history (without_stale history) steps (same-without history)

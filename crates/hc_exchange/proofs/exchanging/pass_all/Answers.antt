@@ -1,7 +1,7 @@
 use Rattle.std.proofs.Common.{◌≡◌, ℕ, ◌<◌, ◌∙◌, List, length, get_or, set, sym, ap, arith, Vec, Global}
 use Rattle.std.specs.Prelude.{map}
 use Rattle.std.proofs.lemmas.List.{get_or-map, length-map, map-set}
-use Rattle.hc_segment.specs.Line.{frame_through, machines_behind}
+use Rattle.hc_segment.specs.Line.{frame_through, machines_after_frame}
 use Rattle.hc_exchange.proofs.Collected.{gone-more}
 use Rattle.hc_exchange.proofs.exchanging.pass_all.Goals as goal
 
@@ -19,5 +19,5 @@ loop-frame-preserved c =
     let count : i < length (texts c.args.frames.now) = omega (arith, length-map c.args.frames.now (λ (f : Vec ℕ Global). f.items)) in
     let next = gone-more i c.args.segment.now (texts c.args.frames.now) now l.segment item.items count same l.invariant.0 l.invariant.1 in (
       map-set (λ (f : Vec ℕ Global). f.items) l.frames i c.pass.new.frame ∙ ap (λ (f : List ℕ). set now i f) (c.pass.ensures.frame ∙ ap (λ (f : Vec ℕ Global). frame_through l.segment f.items) (sym c.frame-item.is)) ∙ next.0,
-      c.pass.ensures.machines ∙ ap (λ (f : Vec ℕ Global). machines_behind l.segment f.items) (sym c.frame-item.is) ∙ next.1,
+      c.pass.ensures.machines ∙ ap (λ (f : Vec ℕ Global). machines_after_frame l.segment f.items) (sym c.frame-item.is) ∙ next.1,
     )

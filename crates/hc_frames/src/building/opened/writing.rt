@@ -34,7 +34,7 @@ fn with_blank_frame<'a>(out: &'a mut [u8], serial: u64, datagrams: &'a [(u32, u1
 /// Writes a frame of LRW datagrams, given by address and number of data bytes, to the front of `out`, with data of zeros,
 /// and opens it: `Open::next` lends the data parts. The datagrams have 1 data byte or more each, and 1,498 bytes at most
 /// with the 12 bytes beside the data of each; `serial` is below 2^40. When the loan ends `out` is the frame's first 16
-/// bytes and what was left behind them. `Room` with the size needed where `out` is shorter; `out` then stays as it was.
+/// bytes and what was left after them. `Room` with the size needed where `out` is shorter; `out` then stays as it was.
 pub fn build_frame<'a>(
     out: &'a mut [u8],
     serial: u64,

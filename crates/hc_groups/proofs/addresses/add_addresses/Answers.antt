@@ -15,10 +15,10 @@ loop-slave-preserved c =
     let slaves = c.args.slaves.now in
     let slave = c.slave-item.result in
     let rest = drop (l.slave-index + 1) slaves in
-    let behind = map address_of (members_from (l.next + 1) rest) in
+    let after_it = map address_of (members_from (l.next + 1) rest) in
     let cut : drop l.slave-index slaves ≡ slave ∷ rest = drop_more slaves l.slave-index slave c.loop-slave-test.true ∙ ap (λ (s : Slave). s ∷ rest) (sym c.slave-item.is) in (
-      ap (λ (all : List Address). all ++ behind) c.in_ok-push.ensures.items
-          ∙ append_assoc l.all.items (address_of (record { rank = l.next; slave = slave }) ∷ []) behind
+      ap (λ (all : List Address). all ++ after_it) c.in_ok-push.ensures.items
+          ∙ append_assoc l.all.items (address_of (record { rank = l.next; slave = slave }) ∷ []) after_it
           ∙ ap (λ (left : List Slave). l.all.items ++ map address_of (members_from l.next left)) (sym cut)
           ∙ l.invariant.0,
       omega (arith, l.invariant.1),

@@ -16,10 +16,10 @@ loop-declared-preserved c =
     let groups = c.args.groups.now in
     let declared = c.declared-item.result in
     let rest = drop (l.declared-index + 1) groups in
-    let behind = map alias_of (enumerate_from (l.group + 1) rest) in
+    let after_it = map alias_of (enumerate_from (l.group + 1) rest) in
     let cut : drop l.declared-index groups ≡ declared ∷ rest = drop_more groups l.declared-index declared c.loop-declared-test.true ∙ ap (λ (d : Declared). d ∷ rest) (sym c.declared-item.is) in (
-      ap (λ (all : List Alias). all ++ behind) c.in_ok-push.ensures.items
-          ∙ append_assoc l.all.items (alias_of (l.group, declared) ∷ []) behind
+      ap (λ (all : List Alias). all ++ after_it) c.in_ok-push.ensures.items
+          ∙ append_assoc l.all.items (alias_of (l.group, declared) ∷ []) after_it
           ∙ ap (λ (left : List Declared). l.all.items ++ map alias_of (enumerate_from l.group left)) (sym cut)
           ∙ l.invariant.0,
       ap (λ (n : ℕ). n + 1) l.invariant.1,

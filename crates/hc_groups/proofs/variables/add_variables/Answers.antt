@@ -38,7 +38,7 @@ loop-more-preserved c =
     subst (λ (xs : List ℕ). Parts (take l.left xs) v at) c.deref.ensures.value (parts (take l.left c.deref.result.now) v at c.count_lower-at.ensures.bound c.count_lower-at.ensures.parted) in
     merged-more old names all c.put_below.new.all.items l.left more at v (rises old c.requires.order) (rises names c.requires.own) before
     (get_or_default names more 0 v (omega (arith, l.invariant.some, c.loop-more-test.true))) (omega (arith, c.count_lower-at.ensures.bound, length-take l.left c.deref.result.now)) parted
-    c.put_below.ensures.size c.put_below.ensures.front c.put_below.ensures.behind
+    c.put_below.ensures.size c.put_below.ensures.front c.put_below.ensures.after_it
 
 pub returns : goal.returns
 returns c =

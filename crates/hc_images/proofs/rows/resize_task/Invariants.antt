@@ -1,10 +1,10 @@
 use Rattle.std.proofs.Common.{◌≡◌, ◌⊎◌, ◌+◌, ◌*◌, ◌<◌, ◌≤◌, ℕ, [], get_or}
 use Rattle.hc_images.specs.Packed.{slot_bytes}
-use Rattle.hc_images.specs.Pieces.{length_of, resized}
+use Rattle.hc_images.specs.Pieces.{table_data_length, resized}
 use Rattle.hc_images.proofs.rows.resize_task.Given as goal
 
 abbrev pub invariant-loop-number : goal.invariant-loop-number
 invariant-loop-number l = record {
-  own : (d : ℕ) → d < l.number → slot_bytes l.rows l.task d ≡ resized (length_of l.table d) (slot_bytes l.fn.rows l.task d);
+  own : (d : ℕ) → d < l.number → slot_bytes l.rows l.task d ≡ resized (table_data_length l.table d) (slot_bytes l.fn.rows l.task d);
   rest : (n : ℕ) → (n < 16 * l.task) ⊎ (16 * l.task + l.number ≤ n) → get_or l.rows n [] ≡ get_or l.fn.rows n [];
 }

@@ -21,10 +21,10 @@ loop-i-preserved c =
     let found = c.index-places-i.result in
     let low : n < length places = c.loop-i-test.true in
     let is : of_list places n ≡ found = sym (c.index-places-i.is ∙ get_or_default places n found None low) in
-    let kept = c.loop-i.invariant in
+    let unchanged = c.loop-i.invariant in
     record {
-      writes = next-written n (length places) (of_list places) (λ i. bit_at 0) c.args.rows.now c.loop-i.rows c.take.new.rows found is low c.requires.apart kept.writes c.take.ensures.writes;
-      reads = next-read n (length places) c.args.lacking c.take.result (of_list places) (λ i. bit_at 0) c.args.rows.now c.loop-i.rows c.take.new.rows c.loop-i.values found is low kept.count c.requires.apart kept.writes
-          c.take.ensures.writes c.take.ensures.value kept.reads;
-      count = length-set c.loop-i.values n c.take.result ∙ kept.count;
+      writes = next-written n (length places) (of_list places) (λ i. bit_at 0) c.args.rows.now c.loop-i.rows c.take.new.rows found is low c.requires.apart unchanged.writes c.take.ensures.writes;
+      reads = next-read n (length places) c.args.lacking c.take.result (of_list places) (λ i. bit_at 0) c.args.rows.now c.loop-i.rows c.take.new.rows c.loop-i.values found is low unchanged.count c.requires.apart unchanged.writes
+          c.take.ensures.writes c.take.ensures.value unchanged.reads;
+      count = length-set c.loop-i.values n c.take.result ∙ unchanged.count;
     }

@@ -13,4 +13,4 @@ pub join_mut-requires-after_bounds : goal.join_mut-requires-after_bounds
 join_mut-requires-after_bounds g t c κs within =
     let may = can_work-apart (g.W.PartWork.can_work c.args.work.now) c.args.first c.in-Some.size.now c.args.lengths.now c.in-Some.lengths.now c.args.bytes.now
     c.split_at_mut-part.result.0.now c.split_at_mut-part.result.1.now c.in-Some.ensures.cases.0 c.split_at_mut-part.ensures.value c.split_at_mut-part.ensures.front_len c.requires.can in
-    (may.0, (omega (arith, c.in-Some.ensures.cases.1), (λ a h. h, (λ a h. h, (λ a h. h, ((search rules, search rules, search rules, grind (arith, common_steps), omega (arith, c.in-Some.ensures.cases.1), may.1), search rules))))))
+    (may.0, (omega (arith, c.in-Some.ensures.cases.1), (λ a h. h, (λ a h. h, (λ a h. h, ((search rules, search rules, search rules, (grind (arith, common_steps), omega (arith, c.in-Some.ensures.cases.1), may.1)), search rules))))))

@@ -1,6 +1,6 @@
 use Rattle.std.proofs.Common.{◌≡◌, ◌+◌, drop, ap, ◌∙◌, arith}
 use Rattle.std.specs.List.{list_all}
-use Rattle.hc_frames.specs.Arrived.{data_size, datagrams_in, is_whole}
+use Rattle.hc_frames.specs.Arrived.{data_size, datagram_tails, is_whole}
 use Rattle.hc_frames.proofs.lemmas.Datagrams.{first-whole, whole-long}
 use Rattle.hc_machine.proofs.Served.{size-taken, whole-short}
 use Rattle.hc_machine.proofs.datagrams.first_size.Goals as goal
@@ -20,5 +20,5 @@ returns c =
       within = let long = whole-long region whole.0 in omega arith;
       short = whole-short region whole.0;
       first = size-taken (12 + c.from.result) region (omega arith);
-      rest = ap (λ n. list_all is_whole (datagrams_in (drop n region))) size ∙ whole.1;
+      rest = ap (λ n. list_all is_whole (datagram_tails (drop n region))) size ∙ whole.1;
     }

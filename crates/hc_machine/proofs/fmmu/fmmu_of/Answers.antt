@@ -1,5 +1,5 @@
 use Rattle.std.proofs.Common.{◌≡◌, ◌+◌, ◌-◌, ◌*◌, ◌%◌, ◌/◌, ◌==◌, true, min, refl, arith}
-use Rattle.hc_machine.specs.Fmmus.{fmmu_of, first_logical, first_memory, end_logical, is_active, is_read, is_write}
+use Rattle.hc_machine.specs.Fmmus.{fmmu_of, first_logical, first_memory, end_logical, is_active, is_read, is_write_fmmu}
 use Rattle.hc_machine.proofs.fmmu.fmmu_of.Goals as goal
 
 pub returns-clause-value : goal.returns-clause-value
@@ -12,5 +12,5 @@ returns-clause-value c =
     let memory : c.min-memory.result ≡ first_memory block = omega arith in
     let width : c.min.result ≡ min (end_logical block - first_logical block) (98304 - first_memory block) = cc in
     let reads : (c.fmmu_type.result % 2 == 1) ≡ is_read block = cc in
-    let writes : (c.fmmu_type-2.result / 2 % 2 == 1) ≡ is_write block = cc in
+    let writes : (c.fmmu_type-2.result / 2 % 2 == 1) ≡ is_write_fmmu block = cc in
     rw (on, logical, memory, width, reads, writes) refl

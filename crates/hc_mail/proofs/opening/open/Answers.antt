@@ -5,11 +5,11 @@ use Rattle.hc_mail.proofs.Moves.{enters, waits, is_posed}
 use Rattle.hc_mail.proofs.opening.open.Goals as goal
 
 pub split_seat-second-requires : goal.split_seat-second-requires
-split_seat-second-requires c = (search rules, search rules, parts _ _ _ (ap (λ m. m.0.role) c.in_ok-mail.ensures.3))
+split_seat-second-requires c = (search rules, search rules, parts _ _ _ (ap (λ m. m.0.role) c.in_ok-mail.ensures.me))
 
 pub load-requires : goal.load-requires
 load-requires c = let now = c.split_seat-second.ensures.2 in
-    (search rules, search rules, enters _ _ _ _ (ap (λ m. m.0.role) now) (ap (λ m. m.1) now ∙ ap (λ m. m.1) c.in_ok-mail.ensures.3))
+    (search rules, search rules, enters _ _ _ _ (ap (λ m. m.0.role) now) (ap (λ m. m.1) now ∙ ap (λ m. m.1) c.in_ok-mail.ensures.me))
 
 pub load-requires-2 : goal.load-requires-2
 load-requires-2 c = let now = c.split_seat-second.ensures.4 in (search rules, search rules, waits _ _ _ _ (ap (λ m. m.0.role) now) (ap (λ m. m.1) now))
@@ -33,5 +33,5 @@ invariant_of-receiver c = let now = c.load-2.ensures.2 in record {
   small = omega arith;
   looks = is_posed _ _ _ (ap (λ m. m.0.role) now) (ap (λ m. m.1) now);
   shows = c.in_ok-shown.ensures ∙ (ap blank (sym (ap (λ image. image.room) c.in_ok-shown.ensures))
-      ∙ ap (newest c.in_ok-shown.shown.room) (sym (ap (λ m. m.0.seen) now ∙ (ap (λ m. m.0.seen) c.split_seat-second.ensures.4 ∙ ap (λ m. m.0.seen) c.in_ok-mail.ensures.3))));
+      ∙ ap (newest c.in_ok-shown.shown.room) (sym (ap (λ m. m.0.seen) now ∙ (ap (λ m. m.0.seen) c.split_seat-second.ensures.4 ∙ ap (λ m. m.0.seen) c.in_ok-mail.ensures.me))));
 }

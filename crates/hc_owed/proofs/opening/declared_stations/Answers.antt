@@ -16,11 +16,11 @@ loop-declared-preserved c =
     let declared = c.declared-item.result in
     let slaves = declared.group.slaves in
     let rest = drop (l.declared-index + 1) groups in
-    let behind = slaves_of (groups_of rest) in
+    let after_it = slaves_of (groups_of rest) in
     let cut : drop l.declared-index groups ≡ declared ∷ rest = drop_more groups l.declared-index declared c.loop-declared-test.true ∙ ap (λ (d : Declared). d ∷ rest) (sym c.declared-item.is) in
-    ap (λ (all : List ℕ). all ++ map station behind) (c.in_ok-push_stations.ensures ∙ ap (λ (own : List Slave). l.stations.items ++ map station own) c.as_slice.ensures)
-    ∙ append_assoc l.stations.items (map station slaves) (map station behind)
-    ∙ ap (λ (all : List ℕ). l.stations.items ++ all) (sym (map-append station slaves behind))
+    ap (λ (all : List ℕ). all ++ map station after_it) (c.in_ok-push_stations.ensures ∙ ap (λ (own : List Slave). l.stations.items ++ map station own) c.as_slice.ensures)
+    ∙ append_assoc l.stations.items (map station slaves) (map station after_it)
+    ∙ ap (λ (all : List ℕ). l.stations.items ++ all) (sym (map-append station slaves after_it))
     ∙ ap (λ (left : List Declared). l.stations.items ++ map station (slaves_of (groups_of left))) (sym cut)
     ∙ l.invariant
 

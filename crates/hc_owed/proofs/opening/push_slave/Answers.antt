@@ -3,7 +3,7 @@ use Rattle.std.specs.List.{range_with_len}
 use Rattle.std.proofs.lemmas.List.{append_assoc, length-append}
 use Rattle.std.proofs.lemmas.List.FromFn.{length-map-range_with_len, map-range_with_len_more}
 use Rattle.hc_owed.specs.Flags.{Flags}
-use Rattle.hc_owed.specs.Opening.{has_block}
+use Rattle.hc_owed.specs.Opening.{slave_has_block}
 use Rattle.hc_owed.proofs.FlagLists.{flags_of}
 use Rattle.hc_owed.proofs.Opened.{all-numbers}
 use Rattle.hc_owed.proofs.opening.push_slave.Goals as goal
@@ -14,7 +14,7 @@ push-requires c = search (rules, length-append, length-map-range_with_len)
 pub loop-number-preserved : goal.loop-number-preserved
 loop-number-preserved c =
     let flags = c.args.flags.now in
-    let test = has_block c.args.present c.args.slave.now in
+    let test = slave_has_block c.args.present c.args.slave.now in
     let n = c.loop-number.number in
     c.push.ensures
     ∙ ap (λ (f : Bool). flags_of (c.loop-number.flags.list ++ f ∷ []) c.loop-number.flags.room) c.has_block.ensures

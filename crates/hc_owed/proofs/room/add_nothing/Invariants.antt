@@ -5,6 +5,6 @@ use Rattle.hc_owed.proofs.room.add_nothing.Given as goal
 -- so many are added, and there is room for the others
 abbrev pub invariant-loop : goal.invariant-loop
 invariant-loop l = record {
-  known : l.known.items ≡ l.fn.known.items ++ replicate l.counter None;
-  room : length l.fn.known.items + l.places ≤ vec_capacity l.known;
+  list : l.list.items ≡ l.fn.list.items ++ replicate l.counter None;
+  room : length l.fn.list.items + l.places ≤ vec_capacity l.list;
 }

@@ -4,8 +4,8 @@ use Rattle.std.proofs.lemmas.Result.{IfOk-weaker}
 use Rattle.hc_records.specs.Image.{task_variables}
 use Rattle.hc_records.specs.Line.{line_from}
 use Rattle.hc_places.specs.Found.{found_variables}
-use Rattle.hc_places.specs.Loads.{table_at}
-use Rattle.hc_places.specs.Table.{Row, TaskTable, task_table}
+use Rattle.hc_places.specs.DatagramUses.{table_at}
+use Rattle.hc_places.specs.Table.{VariableRow, TaskTable, task_table}
 use Rattle.hc_places.proofs.Opening.{flat_map-last, flat_map-next, map-last, map-next, opened-task, table-made}
 use Rattle.hc_places.proofs.lemmas.Ascends.{table-ascends}
 use Rattle.hc_places.proofs.configure.opened_places.Goals as goal
@@ -46,7 +46,7 @@ loop-task-preserved c =
           let found = ap (λ s. flat_map (found_variables number s) c.as_slice-in-loop-task.result.now) opened.areas
           ∙ ap (flat_map (found_variables number _)) c.as_slice-in-loop-task.ensures.value ∙ task.rows in
           flat_map-next (task_variables (line opened.groups)) number rows _ _ low
-          (c.in_ok-add_found.ensures ∙ ap (λ (r : List Row). rows ++ r) found) (c.loop-task.invariant.rows opened);
+          (c.in_ok-add_found.ensures ∙ ap (λ (r : List VariableRow). rows ++ r) found) (c.loop-task.invariant.rows opened);
       size = ap length c.push_reserved.ensures.items ∙ longer ∙ ap (λ (n : ℕ). n + 1) c.loop-task.invariant.size;
       room = let room = c.loop-task.invariant.room in omega (arith, room, c.push_reserved.ensures.capacity);
     }

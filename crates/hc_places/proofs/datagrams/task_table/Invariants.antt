@@ -1,6 +1,6 @@
 use Rattle.std.proofs.Common.{◌≡◌, ◌+◌, ◌*◌, ◌≤◌, length}
 use Rattle.hc_records.specs.declared.limits.TheConstants.{MOST_DATAGRAM_BYTES}
-use Rattle.hc_places.specs.Loads.{loaded}
+use Rattle.hc_places.specs.DatagramUses.{loaded}
 use Rattle.hc_places.proofs.datagrams.task_table.Given as goal
 
 -- the datagrams so far are added

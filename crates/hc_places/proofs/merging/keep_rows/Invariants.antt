@@ -8,5 +8,5 @@ abbrev pub invariant-loop-change : goal.invariant-loop-change
 invariant-loop-change l = record {
   within : l.front ≤ length l.rows;
   lower : AreLower l.rows l.front l.changed l.change-index;
-  kept : KeepRows l.rows (take l.change-index l.changed);
+  unchanged : KeepRows l.rows (take l.change-index l.changed);
 }

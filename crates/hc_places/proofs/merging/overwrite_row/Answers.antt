@@ -1,7 +1,7 @@
 use Rattle.std.proofs.Common.{◌≡◌, ◌∙◌, ℕ, ◌==◌, ap, arith, false, sym, true}
 use Rattle.std.proofs.lemmas.Bool.{eq-eqb, eqb-true}
 use Rattle.std.proofs.lemmas.List.{get_or_default}
-use Rattle.hc_places.specs.Table.{Row}
+use Rattle.hc_places.specs.Table.{VariableRow}
 use Rattle.hc_places.proofs.Reached.{no-place, none-set, row-set}
 use Rattle.hc_places.proofs.merging.overwrite_row.Goals as goal
 use Rattle.hc_places.proofs.merging.overwrite_row.Goals.{else-at-len-via-then-at-len+else-eq, else-at-len-via-else-at-len}
@@ -19,8 +19,8 @@ returns-else-at-len c =
     none-set changed rows c.args.at c.requires.ascends c.requires.below
     (elim c.else-at-len.branch [
       | else-at-len-via-then-at-len+else-eq w ↦ λ d inside same.
-          let row : Row = w.index.result.now in
-          let here : row.0 ≡ changed.0 = ap (λ (r : Row). r.0) (w.index.ensures ∙ get_or_default rows c.args.at row d inside) ∙ same in
+          let row : VariableRow = w.index.result.now in
+          let here : row.0 ≡ changed.0 = ap (λ (r : VariableRow). r.0) (w.index.ensures ∙ get_or_default rows c.args.at row d inside) ∙ same in
           let never : false ≡ true = sym w.if-eq.false ∙ w.eq.ensures ∙ ap (λ (v : ℕ). row.0 == v) w.variable.ensures ∙ eq-eqb row.0 changed.0 here in
           cc
       | else-at-len-via-else-at-len w ↦ λ d inside same. omega (arith, inside, w.if-at-len.false, c.len.ensures, c.args.rows.now.ok.0)

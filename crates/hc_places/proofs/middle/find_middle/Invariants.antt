@@ -5,7 +5,7 @@ use Rattle.hc_places.specs.Swap.{keeps_row}
 use Rattle.hc_places.proofs.Reached.{AreLower}
 use Rattle.hc_places.proofs.middle.find_middle.Given as goal
 
--- the rows in front are lower than the changes that are left; those so far in front of the first and behind the end keep their rows
+-- the rows in front are lower than the changes that are left; those so far before the first and after the end keep their rows
 abbrev pub invariant-loop-i : goal.invariant-loop-i
 invariant-loop-i l = record {
   within : l.lower ≤ length l.rows;
@@ -13,5 +13,5 @@ invariant-loop-i l = record {
   order : l.first ≤ l.end;
   bound : l.end ≤ l.i;
   front : AllWithin (λ change. IsTrue (keeps_row l.rows change)) l.changed 0 l.first;
-  behind : AllWithin (λ change. IsTrue (keeps_row l.rows change)) l.changed l.end l.i;
+  after_it : AllWithin (λ change. IsTrue (keeps_row l.rows change)) l.changed l.end l.i;
 }

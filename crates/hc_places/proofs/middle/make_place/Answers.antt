@@ -1,6 +1,6 @@
 use Rattle.std.proofs.Common.{◌-◌, arith, drop, length, take}
 use Rattle.std.proofs.lemmas.List.{length-drop, length-take}
-use Rattle.hc_places.specs.Table.{Row}
+use Rattle.hc_places.specs.Table.{VariableRow}
 use Rattle.hc_places.proofs.Shifted.{Widened, placed-wide}
 use Rattle.hc_places.proofs.middle.make_place.Goals as goal
 
@@ -14,7 +14,7 @@ returns-then-old-new c =
     let more = take (length new - old) (drop old new) in
     let rest = length-drop old new in
     let size = length-take (length new - old) (drop old new) in
-    let wide : Widened {X = Row} c.args.rows.now.items c.widen.new.rows.items c.args.high (length more) =
-    record { size = c.widen.ensures.size; front = c.widen.ensures.front; behind = c.widen.ensures.behind } in
+    let wide : Widened {X = VariableRow} c.args.rows.now.items c.widen.new.rows.items c.args.high (length more) =
+    record { size = c.widen.ensures.size; front = c.widen.ensures.front; after_it = c.widen.ensures.after_it } in
     let made = placed-wide c.args.rows.now.items c.widen.new.rows.items c.args.low c.args.high (length new) (length more) c.requires.order c.requires.bound (omega (arith, rest, size, c.if-old-new.true)) wide in
-    record { size = made.size; front = made.front; behind = made.behind }
+    record { size = made.size; front = made.front; after_it = made.after_it }

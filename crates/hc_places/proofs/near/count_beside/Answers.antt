@@ -1,7 +1,7 @@
 use Rattle.std.proofs.Common.{◌-◌, ◌∙◌, ⊎_elim, ap, arith, get_or}
 use Rattle.std.proofs.Math.Nat.{eq-or-lt_of_le}
 use Rattle.std.proofs.lemmas.List.{get_or_default}
-use Rattle.hc_places.specs.Table.{Row}
+use Rattle.hc_places.specs.Table.{VariableRow}
 use Rattle.hc_places.proofs.near.count_beside.Goals as goal
 
 -- the last of the rows in front has a lower number, and those before it have still lower ones
@@ -12,8 +12,8 @@ count_from-requires-clause-lower c k d low high =
     let some = c.if-near-gt0.true in
     let bound = c.if-near-rows.true in
     let row = c.index-rows-near.result in
-    let is = ap (λ (r : Row). r.0) (c.index-rows-near.is ∙ get_or_default rows last row d (omega (arith, some, bound))) in
-    let own = ap (λ (r : Row). r.0) c.index-rows-near.is in
+    let is = ap (λ (r : VariableRow). r.0) (c.index-rows-near.is ∙ get_or_default rows last row d (omega (arith, some, bound))) in
+    let own = ap (λ (r : VariableRow). r.0) c.index-rows-near.is in
     let number = c.number.ensures.value in
     let lower = c.if-number.true in
     ⊎_elim

@@ -1,7 +1,7 @@
 use Rattle.std.proofs.Common.{◌≡◌, ◌+◌, ◌<◌, ◌++◌, ◌∙◌, ap, sym, length, drop, get_or, arith, ℕ, append-nil, map}
 use Rattle.std.specs.List.{flat_map}
 use Rattle.std.proofs.lemmas.List.{drop_all}
-use Rattle.hc_records.specs.Area.{bits_of, entries_at, assigned_entries}
+use Rattle.hc_records.specs.Area.{entry_bits, entries_at, assigned_entries}
 use Rattle.hc_places.specs.inner.Parts.{row_at}
 use Rattle.hc_places.proofs.Widths.{entries-bits}
 use Rattle.hc_places.proofs.Entries.{AddsEntries, added-bits, added-rows, bits-append, entries-drop}
@@ -20,7 +20,7 @@ loop-index-preserved c =
     entries rest (flat_map (entries_at area.offered) (drop i area.assigned)) = record {
       whole_is = entries-drop area.offered area.assigned i within ∙ ap (λ own. own ++ rest) (sym is);
       adds = c.in_ok-bit.ensures.rows;
-      behind = c.in_ok-bit.ensures.behind;
+      after_it = c.in_ok-bit.ensures.after_it;
     } in
     record {
       rows = added-rows _ _ _ _ _ _ _ _ _ adds c.loop-index.invariant.rows;
@@ -39,7 +39,7 @@ add_entries-requires-clause-inside c =
     let is : entries ≡ entries_at area.offered (get_or area.assigned i 0) = cc in
     let rest = flat_map (entries_at area.offered) (drop (i + 1) area.assigned) in
     let whole = entries-drop area.offered area.assigned i within ∙ ap (λ own. own ++ rest) (sym is) in
-    omega (arith, ap bits_of whole, bits-append entries rest, c.loop-index.invariant.bits, c.requires.inside)
+    omega (arith, ap entry_bits whole, bits-append entries rest, c.loop-index.invariant.bits, c.requires.inside)
 
 pub returns : goal.returns
 returns c =

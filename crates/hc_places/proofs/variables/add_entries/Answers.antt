@@ -29,7 +29,7 @@ loop-entry-preserved c =
     let adds : AddsEntries row l.rows.items c.match-variable.rows.items l.bit (l.bit + c.from-bit.result) (entry ∷ []) rest (drop l.entry-index entries) = record {
       whole_is = drop_more entries l.entry-index entry c.loop-entry-test.true ∙ ap (λ (e : Entry). e ∷ rest) (sym c.entry-item.is);
       adds = added;
-      behind = omega (arith, c.from-bit.ensures, bits-cons entry []);
+      after_it = omega (arith, c.from-bit.ensures, bits-cons entry []);
     } in
     record {
       rows = added-rows _ _ _ _ _ _ _ _ _ adds l.invariant.rows;
@@ -39,5 +39,5 @@ loop-entry-preserved c =
 pub returns-clause-rows : goal.returns-clause-rows
 returns-clause-rows c = sym (append-nil c.loop-entry.rows.items) ∙ rw (drop_all c.loop-entry.entry-index c.args.entries.now c.loop-entry-test.false) at c.loop-entry.invariant.rows
 
-pub returns-clause-behind : goal.returns-clause-behind
-returns-clause-behind c = omega (arith, rw (drop_all c.loop-entry.entry-index c.args.entries.now c.loop-entry-test.false) at c.loop-entry.invariant.bits)
+pub returns-clause-after_it : goal.returns-clause-after_it
+returns-clause-after_it c = omega (arith, rw (drop_all c.loop-entry.entry-index c.args.entries.now c.loop-entry-test.false) at c.loop-entry.invariant.bits)

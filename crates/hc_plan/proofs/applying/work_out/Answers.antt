@@ -3,9 +3,9 @@ use Rattle.std.proofs.lemmas.Bool.{eq-eqb, ne_eqb}
 use Rattle.std.proofs.lemmas.Result.{err_from_is_err_and}
 use Rattle.hc_records.specs.declared.limits.TheConstants.{LAST_EPOCH}
 use Rattle.hc_cuts.specs.Areas.{areas_by_rank}
-use Rattle.hc_plan.proofs.Turned.{edited_line-lines}
-use Rattle.hc_plan.proofs.Editing.{made-accepted, made-crowded, made-spent}
-use Rattle.hc_plan.proofs.Telling.{moved-count, moved-few, moved-named}
+use Rattle.hc_plan.proofs.WidthsApplied.{edited_line-lines}
+use Rattle.hc_plan.proofs.Editing.{made-accepted, made-over_limit, made-spent}
+use Rattle.hc_plan.proofs.Saying.{moved-count, moved-few, moved-named}
 use Rattle.hc_plan.proofs.applying.work_out.Goals as goal
 
 pub see_new_line-seen-requires-clause-known : goal.see_new_line-seen-requires-clause-known
@@ -14,8 +14,8 @@ see_new_line-seen-requires-clause-known g c =
     c.of-known.ensures (areas_by_rank it.old) (areas_by_rank it.new) (edited_line-lines it c.change.result.now c.requires.edit.is c.change.ensures)
     c.requires.trees
 
-pub turn_back-requires-clause-known : goal.turn_back-requires-clause-known
-turn_back-requires-clause-known g c =
+pub restore_line_widths-requires-clause-known : goal.restore_line_widths-requires-clause-known
+restore_line_widths-requires-clause-known g c =
     let it = c.args.edited_line.now in
     c.of-known.ensures (areas_by_rank it.old) (areas_by_rank it.new) (edited_line-lines it c.change.result.now c.requires.edit.is c.change.ensures)
     c.requires.trees
@@ -23,7 +23,7 @@ turn_back-requires-clause-known g c =
 pub returns-in-Err-clause-refused : goal.returns-in-Err-clause-refused
 returns-in-Err-clause-refused g c =
     let it = c.args.edited_line.now in
-    λ other. made-crowded it.old it.new c.args.epoch c.args.edit.now c.in-Err.task c.requires.edit.own c.requires.edit.leads c.in-Err.ensures.refused
+    λ other. made-over_limit it.old it.new c.args.epoch c.args.edit.now c.in-Err.task c.requires.edit.own c.requires.edit.leads c.in-Err.ensures.refused
 
 pub returns-then-epoch-eq-LAST_EPOCH-clause-refused : goal.returns-then-epoch-eq-LAST_EPOCH-clause-refused
 returns-then-epoch-eq-LAST_EPOCH-clause-refused g c =
@@ -36,23 +36,23 @@ overflow_cast-report g c =
     omega (arith, few, c.len.ensures)
 
 pub returns-clause-starts : goal.returns-clause-starts
-returns-clause-starts g c = c.copied_starts-starts.ensures.starts (areas_by_rank c.args.edited_line.now.new) c.in-Ok.ensures.turned
+returns-clause-starts g c = c.copied_starts-starts.ensures.starts (areas_by_rank c.args.edited_line.now.new) c.in-Ok.ensures.applied
 
 pub returns-clause-report : goal.returns-clause-report
 returns-clause-report g c =
     let it = c.args.edited_line.now in
-    let told = c.in_ok-blocks.ensures in
+    let answer_given = c.in_ok-blocks.ensures in
     let blocks = c.in_ok-blocks.field-0.blocks.items in
     let many : c.len.result ≡ length blocks = let len = c.len.ensures in omega (arith, c.in_ok-blocks.field-0.blocks.ok.0) in
     record {
       epoch = refl;
       recut = c.in-Ok.ensures.recut;
-      moved = many ∙ moved-count it blocks told.blocks;
-      blocks = c.of.ensures ∙ moved-named it blocks c.in_ok-blocks.field-0.names.items told.blocks told.names;
-      named = told.edit;
-      leads = told.leads.leads;
-      says = told.leads.says;
-      places = told.leads.count;
+      moved = many ∙ moved-count it blocks answer_given.blocks;
+      blocks = c.of.ensures ∙ moved-named it blocks c.in_ok-blocks.field-0.names.items answer_given.blocks answer_given.names;
+      named = answer_given.edit;
+      leads = answer_given.leads.leads;
+      says = answer_given.leads.says;
+      places = answer_given.leads.count;
     }
 
 pub returns-clause-accepted : goal.returns-clause-accepted
@@ -60,34 +60,35 @@ returns-clause-accepted g c =
     let it = c.args.edited_line.now in
     made-accepted it.old it.new c.args.epoch c.args.edit.now c.requires.edit.changes c.requires.edit.own c.requires.edit.leads c.in-Ok.ensures.accepted (ne_eqb c.args.epoch LAST_EPOCH c.if-epoch-eq-LAST_EPOCH.false)
 
--- that trees are those of a line is handed on as it was told: a tactic would open the eight tasks of both lines
+-- that trees are those of a line is handed on as it was reported: a tactic would open the eight tasks of both
+-- lines
 
-pub turn_line-requires-clause-trees : goal.turn_line-requires-clause-trees
-turn_line-requires-clause-trees g c = c.requires.trees
+pub apply_line_widths-requires-clause-trees : goal.apply_line_widths-requires-clause-trees
+apply_line_widths-requires-clause-trees g c = c.requires.trees
 
 pub see_new_line-seen-requires-clause-trees : goal.see_new_line-seen-requires-clause-trees
-see_new_line-seen-requires-clause-trees g c = c.in-Ok.ensures.turned
+see_new_line-seen-requires-clause-trees g c = c.in-Ok.ensures.applied
 
-pub turn_back-requires-clause-trees : goal.turn_back-requires-clause-trees
-turn_back-requires-clause-trees g c = c.in-Ok.ensures.turned
+pub restore_line_widths-requires-clause-trees : goal.restore_line_widths-requires-clause-trees
+restore_line_widths-requires-clause-trees g c = c.in-Ok.ensures.applied
 
-pub tell-requires-clause-trees : goal.tell-requires-clause-trees
-tell-requires-clause-trees g c = c.turn_back.ensures
+pub say-requires-clause-trees : goal.say-requires-clause-trees
+say-requires-clause-trees g c = c.restore_line_widths.ensures
 
 pub returns-in-Err-clause-unchanged : goal.returns-in-Err-clause-unchanged
 returns-in-Err-clause-unchanged g c = c.in-Err.ensures.unchanged
 
 pub returns-then-epoch-eq-LAST_EPOCH-clause-unchanged : goal.returns-then-epoch-eq-LAST_EPOCH-clause-unchanged
-returns-then-epoch-eq-LAST_EPOCH-clause-unchanged g c = c.turn_back.ensures ∙ sym c.requires.trees
+returns-then-epoch-eq-LAST_EPOCH-clause-unchanged g c = c.restore_line_widths.ensures ∙ sym c.requires.trees
 
 pub returns-in_err-seen-clause-unchanged : goal.returns-in_err-seen-clause-unchanged
-returns-in_err-seen-clause-unchanged g c = c.turn_back.ensures ∙ sym c.requires.trees
+returns-in_err-seen-clause-unchanged g c = c.restore_line_widths.ensures ∙ sym c.requires.trees
 
 pub returns-in_err-blocks-clause-unchanged : goal.returns-in_err-blocks-clause-unchanged
-returns-in_err-blocks-clause-unchanged g c = c.turn_back.ensures ∙ sym c.requires.trees
+returns-in_err-blocks-clause-unchanged g c = c.restore_line_widths.ensures ∙ sym c.requires.trees
 
 pub returns-clause-unchanged : goal.returns-clause-unchanged
-returns-clause-unchanged g c = c.turn_back.ensures ∙ sym c.requires.trees
+returns-clause-unchanged g c = c.restore_line_widths.ensures ∙ sym c.requires.trees
 
 pub returns-in_err-seen-clause-refused : goal.returns-in_err-seen-clause-refused
 returns-in_err-seen-clause-refused g c =

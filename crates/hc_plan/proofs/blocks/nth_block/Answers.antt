@@ -4,7 +4,7 @@ use Rattle.hc_records.specs.declared.records.Slave.{Slave}
 use Rattle.hc_records.specs.Line.{Member}
 use Rattle.hc_plan.specs.inner.Blocks.{IsMappedSlave, slave_blocks_in}
 use Rattle.hc_plan.specs.Configuration.{at_station}
-use Rattle.hc_plan.proofs.LineBlocks.{owned-none, owner-mapped, owner-tells, same-member}
+use Rattle.hc_plan.proofs.LineBlocks.{owned-none, owner-mapped, owner-shows, same-member}
 use Rattle.hc_plan.proofs.blocks.nth_block.Goals as goal
 
 pub returns-in_err-owner : goal.returns-in_err-owner
@@ -23,4 +23,4 @@ returns c =
     ∙ ap (option_map (at_station owner.slave.station)) c.slave_block-block.ensures
     ∙ sym (ap (λ (m : Member). option_map (at_station owner.slave.station) (slice_get (slave_blocks_in c.args.layout.now m) c.in_ok-owner.number))
     (same-member c.rank.result c.slave.result.now owner c.rank.ensures c.slave.ensures))
-    ∙ sym (owner-tells c.args.groups.now c.args.layout.now c.args.n c.in_ok-owner.number owner c.requires (sym c.block_owner.ensures ∙ c.in_ok-owner.was))
+    ∙ sym (owner-shows c.args.groups.now c.args.layout.now c.args.n c.in_ok-owner.number owner c.requires (sym c.block_owner.ensures ∙ c.in_ok-owner.was))

@@ -7,7 +7,7 @@ use Rattle.hc_program.specs.Declaring.{turn_of, turns_of}
 use Rattle.hc_program.specs.Runs.{Reply, reply_to, run}
 use Rattle.hc_program.specs.Starved.{StarvedRun}
 use Rattle.hc_program.specs.declared.engine.RunEnd.{RunEnd}
-use Rattle.hc_program.specs.Turns.{Takes}
+use Rattle.hc_program.specs.Turns.{AnswersLine}
 use Rattle.hc_program.proofs.Declaring.{no_turns}
 use Rattle.hc_program.proofs.Starved.{ended_one, leads_all, leads_done, leads_ended, leads_turn}
 use Rattle.hc_program.proofs.Turns.{begins, continues, done, ended_so, ends, run_none, run_turn}
@@ -21,10 +21,10 @@ loop-rest-preserved g c =
     let s = c.loop-rest.session in
     let next = c.take_turn-taken.new.session in
     let turn = turn_of c.split_turn-cut.result.turn in
-    let others = turns_of (lines_after c.split_turn-cut.result.first (option_copied c.split_turn-cut.result.behind)) in
+    let others = turns_of (lines_after c.split_turn-cut.result.first (option_copied c.split_turn-cut.result.after_it)) in
     let first : turns_of (lines_after c.loop-rest.number (option_copied c.loop-rest.rest)) ≡ turn ∷ others =
     ap (λ o. turns_of (lines_after c.loop-rest.number (option_copied o))) c.in-Some.is ∙ c.split_turn-cut.ensures.turn in
-    let TakesSo = λ (end : Option ℕ) (reply : Reply). Takes (g.W.Write.contents c.loop-rest.output) (g.W.Write.contents c.take_turn-taken.new.output) next end reply in
+    let TakesSo = λ (end : Option ℕ) (reply : Reply). AnswersLine (g.W.Write.contents c.loop-rest.output) (g.W.Write.contents c.take_turn-taken.new.output) next end reply in
     let full : left_in (option_copied c.loop-rest.rest) ≡ suc (length c.in-Some.text.now) = ap (λ o. left_in (option_copied o)) c.in-Some.is in
     record {
       few = c.split_turn-cut.ensures.few;
@@ -44,24 +44,24 @@ returns-in-Some-end-clause-unstarved g c unstarved =
     let s = c.loop-rest.session in
     let next = c.take_turn-taken.new.session in
     let turn = turn_of c.split_turn-cut.result.turn in
-    let others = turns_of (lines_after c.split_turn-cut.result.first (option_copied c.split_turn-cut.result.behind)) in
+    let others = turns_of (lines_after c.split_turn-cut.result.first (option_copied c.split_turn-cut.result.after_it)) in
     let first : turns_of (lines_after c.loop-rest.number (option_copied c.loop-rest.rest)) ≡ turn ∷ others =
     ap (λ o. turns_of (lines_after c.loop-rest.number (option_copied o))) c.in-Some.is ∙ c.split_turn-cut.ensures.turn in
-    let TakesSo = λ (end : Option ℕ) (reply : Reply). Takes (g.W.Write.contents c.loop-rest.output) (g.W.Write.contents c.take_turn-taken.new.output) next end reply in
+    let TakesSo = λ (end : Option ℕ) (reply : Reply). AnswersLine (g.W.Write.contents c.loop-rest.output) (g.W.Write.contents c.take_turn-taken.new.output) next end reply in
     let (before, now) = or_parts _ _ (ap (λ (e : RunEnd). e.starved) (sym c.ended.ensures) ∙ unstarved) in
     let taken = subst (λ end. TakesSo end (reply_to s turn)) c.in-Some-end.is (c.take_turn-taken.ensures.answered now) in
     ended_so _ _ _ _ _ c.ended.ensures
-    (ends _ _ _ _ _ (run (reply_to s turn).standing others) (reply_to s turn) _ _ (c.loop-rest.invariant.runs before) (run_turn s _ turn others first) taken)
+    (ends _ _ _ _ _ (run (reply_to s turn).session_state others) (reply_to s turn) _ _ (c.loop-rest.invariant.runs before) (run_turn s _ turn others first) taken)
 
 pub returns-in-Some-end-clause-starved : goal.returns-in-Some-end-clause-starved
 returns-in-Some-end-clause-starved g c starved =
     let s = c.loop-rest.session in
     let next = c.take_turn-taken.new.session in
     let turn = turn_of c.split_turn-cut.result.turn in
-    let others = turns_of (lines_after c.split_turn-cut.result.first (option_copied c.split_turn-cut.result.behind)) in
+    let others = turns_of (lines_after c.split_turn-cut.result.first (option_copied c.split_turn-cut.result.after_it)) in
     let first : turns_of (lines_after c.loop-rest.number (option_copied c.loop-rest.rest)) ≡ turn ∷ others =
     ap (λ o. turns_of (lines_after c.loop-rest.number (option_copied o))) c.in-Some.is ∙ c.split_turn-cut.ensures.turn in
-    let TakesSo = λ (end : Option ℕ) (reply : Reply). Takes (g.W.Write.contents c.loop-rest.output) (g.W.Write.contents c.take_turn-taken.new.output) next end reply in
+    let TakesSo = λ (end : Option ℕ) (reply : Reply). AnswersLine (g.W.Write.contents c.loop-rest.output) (g.W.Write.contents c.take_turn-taken.new.output) next end reply in
     let all = StarvedRun c.args.session.now (turns_of (lines_after c.args.first (option_copied c.args.lines))) in
     ended_one _ _ _ _ all c.ended.ensures
     (leads_ended c.loop-rest.starved c.take_turn-taken.result.starved _ _ _ all _ _ s _ turn others first (ap (λ (e : RunEnd). e.starved) (sym c.ended.ensures) ∙ starved) c.loop-rest.invariant.starves

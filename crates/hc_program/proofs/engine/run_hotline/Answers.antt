@@ -1,12 +1,12 @@
 use Rattle.hc_program.specs.Starved.{EndsAsOne, StarvedOutcome}
-use Rattle.hc_program.specs.Text.{EndsAs, outcome_of}
+use Rattle.hc_program.specs.Text.{EndsAs, program_outcome}
 use Rattle.hc_program.proofs.Outcomes.{of_known}
 use Rattle.hc_program.proofs.Starved.{starved_unread, unstarved_unread}
 use Rattle.hc_program.proofs.engine.run_hotline.Goals as goal
 
 pub returns-in-Ok-clause-unstarved : goal.returns-in-Ok-clause-unstarved
 returns-in-Ok-clause-unstarved g c unstarved =
-    of_known (g.R.Read.remaining c.args.input.now) (λ bytes. EndsAs (g.W.Write.contents c.args.output.now) (g.W.Write.contents c.run_input.new.output) c.run_input.result (outcome_of bytes))
+    of_known (g.R.Read.remaining c.args.input.now) (λ bytes. EndsAs (g.W.Write.contents c.args.output.now) (g.W.Write.contents c.run_input.new.output) c.run_input.result (program_outcome bytes))
     _ _ c.in-Ok.ensures.bytes c.deref.ensures.value (c.run_input.ensures.unstarved unstarved)
 
 pub returns-in-Ok-clause-starved : goal.returns-in-Ok-clause-starved

@@ -12,7 +12,7 @@ returns-then-is_declare-clause-turn c =
     let lines = lines_after (number + 1) (option_copied c.split_line.result.1) in
     declares number c.args.lines.now _ _ c.split_line.ensures.line (sym c.is_declare.ensures ∙ c.if-is_declare.true)
     ∙ ap (λ (turn : Turn). turn ∷ turns_of (command_lines lines)) (sym c.split_declaration.ensures.turn)
-    ∙ ap (λ (behind : List Line). turn_of c.split_declaration.result.turn ∷ turns_of behind) (sym c.split_declaration.ensures.behind)
+    ∙ ap (λ (after_it : List Line). turn_of c.split_declaration.result.turn ∷ turns_of after_it) (sym c.split_declaration.ensures.after_it)
 
 pub returns-clause-turn : goal.returns-clause-turn
 returns-clause-turn c = says c.args.number c.args.lines.now _ _ c.split_line.ensures.line (sym c.is_declare.ensures ∙ c.if-is_declare.false)

@@ -6,7 +6,7 @@ use Rattle.hc_project.specs.Places.{first_from}
 use Rattle.hc_project.specs.Repeated.{related_at}
 use Rattle.hc_project.proofs.repeats.first_repeat.Given as goal
 
--- none of the numbers passed stood before, and they are the ones seen
+-- none of the numbers passed was before, and they are the ones seen
 abbrev pub invariant-loop-index : goal.invariant-loop-index
 invariant-loop-index l = record {
   passed : first_from (related_at (λ earlier later. later == earlier) l.list) 0 l.list

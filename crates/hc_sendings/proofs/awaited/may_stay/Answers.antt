@@ -10,4 +10,4 @@ returns c = λ below.
     let apart = ltb-true c.serial.result c.serial-2.result below in
     let own = c.serial.ensures in
     let other = c.serial-2.ensures in
-    ends-apart c.args.frames.now c.args.more.now last first c.requires.kept c.requires.come c.index-frames-frames.is c.index-more-0.is (omega (arith, apart, own, other))
+    ends-apart c.args.frames.now c.args.more.now last first c.requires.stored c.requires.come c.index-frames-frames.is c.index-more-0.is (omega (arith, apart, own, other))

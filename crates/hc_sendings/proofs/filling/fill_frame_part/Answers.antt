@@ -35,7 +35,7 @@ returns g c =
     let long : ℕ = length c.split_at_mut-head.result.0.now in
     let pad : ℕ = length c.split_at_mut-texts.result.1.now in
     let first : long ≡ share task 16 (slice_get frame.datagrams 0) = omega (arith, front, head) in
-    let behind : pad ≡ share task (padding_bytes (carried_bytes sent frame.datagrams)) (slice_get frame.datagrams (length frame.datagrams - 1)) =
+    let after_it : pad ≡ share task (padding_bytes (carried_bytes sent frame.datagrams)) (slice_get frame.datagrams (length frame.datagrams - 1)) =
     omega (arith, head, own, whole, left, rest, c.requires.exact) in
     frame-filled sent task frame long pad c.write_head.new.out c.write_own.new.out c.fill.new.self first
     (c.write_head.ensures
@@ -45,4 +45,4 @@ returns g c =
     ∙ ap (λ (n : ℕ). own_texts sent n task c.datagrams-datagrams.result.now) c.serial-2.ensures
     ∙ ap (own_texts sent frame.serial task) named)
     (c.fill.ensures.after (λ y same. same))
-    behind
+    after_it

@@ -13,7 +13,7 @@ use Rattle.hc_sendings.proofs.framing.place_task.Goals as goal
 abbrev blank : Datagram
 blank = record { address = 0; length = 0; expected = 0; offset = 0 }
 
--- below a bound a serial more can be told
+-- below a bound a serial more can be reported
 bounded : (last : Option Frame) (bound number most : ℕ) → IfSome last (λ frame. frame.serial ≤ bound + number) → number < most → bound + most < 2 ^ 64
     → IfSome last (λ frame. frame.serial + 1 < 2 ^ 64)
 bounded None bound number most held few fits = tt
@@ -39,7 +39,7 @@ loop-number-preserved c =
     let frames = c.loop-number.frames.items in
     let listed = c.datagrams-datagrams.ensures.datagrams ∙ ap (λ (table : Table). datagrams_in table c.args.task) c.places.ensures.table in
     let bytes : ℕ = (get_or c.datagrams-datagrams.result.now number blank).length in
-    let length = listed-length c.args.plan.now c.args.task number c.datagrams-datagrams.result.now blank c.places.ensures.kept listed c.loop-number-test.true in
+    let length = listed-length c.args.plan.now c.args.task number c.datagrams-datagrams.result.now blank c.places.ensures.unchanged listed c.loop-number-test.true in
     record {
       framed = λ rest.
           ap₂ (λ (frames : List Frame) (last : Option Frame). frames ++ framed_from members c.args.serial last rest) c.in_ok-place.ensures.done c.in_ok-place.ensures.open
@@ -57,7 +57,7 @@ pub returns-clause-framed : goal.returns-clause-framed
 returns-clause-framed c =
     let members = line c.args.plan.now in
     let listed = c.datagrams-datagrams.ensures.datagrams ∙ ap (λ (table : Table). datagrams_in table c.args.task) c.places.ensures.table in
-    let count = listed-count c.args.plan.now c.args.task c.datagrams-datagrams.result.now c.places.ensures.kept listed in
+    let count = listed-count c.args.plan.now c.args.task c.datagrams-datagrams.result.now c.places.ensures.unchanged listed in
     let all : c.loop-number.number ≡ length c.datagrams-datagrams.result.now = omega (arith, c.loop-number-test.false) in
     λ rest.
     c.loop-number.invariant.framed rest

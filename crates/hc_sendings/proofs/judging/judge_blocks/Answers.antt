@@ -1,9 +1,9 @@
 use Rattle.std.proofs.Common.{◌∙◌, ap, sym, drop, map, ℕ, List, arith, false}
-use Rattle.hc_frames.specs.Arrived.{Placed}
+use Rattle.hc_frames.specs.Arrived.{ArrivedDatagram}
 use Rattle.hc_sendings.specs.declared.writes.AwaitedBlock.{AwaitedBlock}
 use Rattle.hc_sendings.specs.Judging.{block_due}
 use Rattle.hc_sendings.specs.Walk.{outcomes_in}
-use Rattle.hc_sendings.proofs.Walked.{behind, blocks-short, parts_of, walked-first}
+use Rattle.hc_sendings.proofs.Walked.{after_it, blocks-short, parts_of, walked-first}
 use Rattle.hc_sendings.proofs.judging.judge_blocks.Goals as goal
 
 pub loop-block-init : goal.loop-block-init
@@ -18,6 +18,6 @@ loop-block-init c = record {
 pub returns-in_default-clause-outcomes : goal.returns-in_default-clause-outcomes
 returns-in_default-clause-outcomes c =
     let number : ℕ = c.loop-block.block-index in
-    let other : AwaitedBlock = record { place = 0; station = 0; number = 0; address = 0; length = 0; newest = false } in
+    let other : AwaitedBlock = record { place = 0; station = 0; number = 0; address = 0; length = 0; last_sent = false } in
     sym (blocks-short number c.args.blocks.now other c.loop-block.outcomes.items _ (omega (arith, c.loop-block-test.true))
-    (c.loop-block.invariant.walked ∙ ap (λ (left : List Placed). behind c.loop-block.outcomes.items (outcomes_in (map block_due (drop number c.args.blocks.now)) (parts_of left))) c.in_default.ensures.steps.0))
+    (c.loop-block.invariant.walked ∙ ap (λ (left : List ArrivedDatagram). after_it c.loop-block.outcomes.items (outcomes_in (map block_due (drop number c.args.blocks.now)) (parts_of left))) c.in_default.ensures.steps.0))

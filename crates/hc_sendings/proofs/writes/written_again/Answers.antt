@@ -10,9 +10,9 @@ pub returns : goal.returns
 returns c =
     let block : AwaitedBlock = c.args.block.now in
     let same = any_same block c.args.again.now in
-    let newest : c.if-block.result ≡ (block.newest && not (list_any (is_same block) (map awaited_block c.args.again.now))) =
+    let last_sent : c.if-block.result ≡ (block.last_sent && not (list_any (is_same block) (map awaited_block c.args.again.now))) =
     elim c.if-block.branch [
       | then-block w ↦ search (rules, same)
       | else-block w ↦ search rules
     ] in
-    ap (λ (b : Bool). let now : AwaitedBlock = record block { newest = b } in now) newest
+    ap (λ (b : Bool). let now : AwaitedBlock = record block { last_sent = b } in now) last_sent

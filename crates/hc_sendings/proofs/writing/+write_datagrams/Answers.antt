@@ -1,9 +1,9 @@
 use Rattle.std.proofs.Common.{◌∙◌, ◌++◌, ℕ, Bool, List, ap, arith, rules, length, map, get_or}
 use Rattle.std.specs.Prelude.{not, ◌==◌}
 use Rattle.hc_records.specs.Image.{logical_address}
-use Rattle.hc_frames.specs.FrameText.{datagram_text, datagrams_text, lrw}
+use Rattle.hc_frames.specs.FrameText.{sent_datagram_text, sent_datagrams_text, lrw}
 use Rattle.hc_events.specs.Sendings.{Named}
-use Rattle.hc_sendings.specs.Texts.{Data, carried_by}
+use Rattle.hc_sendings.specs.Texts.{Data, datagram_with_data}
 use Rattle.hc_sendings.proofs.Written.{first-bytes, first-text, others, others-known}
 use Rattle.hc_sendings.proofs.writing.+write_datagrams.Goals as goal
 
@@ -25,11 +25,11 @@ returns-in-len1-up g t c =
     let serial = c.args.serial in
     let datagrams = c.args.datagrams.now in
     let first : Named = get_or datagrams 0 (0, 0) in
-    let behind : List ℕ = datagrams_text serial (map (carried_by sent) (others datagrams)) in
+    let after_it : List ℕ = sent_datagrams_text serial (map (datagram_with_data sent) (others datagrams)) in
     ap (λ (text : List ℕ). text ++ c.write_datagrams.new.out) c.build_datagram_of.ensures
-    ∙ ap (λ (text : List ℕ). datagram_text serial (not c.is_empty.result) (lrw c.logical_address-address.result c.bytes_of-bytes.result.now) ++ text) c.write_datagrams.ensures
-    ∙ ap (λ (last : Bool). datagram_text serial (not last) (lrw c.logical_address-address.result c.bytes_of-bytes.result.now) ++ behind) c.is_empty.ensures
-    ∙ ap (λ (address : ℕ). datagram_text serial (not (length (others datagrams) == 0)) (lrw address c.bytes_of-bytes.result.now) ++ behind)
+    ∙ ap (λ (text : List ℕ). sent_datagram_text serial (not c.is_empty.result) (lrw c.logical_address-address.result c.bytes_of-bytes.result.now) ++ text) c.write_datagrams.ensures
+    ∙ ap (λ (last : Bool). sent_datagram_text serial (not last) (lrw c.logical_address-address.result c.bytes_of-bytes.result.now) ++ after_it) c.is_empty.ensures
+    ∙ ap (λ (address : ℕ). sent_datagram_text serial (not (length (others datagrams) == 0)) (lrw address c.bytes_of-bytes.result.now) ++ after_it)
     (c.logical_address-address.ensures ∙ ap (logical_address first.0) c.from.ensures)
-    ∙ ap (λ (bytes : List ℕ). datagram_text serial (not (length (others datagrams) == 0)) (lrw (logical_address first.0 first.1) bytes) ++ behind) c.bytes_of-bytes.ensures
+    ∙ ap (λ (bytes : List ℕ). sent_datagram_text serial (not (length (others datagrams) == 0)) (lrw (logical_address first.0 first.1) bytes) ++ after_it) c.bytes_of-bytes.ensures
     ∙ first-text sent serial datagrams c.in-len1-up.len_at_least

@@ -1,7 +1,7 @@
 use Rattle.std.proofs.Common.{◌∙◌, ◌++◌, ℕ, List, ap, map}
-use Rattle.hc_frames.specs.FrameText.{datagrams_text, frame_head}
+use Rattle.hc_frames.specs.FrameText.{sent_datagrams_text, frame_head}
 use Rattle.hc_events.specs.Sendings.{Named}
-use Rattle.hc_sendings.specs.Texts.{Data, carried_by, carried_bytes}
+use Rattle.hc_sendings.specs.Texts.{Data, datagram_with_data, carried_bytes}
 use Rattle.hc_sendings.proofs.Pieces.{added-up}
 use Rattle.hc_sendings.proofs.writing.frame_text.Goals as goal
 
@@ -19,7 +19,7 @@ returns g c =
     c.in_ok-text.ensures.items
     (c.in_ok-add_head.ensures ∙ ap (λ (n : ℕ). none ++ frame_head n size) c.serial.ensures)
     (c.in_ok-add_datagrams.ensures
-    ∙ ap (λ (n : ℕ). head ++ datagrams_text n (map (carried_by sent) c.datagrams-datagrams.result.now)) c.serial-2.ensures
-    ∙ ap (λ (all : List Named). head ++ datagrams_text serial (map (carried_by sent) all)) same)
+    ∙ ap (λ (n : ℕ). head ++ sent_datagrams_text n (map (datagram_with_data sent) c.datagrams-datagrams.result.now)) c.serial-2.ensures
+    ∙ ap (λ (all : List Named). head ++ sent_datagrams_text serial (map (datagram_with_data sent) all)) same)
     c.in_ok-add_padding.ensures
     (c.carried_bytes-size.ensures ∙ ap (λ (all : List Named). carried_bytes sent all) same)

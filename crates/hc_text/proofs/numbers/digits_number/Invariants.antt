@@ -2,7 +2,7 @@ use Rattle.std.proofs.Common.{◌≡◌, ◌≤◌, drop}
 use Rattle.hc_text.specs.Numbers.{spelt_within}
 use Rattle.hc_text.proofs.numbers.digits_number.Given as goal
 
--- what is left, behind the number so far, spells what all spell
+-- what is left, after the number so far, spells what all spell
 abbrev pub invariant-loop-byte : goal.invariant-loop-byte
 invariant-loop-byte l = record {
   within : l.number ≤ l.most;

@@ -4,7 +4,7 @@ use Rattle.hc_text.specs.Lines.{is_word, words_of}
 use Rattle.hc_text.specs.Cutting.{left_in, parts_after}
 use Rattle.hc_text.proofs.words.split_words.Given as goal
 
--- the words so far, and those of what is left
+-- the words so far and the remaining ones
 abbrev pub invariant-loop-rest : goal.invariant-loop-rest
 invariant-loop-rest l = map (λ word. word.now) l.words.items ++ filter is_word (parts_after 32 (option_copied l.rest)) ≡ words_of l.line
 

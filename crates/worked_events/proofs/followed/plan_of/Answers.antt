@@ -1,5 +1,5 @@
 use Rattle.std.proofs.Common.{sym, subst}
-use Rattle.hc_publish.specs.Told.{IsOpening}
+use Rattle.hc_publish.specs.ChangesSince.{IsOpening}
 use Rattle.hc_publish.proofs.lemmas.Openings.{is-opening}
 use Rattle.worked_events.proofs.followed.plan_of.Goals as goal
 

@@ -65,6 +65,7 @@ fn fault_number(alloc: Global, text: &str) -> u8 {
     }
 }
 
+/// The text of one group is read with every field.
 #[test]
 fn a_text_of_one_group(rt: HostRuntime) -> Result<(), Fail> {
     let list = listing(rt.alloc(), TOOL)?;
@@ -72,6 +73,7 @@ fn a_text_of_one_group(rt: HostRuntime) -> Result<(), Fail> {
     Ok(())
 }
 
+/// A text that isn't one group's is refused with its lowest fault.
 #[test]
 fn texts_of_no_single_group(rt: HostRuntime) {
     for (text, number) in &REFUSED {

@@ -43,23 +43,27 @@ fn entries(alloc: Global, count: u32) -> Result<String, AllocError> {
     one_area(alloc, 4096, "", pdo.as_str())
 }
 
+/// A project text whose one area offers `count` empty PDOs.
 fn offered(alloc: Global, count: u32) -> Result<String, AllocError> {
     let pdos = numbered(alloc, "{ index = ", 1, count, ", entries = [] }")?;
     one_area(alloc, 4096, "", pdos.as_str())
 }
 
+/// A project text whose one area is assigned `count` PDOs, and offers 32.
 fn assigned(alloc: Global, count: u32) -> Result<String, AllocError> {
     let pdos = numbered(alloc, "{ index = ", 1, 32, ", entries = [] }")?;
     let indexes = numbered(alloc, "", 1, count, "")?;
     one_area(alloc, 4096, indexes.as_str(), pdos.as_str())
 }
 
+/// A project text whose one slave has `count` areas.
 fn areas(alloc: Global, count: u32) -> Result<String, AllocError> {
     let back = ", dir = 'in', phys = 4096, task = 0, assigned = [] }";
     let list = numbered(alloc, "{ sm = ", 1, count, back)?;
     format!(in alloc; "slave = [{{ station = 1, area = [{list}] }}]")
 }
 
+/// A project text with `count` slaves.
 fn slaves(alloc: Global, count: u32) -> Result<String, AllocError> {
     let list = numbered(alloc, "{ station = ", 1, count, " }")?;
     format!(in alloc; "slave = [{list}]")
@@ -142,6 +146,7 @@ const LISTS: [(List, u32, u8); 14] = [
     (List::Groups, 512, 3),
 ];
 
+/// Each list is accepted up to its limit, and refused with one item more.
 #[test]
 fn lists_on_both_sides(rt: HostRuntime) -> Result<(), Fail> {
     for (list, count, fault) in &LISTS {
@@ -165,6 +170,8 @@ const WIDE_AREAS: [(u32, u32, u8); 6] = [
     (10803, 49, 3),
 ];
 
+/// An area of 11,888 bits is accepted, also at the end of the slave's memory. It is refused with a bit more, or if it begins a
+/// byte later there.
 #[test]
 fn widest_area(rt: HostRuntime) -> Result<(), Fail> {
     for (phys, more, fault) in &WIDE_AREAS {
@@ -180,6 +187,7 @@ fn widest_area(rt: HostRuntime) -> Result<(), Fail> {
 /// Bytes that aren't UTF-8, or hold a control character.
 const NO_TEXTS: [&[u8]; 3] = [b"\xff", b"slave = []\n# \xc3", b"\x00"];
 
+/// Bytes that are no UTF-8, or hold a control character, are refused with `NotToml`.
 #[test]
 fn bytes_that_are_no_text(rt: HostRuntime) -> Result<(), Fail> {
     for bytes in &NO_TEXTS {

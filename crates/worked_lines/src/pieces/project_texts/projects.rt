@@ -327,7 +327,7 @@ fn is_read(alloc: Global, text: &str, wanted: &str) -> Result<bool, ProjectFault
     Ok(listing(alloc, text)?.as_str() == wanted)
 }
 
-/// The first text in which anything is read.
+/// The first text where anything is read.
 fn filled<'a>(alloc: Global, texts: &[&'a str]) -> Result<Option<&'a str>, ProjectFault> {
     for text in texts {
         if !is_read(alloc, *text, "group 0\n")? {
@@ -337,6 +337,7 @@ fn filled<'a>(alloc: Global, texts: &[&'a str]) -> Result<Option<&'a str>, Proje
     Ok(None)
 }
 
+/// Project texts are read with every field, whatever the order of keys and form of tables; unknown keys are ignored.
 #[test]
 fn texts_with_every_field(rt: HostRuntime) -> Result<(), Fail> {
     assert!(rt; is_read(rt.alloc(), SMALL, SMALL_LISTING)?);

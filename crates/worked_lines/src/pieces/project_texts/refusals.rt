@@ -3,7 +3,7 @@ use super::fault_number;
 use std::alloc::Global;
 use std::test::Fail;
 
-/// A line in which every key of the format stands; a case turns one piece of it or two.
+/// A line where every key of the format is; a case turns one piece of it or two.
 const LINE: &str = r#"
 [[slave]]
 station = 1001
@@ -37,8 +37,8 @@ alias = 200
 slave = [{ station = 2002 }]
 "#;
 
-/// Cases, a line each: a piece of the text, what stands in its place, perhaps a second such change,
-/// and the number of the fault, 0 for none.
+/// Cases, a line each: a piece of the text, what is in its place, perhaps a second such change, and
+/// the number of the fault, 0 for none.
 const RANGES: &str = r#"station = 1001 -> station = 1001 => 0
 alias = 100 -> alias = -1 => 3
 alias = 100 -> alias = 0 => 3
@@ -152,7 +152,7 @@ entries = [[3, 12]] -> entries = [[3, 12.0]] => 2
 entries = [[3, 12]] -> entries = [["3", 12]] => 2
 entries = [[3, 12]] -> entries = [{ variable = 3, bits = 12 }] => 2"#;
 
-/// Names that stand twice, areas that overlap, PDOs that aren't offered.
+/// Names that are twice, areas that overlap, PDOs that aren't offered.
 const CONDITIONS: &str = r#"alias = 200 -> alias = 100 => 4
 station = 2001 -> station = 1001 => 5
 station = 2001 -> station = 2002 => 5
@@ -236,7 +236,7 @@ fn line_of(alloc: Global, changes: &str) -> Result<String, Fail> {
     Ok(text)
 }
 
-/// What stands before the number of a case, and that number.
+/// What is before the number of a case, and that number.
 fn parts(case: &str) -> Result<(&str, u8), Fail> {
     let (front, number) = case.rsplit_once(" => ").ok_or("no number")?;
     Ok((front, number.parse::<u8>()?))
@@ -254,6 +254,7 @@ fn misjudged<'a>(alloc: Global, cases: &'a str) -> Result<Option<&'a str>, Fail>
     Ok(None)
 }
 
+/// A good project text with one or two changes has the lowest of the faults that they bring, or none.
 #[test]
 fn one_change_or_two(rt: HostRuntime) -> Result<(), Fail> {
     assert_eq!(rt; misjudged(rt.alloc(), RANGES)?, None);
@@ -274,6 +275,7 @@ fn misread<'a>(alloc: Global, cases: &'a str) -> Result<Option<&'a str>, Fail> {
     Ok(None)
 }
 
+/// Whole project texts have the fault that the format's page gives them.
 #[test]
 fn whole_texts(rt: HostRuntime) -> Result<(), Fail> {
     assert_eq!(rt; misread(rt.alloc(), TEXTS)?, None);

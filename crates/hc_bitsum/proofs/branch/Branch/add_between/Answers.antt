@@ -1,7 +1,7 @@
 use Rattle.std.proofs.Common.{◌≡◌, ◌++◌, List, length, append-nil, refl, sym, ap, ◌∙◌, arith}
 use Rattle.std.specs.Prelude.{filter}
 use Rattle.hc_records.specs.TaskList.{Keyed}
-use Rattle.hc_bitsum.specs.Branch.{slots_of}
+use Rattle.hc_bitsum.specs.Branch.{branch_slots}
 use Rattle.hc_bitsum.specs.Tree.{has_width}
 use Rattle.hc_bitsum.proofs.Between.{none-between}
 use Rattle.hc_bitsum.proofs.Nodes.{few-rows}
@@ -18,7 +18,7 @@ places_before-end-requires c = grind (arith, few-rows)
 pub returns-then-end-first : goal.returns-then-end-first
 returns-then-end-first c =
     let branch = c.args.self.now in
-    let areas = (slots_of branch).areas in
+    let areas = (branch_slots branch).areas in
     let old = c.args.areas.now.items in
     let first = c.places_before-first.result in
     let end = c.places_before-end.result in

@@ -15,8 +15,8 @@ fit_row-requires-clause-row g c = grind (arith, row-inside, get_or_default, All-
 pub fit_row-requires-clause-place : goal.fit_row-requires-clause-place
 fit_row-requires-clause-place g c = grind (arith, row-inside, few-rows)
 
-pub fit_behind-requires-clause-row : goal.fit_behind-requires-clause-row
-fit_behind-requires-clause-row g c = row-inside c.args.self.now c.args.skip c.requires.branch c.requires.within
+pub fit_after-requires-clause-row : goal.fit_after-requires-clause-row
+fit_after-requires-clause-row g c = row-inside c.args.self.now c.args.skip c.requires.branch c.requires.within
 
 pub returns-in-Found-clause-fit : goal.returns-in-Found-clause-fit
 returns-in-Found-clause-fit g c =

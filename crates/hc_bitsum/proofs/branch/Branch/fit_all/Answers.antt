@@ -6,11 +6,11 @@ use Rattle.hc_bitsum.proofs.Scan.{scan-all}
 use Rattle.hc_bitsum.proofs.Sums.{root-node}
 use Rattle.hc_bitsum.proofs.branch.Branch.fit_all.Goals as goal
 
-pub behind_node-end-requires-clause-node : goal.behind_node-end-requires-clause-node
-behind_node-end-requires-clause-node g c = node-index c.args.self.now c.args.self.now.levels 1 c.requires.branch (root-node c.args.self.now.levels)
+pub after_node-end-requires-clause-node : goal.after_node-end-requires-clause-node
+after_node-end-requires-clause-node g c = node-index c.args.self.now c.args.self.now.levels 1 c.requires.branch (root-node c.args.self.now.levels)
 
-pub behind_node-end-requires-clause-there : goal.behind_node-end-requires-clause-there
-behind_node-end-requires-clause-there g c =
+pub after_node-end-requires-clause-there : goal.after_node-end-requires-clause-there
+after_node-end-requires-clause-there g c =
     read-low c.args.self.now c.args.self.now.levels 1 c.args.filled c.requires.branch (root-node c.args.self.now.levels) (omega arith)
 
 pub returns-then-end-room-clause-fit : goal.returns-then-end-room-clause-fit
@@ -25,6 +25,6 @@ returns-clause-fit g c = c.fit_below.ensures.fit ∙ ap (scan c.args.room c.args
 pub returns-clause-end : goal.returns-clause-end
 returns-clause-end g c =
     let branch = c.args.self.now in
-    let end = read-end branch branch.levels 1 c.args.filled c.behind_node-end.result c.requires.branch (root-node branch.levels) c.behind_node-end.ensures.end in
+    let end = read-end branch branch.levels 1 c.args.filled c.after_node-end.result c.requires.branch (root-node branch.levels) c.after_node-end.ensures.end in
     beyond-in c.args.room c.args.filled (node_areas branch branch.levels 1) c.fit_below.result c.requires.here
-    (end-beyond c.args.filled c.behind_node-end.result (node_areas branch branch.levels 1) c.args.room end c.if-end-room.false) c.fit_below.ensures.fit
+    (end-beyond c.args.filled c.after_node-end.result (node_areas branch branch.levels 1) c.args.room end c.if-end-room.false) c.fit_below.ensures.fit

@@ -5,14 +5,14 @@ use Rattle.hc_bitsum.proofs.Nodes.{beyond-right, end-beyond, few-rows, into-left
 use Rattle.hc_bitsum.proofs.Sums.{left-node, right-node}
 use Rattle.hc_bitsum.proofs.branch.Branch.fit_below.Goals as goal
 
-pub behind_node-end-requires-clause-node : goal.behind_node-end-requires-clause-node
-behind_node-end-requires-clause-node g c =
+pub after_node-end-requires-clause-node : goal.after_node-end-requires-clause-node
+after_node-end-requires-clause-node g c =
     let left = left-node c.args.self.now.levels c.loop-height.height c.loop-height.node c.loop-height-test.true c.loop-height.invariant.node in
     let inside = node-index c.args.self.now (c.loop-height.height - 1) (2 * c.loop-height.node) c.requires.branch left in
     inside
 
-pub behind_node-end-requires-clause-there : goal.behind_node-end-requires-clause-there
-behind_node-end-requires-clause-there g c =
+pub after_node-end-requires-clause-there : goal.after_node-end-requires-clause-there
+after_node-end-requires-clause-there g c =
     let left = left-node c.args.self.now.levels c.loop-height.height c.loop-height.node c.loop-height-test.true c.loop-height.invariant.node in
     read-low c.args.self.now (c.loop-height.height - 1) (2 * c.loop-height.node) c.loop-height.so_far c.requires.branch left (omega arith)
 
@@ -24,14 +24,14 @@ loop-height-preserved-then-end-room g c =
     let inv = c.loop-height.invariant in
     let some = c.loop-height-test.true in
     let left = left-node branch.levels height node some inv.node in
-    let end = read-end branch (height - 1) (2 * node) c.loop-height.so_far c.behind_node-end.result c.requires.branch left c.behind_node-end.ensures.end in
+    let end = read-end branch (height - 1) (2 * node) c.loop-height.so_far c.after_node-end.result c.requires.branch left c.after_node-end.ensures.end in
     let least = inv.least in
     let most = inv.most in
     record {
       node = right-node branch.levels height node some inv.node;
-      fit = into-right branch height node c.args.room c.loop-height.so_far c.behind_node-end.result some inv.node end c.if-end-room.true ∙ inv.fit;
+      fit = into-right branch height node c.args.room c.loop-height.so_far c.after_node-end.result some inv.node end c.if-end-room.true ∙ inv.fit;
       here = c.if-end-room.true;
-      beyond = beyond-right branch height node c.args.room c.loop-height.so_far c.behind_node-end.result some inv.node end inv.beyond;
+      beyond = beyond-right branch height node c.args.room c.loop-height.so_far c.after_node-end.result some inv.node end inv.beyond;
       least = omega arith;
       most = omega arith;
     }
@@ -44,8 +44,8 @@ loop-height-preserved g c =
     let inv = c.loop-height.invariant in
     let some = c.loop-height-test.true in
     let left = left-node branch.levels height node some inv.node in
-    let end = read-end branch (height - 1) (2 * node) c.loop-height.so_far c.behind_node-end.result c.requires.branch left c.behind_node-end.ensures.end in
-    let beyond = end-beyond c.loop-height.so_far c.behind_node-end.result (node_areas branch (height - 1) (2 * node)) c.args.room end c.if-end-room.false in
+    let end = read-end branch (height - 1) (2 * node) c.loop-height.so_far c.after_node-end.result c.requires.branch left c.after_node-end.ensures.end in
+    let beyond = end-beyond c.loop-height.so_far c.after_node-end.result (node_areas branch (height - 1) (2 * node)) c.args.room end c.if-end-room.false in
     let least = inv.least in
     let most = inv.most in
     record {

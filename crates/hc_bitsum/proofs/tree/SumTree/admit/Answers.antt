@@ -1,9 +1,9 @@
 use Rattle.std.proofs.Common.{◌≡◌, ◌≤◌, ap, refl, arith}
 use Rattle.hc_records.specs.declared.records.Dir.TheVariants.{Out, In}
-use Rattle.hc_bitsum.specs.Branch.{slots_of}
+use Rattle.hc_bitsum.specs.Branch.{branch_slots}
 use Rattle.hc_bitsum.specs.Tree.{HasRoom, Tree}
-use Rattle.hc_bitsum.proofs.Kept.{holds-list}
-use Rattle.hc_bitsum.proofs.More.{holds-more, keeps-more}
+use Rattle.hc_bitsum.proofs.Unchanged.{holds-list}
+use Rattle.hc_bitsum.proofs.More.{holds-more, stays-more}
 use Rattle.hc_bitsum.proofs.tree.SumTree.admit.Goals as goal
 
 pub invariant_of-self : goal.invariant_of-self
@@ -12,8 +12,8 @@ invariant_of-self c =
     let more : c.self.inside.slaves ≤ c.args.slaves = let least = c.requires.more in omega arith in
     let room : HasRoom c.self.inside.slaves c.args.slaves = rw slaves c.requires.room in
     record {
-      outs = keeps-more Out c.self.inside.slaves c.args.slaves c.self.inside.outputs.levels (slots_of c.self.inside.outputs) more room refl c.self.invariant.outs;
-      ins = keeps-more In c.self.inside.slaves c.args.slaves c.self.inside.inputs.levels (slots_of c.self.inside.inputs) more room refl c.self.invariant.ins;
+      outs = stays-more Out c.self.inside.slaves c.args.slaves c.self.inside.outputs.levels (branch_slots c.self.inside.outputs) more room refl c.self.invariant.outs;
+      ins = stays-more In c.self.inside.slaves c.args.slaves c.self.inside.inputs.levels (branch_slots c.self.inside.inputs) more room refl c.self.invariant.ins;
       out_sums = c.self.invariant.out_sums;
       in_sums = c.self.invariant.in_sums;
     }
@@ -25,4 +25,4 @@ pub returns-clause-holds : goal.returns-clause-holds
 returns-clause-holds c =
     let slaves : c.self.inside.slaves ≡ c.args.self.now.slaves = ap (λ (tree : Tree). tree.slaves) c.self.view_is in
     holds-more c.self.inside.slaves c.args.slaves _ (let least = c.requires.more in omega arith)
-    (holds-list c.self.inside.slaves (slots_of c.self.inside.outputs) (slots_of c.self.inside.inputs) c.self.invariant.outs c.self.invariant.ins)
+    (holds-list c.self.inside.slaves (branch_slots c.self.inside.outputs) (branch_slots c.self.inside.inputs) c.self.invariant.outs c.self.invariant.ins)

@@ -3,17 +3,17 @@ use Rattle.std.specs.Prelude.{filter, ◌++◌}
 use Rattle.hc_records.specs.declared.records.Dir.{Dir}
 use Rattle.hc_records.specs.declared.records.Dir.TheVariants.{Out, In}
 use Rattle.hc_records.specs.Boundaries.{width_in}
-use Rattle.hc_bitsum.specs.Branch.{slots_of}
+use Rattle.hc_bitsum.specs.Branch.{branch_slots}
 use Rattle.hc_bitsum.specs.Slots.{key_at}
 use Rattle.hc_bitsum.specs.Tree.{Tree, has_width}
-use Rattle.hc_bitsum.proofs.Kept.{holds-list}
+use Rattle.hc_bitsum.proofs.Unchanged.{holds-list}
 use Rattle.hc_bitsum.proofs.Read.{bits-narrow, width-input, width-none, width-output}
 use Rattle.hc_bitsum.proofs.tree.SumTree.bits.Goals as goal
 
 pub returns-then-not-has_place-clause-width : goal.returns-then-not-has_place-clause-width
 returns-then-not-has_place-clause-width c =
-    let list = filter has_width ((slots_of c.self.inside.outputs).areas ++ (slots_of c.self.inside.inputs).areas) in
-    let holds = holds-list c.self.inside.slaves (slots_of c.self.inside.outputs) (slots_of c.self.inside.inputs) c.self.invariant.outs c.self.invariant.ins in
+    let list = filter has_width ((branch_slots c.self.inside.outputs).areas ++ (branch_slots c.self.inside.inputs).areas) in
+    let holds = holds-list c.self.inside.slaves (branch_slots c.self.inside.outputs) (branch_slots c.self.inside.inputs) c.self.invariant.outs c.self.invariant.ins in
     let none = width-none c.self.inside.slaves c.args.key list holds.places (λ has. let yes = c.has_place.ensures.no has in let no = c.if-not-has_place.true in cc) in
     sym none ∙ ap (λ (tree : Tree). width_in tree.list c.args.key) c.self.view_is
 
@@ -26,9 +26,9 @@ returns-in-Out-clause-width c =
     let within = c.place_of-place.ensures.within in
     let last = has.last in
     let area = has.area in
-    let inside : place < length (slots_of c.self.inside.outputs).areas = omega arith in
+    let inside : place < length (branch_slots c.self.inside.outputs).areas = omega arith in
     c.bits.ensures
-    ∙ width-output place (slots_of c.self.inside.outputs).areas (slots_of c.self.inside.inputs).areas c.self.invariant.outs.keys c.self.invariant.ins.keys inside
+    ∙ width-output place (branch_slots c.self.inside.outputs).areas (branch_slots c.self.inside.inputs).areas c.self.invariant.outs.keys c.self.invariant.ins.keys inside
     ∙ ap (width_in _) (sym key) ∙ ap (λ (tree : Tree). width_in tree.list c.args.key) c.self.view_is
 
 pub returns-in-In-clause-width : goal.returns-in-In-clause-width
@@ -40,19 +40,19 @@ returns-in-In-clause-width c =
     let within = c.place_of-place.ensures.within in
     let last = has.last in
     let area = has.area in
-    let inside : place < length (slots_of c.self.inside.inputs).areas = omega arith in
+    let inside : place < length (branch_slots c.self.inside.inputs).areas = omega arith in
     c.bits-in-In.ensures
-    ∙ width-input place (slots_of c.self.inside.outputs).areas (slots_of c.self.inside.inputs).areas c.self.invariant.outs.keys c.self.invariant.ins.keys inside
+    ∙ width-input place (branch_slots c.self.inside.outputs).areas (branch_slots c.self.inside.inputs).areas c.self.invariant.outs.keys c.self.invariant.ins.keys inside
     ∙ ap (width_in _) (sym key) ∙ ap (λ (tree : Tree). width_in tree.list c.args.key) c.self.view_is
 
 pub returns-in-Out-clause-narrow : goal.returns-in-Out-clause-narrow
 returns-in-Out-clause-narrow c =
     let bits = c.bits.ensures in
-    let low = bits-narrow c.place_of-place.result (slots_of c.self.inside.outputs).areas c.self.invariant.outs.shape.narrow in
+    let low = bits-narrow c.place_of-place.result (branch_slots c.self.inside.outputs).areas c.self.invariant.outs.shape.narrow in
     omega arith
 
 pub returns-in-In-clause-narrow : goal.returns-in-In-clause-narrow
 returns-in-In-clause-narrow c =
     let bits = c.bits-in-In.ensures in
-    let low = bits-narrow c.place_of-place.result (slots_of c.self.inside.inputs).areas c.self.invariant.ins.shape.narrow in
+    let low = bits-narrow c.place_of-place.result (branch_slots c.self.inside.inputs).areas c.self.invariant.ins.shape.narrow in
     omega arith

@@ -9,20 +9,20 @@ use Rattle.hc_c.proofs.seat.showing.+add_slots.Goals as goal
 
 pub add_slot-requires-clause-fits : goal.add_slot-requires-clause-fits
 add_slot-requires-clause-fits t c =
-    let past = c.args.core.now.past in
+    let history = c.args.core.now.history in
     let cut = c.in-Some.ensures.cases.0 in
     let few = ap length cut in
-    let lengths = subst (HaveLengths (line_of past) c.args.task c.args.number) cut c.requires.lengths in
-    slot-fits past c.args.task c.args.number c.from.result (option_copied c.data-slot.result) (c.data-slot.ensures.slot c.requires.task (omega (arith, few, c.requires.few))) (c.from.ensures ∙ lengths.0)
+    let lengths = subst (HaveLengths (line_of history) c.args.task c.args.number) cut c.requires.lengths in
+    slot-fits history c.args.task c.args.number c.from.result (option_copied c.data-slot.result) (c.data-slot.ensures.slot c.requires.task (omega (arith, few, c.requires.few))) (c.from.ensures ∙ lengths.0)
 
 pub add_slots-requires : goal.add_slots-requires
 add_slots-requires t c =
-    let past = c.args.core.now.past in
+    let history = c.args.core.now.history in
     let cut = c.in-Some.ensures.cases.0 in
     let few = ap length cut in
-    let lengths = subst (HaveLengths (line_of past) c.args.task c.args.number) cut c.requires.lengths in
+    let lengths = subst (HaveLengths (line_of history) c.args.task c.args.number) cut c.requires.lengths in
     let slot = option_copied c.data-slot.result in
-    let fits = slot-fits past c.args.task c.args.number c.from.result slot (c.data-slot.ensures.slot c.requires.task (omega (arith, few, c.requires.few))) (c.from.ensures ∙ lengths.0) in
+    let fits = slot-fits history c.args.task c.args.number c.from.result slot (c.data-slot.ensures.slot c.requires.task (omega (arith, few, c.requires.few))) (c.from.ensures ∙ lengths.0) in
     let sizes = sizes-cons c.args.datagrams.now c.in-Some.rest.now c.in-Some.first.now cut in
     let added = slot_added c.from.result slot c.data_serial-serial.result (image_in c.args.images.now.own) (image_in c.add_slot.new.images.own) fits c.add_slot.ensures.own in
     let long = added.0 in let more = added.1 in let bytes = ap (λ (room : Room). room.0) added.2 in let datagrams = ap (λ (room : Room). room.1) added.2 in (

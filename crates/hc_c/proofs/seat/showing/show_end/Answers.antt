@@ -11,7 +11,7 @@ use Rattle.hc_c.proofs.seat.showing.show_end.Goals as goal
 
 pub add_slots-requires-clause-lengths : goal.add_slots-requires-clause-lengths
 add_slots-requires-clause-lengths c =
-    listed-lengths c.args.core.now.past c.plan-plan.result.now c.places-places.result.now c.args.task c.datagrams-datagrams.result.now c.plan-plan.ensures.state c.places-places.ensures.kept c.places-places.ensures.table c.datagrams-datagrams.ensures.datagrams
+    listed-lengths c.args.core.now.history c.plan-plan.result.now c.places-places.result.now c.args.task c.datagrams-datagrams.result.now c.plan-plan.ensures.state c.places-places.ensures.unchanged c.places-places.ensures.table c.datagrams-datagrams.ensures.datagrams
 
 pub add_slots-requires-clause-bytes : goal.add_slots-requires-clause-bytes
 add_slots-requires-clause-bytes c =
@@ -26,13 +26,13 @@ pub add_outputs-requires-clause-count : goal.add_outputs-requires-clause-count
 add_outputs-requires-clause-count c =
     let plan = c.plan-plan.result.now in
     let are = c.datagrams-datagrams.ensures.datagrams ∙ ap (λ (it : Table). datagrams_in it c.args.task) c.places-places.ensures.table in
-    let count = listed-count plan c.args.task c.datagrams-datagrams.result.now c.places-places.ensures.kept are in
+    let count = listed-count plan c.args.task c.datagrams-datagrams.result.now c.places-places.ensures.unchanged are in
     let here = ap (λ (state : State). datagram_count (task_places c.args.task (line state))) c.plan-plan.ensures.state in
     omega (arith, count, here)
 
 pub add_outputs-requires-clause-lengths : goal.add_outputs-requires-clause-lengths
 add_outputs-requires-clause-lengths c =
-    listed-lengths c.args.core.now.past c.plan-plan.result.now c.places-places.result.now c.args.task c.datagrams-datagrams.result.now c.plan-plan.ensures.state c.places-places.ensures.kept c.places-places.ensures.table c.datagrams-datagrams.ensures.datagrams
+    listed-lengths c.args.core.now.history c.plan-plan.result.now c.places-places.result.now c.args.task c.datagrams-datagrams.result.now c.plan-plan.ensures.state c.places-places.ensures.unchanged c.places-places.ensures.table c.datagrams-datagrams.ensures.datagrams
 
 pub add_outputs-requires-clause-room : goal.add_outputs-requires-clause-room
 add_outputs-requires-clause-room c =
@@ -46,11 +46,11 @@ add_outputs-requires-clause-room c =
 
 pub returns : goal.returns
 returns c =
-    let past = c.args.core.now.past in
+    let history = c.args.core.now.history in
     let old = c.args.end.now.images in
-    let here = listed-here past c.plan-plan.result.now c.places-places.result.now c.args.task c.datagrams-datagrams.result.now c.plan-plan.ensures.state c.places-places.ensures.table c.datagrams-datagrams.ensures.datagrams in
+    let here = listed-here history c.plan-plan.result.now c.places-places.result.now c.args.task c.datagrams-datagrams.result.now c.plan-plan.ensures.state c.places-places.ensures.table c.datagrams-datagrams.ensures.datagrams in
     let epoch = c.epoch.ensures ∙ ap (λ (state : State). state.epoch) c.plan-plan.ensures.state ∙ c.plan-plan.ensures.epoch in
-    let image = shown_image past c.args.task c.epoch.result c.from.result c.datagrams-datagrams.result.now (image_in old.own).room (image_in c.begin.new.self.own) (image_in c.add_slots.new.images.own) (image_in c.add_outputs.new.images.own)
+    let image = shown_image history c.args.task c.epoch.result c.from.result c.datagrams-datagrams.result.now (image_in old.own).room (image_in c.begin.new.self.own) (image_in c.add_slots.new.images.own) (image_in c.add_outputs.new.images.own)
     c.begin.ensures.own c.add_slots.ensures.own c.add_outputs.ensures.own epoch here (c.from.ensures ∙ ap (λ part. part.0) c.part_at-outputs.ensures) c.args.end.now.roomy in
     let place = c.add_outputs.ensures.same ∙ c.add_slots.ensures.same ∙ c.begin.ensures.same in
     let sent = c.send.ensures.sent in

@@ -1,6 +1,8 @@
-use Rattle.std.proofs.Common.{◌+◌, ◌*◌, List, ◌∷◌, Option, ap, subst, sym, ◌∙◌}
+use Rattle.std.proofs.Common.{◌≡◌, ℕ, ◌+◌, ◌*◌, false, List, ◌∷◌, Option, ap, subst, sym, ◌∙◌}
+use Rattle.hc_c.specs.SeatEnds.{has_seat_from}
 use Rattle.hc_c.specs.TakenPosts.{TakesAll}
 use Rattle.hc_c.specs.declared.seat.ends.OwnerEnd.{OwnerEnd}
+use Rattle.hc_c.proofs.SeatEnds.{takes-none}
 use Rattle.hc_c.proofs.TakenBits.{byte_is}
 use Rattle.hc_c.proofs.seat.taking.+take_all.Goals as goal
 
@@ -18,3 +20,7 @@ returns-clause-taken t c =
       ap (λ n. n + 2 * others.accepted) (c.from.ensures ∙ byte_is _),
       ap (λ n. n + 2 * others.refused) (c.from-2.ensures ∙ byte_is _),
     )
+
+pub returns-then-count-eq0-clause-taken : goal.returns-then-count-eq0-clause-taken
+returns-then-count-eq0-clause-taken t c =
+    takes-none c.args.task c.args.core.now c.args.ends.now (subst (λ (n : ℕ). has_seat_from n c.args.ends.now ≡ false) c.if-count-eq0.true c.requires.none)

@@ -3,7 +3,7 @@ use Rattle.std.specs.Prelude.{IfSome, MatchOption, slice_get, slice_index_or}
 use Rattle.std.specs.List.{HoldsAt}
 use Rattle.std.proofs.lemmas.Option.{slice_get_past, slice_get_read}
 use Rattle.hc_records.specs.declared.records.Area.{Area}
-use Rattle.hc_cuts.specs.Areas.{areas_at, areas_by_rank}
+use Rattle.hc_cuts.specs.Areas.{areas_of_rank, areas_by_rank}
 use Rattle.hc_cuts.specs.LineChange.{changes}
 use Rattle.hc_changes.specs.EditedLine.{EditedLine, IsEditedLine}
 use Rattle.hc_changes.proofs.lemmas.EditedLines.{before-at, other-at}
@@ -15,7 +15,7 @@ Finds areas index found = MatchOption found (slice_get areas index ≡ None) (λ
 read : (areas : List Area) (index : ℕ) (found : Option (Bor Area)) →
     MatchOption found (length areas ≤ index) (λ area. (index < length areas) × HoldsAt (λ (other : Area). area.now ≡ other) areas index) →
     IfSome found (λ area. area.now ≡ slice_index_or areas index area.now) → Finds areas index found
-read areas index found past is = search (rules, slice_get_past, slice_get_read)
+read areas index found history is = search (rules, slice_get_past, slice_get_read)
 
 pub returns-in-Some : goal.returns-in-Some
 returns-in-Some c =
@@ -23,7 +23,7 @@ returns-in-Some c =
     let is = subst IsEditedLine c.self.view_is c.self.invariant in
     let slave = c.in-Some.slave in
     let at = subst (λ (e : EditedLine). (c.args.rank ≡ e.change.first + slave) × (slave < length e.change.areas_before)) c.self.view_is c.in-Some.ensures.some in
-    let own : c.areas_before.result.now ≡ areas_at (areas_by_rank it.old) c.args.rank =
+    let own : c.areas_before.result.now ≡ areas_of_rank (areas_by_rank it.old) c.args.rank =
     c.areas_before.ensures ∙ ap (λ (e : EditedLine). slice_index_or e.change.areas_before slave []) c.self.view_is ∙ sym (before-at it is c.args.rank slave at.0 at.1) in
     let found : Finds c.areas_before.result.now c.args.index c.get.result = search (rules, read) in
     subst (λ (areas : List Area). Finds areas c.args.index c.get.result) own found

@@ -1,5 +1,5 @@
 use Rattle.std.proofs.Common.{sym, ◌∙◌, ap}
-use Rattle.hc_events.specs.Changes.{news_of}
+use Rattle.hc_events.specs.Changes.{updates_of}
 use Rattle.hc_events.specs.Points.{state_of}
 use Rattle.hc_conductor.proofs.Kept.{opened-answered}
 use Rattle.hc_conductor.proofs.conductor.Conductor.step.Goals as goal
@@ -11,7 +11,7 @@ invariant_of-self c =
     record {
       groups = i.groups ∙ sym (opened-answered _ _ _ _ c.step.ensures.answer);
       legal = i.legal;
-      told = i.told ∙ ap news_of same;
-      behind = i.behind ∙ ap state_of same;
+      answer_given = i.answer_given ∙ ap updates_of same;
+      after_it = i.after_it ∙ ap state_of same;
       rings = i.rings;
     }

@@ -1,5 +1,5 @@
 use Rattle.std.proofs.Common.{List, length, sym, ◌∙◌, ap, subst}
-use Rattle.hc_events.specs.Changes.{news_of}
+use Rattle.hc_events.specs.Changes.{updates_of}
 use Rattle.hc_events.specs.Points.{opened_with, state_of}
 use Rattle.hc_rings.specs.declared.posts.PostReceiver.{PostReceiver}
 use Rattle.hc_conductor.specs.Conducting.{Conducting}
@@ -18,10 +18,10 @@ invariant_of-self c =
     let many = as-many-rings _ _ took.posts took.rings ∙ ap length c.deref_mut.ensures.value in
     let all = whole-list c.take_all.new.rings _ _ (many ∙ sym c.self.inside.rings.ok.0) in
     record {
-      groups = i.groups ∙ (sym (opened-after_all _ (events_of_all 0 took.posts)) ∙ ap (λ s. opened_with s.past) after);
+      groups = i.groups ∙ (sym (opened-after_all _ (events_of_all 0 took.posts)) ∙ ap (λ s. opened_with s.history) after);
       legal = i.legal;
-      told = i.told ∙ ap (λ s. news_of s.taken) after;
-      behind = i.behind ∙ ap (λ s. state_of s.taken) after;
+      answer_given = i.answer_given ∙ ap (λ s. updates_of s.taken) after;
+      after_it = i.after_it ∙ ap (λ s. state_of s.taken) after;
       rings = ap length all ∙ (many ∙ i.rings);
     }
 

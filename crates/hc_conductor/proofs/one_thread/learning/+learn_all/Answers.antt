@@ -2,8 +2,8 @@ use Rattle.std.proofs.Common.{◌≡◌, ◌⊎◌, List, ◌∷◌, length, map
 use mathlib.Core.List.{IsPrefix}
 use Rattle.hc_events.specs.declared.change.Change.{Change}
 use Rattle.hc_conductor.specs.declared.seat.TaskSeat.{TaskSeat}
-use Rattle.hc_conductor.specs.Conducting.{published}
-use Rattle.hc_conductor.specs.Seats.{known}
+use Rattle.hc_conductor.specs.Conducting.{conductor_published}
+use Rattle.hc_conductor.specs.Seats.{seat_known}
 use Rattle.hc_conductor.specs.Learning.{CanLearn}
 use Rattle.hc_conductor.proofs.Learnt.{learnt}
 use Rattle.hc_conductor.proofs.one_thread.learning.+learn_all.Goals as goal
@@ -12,10 +12,10 @@ pub returns-clause-known : goal.returns-clause-known
 returns-clause-known t c =
     let cut = c.in-Some.ensures.cases.0 in
     let can = subst (CanLearn c.args.conductor.now) cut c.requires in
-    let told = c.note.ensures.carried in
-    let list = published c.args.conductor.now in
-    let new = known c.learn.new.self in
-    let one = learnt (known c.in-Some.seat.now) list new can.1 (subst (λ (l : List Change). (new ≡ known c.in-Some.seat.now) ⊎ (new ≡ l)) told c.learn.ensures.one)
-    (subst (λ (l : List Change). IsPrefix l new) told c.learn.ensures.told) in
-    ap (λ (l : List Change). l ∷ map known c.learn_all.new.seats) one
+    let changes_since = c.note.ensures.carried in
+    let list = conductor_published c.args.conductor.now in
+    let new = seat_known c.learn.new.self in
+    let one = learnt (seat_known c.in-Some.seat.now) list new can.1 (subst (λ (l : List Change). (new ≡ seat_known c.in-Some.seat.now) ⊎ (new ≡ l)) changes_since c.learn.ensures.one)
+    (subst (λ (l : List Change). IsPrefix l new) changes_since c.learn.ensures.changes_since) in
+    ap (λ (l : List Change). l ∷ map seat_known c.learn_all.new.seats) one
     ∙ (ap (λ (ls : List (List Change)). list ∷ ls) c.learn_all.ensures.known ∙ sym (ap (λ (ss : List TaskSeat). replicate (length ss) list) cut))

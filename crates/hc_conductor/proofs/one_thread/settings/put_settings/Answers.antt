@@ -2,8 +2,8 @@ use Rattle.std.proofs.Common.{◌≡◌, ◌+◌, List, [], ◌∷◌, drop, ref
 use Rattle.std.specs.List.{fold}
 use Rattle.std.specs.Option.{option_or}
 use Rattle.std.proofs.lemmas.List.{at_drop_more}
-use Rattle.hc_publish.specs.Told.{table_shown}
-use Rattle.hc_conductor.specs.Views.{told_to}
+use Rattle.hc_publish.specs.ChangesSince.{table_shown}
+use Rattle.hc_conductor.specs.Views.{answered_to}
 use Rattle.hc_conductor.specs.declared.one_thread.refusals.PostRefusal.{PostRefusal}
 use Rattle.hc_conductor.specs.declared.one_thread.settings.Setting.{Setting}
 use Rattle.hc_conductor.specs.Posting.{first_refused, setting_refused}
@@ -18,7 +18,7 @@ first-stays judged (Some other) refusal (setting ∷ settings) is = first-stays 
 
 pub returns-in-Err-clause-judged : goal.returns-in-Err-clause-judged
 returns-in-Err-clause-judged c =
-    let table = table_shown (told_to c.args.view.now) in
+    let table = table_shown (answered_to c.args.view.now) in
     let task = c.args.task in
     let settings = c.args.settings.now in
     let i = c.loop-setting.setting-index in

@@ -7,12 +7,12 @@ use Rattle.std.specs.declared.result.Result.TheVariants.{Ok, Err}
 use Rattle.std.specs.contracts.result.Result as result
 use Rattle.hc_rings.proofs.lemmas.Results.{says_three, makes_ok, makes_err}
 use Rattle.hc_rings.proofs.lemmas.Outputs.{is_true, is_false, left_outputs, zeros, never, lends_so}
-use Rattle.hc_rings.specs.Post.{with_written}
+use Rattle.hc_rings.specs.Post.{post_with_written}
 use Rattle.hc_rings.specs.Lending.{held_written}
 use Rattle.hc_rings.specs.Ring.{held, posted, PostsEach}
 use Rattle.hc_rings.specs.contracts.posts.sending.NoSpare as NoSpare
 use Rattle.hc_rings.specs.declared.posts.sending.NoSpare as declared
-use Rattle.hc_conductor.specs.Outputs.{LendsHeld, LendsOutputs, HoldsOutputs, HoldsNone, blank_outputs}
+use Rattle.hc_conductor.specs.Outputs.{SeatLendsHeld, SeatLendsOutputs, HoldsOutputs, HoldsNone, blank_outputs}
 use Rattle.hc_conductor.specs.declared.seat.TaskSeat.{TaskSeat}
 use Rattle.hc_conductor.specs.contracts.seat.TaskSeat as seat
 use Rattle.hc_conductor.specs.contracts.seat.TaskSeat.outputs as f
@@ -75,18 +75,18 @@ outputs_spec 𝓤 𝓛 𝓜 𝓡 wired =
     use0 𝓛 (raw (fact 𝓤 (IsSome (held ws.0.posts)))) (fact_i 𝓤 _ (emp 𝓤) found.1) $ move ! (1 ∷ 0 ∷ []) $ use2 𝓛 (raw (L.pre x)) (id⊢ 𝓤 _) $
     calls_at ! (framed 𝓤 𝓛.H 𝓜 𝓣) L (lent_met.met 𝓤 𝓛 𝓜 𝓡 (code.calls-hc_conductor::seat::TaskSeat::held_mut 𝓡.env wired)) x (and_then ! (get ! refl) (no_more !)) (λ w.
     use1 𝓛 (later (some (λ (r : MutBor (List ℕ)). ((‵ (flft κ q) ⊛ ‵ ftrue) ⊛ ‵ ((MutSlice (named 0) κ u8).own_val r (w ∷ []))) ⊛
-    some (λ (us : Lasts lent.ended κs (self', tt)). ‵ (lasts lent.ended κs (self', tt) us) ⊛ (‵ (LendsHeld self' r) ⊛ raw (fact 𝓤 (IfSome (held ws.0.posts) (λ post. r.now ≡ post.bytes)))))))) (id⊢ 𝓤 _) $
+    some (λ (us : Lasts lent.ended κs (self', tt)). ‵ (lasts lent.ended κs (self', tt) us) ⊛ (‵ (SeatLendsHeld self' r) ⊛ raw (fact 𝓤 (IfSome (held ws.0.posts) (λ post. r.now ≡ post.bytes)))))))) (id⊢ 𝓤 _) $
     await ! tt $ pick ! (λ r. split ! $ move ! (1 ∷ []) $ pick ! (λ us. split ! $ drop ! $ split ! $ move ! (1 ∷ []) $ heard ! _ (λ bytes.
     let F : List ℕ → TaskSeat = λ written. record ws.0 { posts = held_written ws.0.posts written } in
-    let P : List ℕ → TaskSeat → Type 0 = λ written n. HoldsOutputs self.now n (with_written (blank_outputs self.now) written) in
-    move ! (1 ∷ []) $ split ! $ move ! (1 ∷ []) $ peeks ! (MutSlice (named 0) κ u8) _ (shows 𝓛 (MutSlice (named 0) κ u8)) r (w ∷ []) (λ tells.
+    let P : List ℕ → TaskSeat → Type 0 = λ written n. HoldsOutputs self.now n (post_with_written (blank_outputs self.now) written) in
+    move ! (1 ∷ []) $ split ! $ move ! (1 ∷ []) $ peeks ! (MutSlice (named 0) κ u8) _ (shows 𝓛 (MutSlice (named 0) κ u8)) r (w ∷ []) (λ says.
     let part : Val = slice_val r.ref_ptr (length r.now) in
     let answer : Result (MutBor (List ℕ)) declared.NoSpare = Ok r in
-    rewrite ! 0 (λ (vals : List Val). ‵ ((MutSlice (named 0) κ u8).own_val r vals)) tells.0.0 refl $
-    lands_as ! (ap only tells.0.0) refl (tt, (tt, (record { fits = tells.0.1.0 }, tt))) $
-    sets ! (agg ! (and_then ! (lit ! tt) (and_then ! (get ! refl) (no_more !)))) refl (tt, (record { fits = lit< tt }, ((tt, (record { fits = tells.0.1.0 }, tt)), tt))) $
+    rewrite ! 0 (λ (vals : List Val). ‵ ((MutSlice (named 0) κ u8).own_val r vals)) says.0.0 refl $
+    lands_as ! (ap only says.0.0) refl (tt, (tt, (record { fits = says.0.1.0 }, tt))) $
+    sets ! (agg ! (and_then ! (lit ! tt) (and_then ! (get ! refl) (no_more !)))) refl (tt, (record { fits = lit< tt }, ((tt, (record { fits = says.0.1.0 }, tt)), tt))) $
     use1 𝓛 (‵ (Out.own_val (Ok r) (live 0 (of_list (part ∷ [])) ∷ []))) (makes_ok 𝓛 (MutSlice (named 0) κ u8) NoSpare.the_row r part) $ move ! (2 ∷ []) $
-    use1 𝓛 (‵ (LendsOutputs self (Ok r)))
+    use1 𝓛 (‵ (SeatLendsOutputs self (Ok r)))
     (lends_so 𝓛 seat.the_row (Array u8 0) self.ghost_name (maybe.some r.ghost_name) F ws.0 (λ written n. IsOk answer → P written n) (λ n. OnErr answer (HoldsNone self.now n)) (λ written _. (found.0.0, left_outputs self.now.posts ws.0.posts self.now.viewer.epoch self.now.viewer.size written found.0.1)) tt) $
     returns_within ! (W.post y) refl (look_at ! 0 refl) $ free_all ! refl $ keep ! (1 ∷ 2 ∷ 0 ∷ []) $
     suffices ! _ (ends_at 𝓛 f.ended stayed c y (live 0 (of_list (part ∷ []))) (Ok r) (tt, tt) (tt, tt)) $
@@ -98,8 +98,8 @@ outputs_spec 𝓤 𝓛 𝓜 𝓡 wired =
     sets ! (agg ! (no_more !)) refl (tt, tt) $
     sets ! (agg ! (and_then ! (lit ! tt) (and_then ! (get ! refl) (no_more !)))) refl (tt, (record { fits = lit< tt }, (tt, tt))) $
     fsplit3 ! $ drop ! $ name_done ! tt $
-    use1 𝓛 (‵ (LendsOutputs self (Err none_spare)))
-    (lends_so 𝓛 seat.the_row (Array u8 0) self.ghost_name maybe.none (λ _. ws.0) ws.0 (λ written n. IsOk refused → HoldsOutputs self.now n (with_written (blank_outputs self.now) written)) (λ n. OnErr refused (HoldsNone self.now n)) (λ written ok. never ok) nothing_held) $
+    use1 𝓛 (‵ (SeatLendsOutputs self (Err none_spare)))
+    (lends_so 𝓛 seat.the_row (Array u8 0) self.ghost_name maybe.none (λ _. ws.0) ws.0 (λ written n. IsOk refused → HoldsOutputs self.now n (post_with_written (blank_outputs self.now) written)) (λ n. OnErr refused (HoldsNone self.now n)) (λ written ok. never ok) nothing_held) $
     use0 𝓛 (‵ (NoSpare.the_row.own_val none_spare (vstruct vnil ∷ []))) (makes_shadow 𝓛 (NoSpare.the_row.own_val none_spare (vstruct vnil ∷ [])) (λ vals. (tt, tt)) (tt, (refl, tt))) $
     use1 𝓛 (‵ (Out.own_val (Err none_spare) (live 1 (of_list (vstruct vnil ∷ [])) ∷ []))) (makes_err 𝓛 (MutSlice (named 0) κ u8) NoSpare.the_row none_spare (vstruct vnil)) $
     returns ! (look_at ! 0 refl) $ free_all ! refl $ keep ! (0 ∷ 3 ∷ 1 ∷ []) $ nothing ! $ move ! (2 ∷ 0 ∷ []) $ join ! $ move ! (1 ∷ 0 ∷ []) $

@@ -1,7 +1,7 @@
 use Rattle.std.proofs.Common.{◌∙◌, ap, arith, subst, sym}
 use Rattle.hc_frames.specs.Sizes.{frame_bytes}
 use Rattle.hc_events.specs.Steps.{sent_text}
-use Rattle.hc_core.specs.Records.{record_of}
+use Rattle.hc_core.specs.Records.{history_read}
 use Rattle.hc_core.proofs.Fills.{carried-counted, known-tasks}
 use Rattle.hc_core.proofs.Values.{text-sent}
 use Rattle.hc_core.specs.Filled.{CanBeFilled}
@@ -10,40 +10,40 @@ use Rattle.hc_core.proofs.keeping.Core.fill.Goals as goal
 
 pub write_values-requires-clause-serial : goal.write_values-requires-clause-serial
 write_values-requires-clause-serial c =
-    let past = record_of c.self.inside.past in
+    let history = history_read c.self.inside.history in
     let frame = c.args.frame.now in
-    let can : CanBeFilled past frame = subst (λ (state : CoreState). CanBeFilled state.past frame) (sym c.self.view_is) c.requires.frame in
+    let can : CanBeFilled history frame = subst (λ (state : CoreState). CanBeFilled state.history frame) (sym c.self.view_is) c.requires.frame in
     let low = can.serial in omega (arith, low)
 
 pub write_values-requires-clause-known : goal.write_values-requires-clause-known
 write_values-requires-clause-known c =
-    let past = record_of c.self.inside.past in
+    let history = history_read c.self.inside.history in
     let frame = c.args.frame.now in
-    let can : CanBeFilled past frame = subst (λ (state : CoreState). CanBeFilled state.past frame) (sym c.self.view_is) c.requires.frame in
-    known-tasks past frame.datagrams c.self.invariant.project can.stands
+    let can : CanBeFilled history frame = subst (λ (state : CoreState). CanBeFilled state.history frame) (sym c.self.view_is) c.requires.frame in
+    known-tasks history frame.datagrams c.self.invariant.project can.is_placed
 
 pub write_values-requires-clause-size : goal.write_values-requires-clause-size
 write_values-requires-clause-size c =
-    let past = record_of c.self.inside.past in
+    let history = history_read c.self.inside.history in
     let frame = c.args.frame.now in
-    let can : CanBeFilled past frame = subst (λ (state : CoreState). CanBeFilled state.past frame) (sym c.self.view_is) c.requires.frame in
-    let same = carried-counted past c.self.inside.outputs frame.datagrams c.self.invariant.project c.self.invariant.uncrowded can.stands c.self.invariant.values ∙ sym can.counted in
+    let can : CanBeFilled history frame = subst (λ (state : CoreState). CanBeFilled state.history frame) (sym c.self.view_is) c.requires.frame in
+    let same = carried-counted history c.self.inside.outputs frame.datagrams c.self.invariant.project c.self.invariant.uncrowded can.is_placed c.self.invariant.values ∙ sym can.counted in
     let within = c.datagrams.ensures.filled.within in omega (arith, same, within)
 
 pub write_values-requires-clause-exact : goal.write_values-requires-clause-exact
 write_values-requires-clause-exact c =
-    let past = record_of c.self.inside.past in
+    let history = history_read c.self.inside.history in
     let frame = c.args.frame.now in
-    let can : CanBeFilled past frame = subst (λ (state : CoreState). CanBeFilled state.past frame) (sym c.self.view_is) c.requires.frame in
-    let same = carried-counted past c.self.inside.outputs frame.datagrams c.self.invariant.project c.self.invariant.uncrowded can.stands c.self.invariant.values ∙ sym can.counted in
+    let can : CanBeFilled history frame = subst (λ (state : CoreState). CanBeFilled state.history frame) (sym c.self.view_is) c.requires.frame in
+    let same = carried-counted history c.self.inside.outputs frame.datagrams c.self.invariant.project c.self.invariant.uncrowded can.is_placed c.self.invariant.values ∙ sym can.counted in
     c.requires.exact ∙ ap frame_bytes (sym same)
 
 pub returns : goal.returns
 returns c =
-    let past = record_of c.self.inside.past in
+    let history = history_read c.self.inside.history in
     let frame = c.args.frame.now in
-    let can : CanBeFilled past frame = subst (λ (state : CoreState). CanBeFilled state.past frame) (sym c.self.view_is) c.requires.frame in
-    let known = known-tasks past frame.datagrams c.self.invariant.project can.stands in
+    let can : CanBeFilled history frame = subst (λ (state : CoreState). CanBeFilled state.history frame) (sym c.self.view_is) c.requires.frame in
+    let known = known-tasks history frame.datagrams c.self.invariant.project can.is_placed in
     c.write_values.ensures
-    ∙ text-sent past c.self.inside.outputs frame c.self.invariant.project c.self.invariant.uncrowded known can.stands c.self.invariant.values
-    ∙ ap (λ (state : CoreState). sent_text state.past frame) c.self.view_is
+    ∙ text-sent history c.self.inside.outputs frame c.self.invariant.project c.self.invariant.uncrowded known can.is_placed c.self.invariant.values
+    ∙ ap (λ (state : CoreState). sent_text state.history frame) c.self.view_is

@@ -13,24 +13,24 @@ use Rattle.hc_events.proofs.lemmas.Epochs.{epochs-counted}
 use Rattle.hc_events.proofs.lemmas.Views.{is_task}
 use Rattle.hc_sendings.proofs.lemmas.Listed.{listed-count}
 use Rattle.hc_images.specs.Image.{data_of_first}
-use Rattle.hc_core.specs.Records.{record_of}
+use Rattle.hc_core.specs.Records.{history_read}
 use Rattle.hc_core.proofs.Shown.{slots-shown}
 use Rattle.hc_core.specs.State.{CoreState}
 use Rattle.hc_core.proofs.keeping.Core.image.Goals as goal
 
 pub returns-clause-answer : goal.returns-clause-answer
 returns-clause-answer c =
-    let kept = c.self.invariant in
-    let past = record_of c.self.inside.past in
+    let unchanged = c.self.invariant in
+    let history = history_read c.self.inside.history in
     let task = c.args.task in
     let image = c.self.inside.inputs in
-    let count = listed-count c.self.inside.plan task c.datagrams.result.now c.places.ensures.kept (c.datagrams.ensures.datagrams ∙ ap (λ table. datagrams_in table task) c.places.ensures.table) in
+    let count = listed-count c.self.inside.plan task c.datagrams.result.now c.places.ensures.unchanged (c.datagrams.ensures.datagrams ∙ ap (λ table. datagrams_in table task) c.places.ensures.table) in
     let few : datagram_count (task_places task (line c.self.inside.plan)) ≤ MOST_DATAGRAMS = subst (λ n. n ≤ MOST_DATAGRAMS) count c.datagrams.ensures.few in
     let slots = c.in_ok-slots.ensures ∙ ap (data_of_first image task) count
-    ∙ slots-shown past image task (datagram_count (task_places task (line c.self.inside.plan))) kept.slots few
-    ∙ ap (λ (state : State). map (slot_of past task) (range_with_len 0 (datagram_count (task_places task (line state))))) kept.state in
-    let epoch = c.epoch-epoch.ensures ∙ ap (λ (state : State). state.epoch) kept.state ∙ epochs-counted past kept.accepted in
+    ∙ slots-shown history image task (datagram_count (task_places task (line c.self.inside.plan))) unchanged.slots few
+    ∙ ap (λ (state : State). map (slot_of history task) (range_with_len 0 (datagram_count (task_places task (line state))))) unchanged.state in
+    let epoch = c.epoch-epoch.ensures ∙ ap (λ (state : State). state.epoch) unchanged.state ∙ epochs-counted history unchanged.accepted in
     ap (λ n. Image n c.in_ok-slots.slots) epoch
-    ∙ ap (Image (epoch_of past)) slots
-    ∙ sym (ap (λ b. unless (cond b (Some NoSuchTask) None) (image_of past task)) (is_task task c.if-task-ge-TASKS.false))
-    ∙ ap (λ (state : CoreState). unless (cond (is_no_task task) (Some NoSuchTask) None) (image_of state.past task)) c.self.view_is
+    ∙ ap (Image (epoch_of history)) slots
+    ∙ sym (ap (λ b. unless (cond b (Some NoSuchTask) None) (image_of history task)) (is_task task c.if-task-ge-TASKS.false))
+    ∙ ap (λ (state : CoreState). unless (cond (is_no_task task) (Some NoSuchTask) None) (image_of state.history task)) c.self.view_is

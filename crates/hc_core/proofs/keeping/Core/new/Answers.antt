@@ -3,13 +3,13 @@ use Rattle.std.proofs.lemmas.Result.{err_from_is_err_and}
 use Rattle.hc_records.specs.Line.{State, line, opened}
 use Rattle.hc_events.specs.declared.change.Change.{Change}
 use Rattle.hc_events.specs.Accepted.{just_opened}
-use Rattle.hc_events.specs.Entries.{Record}
+use Rattle.hc_events.specs.Entries.{History}
 use Rattle.hc_sendings.specs.Waiting.{Waiting, nothing}
-use Rattle.hc_images.specs.Packed.{Holds, IsLaidOut}
+use Rattle.hc_images.specs.Packed.{HoldsOutputValues, IsLaidOut}
 use Rattle.hc_images.proofs.lemmas.LaidOut.{line-laid_out}
 use Rattle.hc_places.specs.Table.{Table, table_of}
-use Rattle.hc_owed.specs.Board.{kept_of, nothing_known}
-use Rattle.hc_core.specs.Records.{record_of}
+use Rattle.hc_owed.specs.RegisterState.{register_state_of, nothing_known}
+use Rattle.hc_core.specs.Records.{history_read}
 use Rattle.hc_core.proofs.Opens.{IsProject, IsUncrowded, agree-opened}
 use Rattle.hc_core.specs.Agreement.{Agree, CoreParts}
 use Rattle.hc_core.proofs.keeping.Core.new.Goals as goal
@@ -19,25 +19,25 @@ invariant_of-result c =
     let groups = c.args.project in
     let inputs = c.in_ok-inputs.inputs in
     let plan = c.in_ok-plan.ensures.state in
-    let past : record_of c.opened-past.result ≡ just_opened groups = c.opened-past.ensures in
-    let taken : record_of c.of-taken.result.value ≡ just_opened groups = ap record_of c.of-taken.ensures ∙ past in
-    let kept : State → Waiting → List Change → CoreParts = λ state awaited changes. record { plan = state; serial = 0; awaited = awaited; inputs = inputs; serials = c.in_ok-data_serials.data_serials; outputs = c.in_ok-outputs.outputs; owed = c.in_ok-owed.owed; changes = changes } in
-    let owed : c.in_ok-owed.owed ≡ kept_of nothing_known (opened groups) = c.in_ok-owed.ensures ∙ ap (kept_of nothing_known) plan in
-    let zeros : Holds (table_of (line (opened groups))) (λ variable k. 0) c.in_ok-outputs.outputs =
-    subst (λ (t : Table). Holds t (λ variable k. 0) c.in_ok-outputs.outputs) (c.places.ensures.table ∙ ap (λ (state : State). table_of (line state)) plan) c.in_ok-outputs.ensures in
-    subst (λ (before : Record). Agree (kept c.in_ok-plan.plan c.in_ok-awaited.awaited c.new-8.result.items) before (record_of c.of-taken.result.value)) (sym past)
-    (subst (λ (before : Record). Agree (kept c.in_ok-plan.plan c.in_ok-awaited.awaited c.new-8.result.items) (just_opened groups) before) (sym taken)
-    (subst (λ (state : State). Agree (kept state c.in_ok-awaited.awaited c.new-8.result.items) (just_opened groups) (just_opened groups)) (sym plan)
-    (subst (λ (waiting : Waiting). Agree (kept (opened groups) waiting c.new-8.result.items) (just_opened groups) (just_opened groups)) (sym c.in_ok-awaited.ensures)
-    (subst (λ (changes : List Change). Agree (kept (opened groups) nothing changes) (just_opened groups) (just_opened groups)) (sym c.new-8.ensures.items)
+    let history : history_read c.opened-history.result ≡ just_opened groups = c.opened-history.ensures in
+    let taken : history_read c.of-taken.result.value ≡ just_opened groups = ap history_read c.of-taken.ensures ∙ history in
+    let unchanged : State → Waiting → List Change → CoreParts = λ state awaited changes. record { plan = state; serial = 0; awaited = awaited; inputs = inputs; serials = c.in_ok-data_serials.data_serials; outputs = c.in_ok-outputs.outputs; owed = c.in_ok-owed.owed; changes = changes } in
+    let owed : c.in_ok-owed.owed ≡ register_state_of nothing_known (opened groups) = c.in_ok-owed.ensures ∙ ap (register_state_of nothing_known) plan in
+    let zeros : HoldsOutputValues (table_of (line (opened groups))) (λ variable k. 0) c.in_ok-outputs.outputs =
+    subst (λ (t : Table). HoldsOutputValues t (λ variable k. 0) c.in_ok-outputs.outputs) (c.places.ensures.table ∙ ap (λ (state : State). table_of (line state)) plan) c.in_ok-outputs.ensures in
+    subst (λ (before : History). Agree (unchanged c.in_ok-plan.plan c.in_ok-awaited.awaited c.new-8.result.items) before (history_read c.of-taken.result.value)) (sym history)
+    (subst (λ (before : History). Agree (unchanged c.in_ok-plan.plan c.in_ok-awaited.awaited c.new-8.result.items) (just_opened groups) before) (sym taken)
+    (subst (λ (state : State). Agree (unchanged state c.in_ok-awaited.awaited c.new-8.result.items) (just_opened groups) (just_opened groups)) (sym plan)
+    (subst (λ (waiting : Waiting). Agree (unchanged (opened groups) waiting c.new-8.result.items) (just_opened groups) (just_opened groups)) (sym c.in_ok-awaited.ensures)
+    (subst (λ (changes : List Change). Agree (unchanged (opened groups) nothing changes) (just_opened groups) (just_opened groups)) (sym c.new-8.ensures.items)
     (agree-opened groups inputs c.in_ok-data_serials.data_serials c.in_ok-outputs.outputs c.in_ok-owed.owed
-    (subst IsProject plan c.places.ensures.kept)
+    (subst IsProject plan c.places.ensures.unchanged)
     (subst IsUncrowded plan c.places.ensures.uncrowded)
     c.in_ok-inputs.ensures c.in_ok-data_serials.ensures owed zeros)))))
 
 pub new-requires-5 : goal.new-requires-5
 new-requires-5 c =
-    subst IsLaidOut (sym c.places.ensures.table) (line-laid_out c.in_ok-plan.plan c.places.ensures.kept c.places.ensures.uncrowded)
+    subst IsLaidOut (sym c.places.ensures.table) (line-laid_out c.in_ok-plan.plan c.places.ensures.unchanged c.places.ensures.uncrowded)
 
 pub returns-in_err-plan-clause-refused : goal.returns-in_err-plan-clause-refused
 returns-in_err-plan-clause-refused c =

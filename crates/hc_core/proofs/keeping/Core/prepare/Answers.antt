@@ -7,41 +7,41 @@ use Rattle.hc_registers.specs.RankPlaces.{stations}
 use Rattle.hc_places.specs.Table.{table_of}
 use Rattle.hc_plan.specs.declared.report.Report.{Report}
 use Rattle.hc_images.specs.Moves.{Moves}
-use Rattle.hc_owed.specs.Board.{Board}
+use Rattle.hc_owed.specs.RegisterState.{RegisterState}
 use Rattle.hc_events.specs.Points.{state_of}
-use Rattle.hc_core.specs.Records.{record_of}
+use Rattle.hc_core.specs.Records.{history_read}
 use Rattle.hc_core.specs.Agreement.{state_in}
-use Rattle.hc_core.specs.Prepared.{IsReady}
+use Rattle.hc_core.specs.Prepared.{CanBeCarriedOut}
 use Rattle.hc_core.specs.State.{CoreState}
 use Rattle.hc_core.proofs.Edits.{accepted-own, after-is, count-waiting}
-use Rattle.hc_core.proofs.Followed.{few-declared, room-told}
+use Rattle.hc_core.proofs.Followed.{few-declared, room-answer_given}
 use Rattle.hc_core.proofs.keeping.Core.prepare.Goals as goal
 
 pub edit_memory-requires : goal.edit_memory-requires
 edit_memory-requires c =
     let inside = c.self.inside in
-    few-declared (state_of (record_of inside.past)) c.in_ok-prepared.prepared.new c.args.edit.now (length inside.owed.stations) c.self.invariant.project
+    few-declared (state_of (history_read inside.history)) c.in_ok-prepared.prepared.new c.args.edit.now (length inside.owed.stations) c.self.invariant.project
     (subst (λ (state : State). edited state c.args.edit.now ≡ Ok c.in_ok-prepared.prepared.new) c.self.invariant.state c.in_ok-prepared.ensures.accepted)
-    (ap (λ (board : Board). length board.stations) c.self.invariant.known)
+    (ap (λ (register_state : RegisterState). length register_state.stations) c.self.invariant.known)
 
 pub returns-in_err-moves-clause-own : goal.returns-in_err-moves-clause-own
 returns-in_err-moves-clause-own c =
-    accepted-own (state_of c.args.self.now.past) c.args.edit.now c.in_ok-prepared.prepared.new _
-    (subst (λ (core : CoreState). edited (state_of core.past) c.args.edit.now ≡ Ok c.in_ok-prepared.prepared.new) c.self.view_is
+    accepted-own (state_of c.args.self.now.history) c.args.edit.now c.in_ok-prepared.prepared.new _
+    (subst (λ (core : CoreState). edited (state_of core.history) c.args.edit.now ≡ Ok c.in_ok-prepared.prepared.new) c.self.view_is
     (subst (λ (state : State). edited state c.args.edit.now ≡ Ok c.in_ok-prepared.prepared.new) c.self.invariant.state c.in_ok-prepared.ensures.accepted))
 
 pub invariant_of-result : goal.invariant_of-result
 invariant_of-result c =
     let inside = c.self.inside in
-    let past = record_of inside.past in
-    let taken = record_of inside.taken.value in
+    let history = history_read inside.history in
+    let taken = history_read inside.taken.value in
     let room = c.in_ok-moves.ensures.room in
-    let waiting = count-waiting taken past inside.changes.items c.self.invariant.tells in
-    let ready : IsReady (state_in inside) c.in_ok-prepared.prepared c.in_ok-moves.moves c.in_ok-moves.slaves c.in_ok-moves.room.items (vec_capacity c.in_ok-moves.room) = record {
+    let waiting = count-waiting taken history inside.changes.items c.self.invariant.shows in
+    let core_edit : CanBeCarriedOut (state_in inside) c.in_ok-prepared.prepared c.in_ok-moves.moves c.in_ok-moves.slaves c.in_ok-moves.room.items (vec_capacity c.in_ok-moves.room) = record {
       made = c.in_ok-prepared.ensures.made ∙ c.self.invariant.state;
       prepared = c.in_ok-prepared.ensures.prepared;
-      slaves = room-told (length inside.owed.stations) (length (stations c.in_ok-prepared.prepared.old)) c.args.edit.now c.in_ok-prepared.prepared.report.swap.edit c.in_ok-moves.slaves c.in_ok-moves.ensures.slaves
-          (ap (λ (board : Board). length board.stations) c.self.invariant.known ∙ ap (λ (state : State). length (stations state)) (sym (c.in_ok-prepared.ensures.made ∙ c.self.invariant.state)))
+      slaves = room-answer_given (length inside.owed.stations) (length (stations c.in_ok-prepared.prepared.old)) c.args.edit.now c.in_ok-prepared.prepared.report.swap.edit c.in_ok-moves.slaves c.in_ok-moves.ensures.slaves
+          (ap (λ (register_state : RegisterState). length register_state.stations) c.self.invariant.known ∙ ap (λ (state : State). length (stations state)) (sym (c.in_ok-prepared.ensures.made ∙ c.self.invariant.state)))
           (sym c.in_ok-prepared.ensures.edit);
       table = ap (λ (moves : Moves). moves.before) c.in_ok-moves.ensures.moves ∙ c.places.ensures.table
           ∙ ap (λ (state : State). table_of (line state)) (c.in_ok-prepared.ensures.unchanged ∙ c.self.invariant.state);
@@ -49,7 +49,7 @@ invariant_of-result c =
       empty = c.in_ok-moves.ensures.empty;
       fits = omega (arith, room, waiting);
     } in
-    subst (λ (core : CoreState). IsReady core c.in_ok-prepared.prepared c.in_ok-moves.moves c.in_ok-moves.slaves c.in_ok-moves.room.items (vec_capacity c.in_ok-moves.room)) (sym c.of-core.ensures) ready
+    subst (λ (core : CoreState). CanBeCarriedOut core c.in_ok-prepared.prepared c.in_ok-moves.moves c.in_ok-moves.slaves c.in_ok-moves.room.items (vec_capacity c.in_ok-moves.room)) (sym c.of-core.ensures) core_edit
 
 pub returns-clause-made : goal.returns-clause-made
 returns-clause-made c = c.of-core.ensures ∙ c.self.view_is
@@ -59,18 +59,18 @@ returns-clause-edit c = c.in_ok-prepared.ensures.edit
 
 pub returns-clause-accepted : goal.returns-clause-accepted
 returns-clause-accepted c =
-    let old = state_of c.args.self.now.past in
+    let old = state_of c.args.self.now.history in
     let edit = c.args.edit.now in
     let new = c.in_ok-prepared.prepared.new in
     let accepted : edited old edit ≡ Ok new =
-    subst (λ (core : CoreState). edited (state_of core.past) edit ≡ Ok new) c.self.view_is
+    subst (λ (core : CoreState). edited (state_of core.history) edit ≡ Ok new) c.self.view_is
     (subst (λ (state : State). edited state edit ≡ Ok new) c.self.invariant.state c.in_ok-prepared.ensures.accepted) in
     accepted ∙ ap Ok (sym (after-is old edit new accepted))
 
 pub returns-clause-own : goal.returns-clause-own
 returns-clause-own c =
-    accepted-own (state_of c.args.self.now.past) c.args.edit.now c.in_ok-prepared.prepared.new _
-    (subst (λ (core : CoreState). edited (state_of core.past) c.args.edit.now ≡ Ok c.in_ok-prepared.prepared.new) c.self.view_is
+    accepted-own (state_of c.args.self.now.history) c.args.edit.now c.in_ok-prepared.prepared.new _
+    (subst (λ (core : CoreState). edited (state_of core.history) c.args.edit.now ≡ Ok c.in_ok-prepared.prepared.new) c.self.view_is
     (subst (λ (state : State). edited state c.args.edit.now ≡ Ok c.in_ok-prepared.prepared.new) c.self.invariant.state c.in_ok-prepared.ensures.accepted))
 
 pub returns-in_err-prepared-clause-refused : goal.returns-in_err-prepared-clause-refused
@@ -79,7 +79,7 @@ returns-in_err-prepared-clause-refused c =
     let fault = c.in_err-prepared.field-0.0 in
     let p = err_from_is_err_and c.from_residual.result c.from_residual.ensures.1 in
     rw (p.1, p.2) (λ other.
-    subst (λ (core : CoreState). edited (state_of core.past) edit ≡ Err fault) c.self.view_is
+    subst (λ (core : CoreState). edited (state_of core.history) edit ≡ Err fault) c.self.view_is
     (subst (λ (state : State). edited state edit ≡ Err fault) c.self.invariant.state (c.in_err-prepared.ensures.refused other)))
 
 pub returns-in_err-moves-clause-refused : goal.returns-in_err-moves-clause-refused

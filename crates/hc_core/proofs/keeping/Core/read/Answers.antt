@@ -11,6 +11,6 @@ returns-clause-answer c = c.image.ensures.answer
 
 pub returns-clause-shows : goal.returns-clause-shows
 returns-clause-shows c =
-    let past = c.args.self.now.past in
+    let history = c.args.self.now.history in
     let task = c.args.task in
-    IfOk-weaker c.image.result (λ told. told ≡ answer_to past (Reads task)) (λ told. task < TASKS → ShowsLastData past task told) (read-shows past task) c.image.ensures.answer
+    IfOk-weaker c.image.result (λ answer_given. answer_given ≡ answer_to history (Reads task)) (λ answer_given. task < TASKS → ShowsLastData history task answer_given) (read-shows history task) c.image.ensures.answer

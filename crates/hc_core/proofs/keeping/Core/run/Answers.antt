@@ -12,30 +12,30 @@ use Rattle.hc_core.proofs.keeping.Core.run.Goals as goal
 
 pub returns-clause-line : goal.returns-clause-line
 returns-clause-line c =
-    let past = c.args.self.now.past in
-    let next = c.serve_all.new.self.past in
+    let history = c.args.self.now.history in
+    let next = c.serve_all.new.self.history in
     let steps = map step_of c.args.events.now in
-    IfOk-weaker c.serve_all.result (λ answers. MayAnswerAll past steps answers.items next) (λ answers. IsLineAfter past steps answers.items next)
-    (λ answers. line-after past next steps answers.items) c.serve_all.ensures.answers
+    IfOk-weaker c.serve_all.result (λ answers. MayAnswerAll history steps answers.items next) (λ answers. IsLineAfter history steps answers.items next)
+    (λ answers. line-after history next steps answers.items) c.serve_all.ensures.answers
 
 pub returns-clause-shown : goal.returns-clause-shown
 returns-clause-shown c =
-    let past = c.args.self.now.past in
-    let next = c.serve_all.new.self.past in
+    let history = c.args.self.now.history in
+    let next = c.serve_all.new.self.history in
     let steps = map step_of c.args.events.now in
-    IfOk-weaker c.serve_all.result (λ answers. MayAnswerAll past steps answers.items next) (λ answers. ReadsShowLastData past steps answers.items)
-    (λ answers. shows-among past next steps answers.items) c.serve_all.ensures.answers
+    IfOk-weaker c.serve_all.result (λ answers. MayAnswerAll history steps answers.items next) (λ answers. ReadsShowLastData history steps answers.items)
+    (λ answers. shows-among history next steps answers.items) c.serve_all.ensures.answers
 
 pub returns-clause-reads : goal.returns-clause-reads
-returns-clause-reads c = reads-last c.serve_all.new.self.past
+returns-clause-reads c = reads-last c.serve_all.new.self.history
 
 pub returns-clause-stale : goal.returns-clause-stale
-returns-clause-stale c = without-stale c.serve_all.new.self.past
+returns-clause-stale c = without-stale c.serve_all.new.self.history
 
 pub returns-clause-without : goal.returns-clause-without
 returns-clause-without c =
-    let past = c.args.self.now.past in
-    let next = c.serve_all.new.self.past in
+    let history = c.args.self.now.history in
+    let next = c.serve_all.new.self.history in
     let steps = map step_of c.args.events.now in
-    IfOk-weaker c.serve_all.result (λ answers. MayAnswerAll past steps answers.items next) (λ answers. GoesWithoutThem past steps answers.items next)
-    (λ answers. goes-without past next steps answers.items) c.serve_all.ensures.answers
+    IfOk-weaker c.serve_all.result (λ answers. MayAnswerAll history steps answers.items next) (λ answers. GoesWithoutThem history steps answers.items next)
+    (λ answers. goes-without history next steps answers.items) c.serve_all.ensures.answers

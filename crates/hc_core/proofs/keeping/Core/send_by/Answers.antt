@@ -6,8 +6,8 @@ use Rattle.hc_core.proofs.keeping.Core.send_by.Goals as goal
 
 pub texts-requires : goal.texts-requires
 texts-requires c =
-    let past = c.args.self.now.past in
-    subst (All (CanBeFilled past)) (sym c.as_slice.ensures.value) c.in_ok-propose_into.ensures.filled
+    let history = c.args.self.now.history in
+    subst (All (CanBeFilled history)) (sym c.as_slice.ensures.value) c.in_ok-propose_into.ensures.filled
 
 pub returns-in_err-propose_into-clause-refused : goal.returns-in_err-propose_into-clause-refused
 returns-in_err-propose_into-clause-refused c =

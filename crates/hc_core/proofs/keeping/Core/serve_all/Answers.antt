@@ -12,16 +12,16 @@ loop-event-preserved c =
     let list = c.push_reserved.ensures in
     let answers = c.loop-event.answers.items in
     let answer = c.step-answer.result in
-    let past = c.args.self.now.past in
-    let next = c.step-answer.new.self.past in
+    let history = c.args.self.now.history in
+    let next = c.step-answer.new.self.history in
     let longer = length-append answers (answer ∷ []) in
     let steps = map step_of (take i c.args.events.now) in
-    let more = all-answered past c.loop-event.self.past next steps answers (step_of c.event-item.result) answer c.loop-event.invariant.answers c.step-answer.ensures.answer c.step-answer.ensures.early in
+    let more = all-answered history c.loop-event.self.history next steps answers (step_of c.event-item.result) answer c.loop-event.invariant.answers c.step-answer.ensures.answer c.step-answer.ensures.early in
     let grown = map_more step_of c.args.events.now i c.event-item.result c.loop-event-test.true ∙ ap (λ event. steps ++ step_of event ∷ []) (sym c.event-item.is) in
     record {
       answers =
-          subst (λ (all : List Answer). MayAnswerAll past (map step_of (take (i + 1) c.args.events.now)) all next) (sym list.items)
-          (subst (λ (all : List Step). MayAnswerAll past all (answers ++ answer ∷ []) next) (sym grown) more);
+          subst (λ (all : List Answer). MayAnswerAll history (map step_of (take (i + 1) c.args.events.now)) all next) (sym list.items)
+          (subst (λ (all : List Step). MayAnswerAll history all (answers ++ answer ∷ []) next) (sym grown) more);
       taken = c.step-answer.ensures.taken ∙ c.loop-event.invariant.taken;
       counted = ap length list.items ∙ longer ∙ ap (λ (n : ℕ). n + 1) c.loop-event.invariant.counted;
       room = let room = c.loop-event.invariant.room in omega (arith, list.capacity, room);

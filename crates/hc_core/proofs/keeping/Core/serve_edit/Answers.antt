@@ -10,8 +10,8 @@ use Rattle.hc_events.specs.Entries.{Edited}
 use Rattle.hc_events.specs.Faults.{edit_refusal}
 use Rattle.hc_events.specs.Points.{state_of}
 use Rattle.hc_events.specs.Steps.{Edits}
-use Rattle.hc_core.proofs.Serves.{edit-served, if-mapped, if-some, past-behind, past-same, taken-same}
-use Rattle.hc_core.specs.Early.{TellsEarly}
+use Rattle.hc_core.proofs.Serves.{edit-served, if-mapped, if-some, history-after, history-same, taken-same}
+use Rattle.hc_core.specs.Early.{ShowsEarly}
 use Rattle.hc_core.specs.Serving.{answer_of_edit}
 use Rattle.hc_core.proofs.keeping.Core.serve_edit.Goals as goal
 
@@ -20,19 +20,19 @@ returns-clause-answer c =
     let old = c.args.self.now in
     let new = c.edit.new.self in
     let is = c.edit.ensures in
-    subst (λ (told : Answer). MayAnswer old.past (Edits c.args.edit.now) told new.past) (sym c.answer_of_edit.ensures)
-    (edit-served old.past new.past c.args.edit.now c.edit.result is.answer is.accepted is.refused (past-behind c.edit.result old new (Edited c.args.edit.now ∷ old.past) is.entries) (past-same c.edit.result old new is.unchanged))
+    subst (λ (answer_given : Answer). MayAnswer old.history (Edits c.args.edit.now) answer_given new.history) (sym c.answer_of_edit.ensures)
+    (edit-served old.history new.history c.args.edit.now c.edit.result is.answer is.accepted is.refused (history-after c.edit.result old new (Edited c.args.edit.now ∷ old.history) is.entries) (history-same c.edit.result old new is.unchanged))
 
 pub returns-clause-taken : goal.returns-clause-taken
 returns-clause-taken c =
-    taken-same c.edit.result c.args.self.now c.edit.new.self (Edited c.args.edit.now ∷ c.args.self.now.past) c.edit.ensures.entries c.edit.ensures.unchanged
+    taken-same c.edit.result c.args.self.now c.edit.new.self (Edited c.args.edit.now ∷ c.args.self.now.history) c.edit.ensures.entries c.edit.ensures.unchanged
 
 pub returns-clause-early : goal.returns-clause-early
 returns-clause-early c =
-    let past = c.args.self.now.past in
+    let history = c.args.self.now.history in
     let edit = c.args.edit.now in
-    let own = own_fault (state_of past).groups edit in
-    subst (TellsEarly past (Edits edit)) (sym c.answer_of_edit.ensures)
+    let own = own_fault (state_of history).groups edit in
+    subst (ShowsEarly history (Edits edit)) (sym c.answer_of_edit.ensures)
     (if-mapped edit_refusal (λ (fault : CoreFault). answer_of_edit c.edit.result ≡ answer.Refused fault) own
     (if-some (λ (fault : EditFault). c.edit.result ≡ Err fault) (λ (fault : EditFault). answer_of_edit c.edit.result ≡ answer.Refused (edit_refusal fault)) own
     (λ fault is. ap answer_of_edit is) c.edit.ensures.own))

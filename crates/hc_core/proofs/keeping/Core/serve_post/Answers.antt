@@ -4,8 +4,8 @@ use Rattle.hc_events.specs.declared.answer.Answer.{Answer}
 use Rattle.hc_events.specs.Calls.{MayAnswer}
 use Rattle.hc_events.specs.Entries.{Posted}
 use Rattle.hc_events.specs.Steps.{Posts, post_faults}
-use Rattle.hc_core.proofs.Serves.{past-behind, past-same, post-early, post-served, taken-same}
-use Rattle.hc_core.specs.Early.{TellsEarly}
+use Rattle.hc_core.proofs.Serves.{history-after, history-same, post-early, post-served, taken-same}
+use Rattle.hc_core.specs.Early.{ShowsEarly}
 use Rattle.hc_core.proofs.keeping.Core.serve_post.Goals as goal
 
 pub returns-clause-answer : goal.returns-clause-answer
@@ -14,16 +14,16 @@ returns-clause-answer c =
     let new = c.post.new.self in
     let is = c.post.ensures in
     let bytes = c.args.bytes.now in
-    subst (λ (told : Answer). MayAnswer old.past (Posts c.args.task c.args.epoch bytes) told new.past) (sym c.answer_of_post.ensures)
-    (post-served old.past new.past c.args.task c.args.epoch bytes c.post.result is.accepted is.refused (past-behind c.post.result old new (Posted c.args.task bytes ∷ old.past) is.entries) (past-same c.post.result old new is.unchanged))
+    subst (λ (answer_given : Answer). MayAnswer old.history (Posts c.args.task c.args.epoch bytes) answer_given new.history) (sym c.answer_of_post.ensures)
+    (post-served old.history new.history c.args.task c.args.epoch bytes c.post.result is.accepted is.refused (history-after c.post.result old new (Posted c.args.task bytes ∷ old.history) is.entries) (history-same c.post.result old new is.unchanged))
 
 pub returns-clause-taken : goal.returns-clause-taken
 returns-clause-taken c =
-    taken-same c.post.result c.args.self.now c.post.new.self (Posted c.args.task c.args.bytes.now ∷ c.args.self.now.past) c.post.ensures.entries c.post.ensures.unchanged
+    taken-same c.post.result c.args.self.now c.post.new.self (Posted c.args.task c.args.bytes.now ∷ c.args.self.now.history) c.post.ensures.entries c.post.ensures.unchanged
 
 pub returns-clause-early : goal.returns-clause-early
 returns-clause-early c =
-    let past = c.args.self.now.past in
+    let history = c.args.self.now.history in
     let bytes = c.args.bytes.now in
-    subst (TellsEarly past (Posts c.args.task c.args.epoch bytes)) (sym c.answer_of_post.ensures)
-    (post-early (lowest (post_faults past c.args.task c.args.epoch bytes)) c.post.result c.post.ensures.accepted c.post.ensures.refused)
+    subst (ShowsEarly history (Posts c.args.task c.args.epoch bytes)) (sym c.answer_of_post.ensures)
+    (post-early (lowest (post_faults history c.args.task c.args.epoch bytes)) c.post.result c.post.ensures.accepted c.post.ensures.refused)

@@ -1,7 +1,7 @@
 use Rattle.std.proofs.Common.{◌≡◌, ◌∙◌, ℕ, List, ap, arith, subst, sym}
 use Rattle.std.specs.Prelude.{IfOk}
 use Rattle.hc_events.specs.Steps.{sent_text}
-use Rattle.hc_core.specs.Records.{record_of}
+use Rattle.hc_core.specs.Records.{history_read}
 use Rattle.hc_core.proofs.Fills.{carried-counted, known-tasks}
 use Rattle.hc_core.proofs.Values.{text-sent}
 use Rattle.hc_core.specs.Filled.{CanBeFilled}
@@ -10,32 +10,32 @@ use Rattle.hc_core.proofs.keeping.Core.text.Goals as goal
 
 pub values_text-requires-clause-serial : goal.values_text-requires-clause-serial
 values_text-requires-clause-serial c =
-    let past = record_of c.self.inside.past in
+    let history = history_read c.self.inside.history in
     let frame = c.args.frame.now in
-    let can : CanBeFilled past frame = subst (λ (state : CoreState). CanBeFilled state.past frame) (sym c.self.view_is) c.requires in
+    let can : CanBeFilled history frame = subst (λ (state : CoreState). CanBeFilled state.history frame) (sym c.self.view_is) c.requires in
     let low = can.serial in omega (arith, low)
 
 pub values_text-requires-clause-known : goal.values_text-requires-clause-known
 values_text-requires-clause-known c =
-    let past = record_of c.self.inside.past in
+    let history = history_read c.self.inside.history in
     let frame = c.args.frame.now in
-    let can : CanBeFilled past frame = subst (λ (state : CoreState). CanBeFilled state.past frame) (sym c.self.view_is) c.requires in
-    known-tasks past frame.datagrams c.self.invariant.project can.stands
+    let can : CanBeFilled history frame = subst (λ (state : CoreState). CanBeFilled state.history frame) (sym c.self.view_is) c.requires in
+    known-tasks history frame.datagrams c.self.invariant.project can.is_placed
 
 pub values_text-requires-clause-size : goal.values_text-requires-clause-size
 values_text-requires-clause-size c =
-    let past = record_of c.self.inside.past in
+    let history = history_read c.self.inside.history in
     let frame = c.args.frame.now in
-    let can : CanBeFilled past frame = subst (λ (state : CoreState). CanBeFilled state.past frame) (sym c.self.view_is) c.requires in
-    let same = carried-counted past c.self.inside.outputs frame.datagrams c.self.invariant.project c.self.invariant.uncrowded can.stands c.self.invariant.values ∙ sym can.counted in
+    let can : CanBeFilled history frame = subst (λ (state : CoreState). CanBeFilled state.history frame) (sym c.self.view_is) c.requires in
+    let same = carried-counted history c.self.inside.outputs frame.datagrams c.self.invariant.project c.self.invariant.uncrowded can.is_placed c.self.invariant.values ∙ sym can.counted in
     let within = c.datagrams.ensures.filled.within in omega (arith, same, within)
 
 pub returns : goal.returns
 returns c =
-    let past = record_of c.self.inside.past in
+    let history = history_read c.self.inside.history in
     let frame = c.args.frame.now in
-    let can : CanBeFilled past frame = subst (λ (state : CoreState). CanBeFilled state.past frame) (sym c.self.view_is) c.requires in
-    let known = known-tasks past frame.datagrams c.self.invariant.project can.stands in
-    let same = text-sent past c.self.inside.outputs frame c.self.invariant.project c.self.invariant.uncrowded known can.stands c.self.invariant.values
-    ∙ ap (λ (state : CoreState). sent_text state.past frame) c.self.view_is in
+    let can : CanBeFilled history frame = subst (λ (state : CoreState). CanBeFilled state.history frame) (sym c.self.view_is) c.requires in
+    let known = known-tasks history frame.datagrams c.self.invariant.project can.is_placed in
+    let same = text-sent history c.self.inside.outputs frame c.self.invariant.project c.self.invariant.uncrowded known can.is_placed c.self.invariant.values
+    ∙ ap (λ (state : CoreState). sent_text state.history frame) c.self.view_is in
     subst (λ (whole : List ℕ). IfOk c.values_text.result (λ (text : List ℕ). text ≡ whole)) same c.values_text.ensures

@@ -20,16 +20,16 @@ filled text now new items size room holds sized long same =
 
 pub returns-in_err-write_into-clause-refused : goal.returns-in_err-write_into-clause-refused
 returns-in_err-write_into-clause-refused c =
-    let past = c.args.self.now.past in
+    let history = c.args.self.now.history in
     let long : length c.deref_mut.result.now ≡ 60 = grind (arith, c.deref_mut.ensures.len, c.deref_mut.ensures.value, c.in_ok-text.ensures.len, c.in_ok-text.ensures.items) in
     let refused = c.in_err-write_into.ensures.refused in
     let p = err_from_is_err_and c.from_residual-in_err-write_into.result c.from_residual-in_err-write_into.ensures.1 in
-    rw (p.1, p.2) (λ other. sym (write-has-room past) ∙ sym (ap (λ (n : ℕ). lowest (write_into_faults past n)) long) ∙ refused)
+    rw (p.1, p.2) (λ other. sym (write-has-room history) ∙ sym (ap (λ (n : ℕ). lowest (write_into_faults history n)) long) ∙ refused)
 
 pub returns-clause-answer : goal.returns-clause-answer
 returns-clause-answer c =
-    let past = c.args.self.now.past in
-    let none : lowest (write_faults past (owed_blocks past)) ≡ None = c.in_ok-can_write.ensures.accepted in
+    let history = c.args.self.now.history in
+    let none : lowest (write_faults history (owed_blocks history)) ≡ None = c.in_ok-can_write.ensures.accepted in
     let written = c.in_ok-write_into.ensures.written in
     let long : length c.deref_mut.result.now ≡ 60 = grind (arith, c.deref_mut.ensures.len, c.deref_mut.ensures.value, c.in_ok-text.ensures.len, c.in_ok-text.ensures.items) in
     let same : length c.write_into.new.out ≡ 60 = grind (arith, long, c.write_into.auto.out) in
@@ -37,5 +37,5 @@ returns-clause-answer c =
     ap answer.WriteSent
     (c.of.ensures
     ∙ ap (λ (n : ℕ). take n (c.write_into.new.out ++ drop (length c.write_into.new.out) c.in_ok-text.text.items)) room
-    ∙ filled written.text c.deref_mut.result.now c.write_into.new.out c.in_ok-text.text.items c.in_ok-write_into.field-0 60 written.holds (written.counted ∙ write-sized past (some-owed past none)) long same)
-    ∙ sym written.told
+    ∙ filled written.text c.deref_mut.result.now c.write_into.new.out c.in_ok-text.text.items c.in_ok-write_into.field-0 60 written.holds (written.counted ∙ write-sized history (some-owed history none)) long same)
+    ∙ sym written.answer_given

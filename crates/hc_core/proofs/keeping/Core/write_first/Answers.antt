@@ -7,24 +7,24 @@ use Rattle.hc_frames.specs.Sizes.{frame_bytes}
 use Rattle.hc_events.specs.declared.faults.CoreFault.TheVariants.{Room}
 use Rattle.hc_events.specs.Accepted.{IsWrite}
 use Rattle.hc_events.specs.Calls.{room_faults}
-use Rattle.hc_events.specs.Entries.{Record, Wrote}
+use Rattle.hc_events.specs.Entries.{History, Wrote}
 use Rattle.hc_events.specs.Owed.{known_bytes, owed_blocks}
 use Rattle.hc_events.specs.Points.{next_serial, state_of}
 use Rattle.hc_events.specs.Steps.{write_faults}
 use Rattle.hc_events.specs.WriteFrames.{writes_size, writes_text}
-use Rattle.hc_owed.specs.Board.{kept_of}
+use Rattle.hc_owed.specs.RegisterState.{register_state_of}
 use Rattle.hc_sendings.specs.declared.awaited.TheConstants.{AWAITED_WRITES}
 use Rattle.hc_sendings.specs.declared.write_frames.PlacedBlock.{PlacedBlock}
 use Rattle.hc_sendings.specs.Waiting.{Waiting, awaited_block, older_writes, wrote}
 use Rattle.hc_sendings.specs.WriteFrames.{block_of}
-use Rattle.hc_core.proofs.FirstBlocks.{are-first, can-mark, keeps-blocks, placed-text, room-enough, room-short}
-use Rattle.hc_core.proofs.Lowest.{lowest-behind}
+use Rattle.hc_core.proofs.FirstBlocks.{are-first, can-mark, stays-blocks, placed-text, room-enough, room-short}
+use Rattle.hc_core.proofs.Lowest.{lowest-after_it}
 use Rattle.hc_core.proofs.Rooms.{older-few, same-length}
 use Rattle.hc_core.proofs.Sendings.{agree-wrote}
 use Rattle.hc_core.proofs.Writes.{first-write, serial-left}
-use Rattle.hc_core.specs.Agreement.{Agree, kept_in}
+use Rattle.hc_core.specs.Agreement.{Agree, core_parts}
 use Rattle.hc_core.specs.Chosen.{known_sent}
-use Rattle.hc_core.specs.Records.{record_of}
+use Rattle.hc_core.specs.Records.{history_read}
 use Rattle.hc_core.specs.State.{CoreState}
 use Rattle.hc_core.specs.Written.{HoldsBlocks, first_blocks, first_into_faults}
 use Rattle.hc_core.proofs.keeping.Core.write_first.Goals as goal
@@ -32,93 +32,93 @@ use Rattle.hc_core.proofs.keeping.Core.write_first.Goals as goal
 pub write-requires-clause-room : goal.write-requires-clause-room
 write-requires-clause-room c =
     let inside = c.self.inside in
-    let past = record_of inside.past in
-    let taken = record_of inside.taken.value in
-    let frame = c.choose.new.frame in
-    let none = subst (λ (state : CoreState). lowest (write_faults state.past (owed_blocks state.past)) ≡ None) (sym c.self.view_is) c.in_ok-can_write.ensures.accepted in
-    let first = are-first (kept_in inside) past taken c.args.most c.clear.new.self frame c.self.invariant c.clear.ensures (c.choose.ensures (keeps-blocks (kept_in inside) past taken c.self.invariant)) in
-    let write : IsWrite (owed_blocks past) (map block_of frame.blocks) = subst (IsWrite (owed_blocks past)) (sym first.blocks) (first-write past c.args.most c.requires none) in
+    let history = history_read inside.history in
+    let taken = history_read inside.taken.value in
+    let frame = c.choose_first.new.frame in
+    let none = subst (λ (state : CoreState). lowest (write_faults state.history (owed_blocks state.history)) ≡ None) (sym c.self.view_is) c.in_ok-can_write.ensures.accepted in
+    let first = are-first (core_parts inside) history taken c.args.most c.clear.new.self frame c.self.invariant c.clear.ensures (c.choose_first.ensures (stays-blocks (core_parts inside) history taken c.self.invariant)) in
+    let write : IsWrite (owed_blocks history) (map block_of frame.blocks) = subst (IsWrite (owed_blocks history)) (sym first.blocks) (first-write history c.args.most c.requires none) in
     subst (λ (placed : List PlacedBlock). length (older_writes (map awaited_block placed) inside.awaited) < AWAITED_WRITES) (sym c.blocks-2.ensures.blocks)
-    (older-few (kept_in inside) past taken frame.blocks write c.self.invariant)
+    (older-few (core_parts inside) history taken frame.blocks write c.self.invariant)
 
 pub mark_sent-requires : goal.mark_sent-requires
 mark_sent-requires c =
     let inside = c.self.inside in
-    let past = record_of inside.past in
-    let taken = record_of inside.taken.value in
-    let frame = c.choose.new.frame in
-    let none = subst (λ (state : CoreState). lowest (write_faults state.past (owed_blocks state.past)) ≡ None) (sym c.self.view_is) c.in_ok-can_write.ensures.accepted in
-    let first = are-first (kept_in inside) past taken c.args.most c.clear.new.self frame c.self.invariant c.clear.ensures (c.choose.ensures (keeps-blocks (kept_in inside) past taken c.self.invariant)) in
-    let write : IsWrite (owed_blocks past) (map block_of frame.blocks) = subst (IsWrite (owed_blocks past)) (sym first.blocks) (first-write past c.args.most c.requires none) in
-    can-mark (kept_in inside) past taken frame.blocks c.blocks-3.result.now c.blocks-3.ensures.blocks c.self.invariant write first.placed
+    let history = history_read inside.history in
+    let taken = history_read inside.taken.value in
+    let frame = c.choose_first.new.frame in
+    let none = subst (λ (state : CoreState). lowest (write_faults state.history (owed_blocks state.history)) ≡ None) (sym c.self.view_is) c.in_ok-can_write.ensures.accepted in
+    let first = are-first (core_parts inside) history taken c.args.most c.clear.new.self frame c.self.invariant c.clear.ensures (c.choose_first.ensures (stays-blocks (core_parts inside) history taken c.self.invariant)) in
+    let write : IsWrite (owed_blocks history) (map block_of frame.blocks) = subst (IsWrite (owed_blocks history)) (sym first.blocks) (first-write history c.args.most c.requires none) in
+    can-mark (core_parts inside) history taken frame.blocks c.blocks-3.result.now c.blocks-3.ensures.blocks c.self.invariant write first.placed
 
 pub invariant_of-self-2 : goal.invariant_of-self-2
 invariant_of-self-2 c =
     let inside = c.self.inside in
-    let past = record_of inside.past in
-    let taken = record_of inside.taken.value in
-    let kept = kept_in inside in
-    let frame = c.choose.new.frame in
+    let history = history_read inside.history in
+    let taken = history_read inside.taken.value in
+    let unchanged = core_parts inside in
+    let frame = c.choose_first.new.frame in
     let owed = c.mark_sent.new.owed in
     let serial = inside.serial + 1 in
-    let none = subst (λ (state : CoreState). lowest (write_faults state.past (owed_blocks state.past)) ≡ None) (sym c.self.view_is) c.in_ok-can_write.ensures.accepted in
-    let first = are-first kept past taken c.args.most c.clear.new.self frame c.self.invariant c.clear.ensures (c.choose.ensures (keeps-blocks kept past taken c.self.invariant)) in
-    let write : IsWrite (owed_blocks past) (map block_of frame.blocks) = subst (IsWrite (owed_blocks past)) (sym first.blocks) (first-write past c.args.most c.requires none) in
-    let left : inside.serial < SETUP_SERIAL = subst (λ (n : ℕ). n < SETUP_SERIAL) (sym c.self.invariant.serial) (serial-left past none) in
-    let sent = c.mark_sent.ensures (can-mark kept past taken frame.blocks c.blocks-3.result.now c.blocks-3.ensures.blocks c.self.invariant write first.placed)
-    ∙ ap (λ (placed : List PlacedBlock). kept_of (known_sent placed (known_bytes past)) (state_of past)) c.blocks-3.ensures.blocks in
+    let none = subst (λ (state : CoreState). lowest (write_faults state.history (owed_blocks state.history)) ≡ None) (sym c.self.view_is) c.in_ok-can_write.ensures.accepted in
+    let first = are-first unchanged history taken c.args.most c.clear.new.self frame c.self.invariant c.clear.ensures (c.choose_first.ensures (stays-blocks unchanged history taken c.self.invariant)) in
+    let write : IsWrite (owed_blocks history) (map block_of frame.blocks) = subst (IsWrite (owed_blocks history)) (sym first.blocks) (first-write history c.args.most c.requires none) in
+    let left : inside.serial < SETUP_SERIAL = subst (λ (n : ℕ). n < SETUP_SERIAL) (sym c.self.invariant.serial) (serial-left history none) in
+    let sent = c.mark_sent.ensures (can-mark unchanged history taken frame.blocks c.blocks-3.result.now c.blocks-3.ensures.blocks c.self.invariant write first.placed)
+    ∙ ap (λ (placed : List PlacedBlock). register_state_of (known_sent placed (known_bytes history)) (state_of history)) c.blocks-3.ensures.blocks in
     let awaited = c.write.ensures ∙ ap (λ (placed : List PlacedBlock). wrote inside.serial (map awaited_block placed) inside.awaited) c.blocks-2.ensures.blocks in
-    subst (λ (grows : Record). Agree (record kept { awaited = c.write.new.self; owed = owed; serial = serial }) grows taken) (sym c.wrote.ensures)
-    (subst (λ (waiting : Waiting). Agree (record kept { awaited = waiting; owed = owed; serial = serial }) (Wrote (map block_of frame.blocks) ∷ past) taken) (sym awaited)
-    (agree-wrote kept past taken frame.blocks owed write first.placed left sent c.self.invariant))
+    subst (λ (grows : History). Agree (record unchanged { awaited = c.write.new.self; owed = owed; serial = serial }) grows taken) (sym c.wrote.ensures)
+    (subst (λ (waiting : Waiting). Agree (record unchanged { awaited = waiting; owed = owed; serial = serial }) (Wrote (map block_of frame.blocks) ∷ history) taken) (sym awaited)
+    (agree-wrote unchanged history taken frame.blocks owed write first.placed left sent c.self.invariant))
 
 pub returns-clause-written : goal.returns-clause-written
 returns-clause-written c =
     let inside = c.self.inside in
-    let past = record_of inside.past in
-    let taken = record_of inside.taken.value in
-    let frame = c.choose.new.frame in
+    let history = history_read inside.history in
+    let taken = history_read inside.taken.value in
+    let frame = c.choose_first.new.frame in
     let out = c.args.out.now in
-    let first = are-first (kept_in inside) past taken c.args.most c.clear.new.self frame c.self.invariant c.clear.ensures (c.choose.ensures (keeps-blocks (kept_in inside) past taken c.self.invariant)) in
+    let first = are-first (core_parts inside) history taken c.args.most c.clear.new.self frame c.self.invariant c.clear.ensures (c.choose_first.ensures (stays-blocks (core_parts inside) history taken c.self.invariant)) in
     let counted : c.in_ok-size.size ≡ frame_bytes frame.bytes = c.in_ok-size.ensures.counted in
-    subst (λ (state : CoreState). HoldsBlocks state.past (first_blocks c.args.most state.past) out c.write_into.new.out (record { size = c.in_ok-size.size; blocks = length c.blocks-4.result.now })) c.self.view_is
+    subst (λ (state : CoreState). HoldsBlocks state.history (first_blocks c.args.most state.history) out c.write_into.new.out (record { size = c.in_ok-size.size; blocks = length c.blocks-4.result.now })) c.self.view_is
     (record {
       size = counted ∙ ap frame_bytes first.bytes;
       count = ap length c.blocks-4.ensures.blocks ∙ sym (same-length frame.blocks) ∙ ap length first.blocks;
       holds = c.in_ok-size.ensures.written
           ∙ ap (λ (text : List ℕ). text ++ drop (frame_bytes frame.bytes) out)
-          (placed-text inside.serial frame.blocks ∙ ap (writes_text inside.serial) first.blocks ∙ ap (λ (n : ℕ). writes_text n (first_blocks c.args.most past)) c.self.invariant.serial)
-          ∙ ap (λ (n : ℕ). writes_text (next_serial past) (first_blocks c.args.most past) ++ drop n out) (sym counted);
+          (placed-text inside.serial frame.blocks ∙ ap (writes_text inside.serial) first.blocks ∙ ap (λ (n : ℕ). writes_text n (first_blocks c.args.most history)) c.self.invariant.serial)
+          ∙ ap (λ (n : ℕ). writes_text (next_serial history) (first_blocks c.args.most history) ++ drop n out) (sym counted);
     })
 
 pub returns-clause-accepted : goal.returns-clause-accepted
 returns-clause-accepted c =
     let inside = c.self.inside in
-    let past = record_of inside.past in
-    let taken = record_of inside.taken.value in
-    let frame = c.choose.new.frame in
+    let history = history_read inside.history in
+    let taken = history_read inside.taken.value in
+    let frame = c.choose_first.new.frame in
     let bytes = length c.args.out.now in
-    let none : lowest (write_faults past (owed_blocks past)) ≡ None =
-    subst (λ (state : CoreState). lowest (write_faults state.past (owed_blocks state.past)) ≡ None) (sym c.self.view_is) c.in_ok-can_write.ensures.accepted in
-    let first = are-first (kept_in inside) past taken c.args.most c.clear.new.self frame c.self.invariant c.clear.ensures (c.choose.ensures (keeps-blocks (kept_in inside) past taken c.self.invariant)) in
+    let none : lowest (write_faults history (owed_blocks history)) ≡ None =
+    subst (λ (state : CoreState). lowest (write_faults state.history (owed_blocks state.history)) ≡ None) (sym c.self.view_is) c.in_ok-can_write.ensures.accepted in
+    let first = are-first (core_parts inside) history taken c.args.most c.clear.new.self frame c.self.invariant c.clear.ensures (c.choose_first.ensures (stays-blocks (core_parts inside) history taken c.self.invariant)) in
     let enough : bytes < frame_bytes frame.bytes → false ≡ true = c.in_ok-size.ensures.short.1 in
-    subst (λ (state : CoreState). lowest (first_into_faults c.args.most state.past bytes) ≡ None) c.self.view_is
-    (lowest-behind (write_faults past (owed_blocks past)) (room_faults (writes_size (first_blocks c.args.most past)) bytes) none
+    subst (λ (state : CoreState). lowest (first_into_faults c.args.most state.history bytes) ≡ None) c.self.view_is
+    (lowest-after_it (write_faults history (owed_blocks history)) (room_faults (writes_size (first_blocks c.args.most history)) bytes) none
     ∙ ap (λ size. lowest (room_faults size bytes)) (sym (ap frame_bytes first.bytes)) ∙ room-enough (frame_bytes frame.bytes) bytes enough)
 
 pub returns-in_err-size-clause-refused : goal.returns-in_err-size-clause-refused
 returns-in_err-size-clause-refused c =
     let inside = c.self.inside in
-    let past = record_of inside.past in
-    let taken = record_of inside.taken.value in
-    let frame = c.choose.new.frame in
+    let history = history_read inside.history in
+    let taken = history_read inside.taken.value in
+    let frame = c.choose_first.new.frame in
     let bytes = length c.args.out.now in
-    let none : lowest (write_faults past (owed_blocks past)) ≡ None =
-    subst (λ (state : CoreState). lowest (write_faults state.past (owed_blocks state.past)) ≡ None) (sym c.self.view_is) c.in_ok-can_write.ensures.accepted in
-    let first = are-first (kept_in inside) past taken c.args.most c.clear.new.self frame c.self.invariant c.clear.ensures (c.choose.ensures (keeps-blocks (kept_in inside) past taken c.self.invariant)) in
+    let none : lowest (write_faults history (owed_blocks history)) ≡ None =
+    subst (λ (state : CoreState). lowest (write_faults state.history (owed_blocks state.history)) ≡ None) (sym c.self.view_is) c.in_ok-can_write.ensures.accepted in
+    let first = are-first (core_parts inside) history taken c.args.most c.clear.new.self frame c.self.invariant c.clear.ensures (c.choose_first.ensures (stays-blocks (core_parts inside) history taken c.self.invariant)) in
     let short : bytes < frame_bytes frame.bytes = c.in_err-size.ensures.short.0 refl in
-    let refused = subst (λ (state : CoreState). lowest (first_into_faults c.args.most state.past bytes) ≡ Some (Room (frame_bytes frame.bytes))) c.self.view_is
-    (lowest-behind (write_faults past (owed_blocks past)) (room_faults (writes_size (first_blocks c.args.most past)) bytes) none
+    let refused = subst (λ (state : CoreState). lowest (first_into_faults c.args.most state.history bytes) ≡ Some (Room (frame_bytes frame.bytes))) c.self.view_is
+    (lowest-after_it (write_faults history (owed_blocks history)) (room_faults (writes_size (first_blocks c.args.most history)) bytes) none
     ∙ ap (λ size. lowest (room_faults size bytes)) (sym (ap frame_bytes first.bytes)) ∙ room-short (frame_bytes frame.bytes) bytes short) in
     let needed = c.in_err-size.ensures.needed in
     let p = err_from_is_err_and c.from_residual-in_err-size.result c.from_residual-in_err-size.ensures.1 in
@@ -127,9 +127,9 @@ returns-in_err-size-clause-refused c =
 pub returns-clause-entries : goal.returns-clause-entries
 returns-clause-entries c =
     let inside = c.self.inside in
-    let past = record_of inside.past in
-    let taken = record_of inside.taken.value in
-    let frame = c.choose.new.frame in
-    let first = are-first (kept_in inside) past taken c.args.most c.clear.new.self frame c.self.invariant c.clear.ensures (c.choose.ensures (keeps-blocks (kept_in inside) past taken c.self.invariant)) in
-    ap (λ (entries : Record). let next : CoreState = record { past = entries; taken = taken } in next) (c.wrote.ensures ∙ ap (λ (blocks : List LineBlock). Wrote blocks ∷ past) first.blocks)
-    ∙ ap (λ (state : CoreState). let next : CoreState = record state { past = Wrote (first_blocks c.args.most state.past) ∷ state.past } in next) c.self.view_is
+    let history = history_read inside.history in
+    let taken = history_read inside.taken.value in
+    let frame = c.choose_first.new.frame in
+    let first = are-first (core_parts inside) history taken c.args.most c.clear.new.self frame c.self.invariant c.clear.ensures (c.choose_first.ensures (stays-blocks (core_parts inside) history taken c.self.invariant)) in
+    ap (λ (entries : History). let next : CoreState = record { history = entries; taken = taken } in next) (c.wrote.ensures ∙ ap (λ (blocks : List LineBlock). Wrote blocks ∷ history) first.blocks)
+    ∙ ap (λ (state : CoreState). let next : CoreState = record state { history = Wrote (first_blocks c.args.most state.history) ∷ state.history } in next) c.self.view_is

@@ -4,14 +4,14 @@ use Rattle.hc_records.specs.declared.keys.TheConstants.Key.{START}
 use Rattle.hc_records.specs.Boundaries.{boundaries, spans}
 use Rattle.hc_records.specs.Image.{inside}
 use Rattle.hc_records.specs.Packing.{Placed, opening, packed}
-use Rattle.hc_cuts.specs.Starts.{Kept}
+use Rattle.hc_cuts.specs.Starts.{TaskCuts}
 use Rattle.hc_cuts.specs.Walk.{span_places}
-use Rattle.hc_cuts.proofs.Whole.{behind-starts, is-span_at, own-boundaries}
+use Rattle.hc_cuts.proofs.Whole.{after_it-starts, is-span_at, own-boundaries}
 use Rattle.hc_cuts.proofs.lemmas.Datagrams.{span-inside}
 use Rattle.hc_cuts.proofs.cuts.Cuts.datagram.Goals as goal
 
 pub returns-then-first-starts : goal.returns-then-first-starts
-returns-then-first-starts c = grind (arith, own-boundaries, behind-starts)
+returns-then-first-starts c = grind (arith, own-boundaries, after_it-starts)
 
 pub add_span-requires-clause-ends : goal.add_span-requires-clause-ends
 add_span-requires-clause-ends c =
@@ -30,4 +30,4 @@ returns c =
     c.in_ok-add_span.ensures
     ∙ ap (λ (before : List Placed). before ++ span_places c.args.number from tree.list) c.new-places.ensures.items
     ∙ span-inside tree.list c.args.number (from, c.end_of.result) c.self.invariant.list numbered
-    ∙ ap (λ (kept : Kept). inside c.args.number (packed opening kept.tree.list)) c.self.view_is
+    ∙ ap (λ (unchanged : TaskCuts). inside c.args.number (packed opening unchanged.tree.list)) c.self.view_is

@@ -13,9 +13,9 @@ use Rattle.hc_records.specs.TaskList.{Keyed}
 use Rattle.hc_records.proofs.lemmas.Lists.{AllPairs-head, AllPairs-tail}
 use Rattle.hc_bitsum.specs.declared.sum.Sum.{Sum}
 use Rattle.hc_bitsum.specs.declared.sum.Sum.TheVariants.{Empty, Run}
-use Rattle.hc_bitsum.specs.Sums.{joined, sum_of}
+use Rattle.hc_bitsum.specs.Sums.{sums_joined, sum_of}
 use Rattle.hc_cuts.specs.Inputs.{has_inputs}
-use Rattle.hc_cuts.specs.Starts.{Kept}
+use Rattle.hc_cuts.specs.Starts.{TaskCuts}
 use Rattle.hc_cuts.proofs.cuts.Cuts.has_inputs.Goals as goal
 
 same-in : (dir : Dir) → sameb the_type dir In ≡ same_dir dir In
@@ -26,19 +26,19 @@ abbrev ends_in : Sum → Bool
 ends_in Empty = false
 ends_in (Run first last ends) = same_dir last In
 
--- no output comes behind an input
+-- no output comes after an input
 
-inputs-behind : (area : Keyed) (areas : List Keyed) (first last : Dir) (ends : List ℕ) → All (λ (other : Keyed). IsTrue (is_before area.0 other.0)) areas
+inputs-after_it : (area : Keyed) (areas : List Keyed) (first last : Dir) (ends : List ℕ) → All (λ (other : Keyed). IsTrue (is_before area.0 other.0)) areas
     → sum_of areas ≡ Run first last ends → same_dir area.0.dir In ≡ true → has_inputs areas ≡ true
-inputs-behind area [] first last ends behind some input = cc
-inputs-behind area (next ∷ areas) first last ends behind some input =
+inputs-after_it area [] first last ends after_it some input = cc
+inputs-after_it area (next ∷ areas) first last ends after_it some input =
     grind (arith, or_left, All-head)
 
 -- so the last area of a list is an input where any is
 joined-in : (none : Bool) (dir : Dir) (ends : List ℕ) (later : Sum) (others : Bool) → none ≡ false → ends_in later ≡ others
     → ((first last : Dir) (laters : List ℕ) → later ≡ Run first last laters → same_dir dir In ≡ true → others ≡ true)
-    → ends_in (joined (if none then Empty else Run dir dir ends) later) ≡ (same_dir dir In || others)
-joined-in none dir ends later others some is behind = grind arith
+    → ends_in (sums_joined (if none then Empty else Run dir dir ends) later) ≡ (same_dir dir In || others)
+joined-in none dir ends later others some is after_it = grind arith
 
 sum-ends_in : (list : List Keyed) → All IsPackable list → Ascends list → ends_in (sum_of list) ≡ has_inputs list
 sum-ends_in [] packable ascends = refl
@@ -48,14 +48,14 @@ sum-ends_in (area ∷ areas) packable ascends =
     joined-in (area.1 == 0) area.0.dir _ (sum_of areas) (has_inputs areas) wide
     (sum-ends_in areas (All-tail IsPackable area areas packable) (AllPairs-tail (λ (a b : Keyed). IsTrue (is_before a.0 b.0)) area areas ascends))
     (λ first last laters is input.
-    inputs-behind area areas first last laters (AllPairs-head (λ (a b : Keyed). IsTrue (is_before a.0 b.0)) area areas ascends) is input)
+    inputs-after_it area areas first last laters (AllPairs-head (λ (a b : Keyed). IsTrue (is_before a.0 b.0)) area areas ascends) is input)
 
 pub returns-in-Empty : goal.returns-in-Empty
 returns-in-Empty c =
     let holds = c.self.invariant.list in
     ap ends_in (sym c.in-Empty.is ∙ c.total.ensures)
     ∙ sum-ends_in c.self.inside.tree.list holds.packable holds.ascends
-    ∙ ap (λ (kept : Kept). has_inputs kept.tree.list) c.self.view_is
+    ∙ ap (λ (unchanged : TaskCuts). has_inputs unchanged.tree.list) c.self.view_is
 
 pub returns-in-Run : goal.returns-in-Run
 returns-in-Run c =
@@ -64,4 +64,4 @@ returns-in-Run c =
     ∙ same-in c.in-Run.last
     ∙ ap ends_in (sym c.in-Run.is ∙ c.total.ensures)
     ∙ sum-ends_in c.self.inside.tree.list holds.packable holds.ascends
-    ∙ ap (λ (kept : Kept). has_inputs kept.tree.list) c.self.view_is
+    ∙ ap (λ (unchanged : TaskCuts). has_inputs unchanged.tree.list) c.self.view_is

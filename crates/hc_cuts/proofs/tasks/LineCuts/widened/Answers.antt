@@ -12,5 +12,5 @@ invariant_of-result c =
     (fewer-wider c.args.slaves c.args.self.now c.as_slice.result.now c.in_ok-tasks.tasks.items c.requires.fewer (c.as_slice.ensures.value ∙ c.self.view_is) c.in_ok-tasks.ensures)
 
 pub returns : goal.returns
-returns c = λ line count stand many.
-    line-wider c.args.slaves count line c.args.self.now c.as_slice.result.now c.in_ok-tasks.tasks.items (c.as_slice.ensures.value ∙ c.self.view_is) stand many c.in_ok-tasks.ensures
+returns c = λ line count are_placed many.
+    line-wider c.args.slaves count line c.args.self.now c.as_slice.result.now c.in_ok-tasks.tasks.items (c.as_slice.ensures.value ∙ c.self.view_is) are_placed many c.in_ok-tasks.ensures

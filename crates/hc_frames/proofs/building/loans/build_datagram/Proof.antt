@@ -5,7 +5,7 @@ use denote.Array.{Array}
 use denote.Follow.{follows}
 use denote.Triple.Clauses.{Lasts}
 use Rattle.hc_frames.specs.declared.commands.Command.TheVariants.{Lrw}
-use Rattle.hc_frames.specs.FrameText.{datagram_head, datagram_text, blank_lrw, lrw}
+use Rattle.hc_frames.specs.FrameText.{datagram_head, sent_datagram_text, blank_lrw, lrw}
 use Rattle.hc_frames.proofs.Lent.{part_lent, lends_part}
 use Rattle.hc_frames.proofs.Spelled.{datagram_cut}
 use Rattle.hc_frames.specs.contracts.building.loans.build_datagram as f
@@ -37,11 +37,11 @@ build_datagram_spec 𝓤 𝓛 𝓜 𝓡 wired =
     calls_at ! (framed 𝓤 𝓛.H 𝓜 𝓣) G (met 𝓤 𝓛 𝓜 𝓡 (code.calls-hc_frames::building::loans::with_blank_datagram 𝓡.env wired)) z
     (and_then ! (get ! refl) (and_then ! (get ! refl) (and_then ! (get ! refl) (and_then ! (get ! refl) (and_then ! (get ! refl) (no_more !)))))) (λ v.
     use1 𝓛 (later (some (λ (r : MutBor (List ℕ)). ((‵ (flft κ q) ⊛ ‵ ftrue) ⊛ ‵ ((MutSlice (named 0) κ u8).own_val r (v ∷ []))) ⊛
-    some (λ (ws : Lasts g.ended κs a). ‵ (lasts g.ended κs a ws) ⊛ (raw (fact 𝓤 (r.ghost_name ≡ out.ghost_name)) ⊛ raw (fact 𝓤 (r.now ≡ datagram_text serial more (blank_lrw (address, size))))))))) (id⊢ 𝓤 _) $
+    some (λ (ws : Lasts g.ended κs a). ‵ (lasts g.ended κs a ws) ⊛ (raw (fact 𝓤 (r.ghost_name ≡ out.ghost_name)) ⊛ raw (fact 𝓤 (r.now ≡ sent_datagram_text serial more (blank_lrw (address, size))))))))) (id⊢ 𝓤 _) $
     await ! tt $ pick ! (λ r. split ! $ move ! (1 ∷ []) $ pick ! (λ ws. split ! $ drop ! $ split ! $ heard ! _ (λ same. heard ! _ (λ text.
-    split ! $ move ! (1 ∷ []) $ peeks ! (MutSlice (named 0) κ u8) _ (shows 𝓛 (MutSlice (named 0) κ u8)) r (v ∷ []) (λ tells.
-    rewrite ! 0 (λ (vs : List Val). ‵ ((MutSlice (named 0) κ u8).own_val r vs)) tells.0.0 refl $
-    lands_as ! (ap only tells.0.0) refl (tt, (tt, (record { fits = tells.0.1.0 }, tt))) $
+    split ! $ move ! (1 ∷ []) $ peeks ! (MutSlice (named 0) κ u8) _ (shows 𝓛 (MutSlice (named 0) κ u8)) r (v ∷ []) (λ said.
+    rewrite ! 0 (λ (vs : List Val). ‵ ((MutSlice (named 0) κ u8).own_val r vs)) said.0.0 refl $
+    lands_as ! (ap only said.0.0) refl (tt, (tt, (record { fits = said.0.1.0 }, tt))) $
     let b = r.ref_ptr.0 in let o = r.ref_ptr.1 in
     let narrow : size < 2 ^ 16 = are.1.1.1.0.1 in
     let wide : size < 2 ^ 64 = omega arith in
@@ -56,7 +56,7 @@ build_datagram_spec 𝓤 𝓛 𝓜 𝓡 wired =
     let front : List ℕ = datagram_head (serial % 256) Lrw address size more in
     let mid : List ℕ = replicate size 0 in
     let back : List ℕ = 0 ∷ 0 ∷ [] in
-    let F : List ℕ → List ℕ = λ bytes. datagram_text serial more (lrw address bytes) in
+    let F : List ℕ → List ℕ = λ bytes. sent_datagram_text serial more (lrw address bytes) in
     let long : length mid ≡ size = length-replicate size 0 in
     let cut : r.now ≡ front ++ (mid ++ back) = text ∙ datagram_cut serial address size more mid long in
     let fits : (bytes : List ℕ) → length bytes ≡ length mid → F bytes ≡ front ++ (bytes ++ back) = λ bytes e. datagram_cut serial address size more bytes (e ∙ long) in

@@ -88,11 +88,11 @@ build_lrw_spec 𝓤 𝓛 𝓜 𝓡 wired =
     use1 𝓛 (later (some (λ (r : MutBor (List ℕ)). ((‵ (flft κ q) ⊛ ‵ ftrue) ⊛ ‵ ((MutSlice (named 0) κ u8).own_val r (w ∷ []))) ⊛
     some (λ (ws : Lasts lent.ended κs a). ‵ (lasts lent.ended κs a ws) ⊛ (‵ (LendsFrameData out serial address size r) ⊛ raw (fact 𝓤 (r.now ≡ replicate size 0))))))) (id⊢ 𝓤 _) $
     await ! tt $ pick ! (λ r. split ! $ move ! (1 ∷ []) $ pick ! (λ ws. split ! $ drop ! $ split ! $ move ! (1 ∷ []) $ heard ! _ (λ blank.
-    move ! (1 ∷ []) $ split ! $ move ! (1 ∷ []) $ peeks ! (MutSlice (named 0) κ u8) _ (shows 𝓛 (MutSlice (named 0) κ u8)) r (w ∷ []) (λ tells.
+    move ! (1 ∷ []) $ split ! $ move ! (1 ∷ []) $ peeks ! (MutSlice (named 0) κ u8) _ (shows 𝓛 (MutSlice (named 0) κ u8)) r (w ∷ []) (λ said.
     let part : Val = slice_val r.ref_ptr (length r.now) in
-    rewrite ! 0 (λ (vs : List Val). ‵ ((MutSlice (named 0) κ u8).own_val r vs)) tells.0.0 refl $
-    lands_as ! (ap only tells.0.0) refl (tt, (tt, (record { fits = tells.0.1.0 }, tt))) $
-    sets ! (agg ! (and_then ! (lit ! tt) (and_then ! (get ! refl) (no_more !)))) refl (tt, (record { fits = lit< tt }, ((tt, (record { fits = tells.0.1.0 }, tt)), tt))) $
+    rewrite ! 0 (λ (vs : List Val). ‵ ((MutSlice (named 0) κ u8).own_val r vs)) said.0.0 refl $
+    lands_as ! (ap only said.0.0) refl (tt, (tt, (record { fits = said.0.1.0 }, tt))) $
+    sets ! (agg ! (and_then ! (lit ! tt) (and_then ! (get ! refl) (no_more !)))) refl (tt, (record { fits = lit< tt }, ((tt, (record { fits = said.0.1.0 }, tt)), tt))) $
     use1 𝓛 (‵ (Out.own_val (Ok r) (live 0 (of_list (part ∷ [])) ∷ []))) (makes_ok 𝓛 (MutSlice (named 0) κ u8) Room.the_row r part) $
     returns ! (look_at ! 0 refl) $ free_all ! refl $
     suffices ! _ (ends_at 𝓛 f.ended stayed c y (live 0 (of_list (part ∷ []))) (Ok r) (tt, (tt, (tt, (tt, tt)))) (tt, (tt, (tt, (tt, tt))))) $

@@ -1,7 +1,7 @@
 use Rattle.std.proofs.Common.{◌≡◌, ◌<◌, ◌≤◌, ◌+◌, ◌-◌, ℕ, List, true, length, drop, length-drop, ap, sym, ◌∙◌, arith}
 use Rattle.std.proofs.lemmas.Bool.Decides.{nat_tests}
 use Rattle.std.proofs.lemmas.Bool.{not-false, not-true}
-use Rattle.hc_frames.specs.Arrived.{data_size, datagrams_in, is_whole}
+use Rattle.hc_frames.specs.Arrived.{data_size, datagram_tails, is_whole}
 use Rattle.hc_frames.specs.Survey.{noted, surveyed}
 use Rattle.hc_frames.proofs.lemmas.Datagrams.{datagrams-none, whole-long}
 use Rattle.hc_frames.proofs.Surveys.{survey_goes, survey_unpromised, survey_unwhole}
@@ -22,12 +22,12 @@ loop-rest-preserved c =
     let old = c.loop-rest.invariant in
     let more : c.loop-rest.seen.more ≡ true = not-false c.loop-rest.seen.more c.if-not-seen.false in
     let whole : is_whole bytes ≡ true = sym c.is_whole.ensures ∙ c.if-not-is_whole.false in
-    let left : c.behind-rest.result.now ≡ drop (12 + data_size bytes) bytes = c.behind-rest.ensures in
+    let left : c.after_it-rest.result.now ≡ drop (12 + data_size bytes) bytes = c.after_it-rest.ensures in
     let long : 12 + data_size bytes ≤ length bytes = whole-long bytes whole in
-    let size : length c.behind-rest.result.now ≡ length bytes - (12 + data_size bytes) = ap length left ∙ length-drop (12 + data_size bytes) bytes in
+    let size : length c.after_it-rest.result.now ≡ length bytes - (12 + data_size bytes) = ap length left ∙ length-drop (12 + data_size bytes) bytes in
     let count : c.noted-seen.result.count ≡ c.loop-rest.seen.count + 1 = ap (λ s. s.count) c.noted-seen.ensures in (
-      ap (λ s. surveyed c.args.index s (datagrams_in c.behind-rest.result.now)) c.noted-seen.ensures
-          ∙ ap (λ (rest : List ℕ). surveyed c.args.index (noted c.args.index c.loop-rest.seen bytes) (datagrams_in rest)) left
+      ap (λ s. surveyed c.args.index s (datagram_tails c.after_it-rest.result.now)) c.noted-seen.ensures
+          ∙ ap (λ (rest : List ℕ). surveyed c.args.index (noted c.args.index c.loop-rest.seen bytes) (datagram_tails rest)) left
           ∙ sym (survey_goes c.args.index c.loop-rest.seen bytes some more whole) ∙ old.0,
       omega arith,
     )

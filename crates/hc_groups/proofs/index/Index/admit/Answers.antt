@@ -80,6 +80,12 @@ fill-requires c =
     let room = ap (λ (room : IndexRoom). room.owners) c.room.view_is in
     omega (arith, (fits c.args.self.now c.args.group.now c.args.room c.requires).owners, own, room, c.len-count.ensures)
 
+pub fill-requires-2 : goal.fill-requires-2
+fill-requires-2 c =
+    let own = ap (λ (index : Index). length index.line) c.self.view_is in
+    let room = ap (λ (room : IndexRoom). room.line) c.room.view_is in
+    omega (arith, (fits c.args.self.now c.args.group.now c.args.room c.requires).line, own, room, c.len-count.ensures)
+
 pub add_list-requires : goal.add_list-requires
 add_list-requires c =
     let own = ap (λ (index : Index). length index.fronts) c.self.view_is in
@@ -133,6 +139,7 @@ returns c can =
       ranks = inside.ranks.items;
       slaves = inside.slaves.items;
       blocks = inside.blocks.items;
+      line = inside.line.items;
     } in
     let new : Index = record {
       aliases = c.add_alias.new.aliases.items;
@@ -143,6 +150,7 @@ returns c can =
       ranks = c.add_sum.new.sums.items;
       slaves = c.add_sum-2.new.sums.items;
       blocks = c.add_sum-3.new.sums.items;
+      line = c.fill-2.new.list.items;
     } in
     let number : c.len-number.result ≡ length old.fronts = let size = length-map inside.fronts.items (λ sums. sums.items) in omega (arith, c.len-number.ensures, inside.fronts.ok.0, size) in
     let count : c.len-count.result ≡ length group.slaves = c.len-count.ensures in
@@ -159,6 +167,7 @@ returns c can =
           c.fill.ensures
           ∙ ap (λ (n : ℕ). old.owners ++ replicate n c.len-number.result) count
           ∙ ap (λ (n : ℕ). old.owners ++ replicate (length group.slaves) n) number;
+      line = c.fill-2.ensures ∙ ap (λ (n : ℕ). old.line ++ replicate n 0) count;
       fronts =
           ap (map (λ sums. sums.items)) c.add_list.ensures
           ∙ map-append (λ sums. sums.items) inside.fronts.items (c.room.inside.entry.sums ∷ [])

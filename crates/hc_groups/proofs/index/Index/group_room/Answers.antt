@@ -9,10 +9,11 @@ returns c =
     let fronts = ap (λ (i : Index). length i.fronts) c.self.view_is in
     let ranks = ap (λ (i : Index). length i.ranks) c.self.view_is in
     let slaves = ap (λ (i : Index). length i.slaves) c.self.view_is in
-    let blocks = ap (λ (i : Index). length i.blocks) c.self.view_is in (
-      omega (arith, c.in_ok-for_more.ensures, aliases),
-      omega (arith, c.in_ok-for_more-2.ensures, length-map c.self.inside.fronts.items (λ sums. sums.items), fronts),
-      omega (arith, c.in_ok-for_more-3.ensures, ranks),
-      omega (arith, c.in_ok-for_more-4.ensures, slaves),
-      omega (arith, c.in_ok-for_more-5.ensures, blocks),
-    )
+    let blocks = ap (λ (i : Index). length i.blocks) c.self.view_is in
+    record {
+      aliases = omega (arith, c.in_ok-for_more.ensures, aliases);
+      fronts = omega (arith, c.in_ok-for_more-2.ensures, length-map c.self.inside.fronts.items (λ sums. sums.items), fronts);
+      ranks = omega (arith, c.in_ok-for_more-3.ensures, ranks);
+      slaves = omega (arith, c.in_ok-for_more-4.ensures, slaves);
+      blocks = omega (arith, c.in_ok-for_more-5.ensures, blocks);
+    }

@@ -2,6 +2,7 @@ use Rattle.std.proofs.Common.{◌∙◌, length, ap, sym, arith}
 use Rattle.std.proofs.lemmas.List.{length-map}
 use Rattle.hc_records.proofs.lemmas.Slaves.{project-counted}
 use Rattle.hc_groups.specs.Index.{block_sums}
+use Rattle.hc_groups.proofs.Owned.{owners-length}
 use Rattle.hc_groups.proofs.Owners.{few-declared, few-present}
 use Rattle.hc_records.specs.declared.records.Declared.{Declared}
 use Rattle.hc_records.specs.Line.{groups_of}
@@ -43,3 +44,6 @@ pub owners-requires : goal.owners-requires
 owners-requires c =
     let most = (project-inside (groups_of c.args.groups.now) c.requires).few_groups in
     omega (arith, most, length-map c.args.groups.now (λ (declared : Declared). declared.group))
+
+pub line_list-requires : goal.line_list-requires
+line_list-requires c = omega (arith, c.len.ensures, c.in_ok-owners.owners.ok.0, ap length c.in_ok-owners.ensures, owners-length 0 c.args.groups.now)

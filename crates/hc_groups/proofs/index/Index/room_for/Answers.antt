@@ -4,7 +4,7 @@ use Rattle.std.specs.List.Sorted.{IsPermutation}
 use Rattle.hc_records.specs.declared.records.Slave.{Slave}
 use Rattle.hc_records.specs.Line.{members_from}
 use Rattle.hc_records.specs.Project.{slave_names}
-use Rattle.hc_groups.specs.Index.{Index, address_of, block_sum, blocks_of, declared_count, sums_from}
+use Rattle.hc_groups.specs.Index.{Index, address_of, block_sum, slave_block_count, declared_count, sums_from}
 use Rattle.hc_groups.proofs.Entering.{can-enter, lengths}
 use Rattle.hc_groups.proofs.index.Index.room_for.Goals as goal
 
@@ -33,14 +33,15 @@ returns c groups is =
     let by_slave = c.in_ok-by_slave.ensures in
     let same : c.len.result ≡ sum_by declared_count groups = omega (arith, c.len.ensures, c.self.inside.owners.ok.0, ap (λ (index : Index). length index.owners) c.self.view_is, long.owners) in
     record {
-      aliases = omega (arith, by_group.0, long.aliases);
-      stations = by_slave.0;
-      variables = omega (arith, by_slave.1, long.variables);
-      owners = omega (arith, by_slave.2, count, long.owners);
-      fronts = omega (arith, by_group.1, long.fronts);
-      ranks = omega (arith, by_group.2, long.ranks);
-      slaves = omega (arith, by_group.3, long.slaves);
-      blocks = omega (arith, by_group.4, long.blocks);
+      aliases = omega (arith, by_group.aliases, long.aliases);
+      stations = by_slave.stations;
+      variables = omega (arith, by_slave.variables, long.variables);
+      owners = omega (arith, by_slave.owners, count, long.owners);
+      line = omega (arith, by_slave.line, count, long.line);
+      fronts = omega (arith, by_group.fronts, long.fronts);
+      ranks = omega (arith, by_group.ranks, long.ranks);
+      slaves = omega (arith, by_group.slaves, long.slaves);
+      blocks = omega (arith, by_group.blocks, long.blocks);
       addresses =
           entry.addresses
           ∙ ap (λ (n : ℕ). map address_of (members_from (n + 1) c.as_slice-slaves.result.now)) same
@@ -48,5 +49,5 @@ returns c groups is =
       reach = entry.reach;
       names = subst (λ (l : List Slave). IsPermutation (slave_names l) c.in_ok-entry.entry.names.items) slaves entry.names;
       order = entry.order;
-      sums = entry.sums ∙ ap (λ (l : List Slave). sums_from blocks_of 0 l) slaves;
+      sums = entry.sums ∙ ap (λ (l : List Slave). sums_from slave_block_count 0 l) slaves;
     }

@@ -71,10 +71,10 @@ returns c =
     ∙ ap (λ (n : ℕ). recounted change.group n c.as_mut_slice-2.result.now) (c.line_counts-slaves.ensures.blocks ∙ ap block_sum counted)
     ∙ ap (recounted change.group (block_sum (if change.present then slaves_at groups change.group else []))) (c.as_mut_slice-2.ensures.value ∙ ap (λ (index : Index). index.blocks) c.self.view_is) in
     let own = c.self.inside in
-    let kept = with_items_is own.slaves c.recount.new.sums (omega (arith, c.recount.auto.sums, own.slaves.ok.0, ap length c.as_mut_slice.ensures.value)) in
-    let kept-blocks = with_items_is own.blocks c.recount-2.new.sums (omega (arith, c.recount-2.auto.sums, own.blocks.ok.0, ap length c.as_mut_slice-2.ensures.value)) in
+    let unchanged = with_items_is own.slaves c.recount.new.sums (omega (arith, c.recount.auto.sums, own.slaves.ok.0, ap length c.as_mut_slice.ensures.value)) in
+    let unchanged-blocks = with_items_is own.blocks c.recount-2.new.sums (omega (arith, c.recount-2.auto.sums, own.blocks.ok.0, ap length c.as_mut_slice-2.ensures.value)) in
     ap (λ (index : Index). record index { slaves = (with_items own.slaves c.recount.new.sums).items; blocks = (with_items own.blocks c.recount-2.new.sums).items }) c.self.view_is
-    ∙ ap (λ (sums : List ℕ). record c.args.self.now { slaves = sums; blocks = (with_items own.blocks c.recount-2.new.sums).items }) kept
-    ∙ ap (λ (sums : List ℕ). record c.args.self.now { slaves = c.recount.new.sums; blocks = sums }) kept-blocks
+    ∙ ap (λ (sums : List ℕ). record c.args.self.now { slaves = sums; blocks = (with_items own.blocks c.recount-2.new.sums).items }) unchanged
+    ∙ ap (λ (sums : List ℕ). record c.args.self.now { slaves = c.recount.new.sums; blocks = sums }) unchanged-blocks
     ∙ ap (λ (sums : List ℕ). record c.args.self.now { slaves = sums; blocks = c.recount-2.new.sums }) slaves
     ∙ ap (λ (sums : List ℕ). record c.args.self.now { slaves = recounted change.group (length (if change.present then slaves_at groups change.group else [])) c.args.self.now.slaves; blocks = sums }) blocks

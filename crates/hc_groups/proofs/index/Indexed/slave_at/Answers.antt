@@ -13,11 +13,11 @@ returns-in_err-rank c =
 pub find_present-requires : goal.find_present-requires
 find_present-requires c = rank-some c.args.self.now _ _ (seen c.self.view_is c.self.invariant.0) (c.in_ok-rank.ensures (addresses c.args.self.now) (seen c.self.view_is c.self.invariant.0).declared.stations)
 
-pub returns-in_err-spot : goal.returns-in_err-spot
-returns-in_err-spot c =
-    c.from_residual-in_err-spot.ensures
+pub returns-in_err-sum_place : goal.returns-in_err-sum_place
+returns-in_err-sum_place c =
+    c.from_residual-in_err-sum_place.ensures
     ∙ sym (find-none (is_at c.args.station) (line_from 1 c.args.self.now)
-    (position-absent c.args.self.now _ c.args.station c.in_ok-rank.rank (seen c.self.view_is c.self.invariant.0) (c.in_ok-rank.ensures (addresses c.args.self.now) (seen c.self.view_is c.self.invariant.0).declared.stations) c.in_err-spot.ensures))
+    (position-absent c.args.self.now _ c.args.station c.in_ok-rank.rank (seen c.self.view_is c.self.invariant.0) (c.in_ok-rank.ensures (addresses c.args.self.now) (seen c.self.view_is c.self.invariant.0).declared.stations) c.in_err-sum_place.ensures))
 
 pub returns : goal.returns
-returns c = c.slave_in.ensures ∙ member-found c.args.self.now _ c.args.station c.in_ok-rank.rank _ _ (seen c.self.view_is c.self.invariant.0) (c.in_ok-rank.ensures (addresses c.args.self.now) (seen c.self.view_is c.self.invariant.0).declared.stations) c.in_ok-spot.ensures
+returns c = c.slave_in.ensures ∙ member-found c.args.self.now _ c.args.station c.in_ok-rank.rank _ _ (seen c.self.view_is c.self.invariant.0) (c.in_ok-rank.ensures (addresses c.args.self.now) (seen c.self.view_is c.self.invariant.0).declared.stations) c.in_ok-sum_place.ensures

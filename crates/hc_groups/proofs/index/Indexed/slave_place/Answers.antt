@@ -11,11 +11,11 @@ returns-in_err-rank c =
 pub find_declared-requires : goal.find_declared-requires
 find_declared-requires c = rank-some c.args.self.now _ _ (seen c.self.view_is c.self.invariant.0) (c.in_ok-rank.ensures (addresses c.args.self.now) (seen c.self.view_is c.self.invariant.0).declared.stations)
 
-pub returns-in_err-spot : goal.returns-in_err-spot
-returns-in_err-spot c =
-    absurd (rank-within c.args.self.now c.args.station c.in_ok-rank.rank (c.in_ok-rank.ensures (addresses c.args.self.now) (seen c.self.view_is c.self.invariant.0).declared.stations) c.in_err-spot.ensures.spot)
+pub returns-in_err-sum_place : goal.returns-in_err-sum_place
+returns-in_err-sum_place c =
+    absurd (rank-within c.args.self.now c.args.station c.in_ok-rank.rank (c.in_ok-rank.ensures (addresses c.args.self.now) (seen c.self.view_is c.self.invariant.0).declared.stations) c.in_err-sum_place.ensures.sum_place)
 
 pub returns : goal.returns
 returns c =
     place-found c.args.self.now c.args.station c.in_ok-rank.rank _ _ (seen c.self.view_is c.self.invariant.0).declared.project
-    (c.in_ok-rank.ensures (addresses c.args.self.now) (seen c.self.view_is c.self.invariant.0).declared.stations) c.in_ok-spot.ensures.spot
+    (c.in_ok-rank.ensures (addresses c.args.self.now) (seen c.self.view_is c.self.invariant.0).declared.stations) c.in_ok-sum_place.ensures.sum_place

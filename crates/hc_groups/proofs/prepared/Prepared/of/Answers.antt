@@ -5,7 +5,7 @@ use Rattle.hc_records.specs.Project.{lowest_fault}
 use Rattle.hc_records.proofs.lemmas.Slaves.{project-counted}
 use Rattle.hc_groups.proofs.lemmas.CarriedOut.{carried-after}
 use Rattle.hc_groups.proofs.lemmas.Concerned.{change-of-row}
-use Rattle.hc_groups.proofs.Kept.{project-kept}
+use Rattle.hc_groups.proofs.Unchanged.{project-unchanged}
 use Rattle.hc_groups.proofs.prepared.Prepared.of.Goals as goal
 
 pub change_by-requires-clause-counted : goal.change_by-requires-clause-counted
@@ -14,10 +14,10 @@ change_by-requires-clause-counted c = project-counted c.args.groups.now c.requir
 pub returns-clause-groups : goal.returns-clause-groups
 returns-clause-groups c = carried-after c.args.groups.now c.args.edit.now c.in_ok-change.change c.requires.project c.in_ok-change.ensures
 
-pub returns-clause-kept : goal.returns-clause-kept
-returns-clause-kept c =
+pub returns-clause-unchanged : goal.returns-clause-unchanged
+returns-clause-unchanged c =
     ap (λ (groups : List Declared). lowest_fault (groups_of groups)) (carried-after c.args.groups.now c.args.edit.now c.in_ok-change.change c.requires.project c.in_ok-change.ensures)
-    ∙ project-kept c.args.groups.now c.args.edit.now c.requires.changes c.requires.project (sym c.own_fault.ensures ∙ c.in_default.is)
+    ∙ project-unchanged c.args.groups.now c.args.edit.now c.requires.changes c.requires.project (sym c.own_fault.ensures ∙ c.in_default.is)
 
 pub returns-clause-row : goal.returns-clause-row
 returns-clause-row c = change-of-row c.args.groups.now c.args.edit.now c.in_ok-change.change c.in_ok-change.ensures

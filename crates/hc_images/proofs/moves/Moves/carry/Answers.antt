@@ -1,7 +1,7 @@
 use Rattle.std.proofs.Common.{◌≡◌, ap, arith, drop, length, subst, sym, ◌∙◌}
 use Rattle.hc_places.specs.Swap.{Change, swapped}
 use Rattle.hc_places.specs.Table.{Table}
-use Rattle.hc_images.specs.Moves.{Moves, table_after}
+use Rattle.hc_images.specs.Moves.{Moves, moved_table}
 use Rattle.hc_images.specs.Packed.{Bytes, Carries, HasSizes}
 use Rattle.hc_images.specs.Pieces.{carried_bit}
 use Rattle.hc_images.proofs.Carrying.{all-lent}
@@ -15,12 +15,12 @@ returns-clause-carried c = λ value before.
     let first = subst (λ (t : Table). Carries t value c.as_mut_slice.result.now) (sym table) (subst (λ (r : Bytes). Carries moves.before value r) (sym c.as_mut_slice.ensures.value) before) in
     let last = c.carry_over.ensures.carried value first in
     let moved = subst (λ (t : Table). Carries (swapped c.args.swap.now.change t) (carried_bit t value c.args.ones) rows) table last in
-    let made : Carries (table_after moves) (carried_bit moves.before value c.args.ones) rows = subst (λ (change : Change). Carries (swapped change moves.before) (carried_bit moves.before value c.args.ones) rows) c.requires.swap moved in
+    let made : Carries (moved_table moves) (carried_bit moves.before value c.args.ones) rows = subst (λ (change : Change). Carries (swapped change moves.before) (carried_bit moves.before value c.args.ones) rows) c.requires.swap moved in
     let size = c.as_mut_slice.ensures.len in
     let same = ap (λ (r : Bytes). length r) c.as_mut_slice.ensures.value in
     let all = c.carry_over.ensures.all in
     let was = c.requires.all in
-    subst (Carries (table_after moves) (carried_bit moves.before value c.args.ones)) (sym (all-lent c.args.rows.now.len rows (drop (length rows) c.args.rows.now.items) (omega arith))) made
+    subst (Carries (moved_table moves) (carried_bit moves.before value c.args.ones)) (sym (all-lent c.args.rows.now.len rows (drop (length rows) c.args.rows.now.items) (omega arith))) made
 
 pub returns-clause-sizes : goal.returns-clause-sizes
 returns-clause-sizes c =
@@ -28,12 +28,12 @@ returns-clause-sizes c =
     let rows = c.carry_over.new.rows in
     let table : c.self.inside.before.value ≡ moves.before = ap (λ (m : Moves). m.before) c.self.view_is in
     let moved = subst (λ (t : Table). HasSizes (swapped c.args.swap.now.change t) rows) table c.carry_over.ensures.sizes in
-    let made : HasSizes (table_after moves) rows = subst (λ (change : Change). HasSizes (swapped change moves.before) rows) c.requires.swap moved in
+    let made : HasSizes (moved_table moves) rows = subst (λ (change : Change). HasSizes (swapped change moves.before) rows) c.requires.swap moved in
     let size = c.as_mut_slice.ensures.len in
     let same = ap (λ (r : Bytes). length r) c.as_mut_slice.ensures.value in
     let all = c.carry_over.ensures.all in
     let was = c.requires.all in
-    subst (HasSizes (table_after moves)) (sym (all-lent c.args.rows.now.len rows (drop (length rows) c.args.rows.now.items) (omega arith))) made
+    subst (HasSizes (moved_table moves)) (sym (all-lent c.args.rows.now.len rows (drop (length rows) c.args.rows.now.items) (omega arith))) made
 
 pub returns-clause-all : goal.returns-clause-all
 returns-clause-all c =

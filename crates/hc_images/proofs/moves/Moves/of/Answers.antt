@@ -6,8 +6,8 @@ use Rattle.hc_records.specs.Image.{VariablePlace}
 use Rattle.hc_places.specs.Swap.{ChangedRow, Swap}
 use Rattle.hc_places.specs.Table.{Table}
 use Rattle.hc_images.specs.Moves.{Moves}
-use Rattle.hc_images.specs.Pieces.{Keeps, of_list, output_in, output_of}
-use Rattle.hc_images.proofs.Standing.{next-stands}
+use Rattle.hc_images.specs.Pieces.{HoldsMoves, of_list, output_in, output_of}
+use Rattle.hc_images.proofs.Placing.{next-is_placed}
 use Rattle.hc_images.proofs.moves.Moves.of.Goals as goal
 
 pub loop-row-preserved : goal.loop-row-preserved
@@ -28,7 +28,7 @@ loop-row-preserved c =
       room = let size = ap length values in let more = length-append c.loop-row.values.items (0 ∷ []) in let room = c.loop-row.invariant.room in omega arith;
       each = λ i row below at.
           subst (λ (l : List (Option VariablePlace)). of_list l i ≡ output_in old row.0) (sym all)
-          (next-stands old rows places n last there c.loop-row.invariant.count c.loop-row.invariant.each i row below at);
+          (next-is_placed old rows places n last there c.loop-row.invariant.count c.loop-row.invariant.each i row below at);
     }
 
 pub invariant_of-result : goal.invariant_of-result
@@ -38,13 +38,13 @@ invariant_of-result c =
     let places = c.loop-row.places.items in
     let values = c.loop-row.values.items in
     let n : c.loop-row.row-index ≡ length change.rows = omega (arith, ap length c.changes-changed.ensures.rows) in
-    let keeps : Keeps (record { before = old; change = change }) places values =
+    let stays : HoldsMoves (record { before = old; change = change }) places values =
     record {
       table = c.is_table.ensures;
-      stand = record {
+      are_placed = record {
         count = c.loop-row.invariant.count ∙ n;
         each = λ i row there. let inside = slice_get_within change.rows i row there in c.loop-row.invariant.each i row (omega arith) there;
       };
       room = c.loop-row.invariant.room ∙ n;
     } in
-    subst (λ (moves : Moves). Keeps moves places values) (ap₂ (λ (t : Table) (s : Swap). record { before = t; change = s.change }) (sym c.of.ensures) (sym c.of-2.ensures)) keeps
+    subst (λ (moves : Moves). HoldsMoves moves places values) (ap₂ (λ (t : Table) (s : Swap). record { before = t; change = s.change }) (sym c.of.ensures) (sym c.of-2.ensures)) stays

@@ -1,8 +1,7 @@
-use Rattle.std.proofs.Common.{◌≡◌, ◌+◌, ◌/◌, ◌<◌, ◌*◌, List, Bool, ℕ, drop, sym, ap, ◌∙◌, arith, length, subst}
-use Rattle.std.specs.Prelude.{slice_index}
+use Rattle.std.proofs.Common.{◌+◌, ◌<◌, ◌*◌, List, Bool, drop, sym, ap, ◌∙◌, arith}
 use Rattle.std.specs.List.{position_from}
 use Rattle.std.proofs.lemmas.List.{get_or_read}
-use Rattle.hc_owed.proofs.FlagLists.{ClearBetween, are-flags, clear-below_from, clear-word_from, next-none, next-some, set-place_from}
+use Rattle.hc_owed.proofs.FlagLists.{are-flags, clear-below_from, next-none, next-some, set-place_from}
 use Rattle.hc_owed.proofs.flags.Flags.next_from.Goals as goal
 
 pub returns-then-n-self-clause-value : goal.returns-then-n-self-clause-value

@@ -1,4 +1,4 @@
-use Rattle.std.proofs.Common.{◌≡◌, ◌*◌, ◌≤◌, ◌/◌}
+use Rattle.std.proofs.Common.{◌*◌}
 use Rattle.hc_owed.proofs.FlagLists.{ClearBetween}
 use Rattle.hc_owed.proofs.flags.Flags.next_from.Given as goal
 

@@ -1,4 +1,4 @@
-use Rattle.std.proofs.Common.{◌≡◌, ℕ, suc, ◌+◌, ◌-◌, ◌<◌, ◌≤◌, true, false, drop, length, sym, ap, ◌∙◌, arith, rules, Some, None}
+use Rattle.std.proofs.Common.{◌≡◌, ℕ, suc, ◌+◌, drop, sym, ap, ◌∙◌, arith, Some}
 use Rattle.hc_owed.specs.Flags.{nth_set}
 use Rattle.hc_owed.proofs.FlagLists.{are-flags, nth-cleared, nth-here, nth-over, nth-passed}
 use Rattle.hc_owed.proofs.flags.Flags.nth.Goals.{then-get+else-left-eq0, else-get}

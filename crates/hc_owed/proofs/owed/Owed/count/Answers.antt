@@ -1,6 +1,6 @@
 use Rattle.std.proofs.Common.{arith, rules}
 use Rattle.hc_owed.proofs.FlagLists.{count-le}
-use Rattle.hc_owed.proofs.Telling.{counts-owed}
+use Rattle.hc_owed.proofs.Saying.{counts-owed}
 use Rattle.hc_owed.proofs.owed.Owed.count.Goals as goal
 
 pub overflow_cast-result : goal.overflow_cast-result

@@ -1,21 +1,21 @@
-use Rattle.std.proofs.Common.{◌/◌, ◌<◌, Some, None, length, refl, ap, ◌∙◌, arith, rules}
-use Rattle.std.proofs.lemmas.Option.{same_Some, slice_get_read}
-use Rattle.hc_plan.proofs.lemmas.PlaceNames.{name-at}
-use Rattle.hc_owed.specs.Board.{Board}
+use Rattle.std.proofs.Common.{◌≡◌, Some, None, Option, sym, ap, subst, ◌∙◌}
+use Rattle.std.specs.Prelude.{MatchOption, slice_get}
+use Rattle.hc_owed.specs.RegisterState.{RegisterState}
 use Rattle.hc_owed.specs.Flags.{nth_set}
-use Rattle.hc_owed.proofs.Telling.{nth-owed}
+use Rattle.hc_owed.specs.Laws.{IsOwedAt, lacking_blocks}
+use Rattle.hc_owed.specs.declared.owed.OwedBlock.{OwedBlock}
+use Rattle.hc_owed.proofs.Saying.{nth-owed}
 use Rattle.hc_owed.proofs.owed.Owed.nth.Goals as goal
 
 pub returns-in_err-place : goal.returns-in_err-place
-returns-in_err-place c = λ known state project right.
-    rw c.from_residual.ensures (nth-owed known state c.args.index None project (c.in_err-place.ensures.value ∙ ap (λ (b : Board). nth_set c.args.index 0 b.owed) (c.self.view_is ∙ right)))
+returns-in_err-place c = λ known state is.
+    rw c.from_residual.ensures (nth-owed known state c.args.index None is.project (c.in_err-place.ensures.value ∙ ap (λ (b : RegisterState). nth_set c.args.index 0 b.owed) (c.self.view_is ∙ is.right)))
 
 pub returns : goal.returns
-returns c = λ known state project right.
+returns c = λ known state is.
     let place = c.in_ok-place.place in
-    let same = c.self.view_is ∙ right in
-    let found = nth-owed known state c.args.index (Some place) project (c.in_ok-place.ensures.value ∙ ap (λ (b : Board). nth_set c.args.index 0 b.owed) same) in
-    let name = name-at state place found.block found.stands in
-    let low : place / 16 < length c.self.inside.stations.items = omega (arith, c.in_ok-place.ensures.low, c.self.invariant.1) in
-    let read = slice_get_read c.self.inside.stations.items (length c.self.inside.stations.items) (place / 16) c.index-station.result.now refl low c.index-station.ensures in
-    search (rules, same_Some)
+    let same = c.self.view_is ∙ is.right in
+    let found = nth-owed known state c.args.index (Some place) is.project (c.in_ok-place.ensures.value ∙ ap (λ (b : RegisterState). nth_set c.args.index 0 b.owed) same) in
+    subst (λ (o : Option OwedBlock). MatchOption o (slice_get (lacking_blocks known state) c.args.index ≡ None) (IsOwedAt known state c.args.index))
+    (sym (c.found_at.ensures known state found.block (record { right = is.right; project = is.project; is_placed = found.is_placed })))
+    (record { is_placed = found.is_placed; is = found.is })

@@ -2,9 +2,9 @@ use Rattle.std.proofs.Common.{◌∙◌, List, ap, length, subst, sym}
 use Rattle.hc_records.specs.declared.records.Declared.{Declared}
 use Rattle.hc_records.proofs.lemmas.Declaring.{declared-keep}
 use Rattle.hc_groups.specs.Index.{IsIndexOf}
-use Rattle.hc_groups.specs.Room.{CanAdmit}
+use Rattle.hc_groups.specs.Room.{IndexCanAdmit}
 use Rattle.hc_cuts.specs.Areas.{areas_by_rank}
-use Rattle.hc_cuts.specs.Kept.{line_kept}
+use Rattle.hc_cuts.specs.TaskCuts.{line_cuts}
 use Rattle.hc_cuts.proofs.lemmas.Absent.{ranks-absent}
 use Rattle.hc_plan.proofs.declaring.Declaration.carry_out.Goals as goal
 
@@ -18,7 +18,7 @@ pub returns-clause-index : goal.returns-clause-index
 returns-clause-index c =
     let groups = c.args.groups.now in
     let ready = c.requires.ready in
-    let can : CanAdmit c.args.index.now c.args.self.group c.args.self.index =
+    let can : IndexCanAdmit c.args.index.now c.args.self.group c.args.self.index =
     record { groups = groups; is = c.requires.index; project = declared-keep groups c.args.self.group ready.project ready.free; fits = ready.index } in
     subst (λ (g : List Declared). IsIndexOf g c.admit.new.self) (sym c.push_into.ensures) (c.admit.ensures can)
 
@@ -27,5 +27,5 @@ returns-clause-cuts c =
     let groups = c.args.groups.now in
     let group = c.args.self.group in
     c.put_trees.ensures (areas_by_rank groups) (length group.slaves) c.requires.cuts c.requires.ready.slaves
-    ∙ ap line_kept (sym (ranks-absent groups group))
-    ∙ ap (λ (g : List Declared). line_kept (areas_by_rank g)) (sym c.push_into.ensures)
+    ∙ ap line_cuts (sym (ranks-absent groups group))
+    ∙ ap (λ (g : List Declared). line_cuts (areas_by_rank g)) (sym c.push_into.ensures)

@@ -9,7 +9,7 @@ use Rattle.hc_cuts.specs.Areas.{areas_by_rank}
 use Rattle.hc_plan.proofs.Declared.{free-few, many-ranks, own-trees}
 use Rattle.hc_plan.proofs.declaring.Declaration.of.Goals as goal
 
--- the copy has no fault behind the declared groups
+-- the copy has no fault after the declared groups
 free : (slice groups : List Declared) (indexed : List Declared) (one copy : Group) → slice ≡ groups → indexed ≡ slice → copy ≡ one → lowest (declaring_faults indexed one) ≡ None → lowest (declaring_faults groups copy) ≡ None
 free slice groups indexed one copy same is alike none =
     ap (λ (g : Group). lowest (declaring_faults groups g)) alike ∙ ap (λ (gs : List Declared). lowest (declaring_faults gs one)) (sym (is ∙ same)) ∙ none
@@ -24,7 +24,7 @@ pub widened-requires-clause-fewer : goal.widened-requires-clause-fewer
 widened-requires-clause-fewer c =
     let groups = c.args.groups.now in
     let many = c.declared.ensures ∙ many-ranks groups c.of-indexed.result (c.of-indexed.ensures ∙ c.as_slice.ensures) in
-    record { line = areas_by_rank groups; stand = c.requires.cuts; few = omega (arith, many) }
+    record { line = areas_by_rank groups; are_placed = c.requires.cuts; few = omega (arith, many) }
 
 pub widened-requires-clause-most : goal.widened-requires-clause-most
 widened-requires-clause-most c =

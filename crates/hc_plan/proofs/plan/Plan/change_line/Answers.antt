@@ -1,12 +1,12 @@
 use Rattle.std.proofs.Common.{◌≡◌, ◌∙◌, false, List, None, ap, sym, subst}
 use Rattle.hc_records.specs.declared.edit.Edit.{Edit}
 use Rattle.hc_records.specs.declared.records.Declared.{Declared}
-use Rattle.hc_records.specs.Edits.{crowded_task, declares, groups_after}
+use Rattle.hc_records.specs.Edits.{over_limit_task, declares, groups_after}
 use Rattle.hc_records.specs.Line.{State, groups_of, line, line_from}
 use Rattle.hc_records.specs.Project.{lowest_fault}
 use Rattle.hc_cuts.specs.Areas.{areas_by_rank}
-use Rattle.hc_cuts.specs.Kept.{line_kept}
-use Rattle.hc_cuts.specs.Turn.{AreStartsOf}
+use Rattle.hc_cuts.specs.TaskCuts.{line_cuts}
+use Rattle.hc_cuts.specs.ApplyWidths.{AreStartsOf}
 use Rattle.hc_groups.specs.Changes.{IsMade, changed_groups}
 use Rattle.hc_groups.specs.Index.{IsIndexOf}
 use Rattle.hc_places.specs.Swap.{swapped}
@@ -18,16 +18,17 @@ use Rattle.hc_groups.specs.Rows.{ChangesRow}
 use Rattle.hc_changes.proofs.lemmas.EditedLines.{change-edited_line}
 use Rattle.hc_plan.proofs.plan.Plan.change_line.Goals as goal
 
--- the new groups are told by the change: a tactic would open the faults and the eight tasks of both lines
+-- the new groups are given by the change: a tactic would open the faults and the eight tasks of both
+-- lines
 
-pub turn_on-requires-clause-trees : goal.turn_on-requires-clause-trees
-turn_on-requires-clause-trees c =
+pub apply_known_widths-requires-clause-trees : goal.apply_known_widths-requires-clause-trees
+apply_known_widths-requires-clause-trees c =
     c.self.invariant.3
-    ∙ ap (λ (g : List Declared). line_kept (areas_by_rank g))
+    ∙ ap (λ (g : List Declared). line_cuts (areas_by_rank g))
     (sym (old-groups c.of-edited_line.result c.args.work.change c.of-groups.result c.self.inside.groups c.of-edited_line.ensures (c.of-groups.ensures ∙ c.as_slice.ensures)))
 
-pub turn_on-requires-clause-starts : goal.turn_on-requires-clause-starts
-turn_on-requires-clause-starts c =
+pub apply_known_widths-requires-clause-starts : goal.apply_known_widths-requires-clause-starts
+apply_known_widths-requires-clause-starts c =
     let change = c.args.work.change in
     let new = ap (λ (it : EditedLine). it.new) c.of-edited_line.ensures ∙ ap (changed_groups change) (c.of-groups.ensures ∙ c.as_slice.ensures) ∙ ap (λ (s : State). changed_groups change s.groups) c.self.view_is in
     subst (λ (g : List Declared). AreStartsOf (areas_by_rank g) c.args.work.starts) (sym new) c.requires.ready.starts
@@ -55,12 +56,12 @@ invariant_of-self c =
     let same = made ∙ ap (λ (s : State). changed_groups change s.groups) c.self.view_is in
     let new = ap (λ (it : EditedLine). it.new) c.of-edited_line.ensures ∙ ap (changed_groups change) (c.of-groups.ensures ∙ c.as_slice.ensures) ∙ sym made in (
       subst (λ (g : List Declared). lowest_fault (groups_of g) ≡ None) (sym same) c.requires.ready.project,
-      subst (λ (g : List Declared). crowded_task (line_from 1 g) ≡ None) (sym same) c.requires.prepared.crowds.1,
+      subst (λ (g : List Declared). over_limit_task (line_from 1 g) ≡ None) (sym same) c.requires.prepared.crowds.1,
       c.carry_out-2.ensures
           ∙ ap (swapped c.args.report.now.swap.change) (c.self.invariant.2 ∙ ap (λ (s : State). table_of (line s)) c.self.view_is)
-          ∙ c.requires.prepared.told.leads
+          ∙ c.requires.prepared.answer_given.leads
           ∙ ap (λ (g : List Declared). table_of (line_from 1 g)) (sym same),
-      c.turn_on.ensures ∙ ap (λ (g : List Declared). line_kept (areas_by_rank g)) new,
+      c.apply_known_widths.ensures ∙ ap (λ (g : List Declared). line_cuts (areas_by_rank g)) new,
       subst (λ (g : List Declared). IsIndexOf g c.follow.new.self) (ap (changed_groups change) c.as_slice-2.ensures ∙ sym made) c.follow.ensures,
     )
 
@@ -92,8 +93,8 @@ of-edited_line-requires-clause-row c =
     let ready = subst (λ (s : State). IsLineReady s c.args.report.now c.args.work) (sym c.self.view_is) c.requires.ready in
     subst (ChangesRow c.args.work.change) (sym (c.of-groups.ensures ∙ c.as_slice.ensures)) ready.row
 
-pub turn_on-requires-clause-edited : goal.turn_on-requires-clause-edited
-turn_on-requires-clause-edited c =
+pub apply_known_widths-requires-clause-edited : goal.apply_known_widths-requires-clause-edited
+apply_known_widths-requires-clause-edited c =
     let old : State = record { groups = c.self.inside.groups; epoch = c.self.inside.epoch } in
     let ready = subst (λ (s : State). IsLineReady s c.args.report.now c.args.work) (sym c.self.view_is) c.requires.ready in
     let change = c.args.work.change in

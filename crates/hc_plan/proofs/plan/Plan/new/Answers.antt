@@ -1,13 +1,13 @@
 use Rattle.std.proofs.Common.{◌≡◌, ◌∙◌, List, None, map, ap, subst, refl}
 use Rattle.std.proofs.lemmas.Result.{err_from_is_err_and}
-use Rattle.hc_records.specs.Edits.{crowded_task}
+use Rattle.hc_records.specs.Edits.{over_limit_task}
 use Rattle.hc_records.specs.declared.records.Declared.{Declared}
 use Rattle.hc_records.specs.Line.{line_from, opened_group}
 use Rattle.hc_records.specs.Project.{lowest_fault}
 use Rattle.hc_groups.specs.Index.{IsIndexOf}
 use Rattle.hc_places.specs.Table.{table_of}
 use Rattle.hc_cuts.specs.Areas.{areas_by_rank}
-use Rattle.hc_cuts.specs.Kept.{line_kept}
+use Rattle.hc_cuts.specs.TaskCuts.{line_cuts}
 use Rattle.hc_plan.proofs.Opening.{opened-project}
 use Rattle.hc_plan.proofs.plan.Plan.new.Goals as goal
 
@@ -15,23 +15,23 @@ pub new-requires : goal.new-requires
 new-requires c =
     opened-project c.into_groups.result c.as_slice.result.now
     (c.as_slice.ensures ∙ c.in_ok-groups.ensures ∙ ap (map opened_group) c.into_vec.ensures)
-    (ap lowest_fault c.into_groups.ensures.value ∙ c.into_groups.ensures.kept)
+    (ap lowest_fault c.into_groups.ensures.value ∙ c.into_groups.ensures.unchanged)
 
 pub open_line-requires-clause-project : goal.open_line-requires-clause-project
 open_line-requires-clause-project c =
     opened-project c.into_groups.result c.as_slice-2.result.now
     (c.as_slice-2.ensures ∙ c.in_ok-groups.ensures ∙ ap (map opened_group) c.into_vec.ensures)
-    (ap lowest_fault c.into_groups.ensures.value ∙ c.into_groups.ensures.kept)
+    (ap lowest_fault c.into_groups.ensures.value ∙ c.into_groups.ensures.unchanged)
 
 pub invariant_of-result : goal.invariant_of-result
 invariant_of-result c =
     let groups = c.as_slice-2.ensures in (
       opened-project c.into_groups.result c.in_ok-groups.groups
           (c.in_ok-groups.ensures ∙ ap (map opened_group) c.into_vec.ensures)
-          (ap lowest_fault c.into_groups.ensures.value ∙ c.into_groups.ensures.kept),
-      subst (λ (g : List Declared). crowded_task (line_from 1 g) ≡ None) groups c.in_ok-line.ensures.accepted,
+          (ap lowest_fault c.into_groups.ensures.value ∙ c.into_groups.ensures.unchanged),
+      subst (λ (g : List Declared). over_limit_task (line_from 1 g) ≡ None) groups c.in_ok-line.ensures.accepted,
       c.in_ok-line.ensures.places ∙ ap (λ (g : List Declared). table_of (line_from 1 g)) groups,
-      c.in_ok-line.ensures.kept ∙ ap (λ (g : List Declared). line_kept (areas_by_rank g)) groups,
+      c.in_ok-line.ensures.unchanged ∙ ap (λ (g : List Declared). line_cuts (areas_by_rank g)) groups,
       subst (λ (g : List Declared). IsIndexOf g c.in_ok-index.index) c.as_slice.ensures c.in_ok-index.ensures,
     )
 

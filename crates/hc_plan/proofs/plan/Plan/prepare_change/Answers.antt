@@ -7,7 +7,7 @@ use Rattle.hc_records.specs.Edits.{edited, groups_after}
 use Rattle.hc_records.specs.Line.{State, groups_of}
 use Rattle.hc_records.specs.Project.{lowest_fault}
 use Rattle.hc_cuts.specs.Areas.{areas_by_rank}
-use Rattle.hc_cuts.specs.Kept.{line_kept}
+use Rattle.hc_cuts.specs.TaskCuts.{line_cuts}
 use Rattle.hc_groups.specs.Changes.{change_by, changed_groups}
 use Rattle.hc_groups.specs.Edits.{own_fault}
 use Rattle.hc_groups.specs.Rows.{ChangesRow}
@@ -16,7 +16,7 @@ use Rattle.hc_changes.specs.EditedLine.{IsEditedLine, edited_line_of}
 use Rattle.hc_changes.proofs.lemmas.EditedLines.{change-edited_line}
 use Rattle.hc_plan.specs.declared.work.LineWork.{LineWork}
 use Rattle.hc_plan.specs.declared.work.Work.TheVariants.{NewLine}
-use Rattle.hc_plan.specs.inner.Prepared.{IsReady, prepared_of}
+use Rattle.hc_plan.specs.inner.Prepared.{IsWorkReady, prepared_of}
 use Rattle.hc_plan.specs.Prepared.{IsPrepared}
 use Rattle.hc_plan.proofs.Editing.{judged, old-groups}
 use Rattle.hc_plan.proofs.Preparing.{is-prepared, is-ready, makes}
@@ -61,7 +61,7 @@ work_out-requires-clause-edit c =
     let change = c.in_ok-change.change in
     makes c.of-edited_line.result change edit c.self.inside.places c.self.inside.groups c.requires
     (subst IsEditedLine (sym c.of-edited_line.ensures) (change-edited_line c.of-groups.result change (record { edit = edit; changes = c.requires; leads = c.in_ok-change.ensures.groups })
-    (subst (λ (g : List Declared). lowest_fault (groups_of g) ≡ None) (sym (c.of-groups.ensures ∙ c.as_slice.ensures)) c.self.invariant.0) c.in_ok-change.ensures.kept c.in_ok-change.ensures.row))
+    (subst (λ (g : List Declared). lowest_fault (groups_of g) ≡ None) (sym (c.of-groups.ensures ∙ c.as_slice.ensures)) c.self.invariant.0) c.in_ok-change.ensures.unchanged c.in_ok-change.ensures.row))
     (c.of-edited_line.ensures ∙ ap (edited_line_of change) (c.of-groups.ensures ∙ c.as_slice.ensures))
     (subst (λ (g : List Declared). own_fault g edit ≡ None) (c.of-groups.ensures ∙ c.as_slice.ensures) c.in_ok-change.ensures.accepted)
     (subst (λ (g : List Declared). changed_groups change g ≡ groups_after g edit) (c.of-groups.ensures ∙ c.as_slice.ensures) c.in_ok-change.ensures.groups)
@@ -73,21 +73,21 @@ invariant_of-result c =
     let edit = c.args.edit.now in
     let change = c.in_ok-change.change in
     let worked = c.in_ok-worked.worked in
-    let told = c.in_ok-worked.ensures in
+    let answer_given = c.in_ok-worked.ensures in
     let work : LineWork = record { change = change; starts = worked.starts; rows = worked.room } in
     let edited_line = c.of-edited_line.ensures ∙ ap (edited_line_of change) (c.of-groups.ensures ∙ c.as_slice.ensures) in
     let slice = (c.of-groups.ensures ∙ c.as_slice.ensures) in
     subst
-    (λ (s : State). IsPrepared (prepared_of s (NewLine work) worked.report worked.blocks.items) × IsReady s worked.report (NewLine work))
+    (λ (s : State). IsPrepared (prepared_of s (NewLine work) worked.report worked.blocks.items) × IsWorkReady s worked.report (NewLine work))
     (sym c.of-2.ensures) (
       is-prepared old work c.of-edited_line.result edit worked.report worked.blocks.items c.self.invariant.0 c.self.invariant.1
-          (subst (λ (g : List Declared). change_by g edit ≡ Some change) slice c.in_ok-change.ensures.change) edited_line told.report told.accepted told.fits told.blocks,
-      is-ready old work c.of-edited_line.result edit worked.report c.self.inside.places told.report.named c.requires
+          (subst (λ (g : List Declared). change_by g edit ≡ Some change) slice c.in_ok-change.ensures.change) edited_line answer_given.report answer_given.accepted answer_given.fits answer_given.blocks,
+      is-ready old work c.of-edited_line.result edit worked.report c.self.inside.places answer_given.report.named c.requires
           (subst (λ (g : List Declared). change_by g edit ≡ Some change) slice c.in_ok-change.ensures.change)
           (subst (λ (g : List Declared). changed_groups change g ≡ groups_after g edit) slice c.in_ok-change.ensures.groups)
-          (subst (λ (g : List Declared). lowest_fault (groups_of (changed_groups change g)) ≡ None) slice c.in_ok-change.ensures.kept)
+          (subst (λ (g : List Declared). lowest_fault (groups_of (changed_groups change g)) ≡ None) slice c.in_ok-change.ensures.unchanged)
           (subst (ChangesRow change) slice c.in_ok-change.ensures.row)
-          edited_line told.starts c.self.invariant.2 told.room,
+          edited_line answer_given.starts c.self.invariant.2 answer_given.room,
     )
 
 pub returns-clause-prepared : goal.returns-clause-prepared
@@ -102,7 +102,7 @@ of-edited_line-requires-clause-was c = subst (λ (g : List Declared). lowest_fau
 
 pub of-edited_line-requires-clause-is : goal.of-edited_line-requires-clause-is
 of-edited_line-requires-clause-is c =
-    subst (λ (g : List Declared). lowest_fault (groups_of (changed_groups c.in_ok-change.change g)) ≡ None) refl c.in_ok-change.ensures.kept
+    subst (λ (g : List Declared). lowest_fault (groups_of (changed_groups c.in_ok-change.change g)) ≡ None) refl c.in_ok-change.ensures.unchanged
 
 pub of-edited_line-requires-clause-row : goal.of-edited_line-requires-clause-row
 of-edited_line-requires-clause-row c = subst (ChangesRow c.in_ok-change.change) refl c.in_ok-change.ensures.row
@@ -110,7 +110,7 @@ of-edited_line-requires-clause-row c = subst (ChangesRow c.in_ok-change.change) 
 pub work_out-requires-clause-trees : goal.work_out-requires-clause-trees
 work_out-requires-clause-trees c =
     c.self.invariant.3
-    ∙ ap (λ (g : List Declared). line_kept (areas_by_rank g))
+    ∙ ap (λ (g : List Declared). line_cuts (areas_by_rank g))
     (sym (old-groups c.of-edited_line.result c.in_ok-change.change c.of-groups.result c.self.inside.groups c.of-edited_line.ensures (c.of-groups.ensures ∙ c.as_slice.ensures)))
 
 pub invariant_of-self : goal.invariant_of-self

@@ -10,7 +10,7 @@ use Rattle.hc_records.specs.Edits.{edited}
 use Rattle.hc_records.specs.Line.{State}
 use Rattle.hc_registers.specs.Ranked.{RankedBlock}
 use Rattle.hc_plan.specs.declared.work.Work.TheVariants.{NewGroup}
-use Rattle.hc_plan.specs.inner.Declaring.{CanDeclare, TellsNothing}
+use Rattle.hc_plan.specs.inner.Declaring.{CanDeclare, ShowsNothing}
 use Rattle.hc_plan.specs.inner.Prepared.{prepared_of}
 use Rattle.hc_plan.specs.Prepared.{IsPrepared}
 use Rattle.hc_plan.proofs.Editing.{declared-refused, declared-spent}
@@ -42,7 +42,7 @@ invariant_of-result c =
     let declaration = c.in_ok-declaration.declaration in
     let report = c.in_ok-report.report in
     let ready = c.in_ok-declaration.ensures.ready in
-    let nothing = subst (λ (g : List Declared). TellsNothing (record { groups = g; epoch = old.epoch }) c.args.edit.now report) c.as_slice.ensures c.in_ok-report.ensures in
+    let nothing = subst (λ (g : List Declared). ShowsNothing (record { groups = g; epoch = old.epoch }) c.args.edit.now report) c.as_slice.ensures c.in_ok-report.ensures in
     let named = nothing-named old c.args.edit.now report nothing in
     let prepared = declared-prepared old c.args.edit.now declaration report c.self.invariant.0 c.self.invariant.1 (ne_eqb old.epoch LAST_EPOCH c.if-self.false)
     (c.requires ∙ ap Declare (sym c.in_ok-declaration.ensures.group)) named ready.free nothing in
@@ -56,7 +56,7 @@ pub returns-clause-edit : goal.returns-clause-edit
 returns-clause-edit c =
     let old : State = record { groups = c.self.inside.groups; epoch = c.self.inside.epoch } in
     nothing-named old c.args.edit.now c.in_ok-report.report
-    (subst (λ (g : List Declared). TellsNothing (record { groups = g; epoch = old.epoch }) c.args.edit.now c.in_ok-report.report) c.as_slice.ensures c.in_ok-report.ensures)
+    (subst (λ (g : List Declared). ShowsNothing (record { groups = g; epoch = old.epoch }) c.args.edit.now c.in_ok-report.report) c.as_slice.ensures c.in_ok-report.ensures)
 
 pub returns-clause-accepted : goal.returns-clause-accepted
 returns-clause-accepted c =

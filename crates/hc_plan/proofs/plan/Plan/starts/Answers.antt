@@ -5,7 +5,7 @@ use Rattle.hc_records.specs.Boundaries.{boundaries}
 use Rattle.hc_records.specs.Line.{State, line}
 use Rattle.hc_records.specs.TaskList.{task_list}
 use Rattle.hc_cuts.specs.Areas.{areas_by_rank}
-use Rattle.hc_cuts.proofs.lemmas.Told.{task-listed}
+use Rattle.hc_cuts.proofs.lemmas.AnswerGiven.{task-listed}
 use Rattle.hc_plan.proofs.plan.Plan.starts.Goals as goal
 
 pub returns-clause-keys : goal.returns-clause-keys

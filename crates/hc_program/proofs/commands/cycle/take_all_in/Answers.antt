@@ -1,8 +1,8 @@
 use Rattle.std.proofs.Common.{List, ℕ, ◌++◌, ◌∙◌, ap, string_bytes}
 use Rattle.hc_events.specs.Steps.{Arrives}
-use Rattle.hc_program.specs.Answers.{told}
-use Rattle.hc_program.specs.Standings.{Standing, stepped}
-use Rattle.hc_program.proofs.Cycling.{next_left, next_reached, next_told}
+use Rattle.hc_program.specs.Answers.{answer_given}
+use Rattle.hc_program.specs.Standings.{SessionState, stepped}
+use Rattle.hc_program.proofs.Cycling.{next_left, next_reached, next_answered}
 use Rattle.hc_program.proofs.Grown.{any_err}
 use Rattle.hc_program.proofs.commands.cycle.take_all_in.Goals as goal
 
@@ -17,10 +17,10 @@ loop-frame-preserved c =
     let next = c.reply.new.session in
     let within = c.loop-frame-test.true in
     let is = c.bytes.ensures.bytes ∙ c.frame-item.is in
-    let grown = c.in_ok-reply.ensures.text ∙ ap (λ (bytes : List ℕ). string_bytes c.loop-frame.out ++ told s.past (Arrives bytes)) is in
+    let grown = c.in_ok-reply.ensures.text ∙ ap (λ (bytes : List ℕ). string_bytes c.loop-frame.out ++ answer_given s.history (Arrives bytes)) is in
     let went = c.in_ok-reply.ensures.next ∙ ap (λ (bytes : List ℕ). stepped s (Arrives bytes)) is in
     record {
-      text = next_told frames i c.frame-item.result s.past next.past _ _ _ within grown (ap (λ (t : Standing). t.past) went) c.loop-frame.invariant.text;
+      text = next_answered frames i c.frame-item.result s.history next.history _ _ _ within grown (ap (λ (t : SessionState). t.history) went) c.loop-frame.invariant.text;
       rest = next_left frames i c.frame-item.result s next _ within went c.loop-frame.invariant.rest;
       reached = next_reached frames i c.frame-item.result c.args.session.now s next within went c.loop-frame.invariant.reached;
     }

@@ -6,4 +6,4 @@ use Rattle.hc_program.proofs.commands.send.push_sent.Given as goal
 -- the frames so far are printed
 abbrev pub invariant-loop-frame : goal.invariant-loop-frame
 invariant-loop-frame l =
-    string_bytes l.out ≡ string_bytes l.fn.out ++ flat_map (proposed_line l.core.past) (take l.frame-index l.frames)
+    string_bytes l.out ≡ string_bytes l.fn.out ++ flat_map (proposed_line l.core.history) (take l.frame-index l.frames)

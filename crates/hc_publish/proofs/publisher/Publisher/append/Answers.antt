@@ -1,8 +1,8 @@
 use Rattle.std.proofs.Common.{◌∙◌, ap, drop, false, true, ◌≡◌}
-use Rattle.hc_publish.specs.Book.{top}
+use Rattle.hc_publish.specs.PublicationLog.{top}
 use Rattle.hc_publish.specs.Rule.{changes_in}
-use Rattle.hc_publish.specs.Board.{published, pending}
-use Rattle.hc_publish.specs.Published.{board_in}
+use Rattle.hc_publish.specs.PublishedState.{published, pending}
+use Rattle.hc_publish.specs.Published.{published_state_in}
 use Rattle.hc_publish.proofs.Ruled.{changes-append, appended, few_grown, stays_legal, stays_begun}
 use Rattle.hc_publish.proofs.publisher.Publisher.append.Goals as goal
 
@@ -10,7 +10,7 @@ pub invariant_of-self : goal.invariant_of-self
 invariant_of-self c =
     let p = c.self.inside in
     let i = c.self.invariant in
-    let b = board_in p in
+    let b = published_state_in p in
     let same = c.append.ensures.desk in
     let old = drop p.writer.behind p.writer.log.items in
     let grown = appended c.append.result old _ c.args.change c.append.ensures.pending in
@@ -19,7 +19,7 @@ invariant_of-self c =
       knows = rw same i.knows;
       is_sealed = rw same i.is_sealed;
       head_is = i.head_is;
-      one_book = rw same i.one_book;
+      one_publication_log = rw same i.one_publication_log;
       extends = rw same (stays_begun (top p.front.log) b.shown.shown old (drop c.append.new.self.behind c.append.new.self.log.items) c.args.change grown i.extends);
       few = few_grown p.is_sealed old _ c.args.change c.in-Ok.ensures.pending i.few;
       ready = λ (e : false ≡ true). absurd (cc e);

@@ -16,16 +16,16 @@ pub invariant_of-self : goal.invariant_of-self
 invariant_of-self c =
     let p = c.self.inside in
     let i = c.self.invariant in
-    let kept = c.tell.ensures.kept in
+    let unchanged = c.tell.ensures.kept in
     record {
-      legal = rw (kept.0, kept.1, kept.2) i.legal;
-      knows = rw kept.0 (kept.3 ∙ i.knows);
-      is_sealed = rw kept.0 i.is_sealed;
+      legal = rw (unchanged.0, unchanged.1, unchanged.2) i.legal;
+      knows = rw unchanged.0 (unchanged.3 ∙ i.knows);
+      is_sealed = rw unchanged.0 i.is_sealed;
       head_is = i.head_is;
-      one_book = rw kept.0 i.one_book;
-      extends = rw (kept.0, kept.1, kept.2) i.extends;
-      few = rw (kept.1, kept.2) i.few;
+      one_publication_log = rw unchanged.0 i.one_publication_log;
+      extends = rw (unchanged.0, unchanged.1, unchanged.2) i.extends;
+      few = rw (unchanged.1, unchanged.2) i.few;
       ready = λ (e : p.is_sealed ≡ true).
           let ready = i.ready e in
-          record { before = ready.before; ends = rw (kept.1, kept.2) ready.ends; last = rw (kept.0, kept.1, kept.2) ready.last };
+          record { before = ready.before; ends = rw (unchanged.1, unchanged.2) ready.ends; last = rw (unchanged.0, unchanged.1, unchanged.2) ready.last };
     }

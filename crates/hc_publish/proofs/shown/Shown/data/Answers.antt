@@ -1,7 +1,7 @@
 use Rattle.std.proofs.Common.{◌≤◌, ◌⊎◌, ◌∙◌, ap, arith, inl, inr, sym}
 use Rattle.hc_records.specs.declared.limits.TheConstants.{MOST_DATAGRAMS, TASKS}
 use Rattle.hc_publish.specs.Histories.{changes_of}
-use Rattle.hc_publish.specs.Told.{data_shown}
+use Rattle.hc_publish.specs.ChangesSince.{data_shown}
 use Rattle.hc_publish.proofs.Taken.{no-data}
 use Rattle.hc_publish.proofs.shown.Shown.data.Goals as goal
 use Rattle.hc_publish.proofs.shown.Shown.data.Goals.{else-task-lt-TASKS-via-then-task-lt-TASKS+else-from-lt-MOST_DATAGRAMS, else-task-lt-TASKS-via-else-task-lt-TASKS}
@@ -13,4 +13,4 @@ returns-else-task-lt-TASKS c =
       | else-task-lt-TASKS-via-else-task-lt-TASKS w ↦ inl w.if-task-lt-TASKS.false
     ] in
     sym (no-data c.args.task c.args.datagram (changes_of c.self.inside.history) c.self.invariant.fits outside)
-    ∙ ap (λ told. data_shown told c.args.task c.args.datagram) c.self.view_is
+    ∙ ap (λ changes_since. data_shown changes_since c.args.task c.args.datagram) c.self.view_is

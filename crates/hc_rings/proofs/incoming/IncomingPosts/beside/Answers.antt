@@ -2,7 +2,7 @@ use Rattle.std.proofs.Common.{◌≡◌, ◌≤◌, ◌++◌, ◌∙◌, true, f
 use Rattle.std.proofs.lemmas.List.{length-append}
 use Rattle.rtrb.specs.Ring.{received, known_items}
 use Rattle.hc_rings.specs.Items.{posts_of, is_open}
-use Rattle.hc_rings.proofs.Items.{posts_of_append, posts_of_prefix, length_posts_of, is_open_before, is_open_behind, came_same, none_ended}
+use Rattle.hc_rings.proofs.Items.{posts_of_append, posts_of_prefix, length_posts_of, is_open_before, is_open_after, came_same, none_ended}
 use Rattle.hc_rings.proofs.Prefixes.{prefix_trans}
 use Rattle.hc_rings.proofs.incoming.IncomingPosts.beside.Goals as goal
 
@@ -34,7 +34,7 @@ returns-clause-places c =
     let known = known_items c.slots_beside-2.new.self in
     let all = c.slots_beside-2.ensures.fifo ∙ (c.slots_beside-2.ensures.producer.1 ∙ c.slots_beside.ensures.looked.1) in
     let none_yet : is_open (items ++ known) ≡ true = ap is_open all ∙ c.args.outgoing.now.not_ended in
-    let posts = length_posts_of known (is_open_behind items known none_yet) in
+    let posts = length_posts_of known (is_open_after items known none_yet) in
     omega (
       arith,
       posts,
@@ -62,4 +62,4 @@ returns-clause-count c =
       c.slots_beside-2.ensures.looked.0.1,
       c.slots_beside.ensures.consumer.0.1,
     ) in
-    (c.slots_beside-2.ensures.value ∙ sym (length_posts_of known (is_open_behind items known none_yet)), omega (arith, few))
+    (c.slots_beside-2.ensures.value ∙ sym (length_posts_of known (is_open_after items known none_yet)), omega (arith, few))

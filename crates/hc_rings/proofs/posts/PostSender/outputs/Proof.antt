@@ -7,7 +7,7 @@ use Rattle.std.specs.declared.result.Result.TheVariants.{Ok, Err}
 use Rattle.std.specs.contracts.result.Result as result
 use Rattle.hc_rings.proofs.lemmas.Results.{says_three, makes_ok, makes_err}
 use Rattle.hc_rings.proofs.lemmas.Outputs.{is_true, is_false, left_outputs, zeros, never, lends_so}
-use Rattle.hc_rings.specs.Post.{blank_post, with_written}
+use Rattle.hc_rings.specs.Post.{blank_post, post_with_written}
 use Rattle.hc_rings.specs.Lending.{LendsHeld, LendsOutputs}
 use Rattle.hc_rings.specs.Ring.{handed_out, held, posted, HoldsPost, HoldsNothing, PostsEach}
 use Rattle.std.specs.Option.{option_map}
@@ -81,14 +81,14 @@ outputs_spec 𝓤 𝓛 𝓜 𝓡 wired =
     use1 𝓛 (later (some (λ (r : MutBor (List ℕ)). ((‵ (flft κ q) ⊛ ‵ ftrue) ⊛ ‵ ((MutSlice (named 0) κ u8).own_val r (w ∷ []))) ⊛
     some (λ (us : Lasts lent.ended κs (self', tt)). ‵ (lasts lent.ended κs (self', tt) us) ⊛ (‵ (LendsHeld self' r) ⊛ raw (fact 𝓤 (IfSome (held ws.0) (λ post. r.now ≡ post.bytes)))))))) (id⊢ 𝓤 _) $
     await ! tt $ pick ! (λ r. split ! $ move ! (1 ∷ []) $ pick ! (λ us. split ! $ drop ! $ split ! $ move ! (1 ∷ []) $ heard ! _ (λ bytes.
-    let F : List ℕ → PostSender = λ written. record ws.0 { held = option_map (λ post. with_written post written) ws.0.held } in
-    let P : List ℕ → PostSender → Type 0 = λ written n. HoldsPost self.now n (with_written (blank_post epoch size) written) in
-    move ! (1 ∷ []) $ split ! $ move ! (1 ∷ []) $ peeks ! (MutSlice (named 0) κ u8) _ (shows 𝓛 (MutSlice (named 0) κ u8)) r (w ∷ []) (λ tells.
+    let F : List ℕ → PostSender = λ written. record ws.0 { held = option_map (λ post. post_with_written post written) ws.0.held } in
+    let P : List ℕ → PostSender → Type 0 = λ written n. HoldsPost self.now n (post_with_written (blank_post epoch size) written) in
+    move ! (1 ∷ []) $ split ! $ move ! (1 ∷ []) $ peeks ! (MutSlice (named 0) κ u8) _ (shows 𝓛 (MutSlice (named 0) κ u8)) r (w ∷ []) (λ says.
     let part : Val = slice_val r.ref_ptr (length r.now) in
     let answer : Result (MutBor (List ℕ)) declared.NoSpare = Ok r in
-    rewrite ! 0 (λ (vals : List Val). ‵ ((MutSlice (named 0) κ u8).own_val r vals)) tells.0.0 refl $
-    lands_as ! (ap only tells.0.0) refl (tt, (tt, (record { fits = tells.0.1.0 }, tt))) $
-    sets ! (agg ! (and_then ! (lit ! tt) (and_then ! (get ! refl) (no_more !)))) refl (tt, (record { fits = lit< tt }, ((tt, (record { fits = tells.0.1.0 }, tt)), tt))) $
+    rewrite ! 0 (λ (vals : List Val). ‵ ((MutSlice (named 0) κ u8).own_val r vals)) says.0.0 refl $
+    lands_as ! (ap only says.0.0) refl (tt, (tt, (record { fits = says.0.1.0 }, tt))) $
+    sets ! (agg ! (and_then ! (lit ! tt) (and_then ! (get ! refl) (no_more !)))) refl (tt, (record { fits = lit< tt }, ((tt, (record { fits = says.0.1.0 }, tt)), tt))) $
     use1 𝓛 (‵ (Out.own_val (Ok r) (live 0 (of_list (part ∷ [])) ∷ []))) (makes_ok 𝓛 (MutSlice (named 0) κ u8) NoSpare.the_row r part) $ move ! (2 ∷ []) $
     use1 𝓛 (‵ (LendsOutputs self epoch size (Ok r)))
     (lends_so 𝓛 sender.the_row (Array u8 0) self.ghost_name (maybe.some r.ghost_name) F ws.0 (λ written n. IsOk answer → P written n) (λ n. OnErr answer (HoldsNothing self.now n)) (λ written _. left_outputs self.now ws.0 epoch size written found.0) tt) $
@@ -103,7 +103,7 @@ outputs_spec 𝓤 𝓛 𝓜 𝓡 wired =
     sets ! (agg ! (and_then ! (lit ! tt) (and_then ! (get ! refl) (no_more !)))) refl (tt, (record { fits = lit< tt }, (tt, tt))) $
     fsplit3 ! $ drop ! $ name_done ! tt $
     use1 𝓛 (‵ (LendsOutputs self epoch size (Err none_spare)))
-    (lends_so 𝓛 sender.the_row (Array u8 0) self.ghost_name maybe.none (λ _. ws.0) ws.0 (λ written n. IsOk refused → HoldsPost self.now n (with_written (blank_post epoch size) written)) (λ n. OnErr refused (HoldsNothing self.now n)) (λ written ok. never ok) nothing_held.0) $
+    (lends_so 𝓛 sender.the_row (Array u8 0) self.ghost_name maybe.none (λ _. ws.0) ws.0 (λ written n. IsOk refused → HoldsPost self.now n (post_with_written (blank_post epoch size) written)) (λ n. OnErr refused (HoldsNothing self.now n)) (λ written ok. never ok) nothing_held.0) $
     use0 𝓛 (‵ (NoSpare.the_row.own_val none_spare (vstruct vnil ∷ []))) (makes_shadow 𝓛 (NoSpare.the_row.own_val none_spare (vstruct vnil ∷ [])) (λ vals. (tt, tt)) (tt, (refl, tt))) $
     use1 𝓛 (‵ (Out.own_val (Err none_spare) (live 1 (of_list (vstruct vnil ∷ [])) ∷ []))) (makes_err 𝓛 (MutSlice (named 0) κ u8) NoSpare.the_row none_spare (vstruct vnil)) $
     returns ! (look_at ! 0 refl) $ free_all ! refl $ keep ! (0 ∷ 3 ∷ 1 ∷ []) $ nothing ! $ move ! (2 ∷ 0 ∷ []) $ join ! $ move ! (1 ∷ 0 ∷ []) $

@@ -1,6 +1,6 @@
 use Rattle.std.proofs.Common.{length, map, ap, ◌∙◌, List, ℕ}
 use Rattle.hc_segment.proofs.Dealt.{lengths-joined}
-use Rattle.hc_segment.proofs.Written.{kept-count, kept-cut}
+use Rattle.hc_segment.proofs.Written.{unchanged-count, unchanged-cut}
 use Rattle.hc_segment.proofs.line.SimulatedLine.pass.Goals as goal
 
 pub invariant_of-self : goal.invariant_of-self
@@ -11,6 +11,6 @@ invariant_of-self g c =
     let many = c.chain.auto.segments ∙ ap (λ (ss : List (List (List ℕ))). length ss) value in
     let sizes = c.chain.ensures.segments ∙ ap (λ (ss : List (List (List ℕ))). map (length {A = List ℕ}) ss) value in
     record {
-      counted = kept-count items new c.self.inside.count c.self.inside.segments.len c.self.invariant.counted c.self.inside.segments.ok.0 many (lengths-joined new items sizes);
-      cut = kept-cut items new c.self.inside.count c.self.inside.segments.len c.self.invariant.cut c.self.inside.segments.ok.0 many sizes;
+      counted = unchanged-count items new c.self.inside.count c.self.inside.segments.len c.self.invariant.counted c.self.inside.segments.ok.0 many (lengths-joined new items sizes);
+      cut = unchanged-cut items new c.self.inside.count c.self.inside.segments.len c.self.invariant.cut c.self.inside.segments.ok.0 many sizes;
     }

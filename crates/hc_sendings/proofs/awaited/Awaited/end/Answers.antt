@@ -1,11 +1,11 @@
 use Rattle.std.proofs.Common.{◌∙◌, ap, arith}
 use Rattle.hc_sendings.specs.Waiting.{ended}
-use Rattle.hc_sendings.proofs.Ended.{all-ended, kept-ended}
+use Rattle.hc_sendings.proofs.Ended.{all-ended, stored-ended}
 use Rattle.hc_sendings.proofs.awaited.Awaited.end.Goals as goal
 
 pub returns : goal.returns
 returns c =
-    all-ended c.self.inside.newest c.args.serial c.self.inside.frames.items c.empty.new.frames.items c.self.inside.writes c.end.new.self c.self.inside.forgotten
+    all-ended c.self.inside.last_sent c.args.serial c.self.inside.frames.items c.empty.new.frames.items c.self.inside.writes c.end.new.self c.self.inside.forgotten
     c.empty.ensures.frames c.end.ensures
     ∙ ap (ended c.args.serial) c.self.view_is
 
@@ -13,4 +13,4 @@ pub invariant_of-self : goal.invariant_of-self
 invariant_of-self c =
     let room = c.self.invariant.1 in
     let same = c.empty.ensures.room in
-    (kept-ended c.self.inside.newest c.args.serial c.self.inside.frames.items c.empty.new.frames.items c.empty.ensures.frames c.self.invariant.0, omega (arith, room, same))
+    (stored-ended c.self.inside.last_sent c.args.serial c.self.inside.frames.items c.empty.new.frames.items c.empty.ensures.frames c.self.invariant.0, omega (arith, room, same))

@@ -3,7 +3,7 @@ use Rattle.std.specs.Prelude.{option_map}
 use Rattle.hc_text.specs.PostWords.{settings_in}
 use Rattle.hc_text.proofs.commands.post.settings_of.Given as goal
 
--- the values so far, and those of what is left
+-- the values so far and the remaining ones
 abbrev pub invariant-loop-word : goal.invariant-loop-word
 invariant-loop-word l =
     option_map (λ rest. l.settings.items ++ rest) (settings_in (map (λ word. word.now) (drop l.word-index l.words)))

@@ -4,7 +4,7 @@ use Rattle.arrayvec.specs.ArrayVec.{array_vec_len}
 use Rattle.hc_text.specs.Numbers.{numbers_in}
 use Rattle.hc_text.proofs.commands.tasks.numbers_in.Given as goal
 
--- the numbers so far, and those of what is left
+-- the numbers so far and the remaining ones
 abbrev pub invariant-loop-word : goal.invariant-loop-word
 invariant-loop-word l = record {
   count : array_vec_len l.numbers ≡ l.word-index;

@@ -4,12 +4,12 @@ use Rattle.hc_rings.specs.Post.{Post}
 use Rattle.hc_rings.specs.Ring.{SameSender}
 use Rattle.hc_rings.proofs.lemmas.Same.{sender-still}
 use Rattle.hc_conductor.specs.Outputs.{HoldsNone, HoldsOutputs, blank_outputs}
-use Rattle.hc_conductor.specs.Seats.{held, sender}
+use Rattle.hc_conductor.specs.Seats.{seat_held, sender}
 use Rattle.hc_conductor.specs.declared.seat.TaskSeat.{TaskSeat}
 use Rattle.worked_threads.proofs.conductor.posting.is_posted.Goals as goal
 
 -- outputs are held or not: the seat has the same end of its ring
-same-ring : {A E : Type 0} (found : Result A E) (old new : TaskSeat) (post : Post) → OnOk found (HoldsOutputs old new post × IsSome (held new)) → OnErr found (HoldsNone old new) → SameSender (sender old) (sender new)
+same-ring : {A E : Type 0} (found : Result A E) (old new : TaskSeat) (post : Post) → OnOk found (HoldsOutputs old new post × IsSome (seat_held new)) → OnErr found (HoldsNone old new) → SameSender (sender old) (sender new)
 same-ring (Ok x) old new post holds none = holds.0.1.0
 same-ring (Err e) old new post holds none = none.1.0
 

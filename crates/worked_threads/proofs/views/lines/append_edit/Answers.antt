@@ -1,6 +1,6 @@
 use Rattle.std.proofs.Common.{◌++◌}
 use Rattle.std.proofs.lemmas.Result.{on_ok_weaker}
-use Rattle.hc_publish.specs.Board.{origin_of, pending, published}
+use Rattle.hc_publish.specs.PublishedState.{origin_of, pending, published}
 use Rattle.worked_threads.proofs.Leading.{all_appended, leads_next, legal_on, swap_is_legal, swap_leads}
 use Rattle.worked_threads.proofs.views.lines.append_edit.Goals as goal
 

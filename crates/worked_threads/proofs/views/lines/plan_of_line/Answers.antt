@@ -1,5 +1,5 @@
 use Rattle.std.proofs.Common.{sym, subst}
-use Rattle.hc_publish.specs.Told.{IsOpening}
+use Rattle.hc_publish.specs.ChangesSince.{IsOpening}
 use Rattle.hc_publish.proofs.lemmas.Openings.{is-opening}
 use Rattle.worked_threads.proofs.views.lines.plan_of_line.Goals as goal
 

@@ -1,5 +1,5 @@
 use Rattle.std.proofs.Common.{◌≡◌}
-use Rattle.hc_publish.specs.Board.{origin_of}
+use Rattle.hc_publish.specs.PublishedState.{origin_of}
 use Rattle.hc_publish.specs.Seats.{seat_origin}
 use Rattle.worked_threads.specs.Lines.{LeadsTo}
 use Rattle.worked_threads.proofs.views.steady.is_steady.Given as goal

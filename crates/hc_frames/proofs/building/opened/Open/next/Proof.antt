@@ -1,4 +1,4 @@
--- `next` hands out the next data part and what stands behind its datagram.
+-- `next` hands out the next data part and what is after its datagram.
 use Rattle.hc_frames.proofs.Steps.{◌≡◌, ℕ, ◌+◌, ◌-◌, ◌%◌, ◌^◌, ◌<◌, ◌≤◌, List, [], ◌∷◌, ◌++◌, length, replicate, take, drop_list, refl, sym, ap, ◌∙◌, subst, lit<, arith, w64, MutBor, proved, at, at_mul, ftrue, flft, id⊢, fact, tables, u8, u16, u32, u64, usize, no, shows, mem, owns, plain, MutSlice, Room, slice_val, mut_slice_vals, nothing, heard, peeks, only, calls_at, lasts, triple_of, framed, Stays, stay_dropped, walk_of, ends_at, named, Val, vint, alloc_all, pass_all, free_all, look_at, look_in_at, get, get_in, through, sets, lands_as, is, env, at_ret, ‵, raw, ◌⊛◌, some, later, ◌$◌, ◌∵◌, !, qed, move, keep, drop, use0, use1, use2, split, split3, join, fsplit, fjoin, rewrite, await, pick, suffices, frame, done, whole, sub, agg, stop, fld, hop, from, of_opd, lit, bin, addr, and_then, no_more, returns, enter}
 use denote.Signature.{named_lft}
 use Rattle.std.proofs.Common.{eqb→eq}
@@ -28,12 +28,12 @@ use types.Tokens.{name_done}
 use Rattle.hc_frames.proofs.lemmas.Opening.{none_left, some_left, first_fits, first_text, open_rest}
 use Rattle.hc_frames.proofs.Lent.{part_lent, lends_part, both_through}
 use Rattle.hc_frames.proofs.Spelled.{datagram_cut}
-use Rattle.hc_frames.specs.FrameText.{datagram_head, datagram_text, lrw}
+use Rattle.hc_frames.specs.FrameText.{datagram_head, sent_datagram_text, lrw}
 use Rattle.hc_frames.specs.Handing.{first_address, more_follow}
 use Rattle.hc_frames.specs.declared.commands.Command.TheVariants.{Lrw}
 use Rattle.hc_frames.specs.declared.building.opened.Open as declared
 use Rattle.std.proofs.lemmas.List.{length-replicate}
-use Rattle.hc_frames.specs.Standing.{first_size}
+use Rattle.hc_frames.specs.OpenDatagrams.{first_size}
 use Rattle.hc_frames.specs.contracts.building.opened.cut as cuts
 use Rattle.hc_frames.proofs.building.opened.cut.Met as cuts_met
 use Rattle.hc_frames.specs.contracts.building.opened.first_and_others as firsts
@@ -116,15 +116,15 @@ next_spec 𝓤 𝓛 𝓜 𝓡 wired =
     await ! tt $ pick ! (λ two. split ! $ move ! (1 ∷ []) $ pick ! (λ ws'. split ! $ drop ! $ split ! $ move ! (1 ∷ []) $ split ! $ heard ! _ (λ front_is. heard ! _ (λ back_is.
     move ! (1 ∷ []) $ split ! $ move ! (1 ∷ []) $ fpick ! (λ us'. fsplit ! $ feq_l ! (λ pair_is. fsplit ! $
     peeks ! Part _ (shows 𝓛 Part) two.0 us'.0 (λ text_is. rewrite ! 0 (λ (vs : List Val). ‵ (Part.own_val two.0 vs)) text_is.0.0 refl $ move ! (1 ∷ []) $ fsplit ! $
-    peeks ! Part _ (shows 𝓛 Part) two.1 us'.1.0 (λ behind_is. rewrite ! 0 (λ (vs : List Val). ‵ (Part.own_val two.1 vs)) behind_is.0.0 refl $ move ! (1 ∷ []) $ drop ! $
-    -- [what stands behind; the datagram; the token; the tie; the datagrams left; nothing]
-    let two_val : w ≡ vstruct (vcons (slice_val two.0.ref_ptr (length two.0.now)) (vcons (slice_val two.1.ref_ptr (length two.1.now)) vnil)) = ap only (pair_is ∙ (λ k. vstruct (of_list (text_is.0.0 k ++ (behind_is.0.0 k ++ []))) ∷ [])) in
-    lands_as ! two_val refl (tt, ((tt, (record { fits = text_is.0.1.0 }, tt)), ((tt, (record { fits = behind_is.0.1.0 }, tt)), tt))) $
+    peeks ! Part _ (shows 𝓛 Part) two.1 us'.1.0 (λ after_is. rewrite ! 0 (λ (vs : List Val). ‵ (Part.own_val two.1 vs)) after_is.0.0 refl $ move ! (1 ∷ []) $ drop ! $
+    -- [what is after; the datagram; the token; the tie; the datagrams left; nothing]
+    let two_val : w ≡ vstruct (vcons (slice_val two.0.ref_ptr (length two.0.now)) (vcons (slice_val two.1.ref_ptr (length two.1.now)) vnil)) = ap only (pair_is ∙ (λ k. vstruct (of_list (text_is.0.0 k ++ (after_is.0.0 k ++ []))) ∷ [])) in
+    lands_as ! two_val refl (tt, ((tt, (record { fits = text_is.0.1.0 }, tt)), ((tt, (record { fits = after_is.0.1.0 }, tt)), tt))) $
     sets ! (of_opd ! (get_in ! (fld ! refl (stop !)) (sub ! 0 refl (whole !)))) refl (tt, (tt, (record { fits = text_is.0.1.0 }, tt))) $
-    sets ! (of_opd ! (get_in ! (fld ! refl (stop !)) (sub ! 1 refl (whole !)))) refl (tt, (tt, (record { fits = behind_is.0.1.0 }, tt))) $
+    sets ! (of_opd ! (get_in ! (fld ! refl (stop !)) (sub ! 1 refl (whole !)))) refl (tt, (tt, (record { fits = after_is.0.1.0 }, tt))) $
     sets ! (addr ! (from ! (fld ! refl (hop ! (look_in_at ! 8 (sub ! 0 refl (whole !))) (stop !))))) refl (tt, tt) $
-    sets ! (agg ! (and_then ! (get ! refl) (and_then ! (get_in ! (fld ! refl (stop !)) (sub ! 1 refl (whole !))) (no_more !)))) refl (tt, (tt, (record { fits = behind_is.0.1.0 }, tt))) $
-    sets ! (agg ! (and_then ! (get ! refl) (and_then ! (get ! refl) (and_then ! (get ! refl) (no_more !))))) refl (tt, ((tt, (record { fits = behind_is.0.1.0 }, tt)), ((tt, (record { fits = others_are.0.1.0 }, tt)), (record { fits = serial_fits }, tt)))) $
+    sets ! (agg ! (and_then ! (get ! refl) (and_then ! (get_in ! (fld ! refl (stop !)) (sub ! 1 refl (whole !))) (no_more !)))) refl (tt, (tt, (record { fits = after_is.0.1.0 }, tt))) $
+    sets ! (agg ! (and_then ! (get ! refl) (and_then ! (get ! refl) (and_then ! (get ! refl) (no_more !))))) refl (tt, ((tt, (record { fits = after_is.0.1.0 }, tt)), ((tt, (record { fits = others_are.0.1.0 }, tt)), (record { fits = serial_fits }, tt)))) $
     let n_fits : n < 2 ^ 64 = size_fits in
     let less : 10 + n < 2 ^ 64 = omega arith in
     let exact : 10 + n - 10 ≡ n = omega arith in
@@ -133,15 +133,15 @@ next_spec 𝓤 𝓛 𝓜 𝓡 wired =
     sets ! (is ! (bin ! (get ! refl) (lit ! tt) (omega arith)) (ap (vint w64) exact)) refl (tt, record { fits = n_fits }) $
     sets ! (addr ! (through ! refl (stop !))) refl (tt, tt) $
     sets ! (agg ! (and_then ! (get ! refl) (and_then ! (get ! refl) (no_more !)))) refl (tt, (tt, (record { fits = n_fits }, tt))) $
-    sets ! (of_opd ! (get ! refl)) refl (tt, ((tt, (record { fits = behind_is.0.1.0 }, tt)), ((tt, (record { fits = others_are.0.1.0 }, tt)), (record { fits = serial_fits }, tt)))) $
-    sets ! (agg ! (and_then ! (get ! refl) (and_then ! (get ! refl) (no_more !)))) refl (tt, ((tt, (record { fits = n_fits }, tt)), (((tt, (record { fits = behind_is.0.1.0 }, tt)), ((tt, (record { fits = others_are.0.1.0 }, tt)), (record { fits = serial_fits }, tt))), tt))) $
-    sets ! (agg ! (and_then ! (lit ! tt) (and_then ! (get ! refl) (no_more !)))) refl (tt, (record { fits = lit< tt }, (((tt, (record { fits = n_fits }, tt)), (((tt, (record { fits = behind_is.0.1.0 }, tt)), ((tt, (record { fits = others_are.0.1.0 }, tt)), (record { fits = serial_fits }, tt))), tt)), tt))) $
+    sets ! (of_opd ! (get ! refl)) refl (tt, ((tt, (record { fits = after_is.0.1.0 }, tt)), ((tt, (record { fits = others_are.0.1.0 }, tt)), (record { fits = serial_fits }, tt)))) $
+    sets ! (agg ! (and_then ! (get ! refl) (and_then ! (get ! refl) (no_more !)))) refl (tt, ((tt, (record { fits = n_fits }, tt)), (((tt, (record { fits = after_is.0.1.0 }, tt)), ((tt, (record { fits = others_are.0.1.0 }, tt)), (record { fits = serial_fits }, tt))), tt))) $
+    sets ! (agg ! (and_then ! (lit ! tt) (and_then ! (get ! refl) (no_more !)))) refl (tt, (record { fits = lit< tt }, (((tt, (record { fits = n_fits }, tt)), (((tt, (record { fits = after_is.0.1.0 }, tt)), ((tt, (record { fits = others_are.0.1.0 }, tt)), (record { fits = serial_fits }, tt))), tt)), tt))) $
     let address = first_address ds in let more = more_follow ds in
     let b = two.0.ref_ptr.0 in let at_text = two.0.ref_ptr.1 in let p : ℕ = 10 + at_text in
     let front : List ℕ = datagram_head (serial % 256) Lrw address (first_size ds) more in
     let mid : List ℕ = replicate (first_size ds) 0 in
     let back : List ℕ = 0 ∷ 0 ∷ [] in
-    let F : List ℕ → List ℕ = λ bytes. datagram_text serial more (lrw address bytes) in
+    let F : List ℕ → List ℕ = λ bytes. sent_datagram_text serial more (lrw address bytes) in
     let long : length mid ≡ first_size ds = length-replicate (first_size ds) 0 in
     let text : two.0.now ≡ F mid = front_is ∙ ap (λ (k : ℕ). take (12 + k) rest.now) sized ∙ first_text serial ds rest.now opened some_there in
     let cut_text : two.0.now ≡ front ++ (mid ++ back) = text ∙ datagram_cut serial address (first_size ds) more mid long in
@@ -150,23 +150,23 @@ next_spec 𝓤 𝓛 𝓜 𝓡 wired =
     let mid_n : length mid ≡ n = long ∙ sym sized in
     let room : Room u8 (length mid) = (omega arith, omega arith) in
     let part : ℕ → MutBor (List ℕ) = λ δ. record { ref_ptr = (b, p); ghost_name = δ; now = mid } in
-    let behind_said : two.1.now ≡ drop_list (12 + first_size ds) rest.now = back_is ∙ ap (λ (k : ℕ). drop_list (12 + k) rest.now) sized in
-    let new : declared.Open = record { rest = two.1; datagrams = first.1; serial = serial; standing = open_rest serial ds rest.now first.1.now two.1.now opened some_there others behind_said } in
-    let behind_val : Val = slice_val two.1.ref_ptr (length two.1.now) in let others_val : Val = slice_val first.1.ref_ptr (length first.1.now) in
+    let after_said : two.1.now ≡ drop_list (12 + first_size ds) rest.now = back_is ∙ ap (λ (k : ℕ). drop_list (12 + k) rest.now) sized in
+    let new : declared.Open = record { rest = two.1; datagrams = first.1; serial = serial; standing = open_rest serial ds rest.now first.1.now two.1.now opened some_there others after_said } in
+    let after_val : Val = slice_val two.1.ref_ptr (length two.1.now) in let others_val : Val = slice_val first.1.ref_ptr (length first.1.now) in
     let part_val : Val = slice_val (b, p) n in
-    let new_val : Val = vstruct (vcons behind_val (vcons others_val (vcons (vint w64 serial) vnil))) in
+    let new_val : Val = vstruct (vcons after_val (vcons others_val (vcons (vint w64 serial) vnil))) in
     let out_val : Val = vstruct (vcons part_val (vcons new_val vnil)) in
     move ! (2 ∷ []) $ split ! $ move ! (3 ∷ 0 ∷ []) $
     use2 𝓛 (later (some (part_lent 𝓛 (named 0) κ q b at_text two.0.ghost_name u8 two.0.now front mid back cut_text F fits p on room)))
     (lends_part 𝓛 (named 0) κ q b at_text two.0.ghost_name u8 two.0.now front mid back cut_text F fits p on room (mut_slice_vals two.0)) $ await ! tt $ pick ! (λ δ. split3 ! $
     rewrite ! 0 (λ (k : ℕ). ‵ (Part.own_val (part δ) (slice_val (b, p) k ∷ []))) mid_n refl $
-    -- [the part; the token, in two; its tie; nothing; what stands behind; the tie; the datagrams left; nothing]
+    -- [the part; the token, in two; its tie; nothing; what is after; the tie; the datagrams left; nothing]
     move ! (5 ∷ 2 ∷ []) $
-    use2 𝓛 (‵ (follows_both (Array u8 0) (Array u8 0) (Array u8 0) rest.ghost_name δ two.1.ghost_name (λ bytes behind. F bytes ++ behind))) (both_through 𝓛 u8 F rest.ghost_name two.0.ghost_name two.1.ghost_name δ) $
-    -- [the tie; the part; the token; nothing, twice; what stands behind; the datagrams left; nothing]
+    use2 𝓛 (‵ (follows_both (Array u8 0) (Array u8 0) (Array u8 0) rest.ghost_name δ two.1.ghost_name (λ bytes after_it. F bytes ++ after_it))) (both_through 𝓛 u8 F rest.ghost_name two.0.ghost_name two.1.ghost_name δ) $
+    -- [the tie; the part; the token; nothing, twice; what is after; the datagrams left; nothing]
     nothing ! $ owned ! u64 _ (uint_Makes 𝓛 w64) serial _ (refl, serial_fits) $ fjoin ! $ move ! (6 ∷ 0 ∷ []) $ fjoin ! $ move ! (5 ∷ 0 ∷ []) $ fjoin ! $
     feq_i ! (List Val) (new_val ∷ []) (new_val ∷ []) refl $ fjoin ! $
-    fpack ! (Valss (shape (Open.the_type o)).fields) (within (shape (Open.the_type o)) ((Open.the_type o).to new) (new_val ∷ [])) (behind_val ∷ [], (others_val ∷ [], (vint w64 serial ∷ [], tt))) $
+    fpack ! (Valss (shape (Open.the_type o)).fields) (within (shape (Open.the_type o)) ((Open.the_type o).to new) (new_val ∷ [])) (after_val ∷ [], (others_val ∷ [], (vint w64 serial ∷ [], tt))) $
     use1 𝓛 (‵ (Frame.own_val new (new_val ∷ []))) (id⊢ 𝓤 _) $ move ! (2 ∷ 0 ∷ []) $
     use2 𝓛 (‵ (Out.own_val (part δ, new) (out_val ∷ []))) (makes_pair 𝓛 Part Frame (part δ) new part_val new_val) $
     use1 𝓛 (‵ ((option.the_row Out).own_val (Some (part δ, new)) (live 1 (of_list (out_val ∷ [])) ∷ []))) (makes_some 𝓛 Out (part δ, new) out_val) $
@@ -175,4 +175,4 @@ next_spec 𝓤 𝓛 𝓜 𝓡 wired =
     suffices ! _ (ends_at 𝓛 f.ended stayed c y (live 1 (of_list (out_val ∷ []))) (Some (part δ, new)) ((tt, tt), tt) (tt, tt)) $
     nothing ! $ nothing ! $ fjoin ! $ move ! (0 ∷ 2 ∷ []) $ join ! $ move ! (1 ∷ 0 ∷ []) $ join ! $ frame ! $ frame ! $
     by ! (says_three 𝓛 (λ none. cc, λ none. absurd (omega (arith, ap length none))) refl
-    (record { serial = refl; datagrams = others; rest = behind_said })))))))))))))))))))))))))))))))
+    (record { serial = refl; datagrams = others; rest = after_said })))))))))))))))))))))))))))))))

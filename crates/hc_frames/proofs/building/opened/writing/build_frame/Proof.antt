@@ -1,4 +1,4 @@
--- `build_frame` hands out what stands behind the head of the frame that it wrote, or leaves the slice as it was.
+-- `build_frame` hands out what is after the head of the frame that it wrote, or leaves the slice as it was.
 use Rattle.hc_frames.proofs.Steps.{◌≡◌, ℕ, ◌+◌, ◌-◌, ◌*◌, ◌^◌, ◌<◌, ◌≤◌, List, [], ◌∷◌, ◌++◌, length, drop_list, refl, sym, ap, ◌∙◌, subst, lit<, arith, w64, MutBor, proved, at, at_mul, ftrue, flft, id⊢, fact, tables, u8, u16, u32, u64, usize, yes, no, shows, mem, uint_vals, uint_Tells, owns, plain, mut_slice_of, MutSlice, Room, slice_val, mut_slice_vals, mut_slice_Tells, nothing, heard, peeks, only, calls_at, lasts, triple_of, framed, Stays, stay_dropped, walk_of, ends_at, Goes-dropped, Goes-spent_slice, named, Val, vint, alloc_all, pass_all, free_all, look_at, look_in_at, get, get_in, through, sets, lands_as, env, at_ret, ‵, raw, ◌⊛◌, some, later, ◌$◌, ◌∵◌, !, qed, move, keep, drop, use0, use1, use2, split, split3, join, fsplit, fjoin, rewrite, await, pick, suffices, frame, whole, sub, agg, stop, fld, hop, from, of_opd, lit, bin, addr, and_then, no_more, returns, enter}
 use Rattle.std.proofs.Common.{map, append-nil, ltb→lt, nltb→le}
 use Rattle.std.proofs.lemmas.List.{length-drop}
@@ -111,20 +111,20 @@ build_frame_spec 𝓤 𝓛 𝓜 𝓡 wired =
     use1 𝓛 (later (some (λ (r : MutBor (List ℕ)). ((‵ (flft κ q) ⊛ ‵ ftrue) ⊛ ‵ (Part.own_val r (w ∷ []))) ⊛
     some (λ (ws : Lasts blank.ended κs a). ‵ (lasts blank.ended κs a ws) ⊛ (raw (fact 𝓤 (r.ghost_name ≡ out.ghost_name)) ⊛ raw (fact 𝓤 (r.now ≡ frame_text serial (map blank_lrw ds) ++ tail))))))) (id⊢ 𝓤 _) $
     await ! tt $ pick ! (λ r. split ! $ move ! (1 ∷ []) $ pick ! (λ ws. split ! $ drop ! $ split ! $ heard ! _ (λ same. heard ! _ (λ text.
-    split ! $ move ! (1 ∷ []) $ peeks ! Part _ (shows 𝓛 Part) r (w ∷ []) (λ tells.
-    rewrite ! 0 (λ (vs : List Val). ‵ (Part.own_val r vs)) tells.0.0 refl $
-    lands_as ! (ap only tells.0.0) refl (tt, (tt, (record { fits = tells.0.1.0 }, tt))) $
+    split ! $ move ! (1 ∷ []) $ peeks ! Part _ (shows 𝓛 Part) r (w ∷ []) (λ said.
+    rewrite ! 0 (λ (vs : List Val). ‵ (Part.own_val r vs)) said.0.0 refl $
+    lands_as ! (ap only said.0.0) refl (tt, (tt, (record { fits = said.0.1.0 }, tt))) $
     -- [the frame; the token; the datagrams]
     let b = r.ref_ptr.0 in let start = r.ref_ptr.1 in let p : ℕ = 16 + start in
     let front : List ℕ = frame_head serial (datagrams_size ds) in
     let mid : List ℕ = drop_list 16 r.now in
-    let F : List ℕ → List ℕ = λ behind. front ++ behind in
+    let F : List ℕ → List ℕ = λ after_it. front ++ after_it in
     let cut : r.now ≡ front ++ (mid ++ []) = head_cut serial ds tail r.now text in
     let long : length mid ≡ length r.now - 16 = length-drop 16 r.now in
     let full : length r.now ≡ 16 + length mid = ap length (cut ∙ ap F (append-nil mid)) ∙ omega arith in
-    let most : length r.now < 2 ^ 64 = tells.0.1.0 in
+    let most : length r.now < 2 ^ 64 = said.0.1.0 in
     let mid_fits : length r.now - 16 < 2 ^ 64 = omega arith in
-    let bytes_fit : length r.now * 1 < 2 ^ 63 = tells.0.1.1 in
+    let bytes_fit : length r.now * 1 < 2 ^ 63 = said.0.1.1 in
     let room' : Room u8 (length mid) = (omega arith, omega arith) in
     let on : at start (mem u8).size (length front) ≡ p = at_mul start 1 16 in
     let opened = frame_rest serial ds tail r.now text in
@@ -138,13 +138,13 @@ build_frame_spec 𝓤 𝓛 𝓜 𝓡 wired =
     let new : ℕ → declared.Open = λ δ. record { rest = part δ; datagrams = list; serial = serial; standing = frame_opens serial ds tail mid opened } in
     let part_val : Val = slice_val (b, p) (length r.now - 16) in let list_val : Val = slice_val list.ref_ptr (length ds) in
     let new_val : Val = vstruct (vcons part_val (vcons list_val (vcons (vint w64 serial) vnil))) in
-    let whole_cut : (behind : List ℕ) → length behind ≡ length mid → F behind ≡ front ++ (behind ++ []) = λ behind e. ap F (sym (append-nil behind)) in
+    let whole_cut : (after_it : List ℕ) → length after_it ≡ length mid → F after_it ≡ front ++ (after_it ++ []) = λ after_it e. ap F (sym (append-nil after_it)) in
     move ! (1 ∷ []) $ split ! $ move ! (2 ∷ 0 ∷ []) $
     use2 𝓛 (later (some (part_lent 𝓛 (named 0) κ q b start r.ghost_name u8 r.now front mid [] cut F whole_cut p on room')))
     (lends_part 𝓛 (named 0) κ q b start r.ghost_name u8 r.now front mid [] cut F whole_cut p on room' (mut_slice_vals r)) $ await ! tt $ pick ! (λ δ. split3 ! $
     rewrite ! 0 (λ (k : ℕ). ‵ (Part.own_val (part δ) (slice_val (b, p) k ∷ []))) long refl $
     rewrite ! 2 (λ (γ : ℕ). ‵ (follows (Array u8 0) (Array u8 0) γ δ F)) same refl $
-    -- [what stands behind the head; the token, in two; its tie; nothing; the datagrams]
+    -- [what is after the head; the token, in two; its tie; nothing; the datagrams]
     nothing ! $ owned ! u64 _ (uint_Makes 𝓛 w64) serial _ (refl, serial_fits) $ fjoin ! $ move ! (5 ∷ 0 ∷ []) $ fjoin ! $ move ! (1 ∷ 0 ∷ []) $ fjoin ! $
     feq_i ! (List Val) (new_val ∷ []) (new_val ∷ []) refl $ fjoin ! $
     fpack ! (Valss (shape (Open.the_type o)).fields) (within (shape (Open.the_type o)) ((Open.the_type o).to (new δ)) (new_val ∷ [])) (part_val ∷ [], (list_val ∷ [], (vint w64 serial ∷ [], tt))) $
@@ -154,4 +154,4 @@ build_frame_spec 𝓤 𝓛 𝓜 𝓡 wired =
     suffices ! _ (ends_at 𝓛 f.ended stayed c y (live 0 (of_list (new_val ∷ []))) (Ok (new δ)) (tt, (tt, (tt, tt))) (tt, (tt, (tt, tt)))) $
     nothing ! $ nothing ! $ fjoin ! $ nothing ! $ fjoin ! $ nothing ! $ fjoin ! $ move ! (0 ∷ 2 ∷ []) $ join ! $ move ! (1 ∷ 0 ∷ []) $ join ! $ frame ! $ frame ! $
     by ! (says_three 𝓛 (λ none. cc, λ short. absurd (omega arith)) tt
-    (record { serial_kept = refl; datagrams_kept = refl; text = opened }))))))))))))))))))))
+    (record { serial_unchanged = refl; datagrams_unchanged = refl; text = opened }))))))))))))))))))))

@@ -1,0 +1,7 @@
+-- Which tasks have a seat.
+use Rattle.std.specs.Prelude.{ℕ, Bool, List, Option, drop, is_some}
+use Rattle.std.specs.List.{list_any}
+
+-- some task from this one on has a seat's end
+abbrev pub has_seat_from : {X : Type 0} → ℕ → List (Option X) → Bool
+has_seat_from task ends = list_any is_some (drop task ends)

@@ -1,8 +1,0 @@
-use Rattle.std.proofs.Common.{◌≡◌, drop}
-use Rattle.hc_events.specs.Steps.{with_sent}
-use Rattle.hc_core.specs.Records.{record_of}
-use Rattle.hc_core.proofs.past.Past.sent_all.Given as goal
-
--- with what is left to come it is the whole
-abbrev pub invariant-loop-frame : goal.invariant-loop-frame
-invariant-loop-frame l = with_sent (record_of l.self) (drop l.frame-index l.frames) ≡ with_sent (record_of l.fn.self) l.frames

@@ -1,0 +1,29 @@
+//! The record, entry by entry.
+use crate::text::Text;
+use hc_events::sending::Sending;
+use hc_records::edit::Edit;
+use hc_records::project::Project;
+use hc_sendings::write_frames::WriteFrame;
+use std::snapshot::Snapshot;
+
+/// The record of a project: its opening, and after it what was accepted, the last entry outermost.
+/// `specs/Records` says which record that is. At run time it is a tag.
+#[derive(Drop)]
+pub enum HistoryGhost {
+    /// The project was opened.
+    Opened(Snapshot<Project>),
+    /// An edit was accepted.
+    Edited(Snapshot<HistoryGhost>, Snapshot<Edit>),
+    /// A post of a task was accepted.
+    Posted(Snapshot<HistoryGhost>, Snapshot<u8>, Snapshot<Text>),
+    /// A frame of tasks was sent.
+    Sent(Snapshot<HistoryGhost>, Snapshot<Sending>),
+    /// A frame of register writes was sent.
+    Wrote(Snapshot<HistoryGhost>, Snapshot<WriteFrame>),
+    /// Bytes arrived.
+    Came(Snapshot<HistoryGhost>, Snapshot<Text>),
+    /// The registers of the slave with this station address were forgotten.
+    Forgot(Snapshot<HistoryGhost>, Snapshot<u16>),
+}
+
+mod steps;

@@ -1,0 +1,78 @@
+//! How the record grows.
+ghost use Rattle.std.specs.Prelude.{◌≡◌, ◌∷◌, map};
+ghost use Rattle.hc_events.specs.Accepted.{just_opened};
+ghost use Rattle.hc_events.specs.Arrivals.{arrival_in};
+ghost use Rattle.hc_events.specs.Entries.{Edited, Forgot, Posted, Sent, Wrote};
+ghost use Rattle.hc_events.specs.Steps.{with_arrival, with_sent};
+ghost use Rattle.hc_sendings.specs.WriteFrames.{block_of};
+ghost use Rattle.hc_core.specs.Records.{history_read};
+
+use super::HistoryGhost;
+use crate::text::text_of;
+use hc_events::sending::Sending;
+use hc_records::edit::Edit;
+use hc_records::project::Project;
+use hc_sendings::write_frames::WriteFrame;
+use std::snapshot::Snapshot;
+
+impl HistoryGhost {
+    /// The record of a project where nothing has happened.
+    pub fn opened(project: &Project) -> HistoryGhost
+        ensures { history_read result ≡ just_opened project.now }
+    {
+        HistoryGhost::Opened(Snapshot::of(project))
+    }
+
+    /// With an edit after it.
+    pub fn edited(&self, edit: &Edit) -> HistoryGhost
+        ensures { history_read result ≡ Edited edit.now ∷ history_read self.now }
+    {
+        HistoryGhost::Edited(Snapshot::of(self), Snapshot::of(edit))
+    }
+
+    /// With a task's post after it.
+    pub fn posted(&self, task: u8, bytes: &[u8]) -> HistoryGhost
+        ensures { history_read result ≡ Posted task bytes.now ∷ history_read self.now }
+    {
+        let text = text_of(bytes);
+        HistoryGhost::Posted(Snapshot::of(self), Snapshot::of(&task), Snapshot::of(&text))
+    }
+
+    /// With a frame of tasks after it.
+    pub fn sent(&self, frame: &Sending) -> HistoryGhost
+        ensures { history_read result ≡ Sent frame.now.datagrams ∷ history_read self.now }
+    {
+        HistoryGhost::Sent(Snapshot::of(self), Snapshot::of(frame))
+    }
+
+    /// With a frame of register writes after it.
+    pub fn wrote(&self, frame: &WriteFrame) -> HistoryGhost
+        ensures { history_read result ≡ Wrote (map block_of frame.now.blocks) ∷ history_read self.now }
+    {
+        HistoryGhost::Wrote(Snapshot::of(self), Snapshot::of(frame))
+    }
+
+    /// With what arrived after it, if it can be read.
+    pub fn came(&self, bytes: &[u8]) -> HistoryGhost
+        ensures { history_read result ≡ with_arrival (history_read self.now) (arrival_in bytes.now) }
+    {
+        let text = text_of(bytes);
+        HistoryGhost::Came(Snapshot::of(self), Snapshot::of(&text))
+    }
+
+    /// With a slave forgotten after it.
+    pub fn forgot(&self, station: u16) -> HistoryGhost
+        ensures { history_read result ≡ Forgot station ∷ history_read self.now }
+    {
+        HistoryGhost::Forgot(Snapshot::of(self), Snapshot::of(&station))
+    }
+
+    /// Frames of tasks come after it, one after another.
+    pub fn sent_all(&mut self, frames: &[Sending])
+        ensures { history_read self.new ≡ with_sent (history_read self.old) frames.now }
+    {
+        for frame in frames {
+            *self = self.sent(frame);
+        }
+    }
+}

@@ -1,5 +1,0 @@
-use Rattle.hc_events.proofs.lemmas.WithoutStale.{without-stale}
-use Rattle.hc_events.proofs.laws.stale_is_told_without.Goals as goal
-
-pub returns : goal.returns
-returns c = without-stale

@@ -1,5 +1,0 @@
-use Rattle.hc_records.proofs.Alone.{packed-alone}
-use Rattle.hc_records.proofs.laws.cuts_stand_alone.Goals as goal
-
-pub returns : goal.returns
-returns c = packed-alone

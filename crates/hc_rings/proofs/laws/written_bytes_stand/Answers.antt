@@ -1,5 +1,0 @@
-use Rattle.hc_rings.proofs.lemmas.Written.{overwritten_whole}
-use Rattle.hc_rings.proofs.laws.written_bytes_stand.Goals as goal
-
-pub returns : goal.returns
-returns c = overwritten_whole

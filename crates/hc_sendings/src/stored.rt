@@ -1,0 +1,62 @@
+//! A frame of tasks as it is kept while it is awaited.
+use arrayvec::ArrayVec;
+use hc_events::sending::{Named, Sending};
+use std::marker::Model;
+
+/// The serial of a frame, and its datagrams in order: 115 at most, since the 1,498 bytes after the EtherCAT
+/// header hold so many of one data byte, 13 bytes each (ETG.1000.4, 5.3 and 5.4). It owns no memory.
+#[derive(Debug, Drop)]
+pub(crate) struct StoredFrame {
+    serial: u64,
+    datagrams: ArrayVec<Named, 115>,
+}
+
+impl Model for StoredFrame {
+    ghost use Rattle.hc_sendings.specs.Stored.{StoredFrame};
+
+    ghost Value = { StoredFrame };
+
+    ghost view = { λ stored. record { serial = stored.serial; datagrams = stored.datagrams.items } };
+}
+
+impl StoredFrame {
+    ghost use Rattle.std.specs.Prelude.{◌≡◌, ◌≤◌, [], length};
+    ghost use Rattle.hc_sendings.specs.declared.awaited.TheConstants.{FRAME_DATAGRAMS};
+    ghost use Rattle.hc_sendings.specs.Stored.{stored_frame};
+
+    /// What is kept of a frame.
+    pub(crate) fn of(frame: &Sending) -> StoredFrame
+        ensures { result ≡ stored_frame frame.now }
+    {
+        let mut datagrams = ArrayVec::new();
+        for datagram in frame.datagrams() {
+            datagrams.push(*datagram);
+        }
+        StoredFrame {
+            serial: frame.serial(),
+            datagrams,
+        }
+    }
+
+    /// It was answered: nothing is awaited of it any more.
+    pub(crate) fn clear(&mut self)
+        ensures { self.new ≡ record self.old { datagrams = [] } }
+    {
+        self.datagrams.clear();
+    }
+
+    /// Its serial.
+    pub(crate) fn serial(&self) -> u64
+        ensures { result ≡ self.now.serial }
+    {
+        self.serial
+    }
+
+    /// Its datagrams, in order.
+    pub(crate) fn datagrams(&self) -> &[Named]
+        ensures datagrams { result.now ≡ self.now.datagrams }
+        ensures few { length result.now ≤ FRAME_DATAGRAMS }
+    {
+        self.datagrams.as_slice()
+    }
+}

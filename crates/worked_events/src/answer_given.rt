@@ -1,0 +1,68 @@
+//! The changes that a reader of the input images gets, worked out by hand.
+use crate::answers::UNPOSTED;
+use crate::asked::Asked::Remap;
+use crate::asked::Wanted;
+use crate::lines::AXIS;
+use crate::stages::Stage::{AnswerGiven, Blocks, Rows};
+use crate::stages::{Case, first_wrong_case};
+use hc_events::change::Change;
+use std::test::Fail;
+
+/// What a change is to give.
+#[derive(Clone, Copy)]
+pub enum Update {
+    /// A task's datagram has these data.
+    Good(u8, u8, &'static [u8]),
+    /// An edit after which so many variables are elsewhere, appear or go.
+    Swapped(u32),
+}
+
+/// Whether a change gives this.
+fn says(change: &Change, updates: &Update) -> bool {
+    match (change, updates) {
+        (Change::Good(good), Update::Good(task, datagram, bytes)) => {
+            good.task() == *task && good.datagram() == *datagram && good.bytes() == *bytes
+        }
+        (Change::Swapped(swap), Update::Swapped(places)) => swap.places() == *places,
+        _ => false,
+    }
+}
+
+/// Whether changes say just this, in order.
+pub fn are_answered(changes: &[Change], updates: &[Update]) -> bool {
+    let mut left = updates.iter();
+    for change in changes {
+        match left.next() {
+            Some(updates) if says(change, updates) => {}
+            _ => return false,
+        }
+    }
+    left.next().is_none()
+}
+
+/// No block that is written says anything. The one good answer of a task gets once, and no stale one, none with another
+/// counter and no refusal. An edit that moves nothing is reported all the same. Without its outputs the axis has its
+/// inputs from the datagram's first byte on: variable 1 goes, and variable 2 is elsewhere.
+const CASES: &[Case] = &[(
+    AXIS,
+    &[
+        Blocks(4),
+        AnswerGiven(&[]),
+        Rows(UNPOSTED),
+        AnswerGiven(&[Update::Good(0, 0, b"\0\x34\x0a")]),
+        AnswerGiven(&[]),
+        Rows(&[
+            (Remap(1001, 1, &[0x1a00]), Wanted::Edited(1, 0, 0)),
+            (Remap(1001, 0, &[]), Wanted::Edited(2, 1, 3)),
+        ]),
+        AnswerGiven(&[Update::Swapped(0), Update::Swapped(2)]),
+        AnswerGiven(&[]),
+    ],
+)];
+
+/// The changes since the last taking are the good answers and edits, and no refusal, stale answer or other counter.
+#[test]
+fn changes_show_what_is_new_since_they_were_taken(rt: HostRuntime) -> Result<(), Fail> {
+    assert!(rt; first_wrong_case(rt.alloc(), CASES)?.is_none());
+    Ok(())
+}
