@@ -279,11 +279,11 @@ sweep_check() {
 }
 
 sweep_test worked_lines pieces::project_texts::projects::project_or_memory
-sweep_test worked_lines lines::edits_tell_what_they_change
+sweep_test worked_lines lines::edits_say_what_they_change
 sweep_test worked_lines lines::a_list_of_edits_is_answered_in_its_order
 sweep_test worked_lines found::a_group_is_found_by_its_alias
 sweep_test worked_lines declared::a_declared_group_comes_when_it_is_connected
-sweep_test worked_events values::values_are_sent_where_their_variables_stand
+sweep_test worked_events values::values_are_sent_where_their_variables_are
 sweep_test worked_threads buffers::a_buffer_begins_anew
 sweep_test worked_threads posts::posts_come_as_they_were_posted
 sweep_test worked_threads frames::frames_go_in_order
