@@ -17,14 +17,14 @@ fn with_other_byte(line: &str) -> String {
     String::from_utf8_lossy(&bytes).into_owned()
 }
 
-/// A line that tells an epoch, with the epoch before; none where it tells none, or the first one.
+/// A line that prints an epoch, with the epoch before; none where it prints none, or the first one.
 fn with_epoch_before(line: &str) -> Option<String> {
     let rest = line.strip_prefix("epoch ")?;
-    let (epoch, behind) = rest.split_at(rest.find(' ').unwrap_or(rest.len()));
-    Some(format!("epoch {}{behind}", epoch.parse::<u32>().ok()?.checked_sub(1)?))
+    let (epoch, after) = rest.split_at(rest.find(' ').unwrap_or(rest.len()));
+    Some(format!("epoch {}{after}", epoch.parse::<u32>().ok()?.checked_sub(1)?))
 }
 
-/// A view that is behind: it tells of its variable what the view before it told.
+/// A view that is too old: it shows of its variable what the view before it showed.
 fn with_view_before(lines: &[String], at: usize) -> Option<String> {
     let variable = |line: &String| line.strip_prefix("epoch ")?.split_once(" var ")?.1.split_once(" value ").map(|(one, _)| one.to_string());
     let own = variable(&lines[at])?;
@@ -32,7 +32,7 @@ fn with_view_before(lines: &[String], at: usize) -> Option<String> {
     (*before != lines[at]).then(|| before.clone())
 }
 
-/// The posts of a line that tells how many were accepted and refused, as another program counts them that refuses some.
+/// The line with the counts of accepted and refused posts, as a program counts them that refuses some.
 fn with_other_counts(line: &str, count: fn(u32, u32) -> (u32, u32)) -> Option<String> {
     let (accepted, refused) = line.strip_prefix("taken ")?.split_once(" refused ")?;
     let (accepted, refused): (u32, u32) = (accepted.parse().ok()?, refused.parse().ok()?);
@@ -40,7 +40,7 @@ fn with_other_counts(line: &str, count: fn(u32, u32) -> (u32, u32)) -> Option<St
     (refused > 0).then(|| format!("taken {other} refused {rest}"))
 }
 
-/// Turns a line at or behind the middle.
+/// Changes a line at or after the middle.
 fn turn(way: &str, lines: &mut Vec<String>) -> Option<()> {
     let middle = lines.len() / 2;
     match way {
@@ -55,7 +55,7 @@ fn turn(way: &str, lines: &mut Vec<String>) -> Option<()> {
                 "view" => with_view_before(lines, at),
                 // each post is judged by the present epoch, whatever its task viewed
                 "judged" => with_other_counts(&lines[at], |accepted, refused| (accepted + refused, 0)),
-                // all that were taken are told as accepted
+                // all that were taken are counted as accepted
                 "counted" => with_other_counts(&lines[at], |accepted, refused| (accepted + refused, refused)),
                 _ => None,
             };
@@ -83,8 +83,8 @@ fn with_shorter_documents(input: &str) -> String {
     lines.join("\n") + "\n"
 }
 
-/// What a program prints where a post at or behind the middle, which it answers as all others, never comes to it. The
-/// post is one of which that can be seen.
+/// What a program prints where a post at or after the middle never comes to it, though it is answered as all others.
+/// The post is one whose loss can be seen.
 fn with_dropped_post(program: &str, arguments: &[String], input: &str) -> std::io::Result<Output> {
     let whole = run(program, arguments, input.to_string())?;
     let lines: Vec<&str> = input.split_inclusive('\n').collect();
@@ -94,10 +94,10 @@ fn with_dropped_post(program: &str, arguments: &[String], input: &str) -> std::i
         let posted = run(program, arguments, lines[..=at].concat())?.stdout;
         let without = [&lines[..at], &["\n"], &lines[at + 1..]].concat();
         let other = run(program, arguments, without.concat())?;
-        let (Some(b"posted\n"), Some(behind)) = (posted.strip_prefix(&front[..]), other.stdout.strip_prefix(&front[..])) else {
+        let (Some(b"posted\n"), Some(after)) = (posted.strip_prefix(&front[..]), other.stdout.strip_prefix(&front[..])) else {
             continue;
         };
-        let stdout = [&front, &b"posted\n"[..], behind].concat();
+        let stdout = [&front, &b"posted\n"[..], after].concat();
         if stdout != whole.stdout {
             return Ok(Output { stdout, ..other });
         }

@@ -1,8 +1,8 @@
 /* Zangjulf's core for C: the configuration and process image of an EtherCAT line that changes while it runs.
  *
  * What is said here of each call is proved for every handle that keeps the rules below, in any order of calls and with any
- * numbers and bytes, but where docs/use/EMBEDDING.md says that it is only tested or read; what is on trust stands there too. There
- * are no threads, locks, clocks, files or sockets in the library: frames go out and come in as bytes.
+ * numbers and bytes, but where docs/use/EMBEDDING.md says that it is only tested or read; that page says too what is on trust.
+ * There are no threads, locks, clocks, files or sockets in the library: frames go out and come in as bytes.
  *
  * The handle. A `struct zangjulf` is set to zeros before its first call (`struct zangjulf line = {0};`), and from then on
  * nothing but these calls writes it: it isn't copied, and not written by hand. It belongs to whoever declares it;
@@ -18,7 +18,7 @@
  * calls where one happens before the other, as by a lock, a join, or an atomic that is released and acquired.
  * docs/use/EMBEDDING.md says what of this is proved. Seats, below, are for a thread of each task beside the line's.
  *
- * Slices. A pointer and a length stand for so many elements, which the call reads, or writes where the pointer isn't const,
+ * Slices. A pointer and a length give so many elements, which the call reads, or writes where the pointer isn't const,
  * and never looks beyond. A slice of length 0 may be NULL (tested, and not proved); no other pointer is.
  * Slices, structs and handles of one call don't overlap. No pointer is kept when a call is over.
  *
@@ -28,7 +28,7 @@
  * and 17, of `zangjulf_arrive` 20 to 27.
  *
  * Refusals. ZANGJULF_DONE, and of `zangjulf_arrive` 101 to 104 too, answer a call that is done; with any other answer all
- * that is handed in to be written is as it was, slices and structs and single numbers, but for what a call tells by it:
+ * that is handed in to be written is as it was, slices and structs and single numbers, but for what a call answers by it:
  *
  *   zangjulf_open                           12: `*task`
  *   zangjulf_block                          29: `*block`
@@ -49,7 +49,7 @@
 
 /* The version of this header, and the number of its binary interface (ABI), which grows with each release in which a call or a
  * struct is another one, or gone; the shared object's name has it, libzangjulf.so.0. docs/use/EMBEDDING.md says what they promise.
- * `zangjulf_version` and `zangjulf_abi` answer those of the library that is loaded. */
+ * `zangjulf_version` and `zangjulf_abi` answer for the library that is loaded. */
 #define ZANGJULF_VERSION "0.1.0"
 #define ZANGJULF_VERSION_MAJOR 0
 #define ZANGJULF_VERSION_MINOR 1
@@ -222,14 +222,14 @@ struct zangjulf_location {
     size_t line;                /* of 201 the line, counted from 1; else 0 */
     size_t column;              /* of 201 the column in characters, counted from 1; else 0 */
     struct zangjulf_spot place; /* of every other fault the first place at which its condition holds */
-    struct zangjulf_spot first; /* of two things that may not stand together the earlier one; else as `place` */
+    struct zangjulf_spot first; /* of two things that may not be together the earlier one; else as `place` */
 };
 
 /* Why `zangjulf_open` refuses a text, and where: ZANGJULF_DONE where it is a project; its fault, 201 to 210; or ZANGJULF_MEMORY.
  * With ZANGJULF_DONE and ZANGJULF_MEMORY `*location` is as it was. It takes memory, and gives it back. */
 uint8_t zangjulf_locate(const uint8_t *text, size_t length, struct zangjulf_location *location);
 
-/* What the line tells of itself: ZANGJULF_DONE or ZANGJULF_CLOSED. None takes memory. */
+/* What the line says of itself: ZANGJULF_DONE or ZANGJULF_CLOSED. None takes memory. */
 
 /* The number of accepted edits. */
 uint8_t zangjulf_epoch(const struct zangjulf *handle, uint32_t *epoch);
@@ -241,9 +241,9 @@ uint8_t zangjulf_next_serial(const struct zangjulf *handle, uint64_t *serial);
 uint8_t zangjulf_owed(const struct zangjulf *handle, uint32_t *count);
 
 /* The configuration of the present line: ZANGJULF_DONE, ZANGJULF_NOTHING or ZANGJULF_CLOSED unless another answer is named. It
- * is that of configuring the present line from nothing. None takes memory. */
+ * is as if the present line were configured from nothing. None takes memory. */
 
-/* Where a variable stands. */
+/* The place of a variable. */
 struct zangjulf_place {
     uint8_t task;     /* 0 to 7 */
     uint8_t datagram; /* its datagram's number in the task, 0 to 15 */
@@ -273,7 +273,7 @@ struct zangjulf_part {
     uint16_t inputs;
 };
 
-/* Those of a task, 0 and 0 where there is none: ZANGJULF_DONE or ZANGJULF_CLOSED. */
+/* The counts of a task, 0 and 0 where there is none: ZANGJULF_DONE or ZANGJULF_CLOSED. */
 uint8_t zangjulf_part(const struct zangjulf *handle, uint8_t task, struct zangjulf_part *part);
 
 /* The station address of the slave at a position of the line, from 0; nothing where the line is shorter. */
@@ -295,13 +295,13 @@ struct zangjulf_block {
 };
 
 /* The block with a number, from 0, in the order of the slave with a station address: for each area in record order its sync
- * manager block, then its FMMU block. ZANGJULF_DONE, and its bytes stand at the front of `out`; ZANGJULF_NOTHING where no such
+ * manager block, then its FMMU block. ZANGJULF_DONE, and its bytes are at the front of `out`; ZANGJULF_NOTHING where no such
  * slave is present or it has fewer blocks; 29 with the bytes needed in `block->size`; or ZANGJULF_CLOSED. Unless it is done
  * `out` is as it was. */
 uint8_t zangjulf_block(const struct zangjulf *handle, uint16_t station, uint8_t number, uint8_t *out, size_t length,
                        struct zangjulf_block *block);
 
-/* Edits. Where `asks` is true nothing changes, and what the edit would do is told. It is a byte, 0 or 1: a caller whose
+/* Edits. Where `asks` is true nothing changes, and the answer says what the edit would do. It is a byte, 0 or 1: a caller whose
  * language has another bool passes no other number. An edit that no fault refuses adds a change: a line that keeps changes, and
  * has as many as it may, answers it ZANGJULF_CHANGES_FULL, unless it is only asked for. */
 
@@ -312,7 +312,7 @@ struct zangjulf_cost {
                       * same bits as before, perhaps under another number */
     uint32_t moved;  /* how many register blocks of the new line weren't blocks with the same bytes at the same register of
                       * the same slave in the old line */
-    uint32_t places; /* how many variables stand elsewhere, appear or go */
+    uint32_t places; /* how many variables move, appear or go */
     uint8_t crowded; /* where the edit is answered 12 the lowest task, 0 to 7, that would need more than 16 datagrams; 0 where
                       * it is done */
 };
@@ -342,7 +342,7 @@ uint8_t zangjulf_declare(struct zangjulf *handle, const uint8_t *text, size_t le
 
 /* Register writes. */
 
-/* A register block that is owed: of which slave, where it begins, and how many bytes it has. */
+/* An owed register block: its slave, where it begins, and how many bytes it has. */
 struct zangjulf_owed_block {
     uint16_t station; /* the slave's station address */
     uint16_t start;   /* the register at which it begins */
@@ -359,7 +359,7 @@ struct zangjulf_write {
     struct zangjulf_owed_block block; /* the block that it writes */
 };
 
-/* The first owed register block is sent: its frame stands at the front of `out`. ZANGJULF_DONE; 18, 19, or 29 with the bytes
+/* The first owed register block is sent: its frame is at the front of `out`. ZANGJULF_DONE; 18, 19, or 29 with the bytes
  * needed in `write->size`; or ZANGJULF_CLOSED. Unless it is done nothing changed, `out` neither. What returns is handed to
  * `zangjulf_arrive`; a write that is lost is sent again by the next call. Takes no memory. */
 uint8_t zangjulf_next_write(struct zangjulf *handle, uint8_t *out, size_t length, struct zangjulf_write *write);
@@ -371,7 +371,7 @@ struct zangjulf_writes {
 };
 
 /* The first owed register blocks are sent in one frame, in the order in which they are owed: as many as the frame holds, whatever
- * `length` is. The frame stands at the front of `out`. ZANGJULF_DONE; 18, 19, or 29 with the bytes needed in `writes->size`; or
+ * `length` is. The frame is at the front of `out`. ZANGJULF_DONE; 18, 19, or 29 with the bytes needed in `writes->size`; or
  * ZANGJULF_CLOSED. Unless it is done nothing changed, `out` neither. What returns is handed to `zangjulf_arrive`; a frame that is
  * lost is sent again by the next call. One block has the frame of `zangjulf_next_write`, and is answered as that is. Takes no
  * memory. */
@@ -379,9 +379,9 @@ uint8_t zangjulf_next_writes(struct zangjulf *handle, uint8_t *out, size_t lengt
 
 /* The slave with a station address may have lost its registers, as one that was switched off and on: each of its register blocks
  * is owed again. Nothing else changes: not the epoch, what tasks posted and what they read, nor what arrives of frames that are
- * under way. A write to it that was sent before confirms nothing: its arrival is ZANGJULF_STALE; and so is, once a write was sent
- * after this call, that of any write sent before it. ZANGJULF_DONE; 5 or 6; or ZANGJULF_CLOSED, and nothing changed. Takes no
- * memory. */
+ * under way. A write to it that was sent before confirms nothing: its arrival is ZANGJULF_STALE; once a write was sent after
+ * this call, the arrival of any write sent before it is ZANGJULF_STALE too. ZANGJULF_DONE; 5 or 6; or ZANGJULF_CLOSED, and
+ * nothing changed. Takes no memory. */
 uint8_t zangjulf_forget(struct zangjulf *handle, uint16_t station);
 
 /* Process data. */
@@ -397,7 +397,7 @@ struct zangjulf_sent {
     uint32_t owed; /* of an answer 17 how many register blocks are owed; else 0 */
 };
 
-/* Tasks are sent, 1 to 8 and none twice, in this order: their frames stand at the front of `out` one after another, each of its
+/* Tasks are sent, 1 to 8 and none twice, in this order: their frames are at the front of `out` one after another, each of its
  * own size (`zangjulf_frame_size`). ZANGJULF_DONE; 8, 17, 19, or 29 with the bytes needed in `sent->size`; before these
  * ZANGJULF_CHANGES_FULL where the line keeps changes and has as many as it may, so that an answer could not be taken;
  * ZANGJULF_MISUSED where there is no task, more than 8 or one twice; or ZANGJULF_CLOSED. Unless it is done nothing is sent and
@@ -406,15 +406,15 @@ struct zangjulf_sent {
 uint8_t zangjulf_send(struct zangjulf *handle, const uint8_t *tasks, size_t count, uint8_t *out, size_t length,
                       struct zangjulf_sent *sent);
 
-/* The bytes of a frame that the library wrote, 60 to 1,514, by its EtherCAT header; for walking over frames that stand one
- * after another. */
+/* The bytes of a frame that the library wrote, 60 to 1,514, by its EtherCAT header; for walking over frames that follow
+ * one another. */
 static inline size_t zangjulf_frame_size(const uint8_t *frame) {
     size_t size = 16 + ((size_t)(frame[14] | frame[15] << 8) & 0x7ff);
     return size < 60 ? 60 : size;
 }
 
 /* The frame of one datagram of a task alone as it would be sent next, whether or not blocks are owed; nothing is sent by it. It
- * stands at the front of `out`, and `*size` is its bytes. ZANGJULF_DONE; ZANGJULF_NOTHING where the task has no such datagram,
+ * is at the front of `out`, and `*size` is its bytes. ZANGJULF_DONE; ZANGJULF_NOTHING where the task has no such datagram,
  * there is no such task, or no serial is left; 29 where `out` is too short, and is as it was; or ZANGJULF_CLOSED. Takes no
  * memory. */
 uint8_t zangjulf_preview(const struct zangjulf *handle, uint8_t task, uint8_t datagram, uint8_t *out, size_t length, size_t *size);
@@ -433,7 +433,7 @@ struct zangjulf_outcome {
     uint8_t datagram;  /* its number in the task, 0 to 15; of a register block 0 */
     uint16_t expected; /* the expected working counter; of a register block 1 */
     uint16_t got;      /* the one that it came back with */
-    uint16_t at;       /* the byte of the frame at which its data begin, so that those of a wrong count can be had */
+    uint16_t at;       /* the byte of the frame at which its data begin, so that data with a wrong count can be had */
     uint16_t length;   /* the bytes of its data */
     uint16_t station;  /* of a register block the slave's station address; else 0 */
     uint16_t start;    /* of a register block the register at which it begins; else 0 */
@@ -448,14 +448,14 @@ struct zangjulf_arrival {
 };
 
 /* A frame arrives: any bytes, without the check sequence. ZANGJULF_DONE where they answer frames of tasks, whatever their
- * counters are, and the outcomes of the first datagrams stand in `outcomes`, as many as there is room for: look at each
+ * counters are, and the outcomes of the first datagrams are in `outcomes`, as many as there is room for: look at each
  * `kind`. ZANGJULF_WRITTEN where they answer a frame of several register writes, with an outcome of each block in the same way.
- * ZANGJULF_WRITE_DONE or ZANGJULF_WRITE_MISSED of a write of one block, and `*arrival` names it. ZANGJULF_STALE, and
- * `*arrival` tells its serial. Or nothing changed: 20 to 27 where they can't be read, ZANGJULF_CHANGES_FULL where the line
- * keeps changes and has no room for those of all the good answers, ZANGJULF_MEMORY, ZANGJULF_BUSY or ZANGJULF_CLOSED; then
- * `*arrival` is as it was. Only with ZANGJULF_DONE and ZANGJULF_WRITTEN `outcomes` is written. In a line that keeps no changes it takes no memory,
- * and is never answered ZANGJULF_MEMORY; in another one it takes memory for the data of good answers, and where the list of
- * changes grows. */
+ * ZANGJULF_WRITE_DONE or ZANGJULF_WRITE_MISSED of a write of one block, and `*arrival` names it. ZANGJULF_STALE, and `*arrival`
+ * has its serial. Or nothing changed: 20 to 27 where they can't be read, ZANGJULF_CHANGES_FULL where the line keeps changes and
+ * has no room for the changes of all the good answers, ZANGJULF_MEMORY, ZANGJULF_BUSY or ZANGJULF_CLOSED; then `*arrival` is as
+ * it was. Only with ZANGJULF_DONE and ZANGJULF_WRITTEN `outcomes` is written. In a line that keeps no changes it takes no
+ * memory, and is never answered ZANGJULF_MEMORY; in another one it takes memory for the data of good answers, and where the
+ * list of changes grows. */
 uint8_t zangjulf_arrive(struct zangjulf *handle, const uint8_t *bytes, size_t length, struct zangjulf_outcome *outcomes,
                         size_t room, struct zangjulf_arrival *arrival);
 
@@ -467,7 +467,7 @@ struct zangjulf_image {
     uint16_t has;     /* bit d: datagram d has data in this epoch */
 };
 
-/* What a task reads: of each of its datagrams the data of its last good answer in the present epoch, or none. They stand in
+/* What a task reads: of each of its datagrams the data of its last good answer in the present epoch, or none. They are in
  * `out` at the datagram's offset in the task's image; bytes of a datagram without data are 0. `serials` has of each the
  * serial of the sending that its data answer, 0 where it has none, as many as there is room for. Serials count all frames,
  * register writes too: data are of the last sending where `has` has the datagram's bit and its serial isn't below what
@@ -485,7 +485,8 @@ struct zangjulf_counters {
     uint64_t again;
 };
 
-/* Those of a datagram: ZANGJULF_DONE; ZANGJULF_NOTHING where the task is over 7, or the number over 15; or ZANGJULF_CLOSED. */
+/* The counters of a datagram: ZANGJULF_DONE; ZANGJULF_NOTHING where the task is over 7, or the number over 15; or
+ * ZANGJULF_CLOSED. */
 uint8_t zangjulf_counters(const struct zangjulf *handle, uint8_t task, uint8_t datagram, struct zangjulf_counters *counters);
 
 /* A change of what tasks read. */
@@ -500,10 +501,10 @@ struct zangjulf_change {
     uint16_t size;    /* of a good answer the bytes of its data, 1 to 1,486; else 0 */
 };
 
-/* The next change that wasn't told yet, in the order in which they came. ZANGJULF_DONE, and a good answer's data stand at the
- * front of `out`; ZANGJULF_NOTHING where there is none, and always where the line was opened to keep none; 29 where `out` is
- * shorter than `change->size`, and the same change is told again; or ZANGJULF_CLOSED. Unless it is done `out` is as it was.
- * Takes no memory. */
+/* The next change that wasn't handed out yet, in the order in which they came. ZANGJULF_DONE, and a good answer's data are
+ * at the front of `out`; ZANGJULF_NOTHING where there is none, and always where the line was opened to keep none; 29 where
+ * `out` is shorter than `change->size`, and the same change is handed out again; or ZANGJULF_CLOSED. Unless it is done `out`
+ * is as it was. Takes no memory. */
 uint8_t zangjulf_next_change(struct zangjulf *handle, uint8_t *out, size_t length, struct zangjulf_change *change);
 
 /* Seats: a task's thread reads and posts while another thread, the owner, has the line. Nobody waits, and only
@@ -558,10 +559,10 @@ uint8_t zangjulf_seat_view(struct zangjulf_seat *seat, uint8_t *out, size_t leng
  * ZANGJULF_CLOSED. Unless it is done `out` is as it was. Nothing changes. Takes no memory. */
 uint8_t zangjulf_seat_outputs(const struct zangjulf_seat *seat, uint8_t *out, size_t length);
 
-/* The seat posts all outputs of its task for an epoch, which is that of the image that it took last. The post waits until the
- * owner takes it; posts of a seat keep their order. ZANGJULF_DONE; 15 where that image is of another epoch; 16 where it has
- * another number of outputs; ZANGJULF_NO_SPARE where four posts of the seat wait; or ZANGJULF_CLOSED, where the seat is closed or
- * its line is. Unless it is done nothing is posted. Takes no memory. */
+/* The seat posts all outputs of its task for an epoch, which is the epoch of the image that it took last. The post waits until
+ * the owner takes it; posts of a seat keep their order. ZANGJULF_DONE; 15 where that image is of another epoch; 16 where it has
+ * another number of outputs; ZANGJULF_NO_SPARE where four posts of the seat wait; or ZANGJULF_CLOSED, where the seat is closed
+ * or its line is. Unless it is done nothing is posted. Takes no memory. */
 uint8_t zangjulf_seat_post(struct zangjulf_seat *seat, uint32_t epoch, const uint8_t *bytes, size_t length);
 
 /* What became of the posts that were taken. */
@@ -570,10 +571,10 @@ struct zangjulf_taken {
     uint8_t refused;  /* bit t: a post of task t was refused, and left nothing */
 };
 
-/* The owner takes the posts that wait, at most four of each seat: task 0's first, and those of a task in the order in which they
- * were posted. Each is judged and done as by `zangjulf_post`; one that is refused was made for another epoch than the present one.
- * ZANGJULF_DONE, also where none waits; or ZANGJULF_CLOSED. What is posted meanwhile may be left for the next call. Takes no
- * memory. */
+/* The owner takes the posts that wait, at most four of each seat: task 0's first, and the posts of a task in the order in which
+ * they were posted. Each is judged and done as by `zangjulf_post`; one that is refused was made for another epoch than the
+ * present one. ZANGJULF_DONE, also where none waits; or ZANGJULF_CLOSED. What is posted meanwhile may be left for the next
+ * call. Takes no memory. */
 uint8_t zangjulf_take_posts(struct zangjulf *handle, struct zangjulf_taken *taken);
 
 /* Bits of bytes that the caller keeps, counted from the least significant bit of the first byte. None takes memory. */
@@ -582,7 +583,7 @@ uint8_t zangjulf_take_posts(struct zangjulf *handle, struct zangjulf_taken *take
  * where `bits` is 0 or over 64, or they don't lie within the slice, and `*value` is as it was. */
 uint8_t zangjulf_get_bits(const uint8_t *bytes, size_t length, size_t bit, uint8_t bits, uint64_t *value);
 
-/* Replaces 1 to 64 bits from bit `bit` on by those of a number; every other bit stays. ZANGJULF_DONE; ZANGJULF_MISUSED where
+/* Replaces 1 to 64 bits from bit `bit` on by the bits of a number; every other bit stays. ZANGJULF_DONE; ZANGJULF_MISUSED where
  * `bits` is 0 or over 64, or they don't lie within the slice; ZANGJULF_TOO_WIDE where the number needs more bits. Unless it is
  * done the slice is as it was. */
 uint8_t zangjulf_put_bits(uint8_t *bytes, size_t length, size_t bit, uint8_t bits, uint64_t value);
@@ -599,19 +600,19 @@ uint8_t zangjulf_put_value(const struct zangjulf *handle, uint32_t variable, uin
 uint8_t zangjulf_get_value(const struct zangjulf *handle, uint32_t variable, const uint8_t *image, size_t length,
                            uint64_t *value);
 
-/* Frames beside those of the line. A frame that the library writes bears the source address 02 and its serial in five bytes, the
- * high one first, and its datagrams the index serial modulo 256. A master's own EtherCAT frames take another first byte of the
- * source address, with bit 1 set, since slaves set that bit of what passes: ZANGJULF_OTHER_SOURCE for instance. Then any index
- * is free. None takes memory. */
+/* A master's frames beside the line's. A frame that the library writes bears the source address 02 and its serial in five
+ * bytes, the high one first, and its datagrams the index serial modulo 256. A master's own EtherCAT frames take another first
+ * byte of the source address, with bit 1 set, since slaves set that bit of what passes: ZANGJULF_OTHER_SOURCE for instance.
+ * Then any index is free. None takes memory. */
 #define ZANGJULF_OTHER_SOURCE 0x06
 
 /* Whether a frame may be one that the library wrote, as sent or as it came back: EtherType 0x88A4, and a source address that
  * begins with 02. */
 bool zangjulf_is_mine(const uint8_t *frame, size_t length);
 
-/* The frame that reads the station alias of the slave at a position, from 0 (APRD of register 0x0012): it stands at the front of
- * `out`, and `*size` is 60. ZANGJULF_DONE, or 29 where `out` is shorter, and is as it was. It bears the serial 2^40 - 1, which no
- * other sending has, and `zangjulf_arrive` answers it STALE: its alias stands in bytes 26 and 27, low byte first, and the
+/* The frame that reads the station alias of the slave at a position, from 0 (APRD of register 0x0012): it is at the front of
+ * `out`, and `*size` is 60. ZANGJULF_DONE, or 29 where `out` is shorter, and is as it was. It bears the serial 2^40 - 1, which
+ * no other sending has, and `zangjulf_arrive` answers it STALE: its alias is in bytes 26 and 27, low byte first, and the
  * working counter after it is 1 where a slave answered. */
 uint8_t zangjulf_alias_read(uint16_t position, uint8_t *out, size_t length, size_t *size);
 

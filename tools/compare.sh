@@ -1,11 +1,11 @@
 #!/bin/sh
 # Compares what the program that `rt ci` has built prints for drawn scripts with what the plain models of compare/ work out
-# of them, and what `projectcheck` tells of spoilt projects with what was spoilt. Each comparison is also shown wrong
-# programs, of which it must find the wrong line: one with another byte in a line, one that leaves a line out, and of
-# `hotline` one that tells the epoch before, one that leaves the last line of a declared group out, and four that are wrong
-# where tasks post and view. Scripts that were written by hand must be answered as is written of them, by the model and by
-# the program. The last line is 'N passed, M failed'. Words after its name are a program to be compared in place of the
-# built `hotline`.
+# of them, and what `projectcheck` prints of spoilt projects with what was spoilt. Each comparison is also shown wrong
+# programs, and must find the wrong line of each: one with another byte in a line, one that leaves a line out, and of
+# `hotline` one that prints the epoch before, one that leaves the last line of a declared group out, and four that are
+# wrong where tasks post and view. Scripts that were written by hand must be answered as they are written, by the model
+# and by the program. The last line is 'N passed, M failed'. Words after its name are a program to be compared in place of
+# the built `hotline`.
 set -u
 cd "$(dirname "$0")/.."
 [ "$#" -gt 0 ] || set -- crates/hotline/out/hotline

@@ -1,27 +1,27 @@
 #!/bin/sh
-# Refuses a public word of a crate's specs/ that has no comment above it. A comment stands on the line above the word, or
-# above the words directly before it, with no blank line between, so that one comment may tell words that belong together.
-# Worked examples are no words. The last line is 'N passed, M failed', a crate each.
+# Refuses a public word of a crate's specs/ that has no comment above it. A comment is on the line above the word, or
+# above the words directly before it, with no blank line between, so that one comment may explain words that belong
+# together. Worked examples are no words. The last line is 'N passed, M failed', a crate each.
 set -u
 cd "$(dirname "$0")/.."
 passed=0
 failed=0
 
 # untold CRATE: the places and words of its specs without a comment.
-untold() {
+without_comment() {
     find "crates/$1/specs" -name declared -prune -o -name '*.antt' ! -name 'Worked*' -print | sort | xargs -r awk '
-        FNR == 1 { told = 0 }
-        /^[ \t]*$/ { told = 0 }
-        /^--/ { told = 1 }
+        FNR == 1 { commented = 0 }
+        /^[ \t]*$/ { commented = 0 }
+        /^--/ { commented = 1 }
         /^((abbrev|opaque|unfoldable|pub|data|record) )+[^ ]+ *(:|\(|$)/ && !/^pub (mod|use) / && / ?pub / {
-            if (!told) print FILENAME ":" FNR ": " $0
+            if (!commented) print FILENAME ":" FNR ": " $0
         }'
 }
 
 for folder in crates/*/; do
     crate=$(basename "$folder")
     [ -d "$folder/specs" ] || continue
-    found=$(untold "$crate")
+    found=$(without_comment "$crate")
     if [ -z "$found" ]; then
         passed=$((passed + 1))
     else

@@ -12,7 +12,7 @@
 # tools/embed.packages has the Debian packages. The last line is 'N passed, M failed'. A word after its name is a program to be
 # compared with in place of the built hotline.
 #
-# tools/embed.sh --short, of which the gate makes use, takes the callers alone, with 20,000 drawn calls, a tenth of the orders and a
+# tools/embed.sh --short, which the gate runs, takes the callers alone, with 20,000 drawn calls, a tenth of the orders and a
 # tenth of the images: what gcc, g++, cargo and Python can see, in some three minutes over a built library.
 set -u
 cd "$(dirname "$0")/.."
@@ -39,13 +39,13 @@ captured() {
     tshark -r "$scratch/$2.pcap" -Y "$1" 2>"$scratch/tshark" | wc -l
 }
 
-# read_capture NAME: tshark reads the frames of a capture, those of 5,000 cycles as they are sent and as they return, and marks
+# read_capture NAME: tshark reads the frames of a capture, 5,000 cycles as they are sent and as they return, and marks
 # none malformed
 read_capture() {
     [ "$(captured 'ecat.cmd == 12' "$1")" -eq 10000 ]
-    tell $? "tshark doesn't read the frames of 5,000 cycles in the capture of $1"
+    report $? "tshark doesn't read the frames of 5,000 cycles in the capture of $1"
     [ "$(captured _ws.malformed "$1")" -eq 0 ]
-    tell $? "tshark reads a malformed frame in the capture of $1"
+    report $? "tshark reads a malformed frame in the capture of $1"
 }
 
 # read_malformed: tshark marks a frame that is malformed
@@ -54,7 +54,7 @@ read_malformed() {
     echo "000000 ff ff ff ff ff ff 02 00 00 00 00 00 88 a4 1c 10 0c 00 00 00 00 01 10 00 00 00 01 02 03 04" |
         text2pcap -q - "$scratch/malformed.pcap" 2>"$scratch/tshark"
     tshark -r "$scratch/malformed.pcap" -Y _ws.malformed 2>"$scratch/tshark" | grep -q .
-    tell $? "tshark marks no malformed frame"
+    report $? "tshark marks no malformed frame"
 }
 
 # soak: 100,000 cycles with a thread for each task, in which only openings and edits take memory
@@ -63,7 +63,7 @@ soak() {
     gcc -std=c11 -O2 $warnings -pthread -Iinclude examples/master/tasks.c examples/master/tool.c examples/master/wire.c \
         tools/embed/edits_alone.c $alone build/libzangjulf.a -o "$scratch/soak" &&
         timeout 120 "$scratch/soak" examples/own_tasks.toml 100000 5000 >"$scratch/printed"
-    tell_said $? "100,000 cycles with a thread for each task"
+    report_run $? "100,000 cycles with a thread for each task"
 }
 
 # masters: a master and its slaves, two processes, for five seconds; one that changes its tool with one frame of register
@@ -72,21 +72,21 @@ masters() {
     timeout 60 "$scratch/master" examples/tool_changer.toml 5 1000 "$scratch/master.pcap"
     status=$?
     [ $status -ne 77 ] || return
-    tell $status "the master"
+    report $status "the master"
     timeout 60 "$scratch/docking" examples/own_tasks.toml 5 1000 "$scratch/docking.pcap"
-    tell $? "a tool that is changed with one frame"
+    report $? "a tool that is changed with one frame"
     timeout 60 "$scratch/tasks" examples/own_tasks.toml 5000 1000 >"$scratch/printed"
-    tell_said $? "a thread for each task"
+    report_run $? "a thread for each task"
     soak
     ! { has tshark && has text2pcap; } || { read_capture master; read_capture docking; read_malformed; }
     timeout 60 unshare -n python3 examples/master/master.py examples/tool_changer.toml 5
-    tell $? "the master in Python"
+    report $? "the master in Python"
 }
 
 tools/version.sh >"$scratch/printed"
-tell_said $? "the version is told in two ways"
+report_run $? "the version is told in two ways"
 tools/library.sh >"$scratch/printed" 2>&1
-tell_said $? "the library isn't built" || { finish; exit 1; }
+report_run $? "the library isn't built" || { finish; exit 1; }
 ! { has gcc && has g++; } || { header; callers_in_c $calls; callers_of_seats $shows $every; }
 ! has cargo || callers_in_rust
 ! has python3 || callers_in_python
@@ -97,14 +97,14 @@ fi
 
 [ -e $hotline ] || (cd crates/hotline && rt run <stdin) >"$scratch/printed" 2>&1
 [ -e $hotline ]
-tell_said $? "the program isn't built"
+report_run $? "the program isn't built"
 tools/embed/races.sh >"$scratch/printed" 2>&1
-tell_said $? "the thread sanitizer over the library's own code"
+report_run $? "the thread sanitizer over the library's own code"
 ! { has gcc && has rustc && rustc -O --edition 2021 -o "$scratch/wrong" compare/wrong_program.rs; } || compare_drawn
 ! { has gcc && has readelf; } || installed
 ! has cargo || rust_outside
 ! has python3 || python_outside
 tools/release.sh >"$scratch/printed" 2>&1
-tell_said $? "a release isn't made"
+report_run $? "a release isn't made"
 ! { has gcc && has ip && has unshare; } || masters
 finish

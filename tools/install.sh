@@ -2,7 +2,7 @@
 # Installs the library below a folder: tools/install.sh PREFIX [FOLDER]. The folder then has the header, the archive, the shared
 # object, what pkg-config and CMake find it by, the verdict and the licences; the whole may be moved afterwards. The library is
 # what tools/library.sh has left in the folder, build/ where none is named; where it isn't there, it is built into build/ first.
-# The version is that of tools/package/version. It wants what tools/library.sh wants.
+# The version is in tools/package/version. It wants what tools/library.sh wants.
 set -eu
 if [ $# -ne 1 ] && [ $# -ne 2 ]; then
     echo "usage: tools/install.sh PREFIX [FOLDER]" >&2

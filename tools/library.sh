@@ -7,7 +7,7 @@
 #   aarch64     every 64-bit processor of ARM
 #
 # each of Linux with glibc. hc_c is checked by it and the libraries below it aren't, where `rt ci` or another check has left them;
-# where one is missing, `rt lib` proves them all. It wants the Rattle kit, gcc, ar and objcopy, and those of the target.
+# where one is missing, `rt lib` proves them all. It wants the Rattle kit, gcc, ar and objcopy, and the target's own.
 set -eu
 cd "$(dirname "$0")/.."
 target=${1:-x86_64-v2}

@@ -1,9 +1,9 @@
 #!/bin/sh
 # Makes the picture and the report of each example and of a drawn line of 2,048 slaves, reads all numbers back out of
 # them and compares these with what the program that `rt ci` has built prints; compares the stored pictures of examples/
-# with those made now; and shows the comparison wrong pictures and reports, each of which it must refuse. It tells the
-# seconds that each took, and does not judge them. The last line is 'N passed, M failed'. It wants python3, 3.11 or
-# later; where they are installed, xmllint and tidy look at the documents.
+# with new ones; and shows the comparison wrong pictures and reports, and it must refuse each. It prints the seconds
+# that each took, and does not judge them. The last line is 'N passed, M failed'. It wants python3, 3.11 or later; where
+# they are installed, xmllint and tidy look at the documents.
 set -u
 cd "$(dirname "$0")/.."
 program=crates/hotline/out/hotline
@@ -43,7 +43,7 @@ well_formed() {
     $judge "$1" >"$scratch/said" 2>&1
 }
 
-# timed LABEL COMMAND..: runs it into $scratch/LABEL, and tells the seconds.
+# timed LABEL COMMAND..: runs it into $scratch/LABEL, and prints the seconds.
 timed() {
     document=$1
     shift

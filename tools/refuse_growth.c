@@ -1,7 +1,7 @@
 /* Refuses growths of memory of a program that is preloaded with it: of its calls of malloc, calloc and realloc, counted
-   from 1, the one whose number stands in REFUSE_GROWTH, and with a `+` behind the number every later one too. At the first
-   that it refuses it says "refused growth" on standard error at once: the program may end without running what stands at
-   an exit. */
+   from 1, the one whose number is in REFUSE_GROWTH, and with a `+` after the number every later one too. At the first
+   that it refuses it says "refused growth" on standard error at once: the program may end without running what is
+   registered for its exit. */
 #define _GNU_SOURCE
 #include <dlfcn.h>
 #include <errno.h>
@@ -17,21 +17,21 @@ static void *(*next_malloc)(size_t);
 static void *(*next_calloc)(size_t, size_t);
 static void *(*next_realloc)(void *, size_t);
 
-/* What dlsym takes by calloc while the functions behind these are looked for. */
+/* What dlsym takes by calloc while the C library's own functions are looked for. */
 static _Alignas(16) char early[4096];
 static size_t early_used;
 
 __attribute__((constructor)) static void begin(void)
 {
     const char *text = getenv("REFUSE_GROWTH");
-    char *behind = NULL;
+    char *rest = NULL;
     next_malloc = (void *(*)(size_t))dlsym(RTLD_NEXT, "malloc");
     next_calloc = (void *(*)(size_t, size_t))dlsym(RTLD_NEXT, "calloc");
     next_realloc = (void *(*)(void *, size_t))dlsym(RTLD_NEXT, "realloc");
     words_to = dup(2); /* the program may close its own */
     atomic_store(&calls, 0);
-    number = text ? strtol(text, &behind, 10) : 0;
-    persists = behind && *behind == '+';
+    number = text ? strtol(text, &rest, 10) : 0;
+    persists = rest && *rest == '+';
 }
 
 /* Whether this growth is one to refuse. */

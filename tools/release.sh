@@ -36,14 +36,14 @@ target() {
     esac
 }
 
-# verdict_of CRATE: the line with which its check ends, in the log where one is named, else that of a check now
+# verdict_of CRATE: the line with which its check ends, in the log where one is named, else of a check now
 verdict_of() {
     if [ -n "$log" ]; then
         awk -v crate="$1" '/^== /{name = $2} /^logic=proved/ && name == crate' "$log" >"$scratch/printed"
     else
         (cd "crates/$1" && rt check) >"$scratch/printed" 2>&1
     fi
-    tell_said $? "$1 isn't proved"
+    report_run $? "$1 isn't proved"
     echo "$1: $(grep '^logic=proved' "$scratch/printed" | tail -n 1)"
 }
 
@@ -53,14 +53,14 @@ proved_crates() {
         verdict_of "$name"
     done >"$release/verdicts.txt"
     ! grep -v ': logic=proved' "$release/verdicts.txt"
-    tell $? "a crate has no verdict"
+    report $? "a crate has no verdict"
 }
 
 # sources: the checksums of all that the library is made of
 sources() {
     git ls-files $(below hc_c | sed 's|^|crates/|' | sort -u) crates.txt HANDLES include tools/library.sh tools/install.sh tools/package |
         xargs -d '\n' sha256sum >"$release/sources.sha256"
-    tell $? "a source has no checksum"
+    report $? "a source has no checksum"
 }
 
 # documents TARGET: the verdict and the page, in the folder that is packed
@@ -93,10 +93,10 @@ play_packed() {
     export PKG_CONFIG_PATH="$unpacked/$name/lib/pkgconfig"
     flags="-std=c11 -O2 -Wall -Wextra -Werror tools/embed/play.c tools/embed/words.c $(pkg-config --cflags zangjulf)"
     $cc $flags "$unpacked/$name/lib/libzangjulf.a" -o "$scratch/static_$1"
-    tell $? "$1: no player is linked from the archive"
+    report $? "$1: no player is linked from the archive"
     play "$1, linked" $run "$scratch/static_$1"
     $cc $flags $(pkg-config --libs zangjulf) -Wl,-rpath,"$unpacked/$name/lib" -o "$scratch/shared_$1"
-    tell $? "$1: no player is linked with the shared object"
+    report $? "$1: no player is linked with the shared object"
     play "$1, loaded" $run "$scratch/shared_$1"
 }
 
@@ -106,15 +106,15 @@ pack() {
     packed=$release/$name
     rm -rf "$packed"
     tools/library.sh "$1" "$release/$1" >"$scratch/printed" 2>&1
-    tell_said $? "the library for $1 isn't built" || return
+    report_run $? "the library for $1 isn't built" || return
     tools/install.sh "$packed" "$release/$1" >"$scratch/printed" 2>&1
-    tell_said $? "the library for $1 isn't installed" || return
+    report_run $? "the library for $1 isn't installed" || return
     documents "$1"
     grep -q '^hc_c: logic=proved ' "$packed/share/doc/zangjulf/verdict.txt"
-    tell $? "$1: the verdict doesn't say that the library is proved"
+    report $? "$1: the verdict doesn't say that the library is proved"
     tar --sort=name --owner=0 --group=0 --numeric-owner --mtime="@$(git log -1 --format=%ct)" -C "$release" -c "$name" |
         gzip -n9 >"$release/$name.tar.gz"
-    tell $? "$1: no archive is packed"
+    report $? "$1: no archive is packed"
     play_packed "$1"
     rm -rf "$packed"
 }
@@ -124,7 +124,7 @@ refuse_first_processor() {
     [ -e "$scratch/static_x86_64" ] && [ -e "$scratch/static_x86_64-v2" ] || return
     sh -c '"$@"; exit $?' - qemu-x86_64 -cpu qemu64 "$scratch/static_x86_64-v2" <examples/tool_changer.in >"$scratch/printed" 2>&1
     [ $? -gt 128 ]
-    tell $? "what is built for x86-64-v2 runs on the first processors too"
+    report $? "what is built for x86-64-v2 runs on the first processors too"
 }
 
 log=
@@ -139,7 +139,7 @@ sources
 proved_crates
 for word in "$@"; do
     target "$word"
-    tell $? "$word is no target" || continue
+    report $? "$word is no target" || continue
     needed=true
     for command in $cc $ar ${run%% *} pkg-config; do
         has "$command" || needed=false

@@ -1,6 +1,6 @@
 #!/bin/sh
 # Refuses growths of memory, in tests and in the program that `rt ci` has built: each growth in turn alone, and each with
-# every later one. Every such run must end by itself: with its own answer, or with want of memory and nothing else. A case
+# every later one. Every such run must end by itself: with its own answer, or out of memory and with nothing else. A case
 # in which no growth was refused fails. The last line is 'N passed, M failed'.
 set -u
 cd "$(dirname "$0")/.."
@@ -18,21 +18,21 @@ has_refused() {
 }
 
 # refuse_each LABEL JUDGE MODE INPUT COMMAND..: runs a command with its first growth refused, then its second, until a run
-# meets no refusal; MODE is `alone`, or `lasting` where every later growth is refused as well. What it wrote stands in
+# meets no refusal; MODE is `alone`, or `lasting` where every later growth is refused as well. What it wrote is in
 # `said`, its errors in `errors`; `JUDGE STATUS` says whether it ended well.
 refuse_each() {
     label=$1 judge=$2 mode=$3 input=$4
     shift 4
-    behind=
-    [ "$mode" = lasting ] && behind=+
+    plus=
+    [ "$mode" = lasting ] && plus=+
     number=0
     : >"$scratch/errors"
     while [ "$number" -eq 0 ] || has_refused; do
         number=$((number + 1))
-        timeout 60 env REFUSE_GROWTH="$number$behind" LD_PRELOAD="$scratch/refuse.so" "$@" <"$input" >"$scratch/said" 2>"$scratch/errors"
+        timeout 60 env REFUSE_GROWTH="$number$plus" LD_PRELOAD="$scratch/refuse.so" "$@" <"$input" >"$scratch/said" 2>"$scratch/errors"
         status=$?
         if [ "$number" -gt 5000 ] || ! "$judge" "$status"; then
-            echo "sweep: $label with growth $number$behind refused: status $status"
+            echo "sweep: $label with growth $number$plus refused: status $status"
             cat "$scratch/said" "$scratch/errors"
             failed=$((failed + 1))
             return
@@ -47,8 +47,8 @@ refuse_each() {
     passed=$((passed + 1))
 }
 
-# A test of which no growth is refused passes. Where one is, it passes by its own answer, or ends by want of memory and no
-# failed assertion.
+# A test without a refused growth passes. With one it passes by its own answer, or ends out of memory and with no failed
+# assertion.
 test_ended_well() {
     if ! has_refused || [ "$1" -eq 0 ]; then
         [ "$1" -eq 0 ] && grep -qx 'test result: ok' "$scratch/said"
@@ -85,9 +85,8 @@ run_unrefused() {
     echo $? >"$scratch/$2.status"
 }
 
-# turns_of INPUT: the first and the last line of each command behind the project; that of a `declare` is the line that ends its
-# document.
-turns_of() {
+# lines_of_commands INPUT: the first and the last line of each command after the project; a `declare` ends with its document.
+lines_of_commands() {
     awk '!begun { begun = $0 == "%%"; next }
         first && $0 != "%%" { next }
         first { print first, NR; first = 0; next }
@@ -109,11 +108,11 @@ goes_along_line() {
 
 # expect_refusals INPUT: numbers the commands that a run reaches from 1, and writes what the program must print where growths
 # are refused for command I: in `alone.I` what it prints with blank lines in place of the command, but for the refusal in
-# its place; in `lasting.I` what it prints before the command, and the refusal for it and each command behind it. Where the
+# its place; in `lasting.I` what it prints before the command, and the refusal for it and each later command. Where the
 # command's frames go along the line, `alone.I.chain` and `lasting.I.chain` have the line of a refused chain in its place.
 expect_refusals() {
     rm -f "$scratch"/alone.* "$scratch"/lasting.*
-    turns_of "$1" >"$scratch/turns"
+    lines_of_commands "$1" >"$scratch/turns"
     commands=$(wc -l <"$scratch/turns")
     count=0
     while read -r first last; do
@@ -136,7 +135,7 @@ expect_refusals() {
     done <"$scratch/turns"
 }
 
-# said_refusal EXPECTED: whether the run printed the refusal of a growth, or that of the chain where the command's frames go
+# said_refusal EXPECTED: whether the run printed the refusal of a growth, or of the chain where the command's frames go
 # along the line. It notes which, in `EXPECTED.met_growth` or `EXPECTED.met_chain`.
 said_refusal() {
     if cmp -s "$scratch/said" "$1"; then
@@ -177,7 +176,7 @@ said_all() {
 }
 
 # A run without a refusal prints the whole text. Later growths are refused in the same phase as earlier ones or in the next
-# one, and the last in the last command or in what is published behind it.
+# one, and the last in the last command or in what is published after it.
 run_ended_well() {
     if ! has_refused; then
         said_all "$1" && [ "$phase" = "$count" ]
@@ -203,8 +202,8 @@ sweep_program() {
     done
 }
 
-# expect_unpublished INPUT: writes what a run prints of which one publishing is refused, for each that there is, as the model
-# of compare/ has it.
+# expect_unpublished INPUT: writes what a run prints where one publishing is refused, for each publishing, as the model of
+# compare/ has it.
 expect_unpublished() {
     rm -f "$scratch"/unpublished.*
     number=0
@@ -232,8 +231,8 @@ begins_well() {
 }
 
 # A run whose frames go along the line prints the whole text, also where a thread isn't made and its segment is run by the
-# caller's; or that of a run of which a publishing is refused; else a front of these and then the refusal. What a stopped
-# command had done before stands, so that later lines may differ.
+# caller's; or the text of a run in which a publishing is refused; else a front of these and then the refusal. What a
+# stopped command had done before stays, so that later lines may differ.
 line_ended_well() {
     said_all "$1" && return
     has_refused || return
@@ -258,7 +257,7 @@ sweep_line() {
     done
 }
 
-# A run of `projectcheck` ends with its whole text, with nothing where its input isn't read, or with want of memory.
+# A run of `projectcheck` ends with its whole text, with nothing where its input isn't read, or with the out-of-memory line.
 check_ended_well() {
     if ! has_refused; then
         cmp -s "$scratch/said" crates/projectcheck/stdout && [ "$1" -eq "$(cat crates/projectcheck/status)" ]

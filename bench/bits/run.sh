@@ -1,6 +1,6 @@
 #!/bin/sh
 # Proves `hc_bits` and what the benchmark needs of it under C names, in a scratch folder; links the benchmark to that
-# static library and runs it. `../shared.sh` tells of KIT and KEPT.
+# static library and runs it. `../shared.sh` explains KIT and KEPT.
 set -eu
 here=$(cd "$(dirname "$0")" && pwd)
 . "$here/../shared.sh"

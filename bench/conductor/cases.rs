@@ -1,7 +1,7 @@
 //! What is timed, and how plain Rust plays it; and what both are compared on.
 
 use crate::line::{line, variables};
-use crate::master::{master, told_of};
+use crate::master::{digest_of, master};
 use crate::plan::line::text;
 use crate::runs::Programs;
 use std::time::Instant;
@@ -45,9 +45,9 @@ impl Case {
         let mut master = master(self.slaves, self.tasks);
         let sum = (0..ROUNDS).fold(0, |sum, _| {
             let begun = Instant::now();
-            let told = (0..TIMES).fold(0, |told, _| told_of(told, master.play_two(0x5a)));
+            let digest = (0..TIMES).fold(0, |digest, _| digest_of(digest, master.play_two(0x5a)));
             println!("{}", begun.elapsed().as_nanos());
-            told_of(sum, told)
+            digest_of(sum, digest)
         });
         println!("sum {sum}");
     }
@@ -72,20 +72,20 @@ pub fn sendings() -> Vec<[Case; 2]> {
     pairs.zip((100..).step_by(2)).map(|(pair, number)| [case(pair, number, "send"), case(pair, number + 1, "workers")]).collect()
 }
 
-/// Stops the benchmark where the proved program tells otherwise than the plain one of any two cycles.
+/// Stops the benchmark where the proved program and the plain one print two cycles differently.
 pub fn compare_all(programs: &Programs, few: bool) {
     let rounds = if few { 20 } else { 300 };
     for case in cases() {
         let mut master = master(case.slaves, case.tasks);
-        let told = (0..rounds).map(|round: u32| {
+        let digest = (0..rounds).map(|round: u32| {
             let byte = round as u8;
             master.fill(byte ^ 0x55);
-            let told = master.play_two(byte);
-            master.arena().iter().fold(told, |told, own| told_of(told, u64::from(*own)))
+            let digest = master.play_two(byte);
+            master.arena().iter().fold(digest, |digest, own| digest_of(digest, u64::from(*own)))
         });
-        let told: Vec<u64> = told.collect();
-        let found = programs.told(&case.given(), &[case.tasks.into(), rounds]);
-        assert!(told == found, "{}, {} slaves: another cycle", case.name, case.slaves);
+        let digest: Vec<u64> = digest.collect();
+        let found = programs.digest(&case.given(), &[case.tasks.into(), rounds]);
+        assert!(digest == found, "{}, {} slaves: another cycle", case.name, case.slaves);
     }
     eprintln!("{} times two cycles of each are the same", rounds);
 }

@@ -1,5 +1,5 @@
 //! The line of the benchmark, with 64 or 2,048 slaves of eight areas each, and the same datagrams: each task has one of
-//! 1,024 bytes, half of them outputs. The n-th area of each slave stands in the n-th task; slaves with outputs and with
+//! 1,024 bytes, half of them outputs. The n-th area of each slave is in the n-th task; slaves with outputs and with
 //! inputs take turns.
 
 use crate::plan::plain::Group;

@@ -1,13 +1,13 @@
 //! Cycles of a master with its tasks, all in one thread, in `hc_conductor` and in plain Rust, and sendings alone, by one
 //! thread and by a worker for each task: `bench PROGRAM GROWTHS
-//! SCRATCH`, where the first is the built program `conductor_bench`, the second a library that tells growths of memory in
+//! SCRATCH`, where the first is the built program `conductor_bench`, the second a library that gives growths of memory in
 //! the place of time, and the last a folder for counts.
 //!
 //! In a cycle posts are taken, tasks are sent, their frames come back, all is published, and each task takes a view, looks
 //! at sixteen variables, leaves, and posts its outputs. Both are programs that print what their rounds took; this one calls
-//! them in turns, the plain one before the proved one and behind it. First both tell of cycles, which must be the same.
+//! them in turns, the plain one before and after the proved one. First both print their cycles, which must be the same.
 //!
-//! Words behind the folder: `few` for a short run, `times` for no instructions, `often` for 100,000 cycles beside eight
+//! Words after the folder: `few` for a short run, `times` for no instructions, `often` for 100,000 cycles beside eight
 //! tasks in threads, `workers` for sendings alone, any other one for the cycles whose names have it. `plain NUMBER` alone
 //! plays a case in plain Rust.
 
@@ -39,7 +39,7 @@ use cases::{Case, cases, compare_all, sendings};
 use runs::{Count, Programs, asked, figures, is_named, median};
 
 /// Prints a row.
-fn tell(programs: &Programs, case: &Case, turns: usize, are_counted: bool) {
+fn print(programs: &Programs, case: &Case, turns: usize, are_counted: bool) {
     let found = figures(programs, case, turns);
     let [growths, plain_growths] = [programs.proved(case, Count::Growths), programs.plain(case, Count::Growths)];
     let instructions = if are_counted { programs.instructions(case) } else { String::new() };
@@ -54,7 +54,7 @@ fn tell(programs: &Programs, case: &Case, turns: usize, are_counted: bool) {
 }
 
 /// Prints the sendings, by the thread that sends and by workers.
-fn tell_sendings(programs: &Programs, turns: usize) {
+fn print_sendings(programs: &Programs, turns: usize) {
     println!("| Sending | Slaves | ns in one thread | ns by workers |");
     println!("|---|---|---|---|");
     for pair in sendings() {
@@ -77,17 +77,17 @@ fn main() {
     let [few, times, often, workers] = ["few", "times", "often", "workers"].map(|name| words.iter().any(|word| word == name));
     let turns = if few { 1 } else { 9 };
     if often {
-        let told = programs.often("", &["10000", "100000"]);
-        return println!("resident KiB at the 10,000th cycle and at the 100,000th, and posts: {told}");
+        let printed = programs.often("", &["10000", "100000"]);
+        return println!("resident KiB at the 10,000th cycle and at the 100,000th, and posts: {printed}");
     }
     if workers {
-        return tell_sendings(&programs, turns);
+        return print_sendings(&programs, turns);
     }
     let are_counted = !times;
     compare_all(&programs, few);
     println!("| Cycle | Slaves | ns | To plain Rust | Growths | Of plain Rust | Instructions, of plain Rust, their ratio |");
     println!("|---|---|---|---|---|---|---|");
     for case in cases.iter().filter(|case| is_named(case, &words)) {
-        tell(&programs, case, turns, are_counted);
+        print(&programs, case, turns, are_counted);
     }
 }

@@ -1,4 +1,4 @@
-//! A cycle in plain Rust: the plain core and the two copies behind atomics, with posts through rings.
+//! A cycle in plain Rust: the plain core, two copies that atomics choose between, and posts through rings.
 
 use crate::line::{line, variables};
 use crate::plain::{Answer, Change, Core};
@@ -28,8 +28,8 @@ pub struct Master {
     sent: Vec<Vec<u8>>,
 }
 
-pub fn told_of(told: u64, number: u64) -> u64 {
-    (told ^ number).wrapping_mul(0x9e37_79b9_7f4a_7c15).rotate_left(29)
+pub fn digest_of(digest: u64, number: u64) -> u64 {
+    (digest ^ number).wrapping_mul(0x9e37_79b9_7f4a_7c15).rotate_left(29)
 }
 
 fn put_serial(frame: &mut [u8], serial: u64) {
@@ -51,21 +51,21 @@ impl Task {
     fn look(&mut self) -> (u32, u64) {
         let view = self.seat.view();
         let epoch = view.epoch();
-        let told = self.variables.iter().fold(told_of(0, epoch.into()), |told, variable| match view.value(*variable) {
-            Ok(value) => told_of(told, value),
-            Err(fault) => told_of(told_of(told, 99), fault.into()),
+        let digest = self.variables.iter().fold(digest_of(0, epoch.into()), |digest, variable| match view.value(*variable) {
+            Ok(value) => digest_of(digest, value),
+            Err(fault) => digest_of(digest_of(digest, 99), fault.into()),
         });
-        (epoch, told)
+        (epoch, digest)
     }
 
     /// A task looks and posts.
-    fn play(&mut self, byte: u8, told: u64) -> u64 {
+    fn play(&mut self, byte: u8, digest: u64) -> u64 {
         let (epoch, seen) = self.look();
         let posted = self.posts.outputs(epoch, self.outputs).map(|bytes| bytes.fill(byte)).is_some();
         if posted {
             self.posts.post();
         }
-        told_of(told_of(told, seen), posted.into())
+        digest_of(digest_of(digest, seen), posted.into())
     }
 }
 
@@ -142,19 +142,19 @@ impl Master {
 
     fn play(&mut self, is_turned: bool, byte: u8) -> u64 {
         let (accepted, refused) = self.take_posts();
-        let told = told_of(told_of(told_of(0, accepted), refused), self.exchange().into());
+        let digest = digest_of(digest_of(digest_of(0, accepted), refused), self.exchange().into());
         self.publish();
         if is_turned {
-            self.tasks.iter_mut().fold(told, |told, task| task.play(byte, told))
+            self.tasks.iter_mut().fold(digest, |digest, task| task.play(byte, digest))
         } else {
-            self.tasks.iter_mut().rev().fold(told, |told, task| task.play(byte, told))
+            self.tasks.iter_mut().rev().fold(digest, |digest, task| task.play(byte, digest))
         }
     }
 
     /// Two cycles: the tasks look and post from the last one on, and then from the first one on.
     pub fn play_two(&mut self, byte: u8) -> u64 {
         let first = self.play(false, byte);
-        told_of(first, self.play(true, byte))
+        digest_of(first, self.play(true, byte))
     }
 
     /// The bytes that were sent last, in an arena.

@@ -1,4 +1,4 @@
-//! Posts from a task to the master in plain Rust: four buffers in a ring, which are written and read where they stand.
+//! Posts from a task to the master in plain Rust: four buffers in a ring, which are written and read in place.
 
 use std::cell::UnsafeCell;
 use std::sync::Arc;

@@ -1,6 +1,6 @@
 #!/bin/sh
 # Proves `hc_conductor` and a program that plays cycles by it, in a scratch folder: a program, since a static library may
-# not wait. Builds the plain Rust beside it and runs both. `../shared.sh` tells of KIT and KEPT.
+# not wait. Builds the plain Rust beside it and runs both. `../shared.sh` explains KIT and KEPT.
 set -eu
 here=$(cd "$(dirname "$0")" && pwd)
 . "$here/../shared.sh"
@@ -9,7 +9,7 @@ take hc_project
 take hc_conductor
 echo 'conductor_bench: hc_records hc_project hc_places hc_plan hc_events hc_sendings hc_core hc_publish hc_rings hc_lend hc_conductor anyhow' \
     >> "$scratch/crates.txt"
-share "$program" bytes resident told words
+share "$program" bytes digest resident words
 for part in "$here"/program/*.sh; do
     sh "$part" "$program"
 done

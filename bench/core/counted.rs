@@ -5,7 +5,7 @@ use crate::{Case, Opened, Timed, frames_of, line, opened, owing, plain, proved, 
 use crate::{OWN_ARRIVE_ALONE, OWN_READ_IMAGE, OWN_SEND, OWN_SEND_AND_ARRIVE, STEP_POST};
 use crate::{OWN_WRITES_AND_ARRIVE, WRITES_AND_ARRIVE};
 
-/// How many calls are counted, behind as many that aren't.
+/// How many calls are counted, after as many that aren't.
 const CALLS: u32 = 40;
 
 /// A call that is counted, with its kinds as an event and by its own call.
@@ -79,11 +79,11 @@ pub fn count(is_wanted: &dyn Fn(&str) -> bool) {
 }
 
 /// Prints the rows, by the totals between readings of the clock.
-pub fn tell(totals: &mut impl Iterator<Item = f64>, is_wanted: &dyn Fn(&str) -> bool) {
+pub fn print(totals: &mut impl Iterator<Item = f64>, is_wanted: &dyn Fn(&str) -> bool) {
     println!("\n| Instructions of a call, 8 slaves | By `step` | By its own call | To it | Of plain Rust | To it |");
     println!("|---|---|---|---|---|---|");
     for_each(is_wanted, |_, row| {
-        // a total after each reading, two of them a round: the last is that of the last round
+        // a total after each reading, two of them a round: the last belongs to the last round
         let (readings, calls) = (2 * row.case.rounds, f64::from(row.case.timed.calls));
         let mut each = |is_there: bool| match is_there {
             true => totals.by_ref().take(readings).last().map(|total| total / calls),

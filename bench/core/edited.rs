@@ -1,13 +1,13 @@
 //! Edits of the core, each timed by itself, on the lines and with the edits of the plan's benchmark, at 8 to 2,048 slaves.
 //!
-//! A turn plays rounds of edits in the core, in the library's plan before it and behind it, and in the plain core before
-//! and behind these. Each edit of a round has one that takes it back. Behind a round all owed blocks are written and all
-//! tasks are posted, so that an edit finds known blocks and values. What is told of an edit, and its changes, are dropped
-//! behind it. The least that two readings of the clock take with nothing between is taken off.
+//! A turn plays rounds of edits in the core, in the library's plan before and after it, and in the plain core before and
+//! after these. Each edit of a round has one that takes it back. After a round all owed blocks are written and all tasks
+//! are posted, so that an edit finds known blocks and values. The answer to an edit, and its changes, are dropped after
+//! it. The least that two readings of the clock take with nothing between is taken off.
 
 mod rows;
 
-use crate::growths::counted as told_growths;
+use crate::growths::counted as growths_counted;
 use crate::plain::{Answer, Core};
 use crate::plan::asked::{Asked, Case, Round, joining, played, round};
 use crate::plan::plain::{Edit, Group, Plan, Report};
@@ -48,7 +48,7 @@ enum Player {
 
 const PLAYERS: [Player; 3] = [Player::Core, Player::Plan, Player::PlainCore];
 
-/// The rounds that were played, of each the edits' times and at its end that of nothing.
+/// The rounds that were played: each has the edits' times, and at its end the time of nothing.
 type Rounds = Vec<Vec<u64>>;
 
 struct Line {
@@ -150,7 +150,7 @@ fn plain(line: &Line, rounds: usize) -> Rounds {
     (0..rounds).map(|_| once()).collect()
 }
 
-/// Plays edits; behind each of them all is written, and every task is sent, posted and sent again.
+/// Plays edits; after each of them all is written, and every task is sent, posted and sent again.
 fn script(groups: Vec<Group>, edits: &[Asked]) -> Opened {
     let mut opened = opened(groups);
     let script = &mut opened.script;
@@ -178,7 +178,7 @@ pub fn drawn(count: usize) -> Opened {
     script(groups, &asked)
 }
 
-/// The edits of which rows are wanted.
+/// The edits whose rows are wanted.
 fn wanted<'a>(line: &'a Line, is_wanted: &dyn Fn(&str) -> bool) -> Vec<&'a Case> {
     line.round.cases.iter().filter(|case| is_wanted(&format!("edits: {}", case.name))).collect()
 }
@@ -195,7 +195,7 @@ fn lines(is_wanted: &dyn Fn(&str) -> bool) -> Vec<Line> {
     SLAVES.into_iter().map(Line::new).filter(|line| !wanted(line, is_wanted).is_empty()).collect()
 }
 
-/// The instructions that each edit of a line takes, less those of nothing, in the second round of two: told by the totals
+/// The instructions that each edit of a line takes, less those of nothing, in the second round of two, by the totals
 /// between readings of the clock, if there are any.
 fn counted(line: &Line, totals: &mut impl Iterator<Item = f64>) -> [Vec<f64>; 3] {
     PLAYERS.map(|player| {
@@ -209,7 +209,7 @@ fn counted(line: &Line, totals: &mut impl Iterator<Item = f64>) -> [Vec<f64>; 3]
 
 /// How often memory grew in each edit, in the second round of two.
 fn growths(line: &Line) -> [Rounds; 3] {
-    told_growths(|| PLAYERS.map(|player| line.played(2, player).split_off(1)))
+    growths_counted(|| PLAYERS.map(|player| line.played(2, player).split_off(1)))
 }
 
 /// A turn of a line.
@@ -247,7 +247,7 @@ fn over<T>(turns: &[T], find: impl Fn(&T) -> f64) -> f64 {
 /// All that was found out about a line.
 struct Found<'a> {
     line: &'a Line,
-    /// Its turns, and beside each that of the line of 64 slaves.
+    /// Its turns, each beside the turn of the line of 64 slaves.
     turns: Vec<(&'a Turn, &'a Turn)>,
     growths: [Rounds; 3],
     counts: [Vec<f64>; 3],
@@ -260,8 +260,8 @@ impl Found<'_> {
         let core = |(turn, _): &(&Turn, &Turn)| of(&turn.core, edits);
         let plan = |(turn, _): &(&Turn, &Turn)| turn.plan.each_ref().map(|rounds| of(rounds, edits));
         let plain = |(turn, _): &(&Turn, &Turn)| turn.plain.each_ref().map(|rounds| of(rounds, edits));
-        let both = |[before, behind]: [f64; 2]| (before + behind) / 2.0;
-        let apart = |[before, behind]: [f64; 2]| behind / before;
+        let both = |[before, after]: [f64; 2]| (before + after) / 2.0;
+        let apart = |[before, after]: [f64; 2]| after / before;
         Row {
             class: case.class,
             name: case.name,
@@ -287,7 +287,7 @@ fn counts_of(counts: &[f64], edits: &[usize]) -> Option<f64> {
     Some(sum / edits.len() as f64)
 }
 
-/// What an accepted edit is told, of each edit of a round.
+/// The answer to each accepted edit of a round.
 fn reports(line: &Line) -> Vec<Report> {
     let mut plan = Plan::new(&line.groups);
     played(&mut plan, &joining(&line.groups));
@@ -295,7 +295,7 @@ fn reports(line: &Line) -> Vec<Report> {
 }
 
 /// Prints the rows of all lines. The turns of the lines are mixed, so that a turn has one machine's speed.
-pub fn tell(turns: usize, rounds: usize, totals: &mut impl Iterator<Item = f64>, is_wanted: &dyn Fn(&str) -> bool) {
+pub fn print(turns: usize, rounds: usize, totals: &mut impl Iterator<Item = f64>, is_wanted: &dyn Fn(&str) -> bool) {
     let lines = lines(is_wanted);
     let turn = || -> Vec<Turn> { lines.iter().map(|line| Turn::of(line, rounds)).collect() };
     let turns: Vec<Vec<Turn>> = (0..turns).map(|_| turn()).collect();
@@ -305,6 +305,6 @@ pub fn tell(turns: usize, rounds: usize, totals: &mut impl Iterator<Item = f64>,
         let turns = turns.iter().map(|turn| (&turn[place], &turn[base])).collect();
         let (growths, counts) = (growths(line), counted(line, totals));
         let found = Found { line, turns, growths, counts, reports: reports(line) };
-        wanted(line, is_wanted).into_iter().for_each(|case| found.row(case).tell());
+        wanted(line, is_wanted).into_iter().for_each(|case| found.row(case).print());
     }
 }

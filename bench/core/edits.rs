@@ -1,10 +1,10 @@
-//! Edits of the plain core: what moved is told by the plan; the values of the areas among it are taken along, its blocks
-//! are compared with what their slaves are known to have, and nothing else is walked.
+//! Edits of the plain core. The plan says what moved; the values of moved areas are taken along, moved blocks are
+//! compared with what their slaves are known to have, and nothing else is walked.
 
 use super::{AREAS, Answer, BLOCKS, Change, Core, Edit, Place, ROOM};
-use crate::plan::plain::{Report, Spot};
+use crate::plan::plain::{Location, Report};
 
-/// Where the outputs of an area stand in what is sent; nowhere where it has no width.
+/// Where the outputs of an area are in what is sent; nowhere where it has no width.
 #[derive(Clone, Copy, Default)]
 pub struct Seat {
     slot: u8,
@@ -15,7 +15,7 @@ pub struct Seat {
 /// A variable of an area that gets other PDOs, and its value.
 type Value = (u32, u64);
 
-/// Bits of an array, 1 to 64; it has eight bytes behind its last bit.
+/// Bits of an array, 1 to 64; it has eight bytes after its last bit.
 fn get_bits(from: &[u8; ROOM], at: usize, count: usize) -> u64 {
     let source: [u8; 9] = from[at / 8..at / 8 + 9].try_into().expect("nine bytes");
     let low = u64::from_le_bytes(*source.first_chunk().expect("eight bytes"));
@@ -23,7 +23,7 @@ fn get_bits(from: &[u8; ROOM], at: usize, count: usize) -> u64 {
     bits as u64 & (u64::MAX >> (64 - count))
 }
 
-/// Puts `count` bits, 1 to 64, into an array that has eight bytes behind its last bit.
+/// Puts `count` bits, 1 to 64, into an array that has eight bytes after its last bit.
 fn put_bits(to: &mut [u8; ROOM], at: usize, count: usize, bits: u64) {
     let mask = u128::from(u64::MAX >> (64 - count)) << (at % 8);
     let own = &mut to[at / 8..at / 8 + 9];
@@ -34,11 +34,11 @@ fn put_bits(to: &mut [u8; ROOM], at: usize, count: usize, bits: u64) {
 }
 
 impl Seat {
-    fn of(spot: &Spot) -> Seat {
-        Seat { slot: 16 * spot.task + spot.datagram, bit: spot.bit, width: spot.width }
+    fn of(location: &Location) -> Seat {
+        Seat { slot: 16 * location.task + location.datagram, bit: location.bit, width: location.width }
     }
 
-    /// Its first byte, how many bytes are whole, and how many bits are left behind them. An area of a byte or more begins
+    /// Its first byte, how many bytes are whole, and how many bits are left after them. An area of a byte or more begins
     /// with a byte.
     fn parts(&self) -> (usize, usize, usize) {
         let [first, whole, left] = [self.bit / 8, self.width / 8, self.width % 8];
@@ -63,11 +63,11 @@ impl Seat {
         let (first, whole, left) = self.parts();
         let (own, rest) = lifted.split_at(whole);
         row[first..first + whole].copy_from_slice(own);
-        let Some((last, behind)) = rest.split_first().filter(|_| left > 0) else {
+        let Some((last, after)) = rest.split_first().filter(|_| left > 0) else {
             return rest;
         };
         put_bits(row, usize::from(self.bit) + 8 * whole, left, u64::from(*last));
-        behind
+        after
     }
 
     /// Makes its bits zeros.
@@ -96,11 +96,11 @@ impl Core {
         }
     }
 
-    /// Carries an edit out, or tells why it was refused; then all is as it was.
+    /// Carries an edit out, or answers why it is refused; then all is as it was.
     #[inline(never)]
     pub fn edit(&mut self, edit: &Edit) -> Answer {
         let remapped = self.remapped(edit);
-        let values = remapped.map_or(Vec::new(), |spot| self.values(spot));
+        let values = remapped.map_or(Vec::new(), |location| self.values(location));
         let report = match self.plan.apply(edit) {
             Ok(report) => report,
             Err((fault, _)) => return Answer::Refused(fault),
@@ -110,8 +110,8 @@ impl Core {
             self.drop_slaves(*alias);
         }
         self.put(&report.blocks);
-        if let Some(spot) = remapped {
-            self.put_values(spot, values);
+        if let Some(location) = remapped {
+            self.put_values(location, values);
         }
         for (station, number) in &report.blocks {
             self.compare(self.plan.place_of(*station), *number);
@@ -130,25 +130,25 @@ impl Core {
         let Edit::Remap { station, area, .. } = edit else {
             return None;
         };
-        let spot = AREAS * self.plan.place_of(*station) + usize::from(*area);
-        (spot < self.seats.len() && !self.plan.spot(spot).is_input).then_some(spot)
+        let location = AREAS * self.plan.place_of(*station) + usize::from(*area);
+        (location < self.seats.len() && !self.plan.location(location).is_input).then_some(location)
     }
 
     /// The values of an area's variables.
-    fn values(&self, spot: usize) -> Vec<Value> {
-        let (seat, mut values) = (&self.seats[spot], Vec::new());
+    fn values(&self, location: usize) -> Vec<Value> {
+        let (seat, mut values) = (&self.seats[location], Vec::new());
         if seat.width > 0 {
             let row = &self.sent[usize::from(seat.slot)];
             let value = |place: Place| get_bits(row, place.bit.into(), place.bits.into());
-            self.plan.each_variable(spot, |variable, place| values.push((variable, value(place))));
+            self.plan.each_variable(location, |variable, place| values.push((variable, value(place))));
         }
         values
     }
 
     /// Lifts the values of all moved areas but the one that gets other PDOs, whose bits become zeros.
     fn lift(&mut self, remapped: Option<usize>, blocks: &[(u16, u8)]) {
-        if let Some(spot) = remapped {
-            self.clear(spot);
+        if let Some(location) = remapped {
+            self.clear(location);
         }
         self.lifted.iter_mut().for_each(Vec::clear);
         let [values, masks] = &mut self.lifted;
@@ -161,9 +161,9 @@ impl Core {
         }
     }
 
-    /// An area's bits become zeros, and it stands nowhere.
-    fn clear(&mut self, spot: usize) {
-        let seat = std::mem::take(&mut self.seats[spot]);
+    /// An area's bits become zeros, and it is nowhere.
+    fn clear(&mut self, location: usize) {
+        let seat = std::mem::take(&mut self.seats[location]);
         seat.clear(&mut self.sent[usize::from(seat.slot)]);
         seat.clear(&mut self.masks[usize::from(seat.slot)]);
     }
@@ -171,7 +171,7 @@ impl Core {
     /// Nothing is kept any more of the slaves of a group.
     fn drop_slaves(&mut self, alias: u16) {
         for place in self.plan.slaves_of(alias) {
-            (AREAS * place..AREAS * (place + 1)).for_each(|spot| self.clear(spot));
+            (AREAS * place..AREAS * (place + 1)).for_each(|location| self.clear(location));
             for n in BLOCKS * place..BLOCKS * (place + 1) {
                 self.blocks[n].known = None;
                 self.set_owed(n, false);
@@ -179,18 +179,18 @@ impl Core {
         }
     }
 
-    /// Puts what was lifted to where the moved areas stand now; those that stood nowhere get masks.
+    /// Puts what was lifted to where the moved areas are now; areas that were nowhere get masks.
     fn put(&mut self, blocks: &[(u16, u8)]) {
         let lifted = std::mem::take(&mut self.lifted);
         let [mut values, mut masks] = lifted.each_ref().map(Vec::as_slice);
         for (station, number) in mapped(blocks) {
-            let spot = AREAS * self.plan.place_of(station) + number;
-            if self.seats[spot].width == 0 {
-                self.seat(spot);
+            let location = AREAS * self.plan.place_of(station) + number;
+            if self.seats[location].width == 0 {
+                self.seat(location);
                 continue;
             }
-            let seat = Seat::of(self.plan.spot(spot));
-            self.seats[spot] = seat;
+            let seat = Seat::of(self.plan.location(location));
+            self.seats[location] = seat;
             values = seat.put(&mut self.sent[usize::from(seat.slot)], values);
             masks = seat.put(&mut self.masks[usize::from(seat.slot)], masks);
         }
@@ -198,24 +198,24 @@ impl Core {
     }
 
     /// An area that stood nowhere gets its seat, and masks of its variables, if it is one of outputs.
-    fn seat(&mut self, spot: usize) {
-        let own = self.plan.spot(spot);
+    fn seat(&mut self, location: usize) {
+        let own = self.plan.location(location);
         if own.is_input {
             return;
         }
         let seat = Seat::of(own);
-        self.seats[spot] = seat;
+        self.seats[location] = seat;
         let mask = &mut self.masks[usize::from(seat.slot)];
-        self.plan.each_variable(spot, |_, place| put_bits(mask, place.bit.into(), place.bits.into(), u64::MAX));
+        self.plan.each_variable(location, |_, place| put_bits(mask, place.bit.into(), place.bits.into(), u64::MAX));
     }
 
     /// The area that got other PDOs keeps the values of the variables that it keeps.
-    fn put_values(&mut self, spot: usize, mut values: Vec<Value>) {
-        if self.seats[spot].width == 0 {
-            self.seat(spot);
+    fn put_values(&mut self, location: usize, mut values: Vec<Value>) {
+        if self.seats[location].width == 0 {
+            self.seat(location);
         }
-        let row = &mut self.sent[usize::from(self.seats[spot].slot)];
-        self.plan.each_variable(spot, |variable, place| {
+        let row = &mut self.sent[usize::from(self.seats[location].slot)];
+        self.plan.each_variable(location, |variable, place| {
             if let Some(found) = values.iter().position(|value| value.0 == variable) {
                 put_bits(row, place.bit.into(), place.bits.into(), values.swap_remove(found).1);
             }
@@ -225,9 +225,9 @@ impl Core {
     /// A block that moved is owed where its slave isn't known to have its bytes.
     fn compare(&mut self, place: usize, number: u8) {
         let n = BLOCKS * place + usize::from(number);
-        let (block, kept) = (self.plan.block(place, number), &mut self.blocks[n]);
-        kept.block = block;
-        let owed = kept.known != Some(block);
+        let (block, stored) = (self.plan.block(place, number), &mut self.blocks[n]);
+        stored.block = block;
+        let owed = stored.known != Some(block);
         self.set_owed(n, owed);
     }
 }

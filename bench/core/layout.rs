@@ -1,10 +1,10 @@
 //! The areas of a line in plain Rust, with the tables, the places of variables and the register blocks that follow from
-//! where they stand.
+//! their places.
 
 use crate::project_text::AreaKeys;
 pub use crate::project_text::Pdo;
 
-/// An area with its PDOs, and where it stands.
+/// An area with its PDOs, and its place.
 #[derive(Clone)]
 pub struct Area {
     pub is_out: bool,
@@ -24,7 +24,7 @@ pub struct Slave {
     pub areas: Vec<Area>,
 }
 
-/// Where a variable stands.
+/// The place of a variable.
 #[derive(Clone, Copy, PartialEq)]
 pub struct Place {
     pub task: u8,
@@ -80,7 +80,7 @@ pub fn new_pdo(variables: &mut u32, index: u16, widths: &[u8]) -> Pdo {
 }
 
 impl Area {
-    /// What a project's text tells of it.
+    /// What a project's text says of it.
     pub fn keys(&self) -> AreaKeys<'_> {
         let Area { is_out, sm, phys, task, assigned, offered, .. } = self;
         AreaKeys { is_out: *is_out, sm: *sm, phys: *phys, task: *task, assigned, offered }
@@ -96,13 +96,13 @@ impl Area {
         self.width = entries.map(|entry| u16::from(entry.1)).sum();
     }
 
-    /// Tells of each of its variables where it stands.
-    pub fn each_variable(&self, mut tell: impl FnMut(u32, Place)) {
+    /// Visits each of its variables, with its place.
+    pub fn each_variable(&self, mut visit: impl FnMut(u32, Place)) {
         let mut place = Place { task: self.task, datagram: self.datagram, bit: self.bit, bits: 0, is_out: self.is_out };
         for (variable, bits) in self.assigned.iter().flat_map(|index| self.pdo(*index)) {
             place.bits = *bits;
             if *variable != 0 {
-                tell(*variable, place);
+                visit(*variable, place);
             }
             place.bit += u16::from(*bits);
         }

@@ -1,6 +1,6 @@
 //! The line of the benchmark, with 8 or 2,048 slaves of eight areas each. Task 0 has one datagram of 1,486 bytes, half of
 //! them outputs; task 1 has 16 of 1,482; task 2 has one of 1,486, all outputs; task 3 has a variable that can be made
-//! wider, and behind it 100 variables of two bits; the tasks 4 to 7 have short datagrams.
+//! wider, and after it 100 variables of two bits; the tasks 4 to 7 have short datagrams.
 
 use crate::plan::plain::Group;
 use crate::plan::plain::layout::{Area, Pdo, Slave};

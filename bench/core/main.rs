@@ -3,12 +3,12 @@
 //!
 //! A call of the library opens the line of a project's text, plays what comes before, and then times rounds of calls by
 //! a clock of its own, so that the opening isn't in any figure. An arrival is the difference of rounds of sendings that
-//! are answered and of rounds of the same sendings alone. Each kind is timed in turns, the plain core before the proved
-//! one and behind it, then a memory copy; what is printed are medians over the turns of the ratios of medians over the
+//! are answered and of rounds of the same sendings alone. Each kind is timed in turns, the plain core before and after
+//! the proved one, then a memory copy; what is printed are medians over the turns of the ratios of medians over the
 //! rounds.
 //!
-//! Edits are timed one by one, on lines of their own: `edited.rs` tells how. `counted.rs` tells of the instructions of a
-//! call, and of what `step` adds to it.
+//! Edits are timed one by one, on lines of their own: `edited.rs` says how. `counted.rs` counts the instructions of a
+//! call, and what `step` adds to it.
 //!
 //! Words after the program's name: `few` for a short run, `count` for one in which nothing is timed and each call and each
 //! edit is played for who counts instructions, `counts` for the table of these alone, any other one for the calls and
@@ -28,16 +28,16 @@ mod plain;
 #[path = "../edits"]
 mod plan {
     pub mod asked;
+    pub mod digest;
     pub mod drawn;
     pub mod line;
     pub mod plain;
-    pub mod told;
 }
 #[allow(dead_code)]
 #[path = "../../compare/shared/project_text.rs"]
 mod project_text;
+mod digest;
 mod script;
-mod told;
 
 use plain::{Answer, Core};
 use plan::plain::Group;
@@ -71,9 +71,9 @@ const WRITES_AND_ARRIVE: u8 = 13;
 const OWN_WRITES_AND_ARRIVE: u8 = 14;
 
 unsafe extern "C" {
-    fn core_told(
+    fn core_digests(
         text: *const u8, text_size: usize, events: *const Asked, count: usize, bytes: *const u8, size: usize,
-        told: *mut u64, told_count: usize,
+        digest: *mut u64, digest_count: usize,
     ) -> usize;
     fn core_timed(
         text: *const u8, text_size: usize, events: *const Asked, count: usize, bytes: *const u8, size: usize,
@@ -118,12 +118,12 @@ fn ready(groups: Vec<Group>) -> Opened {
     opened
 }
 
-/// Stops the benchmark where the proved core tells otherwise than the plain one.
+/// Stops the benchmark where the proved core answers otherwise than the plain one.
 fn compare(name: &str, opened: &Opened) {
-    let Script { events, bytes, told, .. } = &opened.script;
-    let mut found = vec![0; told.len()];
+    let Script { events, bytes, digest, .. } = &opened.script;
+    let mut found = vec![0; digest.len()];
     let count = unsafe {
-        core_told(
+        core_digests(
             opened.text.as_ptr(),
             opened.text.len(),
             events.as_ptr(),
@@ -134,8 +134,8 @@ fn compare(name: &str, opened: &Opened) {
             found.len(),
         )
     };
-    assert_eq!(count, told.len(), "{name}: not all events were played");
-    if let Some(place) = (0..count).find(|place| found[*place] != told[*place]) {
+    assert_eq!(count, digest.len(), "{name}: not all events were played");
+    if let Some(place) = (0..count).find(|place| found[*place] != digest[*place]) {
         panic!("{name}: event {place} of kind {} is answered otherwise", events[place].kind);
     }
 }
@@ -145,7 +145,7 @@ fn median(times: &mut [f64]) -> f64 {
     times[times.len() / 2]
 }
 
-/// Where the indexes of a frame's datagrams stand.
+/// Where the indexes of a frame's datagrams are.
 fn indexes(frame: &[u8]) -> Vec<u32> {
     starts(frame).iter().map(|at| *at as u32 + 1).collect()
 }
@@ -293,7 +293,7 @@ fn memory(bytes: usize) -> f64 {
     median(&mut each)
 }
 
-/// The ratios of one turn, in which the plain core is timed before the proved one and behind it.
+/// The ratios of one turn, in which the plain core is timed before and after the proved one.
 struct Ratios {
     to_plain: f64,
     to_memory: f64,
@@ -305,16 +305,16 @@ fn turn(opened: &Opened, case: &Case) -> Ratios {
     let less = |of: &dyn Fn(u8) -> f64| of(case.timed.kind) - case.without.map_or(0.0, of);
     let before = less(&|kind| plain(opened, case, kind));
     let proved = less(&|kind| proved(opened, case, kind));
-    let behind = less(&|kind| plain(opened, case, kind));
-    let (plain, memory) = ((before + behind) / 2.0, memory(case.bytes));
+    let after = less(&|kind| plain(opened, case, kind));
+    let (plain, memory) = ((before + after) / 2.0, memory(case.bytes));
     if std::env::var_os("NANOSECONDS").is_some() {
-        eprintln!("{}: {proved:.0}, plain {before:.0} and {behind:.0}, memory {memory:.0}", case.name);
+        eprintln!("{}: {proved:.0}, plain {before:.0} and {after:.0}, memory {memory:.0}", case.name);
     }
     Ratios {
         to_plain: proved / plain,
         to_memory: proved / memory,
         plain_to_memory: plain / memory,
-        plain_to_itself: behind / before,
+        plain_to_itself: after / before,
     }
 }
 
@@ -330,7 +330,7 @@ fn ratios(opened: &Opened, case: &Case) -> Ratios {
     }
 }
 
-/// A frame of 60 datagrams, the first of which are those of the sent one.
+/// A frame of 60 datagrams; the first are the datagrams of the sent frame.
 fn sixty(sent: &[u8]) -> Vec<u8> {
     let mut frame = sent.to_vec();
     let own = starts(sent);
@@ -392,7 +392,7 @@ fn cases(opened: &mut Opened, turns: usize) -> Vec<Case> {
 }
 
 /// Prints the rows of all calls but register writes and edits.
-fn tell_calls(turns: usize, is_wanted: &dyn Fn(&str) -> bool) {
+fn print_calls(turns: usize, is_wanted: &dyn Fn(&str) -> bool) {
     let (mut small, mut large) = (ready(line::line(8)), ready(line::line(2048)));
     let (small_cases, large_cases) = (cases(&mut small, 2 * turns), cases(&mut large, turns));
     let mut lost = ready(line::line(8));
@@ -403,14 +403,14 @@ fn tell_calls(turns: usize, is_wanted: &dyn Fn(&str) -> bool) {
     for ((small_case, large_case), lost_case) in small_cases.iter().zip(&large_cases).zip(&lost_cases) {
         if is_wanted(small_case.name) {
             let base = ratios(&small, small_case);
-            tell("8", small_case, &base, &base);
-            tell("8, 1,000 unanswered sendings", lost_case, &ratios(&lost, lost_case), &base);
-            tell("2,048", large_case, &ratios(&large, large_case), &base);
+            print("8", small_case, &base, &base);
+            print("8, 1,000 unanswered sendings", lost_case, &ratios(&lost, lost_case), &base);
+            print("2,048", large_case, &ratios(&large, large_case), &base);
         }
     }
 }
 
-/// A line of 8 slaves of which so many blocks are owed.
+/// A line of 8 slaves with so many owed blocks.
 fn owing(blocks: u32) -> Opened {
     let mut opened = opened(line::line(8));
     opened.script.write_until(blocks);
@@ -418,7 +418,7 @@ fn owing(blocks: u32) -> Opened {
 }
 
 /// Prints the rows of register writes.
-fn tell_writes(turns: usize, is_wanted: &dyn Fn(&str) -> bool) {
+fn print_writes(turns: usize, is_wanted: &dyn Fn(&str) -> bool) {
     let writes = |rounds, turns| Case {
         name: "write with its answer",
         timed: Timed { kind: WRITE_AND_ARRIVE, calls: 16, ..Timed::default() },
@@ -431,9 +431,9 @@ fn tell_writes(turns: usize, is_wanted: &dyn Fn(&str) -> bool) {
     if is_wanted(writes(8, 0).name) {
         let (small, large) = (opened(line::line(8)), opened(line::line(2048)));
         let base = ratios(&small, &writes(8, 20 * turns));
-        tell("8", &writes(8, 0), &base, &base);
-        tell("2,048, the first 128 blocks", &writes(8, 0), &ratios(&large, &writes(8, turns)), &base);
-        tell("2,048, all blocks", &writes(8, 0), &ratios(&large, &writes(2048, turns)), &base);
+        print("8", &writes(8, 0), &base, &base);
+        print("2,048, the first 128 blocks", &writes(8, 0), &ratios(&large, &writes(8, turns)), &base);
+        print("2,048, all blocks", &writes(8, 0), &ratios(&large, &writes(2048, turns)), &base);
     }
 }
 
@@ -462,20 +462,20 @@ fn main() {
     }
     let mut totals = edited::totals().into_iter();
     if has("counts") {
-        return counted::tell(&mut totals, &is_wanted);
+        return counted::print(&mut totals, &is_wanted);
     }
     let (few, turns) = (has("few"), if has("few") { 1 } else { 5 });
     compare_all(few);
     println!("| Call, slaves | To plain Rust | To a memory copy | Plain Rust to it | Growth | Of plain Rust |");
     println!("|---|---|---|---|---|---|");
-    tell_calls(turns, &is_wanted);
-    tell_writes(turns, &is_wanted);
-    counted::tell(&mut totals, &is_wanted);
-    edited::tell(turns, if few { 3 } else { 11 }, &mut totals, &is_wanted);
+    print_calls(turns, &is_wanted);
+    print_writes(turns, &is_wanted);
+    counted::print(&mut totals, &is_wanted);
+    edited::print(turns, if few { 3 } else { 11 }, &mut totals, &is_wanted);
 }
 
-/// Prints a row; what it grows by is told by the ratios to a memory copy, since the machine's speed changes.
-fn tell(slaves: &str, case: &Case, found: &Ratios, base: &Ratios) {
+/// Prints a row; the ratios to a memory copy show what it grows by, since the machine's speed changes.
+fn print(slaves: &str, case: &Case, found: &Ratios, base: &Ratios) {
     let Ratios { to_plain, to_memory, plain_to_memory, plain_to_itself } = found;
     let apart = if (0.9..=1.1).contains(plain_to_itself) { "" } else { " (plain Rust differs from itself)" };
     let (growth, plain_growth) = (to_memory / base.to_memory, plain_to_memory / base.plain_to_memory);

@@ -1,6 +1,6 @@
 //! The same core in plain Rust, written for speed: what is sent is kept packed with masks, what is awaited is found by
-//! its serial, and blocks stand in one array, 16 for each declared slave. Over the plain plan an edit looks at what the
-//! plan tells of it alone.
+//! its serial, and blocks are in one array, 16 for each declared slave. Over the plain plan an edit looks only at what
+//! the plan says of it.
 
 #[path = "edits.rs"]
 mod edits;
@@ -18,7 +18,7 @@ const SLOTS: usize = 16 * TASKS;
 /// The blocks for which a declared slave has room.
 const BLOCKS: usize = 2 * AREAS;
 const SETUP_SERIAL: u64 = 0xff_ffff_ffff;
-/// Room of a datagram's data, with eight bytes behind for runs of bits.
+/// Room of a datagram's data, with eight bytes more for runs of bits.
 const ROOM: usize = 1496;
 const NEVER: u64 = u64::MAX;
 
@@ -52,7 +52,7 @@ pub enum Change {
         datagram: u8,
         bytes: Vec<u8>,
     },
-    /// An edit, the new tables of the tasks, and the places of variables that stand elsewhere.
+    /// An edit, the new tables of the tasks, and the variables whose places changed.
     #[allow(dead_code)]
     Swapped {
         edit: Edit,
@@ -85,7 +85,7 @@ struct Writes {
 
 /// A register block of a slave, as the line has it and as the slave is known to have it.
 #[derive(Clone, Copy, Default)]
-struct Kept {
+struct StoredBlock {
     station: u16,
     block: Block,
     known: Option<Block>,
@@ -94,7 +94,7 @@ struct Kept {
 pub struct Core {
     plan: Plan,
     serial: u64,
-    newest: [u64; SLOTS],
+    last_sent: [u64; SLOTS],
     frames: Vec<Sending>,
     write: Option<Write>,
     writes: Writes,
@@ -102,12 +102,12 @@ pub struct Core {
     image: Vec<[u8; ROOM]>,
     sent: Vec<[u8; ROOM]>,
     masks: Vec<[u8; ROOM]>,
-    /// Where the outputs of each declared area stand in what is sent.
+    /// Where the outputs of each declared area are in what is sent.
     seats: Vec<Seat>,
     /// What an edit takes from one place to another, of bytes and of masks.
     lifted: [Vec<u8>; 2],
     /// 16 for each declared slave.
-    blocks: Vec<Kept>,
+    blocks: Vec<StoredBlock>,
     owed: Vec<u64>,
     owed_count: u32,
     changes: Vec<Change>,
@@ -140,12 +140,12 @@ impl Core {
     pub fn new(groups: &[Group]) -> Core {
         let plan = Plan::new(groups);
         let slaves = groups.iter().flat_map(|group| &group.slaves);
-        let kept = slaves.flat_map(|slave| [Kept { station: slave.station, ..Kept::default() }; BLOCKS]);
-        let blocks: Vec<Kept> = kept.collect();
+        let stored = slaves.flat_map(|slave| [StoredBlock { station: slave.station, ..StoredBlock::default() }; BLOCKS]);
+        let blocks: Vec<StoredBlock> = stored.collect();
         let mut core = Core {
             plan,
             serial: 0,
-            newest: [NEVER; SLOTS],
+            last_sent: [NEVER; SLOTS],
             frames: Vec::with_capacity(SLOTS),
             write: None,
             writes: Writes::default(),
@@ -252,7 +252,7 @@ impl Core {
         for (text, frame) in texts.iter_mut().zip(&self.frames[before..]) {
             finish(text, frame.serial);
             for slot in &frame.datagrams[..frame.count] {
-                self.newest[usize::from(*slot)] = frame.serial;
+                self.last_sent[usize::from(*slot)] = frame.serial;
             }
         }
         self.serial += texts.len() as u64;
@@ -264,9 +264,9 @@ impl Core {
 
     /// Drops the frames that are the newest of no datagram; it is called so seldom that a sending pays for few of them.
     fn drop_answered(&mut self) {
-        let newest = &self.newest;
+        let last_sent = &self.last_sent;
         self.frames.retain(|frame| {
-            frame.datagrams[..frame.count].iter().any(|slot| newest[usize::from(*slot)] == frame.serial)
+            frame.datagrams[..frame.count].iter().any(|slot| last_sent[usize::from(*slot)] == frame.serial)
         });
     }
 
@@ -318,13 +318,13 @@ impl Core {
         if self.serial >= SETUP_SERIAL {
             return Answer::Refused(19);
         }
-        let kept = &mut self.blocks[n];
-        let address = u32::from(kept.station) | u32::from(kept.block.register) << 16;
+        let stored = &mut self.blocks[n];
+        let address = u32::from(stored.station) | u32::from(stored.block.register) << 16;
         let mut text = Vec::with_capacity(60);
         text.extend_from_slice(&[0; 16]);
-        add_datagram(&mut text, 5, self.serial, address, kept.block.bytes());
+        add_datagram(&mut text, 5, self.serial, address, stored.block.bytes());
         finish(&mut text, self.serial);
-        kept.known = None;
+        stored.known = None;
         self.write = Some(Write { serial: self.serial, block: n, address });
         self.serial += 1;
         if let Some(older) = self.writes.blocks.iter_mut().find(|older| older.0 == n) {
@@ -348,8 +348,8 @@ impl Core {
         self.writes.blocks.clear();
         let (mut last, mut next) = (0, self.first_owed());
         while let Some(n) = next {
-            let kept = &mut self.blocks[n];
-            let bytes = kept.block.bytes();
+            let stored = &mut self.blocks[n];
+            let bytes = stored.block.bytes();
             if text.len() + 12 + bytes.len() > 1514 {
                 break;
             }
@@ -357,9 +357,9 @@ impl Core {
                 text[last + 7] |= 0x80;
             }
             last = text.len();
-            let address = u32::from(kept.station) | u32::from(kept.block.register) << 16;
+            let address = u32::from(stored.station) | u32::from(stored.block.register) << 16;
             add_datagram(&mut text, 5, self.serial, address, bytes);
-            kept.known = None;
+            stored.known = None;
             self.writes.blocks.push((n, address, true));
             next = self.owed_from(n + 1);
         }
@@ -375,19 +375,19 @@ impl Core {
     }
 
     fn answer_write(&mut self, region: &[u8], block: usize, address: u32) -> Answer {
-        let Some((head, size, counter, behind)) = reader::part_of(region) else {
+        let Some((head, size, counter, after)) = reader::part_of(region) else {
             return Answer::Stale;
         };
-        let kept = &mut self.blocks[block];
+        let stored = &mut self.blocks[block];
         let own = u32::from_le_bytes([head[2], head[3], head[4], head[5]]);
-        if !behind.is_empty() || head[0] != 5 || own != address || size != kept.block.bytes().len() {
+        if !after.is_empty() || head[0] != 5 || own != address || size != stored.block.bytes().len() {
             return Answer::Stale;
         }
         self.write = None;
         if counter != 1 {
             return Answer::WriteMissed;
         }
-        kept.known = Some(kept.block);
+        stored.known = Some(stored.block);
         self.set_owed(block, false);
         Answer::WriteDone
     }
@@ -395,29 +395,29 @@ impl Core {
     fn answer_writes(&mut self, region: &[u8]) -> Answer {
         let mut outcomes = Vec::with_capacity(self.writes.blocks.len());
         let mut rest = region;
-        for (block, address, is_newest) in &self.writes.blocks {
-            let Some((head, size, counter, behind)) = reader::part_of(rest) else {
+        for (block, address, is_last_sent) in &self.writes.blocks {
+            let Some((head, size, counter, after)) = reader::part_of(rest) else {
                 return Answer::Stale;
             };
             let own = u32::from_le_bytes([head[2], head[3], head[4], head[5]]);
             if head[0] != 5 || own != *address || size != self.blocks[*block].block.bytes().len() {
                 return Answer::Stale;
             }
-            outcomes.push(match (is_newest, counter) {
+            outcomes.push(match (is_last_sent, counter) {
                 (false, _) => Outcome::Stale,
                 (true, 1) => Outcome::Done,
                 (true, _) => Outcome::Missed,
             });
-            rest = behind;
+            rest = after;
         }
-        if !rest.is_empty() || self.writes.blocks.iter().all(|(_, _, is_newest)| !is_newest) {
+        if !rest.is_empty() || self.writes.blocks.iter().all(|(_, _, is_last_sent)| !is_last_sent) {
             return Answer::Stale;
         }
         let mut blocks = std::mem::take(&mut self.writes.blocks);
         for ((block, ..), outcome) in blocks.iter().zip(&outcomes) {
             if let Outcome::Done = outcome {
-                let kept = &mut self.blocks[*block];
-                kept.known = Some(kept.block);
+                let stored = &mut self.blocks[*block];
+                stored.known = Some(stored.block);
                 self.set_owed(*block, false);
             }
         }
@@ -426,26 +426,26 @@ impl Core {
         Answer::Written(outcomes)
     }
 
-    /// What the datagrams of a frame are that came back; none where they aren't those of the frame.
+    /// What the datagrams of a returned frame are; none where the frame has others.
     fn outcomes(&self, frame: &Sending, region: &[u8]) -> Option<Vec<Outcome>> {
         let mut outcomes = Vec::with_capacity(frame.count);
         let mut rest = region;
         for slot in &frame.datagrams[..frame.count] {
-            let (head, size, counter, behind) = reader::part_of(rest)?;
+            let (head, size, counter, after) = reader::part_of(rest)?;
             let (task, number) = (slot / 16, slot % 16);
             let datagram = &self.plan.table(task).all[usize::from(number)];
             let address = u32::from_le_bytes([head[2], head[3], head[4], head[5]]);
             if head[0] != 12 || address != datagram.address || size != usize::from(datagram.length) {
                 return None;
             }
-            outcomes.push(if self.newest[usize::from(*slot)] != frame.serial {
+            outcomes.push(if self.last_sent[usize::from(*slot)] != frame.serial {
                 Outcome::Stale
             } else if counter != datagram.expected {
                 Outcome::WrongCount { expected: datagram.expected, got: counter }
             } else {
                 Outcome::Inputs { task, datagram: number }
             });
-            rest = behind;
+            rest = after;
         }
         rest.is_empty().then_some(outcomes)
     }
@@ -470,7 +470,7 @@ impl Core {
             return Answer::Stale;
         };
         let own = &frame.datagrams[..frame.count];
-        if own.iter().all(|slot| self.newest[usize::from(*slot)] != serial) {
+        if own.iter().all(|slot| self.last_sent[usize::from(*slot)] != serial) {
             return Answer::Stale;
         }
         let Some(outcomes) = self.outcomes(frame, region) else {
@@ -478,7 +478,7 @@ impl Core {
         };
         let mut rest = region;
         for (slot, outcome) in own.iter().zip(&outcomes) {
-            let Some((_, size, _, behind)) = reader::part_of(rest) else {
+            let Some((_, size, _, after)) = reader::part_of(rest) else {
                 break;
             };
             let slot = usize::from(*slot);
@@ -488,10 +488,10 @@ impl Core {
                 self.fresh[slot] = true;
                 self.changes.push(Change::Good { task, datagram, bytes: data.to_vec() });
             }
-            if self.newest[slot] == serial {
-                self.newest[slot] = NEVER;
+            if self.last_sent[slot] == serial {
+                self.last_sent[slot] = NEVER;
             }
-            rest = behind;
+            rest = after;
         }
         Answer::Answered(outcomes)
     }

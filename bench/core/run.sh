@@ -1,6 +1,6 @@
 #!/bin/sh
 # Proves `hc_core` and what the benchmark needs of it under C names, in a scratch folder; links the benchmark to that
-# static library and runs it. `../shared.sh` tells of KIT and KEPT.
+# static library and runs it. `../shared.sh` explains KIT and KEPT.
 set -eu
 here=$(cd "$(dirname "$0")" && pwd)
 . "$here/../shared.sh"
@@ -8,7 +8,7 @@ bench=$scratch/crates/core_bench
 take hc_project
 take hc_core
 echo 'core_bench staticlib: hc_records hc_project hc_places hc_frames hc_plan hc_events hc_core libc' >> "$scratch/crates.txt"
-share "$bench" answers bytes clock cores edits_asked plans told
+share "$bench" answers bytes clock cores digest edits_asked plans
 for part in "$here"/library/*.sh; do
     sh "$part" "$bench"
 done

@@ -1,10 +1,10 @@
-//! Events for both cores: each is played on the plain one when it is added, which tells what comes back of a frame.
+//! Events for both cores: each is played on the plain one when it is added, which says what comes back of a frame.
 
+use crate::digest::digest_by;
 use crate::draws::Draws;
 use crate::line::PDO;
 use crate::plain::{Answer, Core};
 use crate::plan::asked::{self, Asked as EditAsked};
-use crate::told::told_by;
 
 pub const POST: u8 = 0;
 pub const TASKS: u8 = 1;
@@ -17,7 +17,7 @@ pub const WRITES: u8 = 6;
 /// The lists of tasks that are sent.
 pub const LISTS: [&[u8]; 5] = [&[0], &[1], &[2], &[3, 4, 5, 6, 7], &[7, 1, 0]];
 
-/// An event, as the library's exports take it; its bytes stand among those of all.
+/// An event, as the library's exports take it; its bytes are among the bytes of all events.
 #[repr(C)]
 #[derive(Clone, Copy, Default)]
 pub struct Asked {
@@ -33,8 +33,8 @@ pub struct Script {
     pub core: Core,
     pub events: Vec<Asked>,
     pub bytes: Vec<u8>,
-    /// What the plain core told of each event.
-    pub told: Vec<u64>,
+    /// The plain core's digest of each event.
+    pub digest: Vec<u64>,
     /// The frames that it sent with the last event.
     pub sent: Vec<Vec<u8>>,
     pub is_refused: bool,
@@ -88,8 +88,8 @@ fn drawn_edit(mut draw: impl FnMut(usize) -> usize) -> EditAsked {
 
 impl Script {
     pub fn new(core: Core) -> Script {
-        let (events, bytes, told, sent) = (Vec::new(), Vec::new(), Vec::new(), Vec::new());
-        Script { core, events, bytes, told, sent, is_refused: false }
+        let (events, bytes, digest, sent) = (Vec::new(), Vec::new(), Vec::new(), Vec::new());
+        Script { core, events, bytes, digest, sent, is_refused: false }
     }
 
     pub fn add(&mut self, asked: Asked, bytes: &[u8]) {
@@ -103,7 +103,7 @@ impl Script {
             EDIT => core.edit(&asked.edit.edit().expect("an edit")),
             _ => core.read(asked.task),
         };
-        self.told.push(told_by(core, &answer));
+        self.digest.push(digest_by(core, &answer));
         self.is_refused = matches!(answer, Answer::Refused(_));
         self.sent = match &mut answer {
             Answer::Sent(frames) => std::mem::take(frames),
@@ -158,7 +158,7 @@ impl Script {
     }
 
     /// Plays drawn events: posts, sendings, writes of one block and of several, arrivals good, late, doubled, cut, changed or with another counter,
-    /// reads and edits, some of which are refused.
+    /// reads and edits, some of them refused.
     pub fn draw(&mut self, count: usize) {
         let mut draws = Draws(1);
         let mut draw = move |below: usize| draws.below(below);

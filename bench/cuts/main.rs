@@ -10,7 +10,7 @@ mod draws;
 mod plain;
 
 use draws::Draws;
-use plain::{Area, Tree, told_of};
+use plain::{Area, Tree, digest_of};
 use std::hint::black_box;
 use std::time::Instant;
 
@@ -95,19 +95,19 @@ const KINDS: [Kind; 8] = [
 ];
 
 fn timed(times: &mut [u64], mut call: impl FnMut() -> u64) -> u64 {
-    let mut told = 0;
+    let mut digest = 0;
     for time in times {
         let begun = Instant::now();
-        told = call();
+        digest = call();
         *time = begun.elapsed().as_nanos() as u64;
     }
-    told
+    digest
 }
 
-fn told_of_cut(tree: &Tree) -> u64 {
+fn digest_of_cut(tree: &Tree) -> u64 {
     let mut starts = [0; 16];
     let count = tree.cut(&mut starts).expect("at most 16 datagrams");
-    starts[..count].iter().fold(0, |told, key| told_of(told, *key))
+    starts[..count].iter().fold(0, |digest, key| digest_of(digest, *key))
 }
 
 /// Plays a kind in a tree made anew: the nanoseconds of each round, and what the answers come to.
@@ -120,7 +120,7 @@ fn played(kind: Kind, case: &Case, times: &mut [u64]) -> u64 {
         },
         Kind::PlainSearch | Kind::ControlSearch => {
             let tree = tree_of(case);
-            timed(times, || black_box(&case.asked).iter().fold(0, |told, area| told_of(told, tree.next_cut(area))))
+            timed(times, || black_box(&case.asked).iter().fold(0, |digest, area| digest_of(digest, tree.next_cut(area))))
         }
         Kind::Set => unsafe { cuts_set(case.slaves, areas, count, changed, calls, times.as_mut_ptr(), times.len()) },
         Kind::PlainSet => {
@@ -129,7 +129,7 @@ fn played(kind: Kind, case: &Case, times: &mut [u64]) -> u64 {
                 black_box(&case.changed).iter().for_each(|area| tree.set(area));
                 0
             });
-            told_of_cut(&tree)
+            digest_of_cut(&tree)
         }
         Kind::Cut => unsafe { cuts_cut(case.slaves, areas, count, times.as_mut_ptr(), times.len()) },
         Kind::PlainCut => {
@@ -140,7 +140,7 @@ fn played(kind: Kind, case: &Case, times: &mut [u64]) -> u64 {
                 black_box(starts);
                 count.map_or(0, |count| count as u64)
             });
-            told_of_cut(&tree)
+            digest_of_cut(&tree)
         }
         Kind::Fold => unsafe { cuts_folded(areas, count, times.as_mut_ptr(), times.len()) },
     }
@@ -155,15 +155,15 @@ fn compare(case: &Case) {
         played(Kind::Search, &asked, &mut times) == played(Kind::PlainSearch, &asked, &mut times)
     };
     assert!(case.asked.iter().step_by(64).all(&mut each), "another next boundary");
-    let mut told = |kind| played(kind, case, &mut times);
-    assert_eq!(told(Kind::Search), told(Kind::PlainSearch));
-    let cut = told_of_cut(&tree);
-    assert!([Kind::Set, Kind::PlainSet, Kind::Cut, Kind::PlainCut].into_iter().all(|kind| told(kind) == cut));
+    let mut digest = |kind| played(kind, case, &mut times);
+    assert_eq!(digest(Kind::Search), digest(Kind::PlainSearch));
+    let cut = digest_of_cut(&tree);
+    assert!([Kind::Set, Kind::PlainSet, Kind::Cut, Kind::PlainCut].into_iter().all(|kind| digest(kind) == cut));
     // the fold gives the key of the first area in the place of START
     let mut starts = [0; 16];
     let count = tree.cut(&mut starts).expect("at most 16 datagrams");
     starts[0] = u32::from(case.areas[0].rank) << 8 | u32::from(case.areas[0].area);
-    assert_eq!(told(Kind::Fold), starts[..count].iter().fold(0, |told, key| told_of(told, *key)));
+    assert_eq!(digest(Kind::Fold), starts[..count].iter().fold(0, |digest, key| digest_of(digest, *key)));
     eprintln!("{} slaves: {} datagrams", case.slaves, count);
 }
 

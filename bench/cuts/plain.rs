@@ -1,4 +1,4 @@
-//! Plain Rust for the same answers, written for speed: a tree of the same sums in one array. Under its nodes stand the
+//! Plain Rust for the same answers, written for speed: a tree of the same sums in one array. Under its nodes are the
 //! widths of a slave's 8 areas of one direction, which are gone over one by one: 8 areas are read sooner than the three
 //! levels of sums above them would be.
 
@@ -21,12 +21,12 @@ const AREAS: usize = 8;
 /// A key as a number, as the exports mix it: direction, rank and area.
 pub const END: u32 = 0x01ff_ffff;
 
-/// A key, mixed into what was told before.
-pub fn told_of(told: u64, key: u32) -> u64 {
-    told.wrapping_mul(0x9e37_79b9_7f4a_7c15) ^ u64::from(key)
+/// A key, mixed into a digest.
+pub fn digest_of(digest: u64, key: u32) -> u64 {
+    digest.wrapping_mul(0x9e37_79b9_7f4a_7c15) ^ u64::from(key)
 }
 
-/// What a run of areas takes of a datagram: the bit behind it where it starts at each of the 8 bits of byte 0, and the
+/// What a run of areas takes of a datagram: the bit after it where it starts at each of the 8 bits of byte 0, and the
 /// directions of its first and its last area. A run of no areas has `is_run` false, and ends where it starts.
 #[derive(Clone, Copy)]
 struct Sum {
@@ -43,26 +43,26 @@ const EMPTY: Sum =
 #[derive(Clone, Copy)]
 struct Filled {
     bit: u32,
-    is_behind_output: bool,
+    is_after_output: bool,
 }
 
 impl Filled {
-    fn behind_area(self, is_input: bool, bits: u32) -> Filled {
+    fn after_area(self, is_input: bool, bits: u32) -> Filled {
         if bits == 0 {
             return self;
         }
-        let begins_byte = bits >= 8 || (is_input && self.is_behind_output);
+        let begins_byte = bits >= 8 || (is_input && self.is_after_output);
         let start = if begins_byte { (self.bit + 7) & !7 } else { self.bit };
-        Filled { bit: start + bits, is_behind_output: !is_input }
+        Filled { bit: start + bits, is_after_output: !is_input }
     }
 
-    fn behind(self, run: &Sum) -> Filled {
+    fn after(self, run: &Sum) -> Filled {
         if !run.is_run {
             return self;
         }
-        let turns = self.is_behind_output && run.begins_with_input;
+        let turns = self.is_after_output && run.begins_with_input;
         let start = if turns { (self.bit + 7) & !7 } else { self.bit };
-        Filled { bit: (start & !7) + run.ends[(start & 7) as usize], is_behind_output: !run.ends_with_input }
+        Filled { bit: (start & !7) + run.ends[(start & 7) as usize], is_after_output: !run.ends_with_input }
     }
 }
 
@@ -82,7 +82,7 @@ fn joined(one: &Sum, other: &Sum) -> Sum {
     Sum { ends, is_run: true, begins_with_input: one.begins_with_input, ends_with_input: other.ends_with_input }
 }
 
-/// The tree of a task. Node 1 is the root, below node `k` stand `2 * k` and `2 * k + 1`, and the last level has a node
+/// The tree of a task. Node 1 is the root, below node `k` are `2 * k` and `2 * k + 1`, and the last level has a node
 /// for each slave's outputs and then one for each slave's inputs.
 pub struct Tree {
     /// The nodes of the last level, a power of two; half of them are for inputs.
@@ -135,11 +135,11 @@ impl Tree {
         }
     }
 
-    /// The first area of a leaf, from one on, that would end past the room, or how far the datagram is filled.
+    /// The first area of a leaf, from one on, that would end beyond the room, or how far the datagram is filled.
     fn beyond_in(&self, leaf: usize, from: usize, mut filled: Filled) -> Result<Filled, u32> {
         let is_input = leaf >= self.leaves / 2;
         for (area, bits) in self.widths[leaf].iter().enumerate().skip(from) {
-            let next = filled.behind_area(is_input, u32::from(*bits));
+            let next = filled.after_area(is_input, u32::from(*bits));
             if next.bit > ROOM {
                 return Err(self.key_of(leaf, area));
             }
@@ -148,11 +148,11 @@ impl Tree {
         Ok(filled)
     }
 
-    /// The first area below a node that would end past the room, where one does.
+    /// The first area below a node that would end beyond the room, where one does.
     fn beyond_below(&self, mut node: usize, mut filled: Filled) -> u32 {
         while node < self.leaves {
             node *= 2;
-            let next = filled.behind(&self.sums[node]);
+            let next = filled.after(&self.sums[node]);
             if next.bit <= ROOM {
                 filled = next;
                 node += 1;
@@ -166,12 +166,12 @@ impl Tree {
 
     /// The key at which the next datagram begins where one begins with the areas from a leaf's on.
     fn next_from(&self, leaf: usize, area: usize) -> u32 {
-        let mut filled = match self.beyond_in(leaf, area, Filled { bit: 0, is_behind_output: false }) {
+        let mut filled = match self.beyond_in(leaf, area, Filled { bit: 0, is_after_output: false }) {
             Err(key) => return key,
             Ok(filled) => filled,
         };
         let mut node = self.leaves + leaf;
-        // up from left children to the part behind, as long as all of it fits
+        // up from left children to the part after them, as long as all of it fits
         loop {
             while node & 1 == 1 {
                 node /= 2;
@@ -180,7 +180,7 @@ impl Tree {
                 }
             }
             node += 1;
-            let next = filled.behind(&self.sums[node]);
+            let next = filled.after(&self.sums[node]);
             if next.bit > ROOM {
                 return self.beyond_below(node, filled);
             }
@@ -193,7 +193,7 @@ impl Tree {
         self.next_from(self.leaf_of(from), usize::from(from.area))
     }
 
-    /// Writes the keys at which the datagrams begin, the first of them 0, and tells how many there are; none where
+    /// Writes the keys at which the datagrams begin, the first of them 0, and gives how many there are; none where
     /// there are more than 16.
     pub fn cut(&self, starts: &mut [u32; 16]) -> Option<usize> {
         starts[0] = 0;

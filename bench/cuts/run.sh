@@ -1,6 +1,6 @@
 #!/bin/sh
 # Proves `hc_cuts` and what the benchmark needs of it under C names, in a scratch folder; links the benchmark to that
-# static library and runs it. `../shared.sh` tells of KIT and KEPT.
+# static library and runs it. `../shared.sh` explains KIT and KEPT.
 set -eu
 here=$(cd "$(dirname "$0")" && pwd)
 . "$here/../shared.sh"
@@ -8,8 +8,8 @@ bench=$scratch/crates/cuts_bench
 take hc_cuts
 echo 'cuts_bench staticlib: hc_records hc_bitsum hc_cuts libc' >> "$scratch/crates.txt"
 share "$bench" clock
-# What the prover is told of a function: one name and its value a call.
-told() {
+# A tactic of a function: one name and its value a call.
+tactic_of() {
     file="$bench/proofs/$1/Invariants.antt"
     if [ ! -e "$file" ]; then
         mkdir -p "$bench/proofs/$1"
@@ -21,12 +21,12 @@ END_OF_IMPORTS
     fi
     printf '\nabbrev pub %s : goal.%s\n%s %s\n' "$2" "$2" "$2" "$3" >> "$file"
 }
-told set_widths invariant-loop-area 'l = l.task.slaves ≡ l.slaves'
-told list_of invariant-loop-area 'l = All IsPackable l.list.items'
-told cuts_set invariant-loop-time 'l = l.task.slaves ≡ l.slaves'
-told cuts_set ghosts-cut_in_rounds 'a = record { name = a.blank.name; parts = a.blank.parts }'
-told cuts_cut ghosts-cut_in_rounds 'a = record { name = a.blank.name; parts = a.blank.parts }'
-told cuts_searched ghosts-searched_in_rounds 'a = record { name = a.blank.name; parts = a.blank.parts }'
+tactic_of set_widths invariant-loop-area 'l = l.task.slaves ≡ l.slaves'
+tactic_of list_of invariant-loop-area 'l = All IsPackable l.list.items'
+tactic_of cuts_set invariant-loop-time 'l = l.task.slaves ≡ l.slaves'
+tactic_of cuts_set ghosts-cut_in_rounds 'a = record { name = a.blank.name; parts = a.blank.parts }'
+tactic_of cuts_cut ghosts-cut_in_rounds 'a = record { name = a.blank.name; parts = a.blank.parts }'
+tactic_of cuts_searched ghosts-searched_in_rounds 'a = record { name = a.blank.name; parts = a.blank.parts }'
 cat > "$bench/src/lib.rt" <<'END_OF_CODE'
 //! What the benchmark calls: each function makes a task of so many slaves with these areas and plays the same
 //! calls in it, in as many rounds as `times` has places, which get the nanoseconds of each round.
@@ -81,9 +81,9 @@ fn number_of(key: Key) -> u32 {
     direction | u32::from(key.rank) << 8 | u32::from(key.area)
 }
 
-/// A key, mixed into what was told before.
-fn told_of(told: u64, key: Key) -> u64 {
-    told.wrapping_mul(0x9e37_79b9_7f4a_7c15) ^ u64::from(number_of(key))
+/// A key, mixed into a digest.
+fn digest_of(digest: u64, key: Key) -> u64 {
+    digest.wrapping_mul(0x9e37_79b9_7f4a_7c15) ^ u64::from(number_of(key))
 }
 
 /// Sets the widths of the areas that have a place.
@@ -113,14 +113,14 @@ fn tree_of(alloc: Global, slaves: u16, areas: &[Area]) -> Result<SumTree, AllocE
 fn searched<L: Ledger>(task: &SumTree, slaves: u16, asked: &[Area], steps: &mut Steps<L>) -> u64
     requires { task.now.slaves ≡ slaves }
 {
-    let mut told = 0;
+    let mut digest = 0;
     for area in asked {
         let key = key_of(area);
         if has_place(key, slaves) {
-            told = told_of(told, next_cut(task, key, steps));
+            digest = digest_of(digest, next_cut(task, key, steps));
         }
     }
-    told
+    digest
 }
 
 fn searched_in_rounds<L: Ledger>(
@@ -136,13 +136,13 @@ fn searched_in_rounds<L: Ledger>(
     requires slaves { task.now.slaves ≡ slaves }
 {
     let mut steps: Steps<L> = Steps::start(blank);
-    let mut told = 0;
+    let mut digest = 0;
     for time in times.iter_mut() {
         let begun = nanoseconds();
-        told = searched(task, slaves, asked, &mut steps);
+        digest = searched(task, slaves, asked, &mut steps);
         *time = nanoseconds().wrapping_sub(begun);
     }
-    told
+    digest
 }
 
 /// Searches the next boundary from each of these areas. The answers as one number, 0 without memory.
@@ -163,12 +163,12 @@ pub extern "C" fn cuts_searched(
 }
 
 /// The boundaries of a task but the last, mixed into one number.
-fn told_of_starts(starts: &[Key]) -> u64 {
-    let mut told = 0;
+fn digest_of_starts(starts: &[Key]) -> u64 {
+    let mut digest = 0;
     for key in starts {
-        told = told_of(told, *key);
+        digest = digest_of(digest, *key);
     }
-    told
+    digest
 }
 
 /// The key at which the second datagram of a task begins, END where it has fewer.
@@ -180,16 +180,16 @@ fn first_cut<L: Ledger>(task: &SumTree, steps: &mut Steps<L>) -> Key {
 fn cut<L: Ledger>(task: &SumTree, slaves: u16, steps: &mut Steps<L>) -> u64
     requires { task.now.slaves ≡ slaves }
 {
-    let mut told = told_of(0, Key::START);
+    let mut digest = digest_of(0, Key::START);
     let mut key = first_cut(task, steps);
     for _ in 1..16 {
         if !has_place(key, slaves) {
-            return told;
+            return digest;
         }
-        told = told_of(told, key);
+        digest = digest_of(digest, key);
         key = next_cut(task, key, steps);
     }
-    told
+    digest
 }
 
 fn cut_in_rounds<L: Ledger>(task: &SumTree, slaves: u16, times: &mut [u64], blank: Blank) -> u64
@@ -199,13 +199,13 @@ fn cut_in_rounds<L: Ledger>(task: &SumTree, slaves: u16, times: &mut [u64], blan
     requires slaves { task.now.slaves ≡ slaves }
 {
     let mut steps: Steps<L> = Steps::start(blank);
-    let mut told = 0;
+    let mut digest = 0;
     for time in times.iter_mut() {
         let begun = nanoseconds();
-        told = cut(task, slaves, &mut steps);
+        digest = cut(task, slaves, &mut steps);
         *time = nanoseconds().wrapping_sub(begun);
     }
-    told
+    digest
 }
 
 /// Searches all boundaries of the areas, once a round. The boundaries as one number, 0 without memory.
@@ -219,7 +219,7 @@ pub extern "C" fn cuts_cut(alloc: Global, slaves: u16, areas: &[Area], times: &m
     }
 }
 
-/// Sets widths. The boundaries behind all of that as one number, 0 without memory.
+/// Sets widths. The boundaries after all of it as one number, 0 without memory.
 #[unsafe(no_mangle)]
 pub extern "C" fn cuts_set(
     alloc: Global,
@@ -254,23 +254,23 @@ fn list_of(alloc: Global, areas: &[Area]) -> Result<Vec<(Key, u16)>, AllocError>
     Ok(list)
 }
 
-/// Folds the list of the areas, which stand in key order, once a round. The boundaries as one number, 0
+/// Folds the list of the areas, which are in key order, once a round. The boundaries as one number, 0
 /// without memory.
 #[unsafe(no_mangle)]
 pub extern "C" fn cuts_folded(alloc: Global, areas: &[Area], times: &mut [u64]) -> u64 {
     let Ok(list) = list_of(alloc, areas) else {
         return 0;
     };
-    let mut told = 0;
+    let mut digest = 0;
     for time in times.iter_mut() {
         let begun = nanoseconds();
         let starts = fold_cuts(&list);
         *time = nanoseconds().wrapping_sub(begun);
         if let Ok(keys) = starts {
-            told = told_of_starts(&keys);
+            digest = digest_of_starts(&keys);
         }
     }
-    told
+    digest
 }
 END_OF_CODE
 build "$bench" rt lib

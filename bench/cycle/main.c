@@ -53,9 +53,9 @@ static void write_all(struct zangjulf *line) {
 
 static void open_sides(struct sides *sides) {
     struct zangjulf_part part;
-    uint8_t crowded;
+    uint8_t over_limit;
     memset(sides, 0, sizeof *sides);
-    if (zangjulf_open(&sides->library, (const uint8_t *)PROJECT, sizeof PROJECT - 1, 0, &crowded)) give_up("the project isn't opened");
+    if (zangjulf_open(&sides->library, (const uint8_t *)PROJECT, sizeof PROJECT - 1, 0, &over_limit)) give_up("the project isn't opened");
     write_all(&sides->library);
     zangjulf_datagram(&sides->library, 0, 0, &sides->datagram);
     zangjulf_part(&sides->library, 0, &part);
@@ -79,13 +79,13 @@ static void by_library(struct sides *sides, uint8_t value, bool whole) {
     struct zangjulf_sent sent;
     struct zangjulf_outcome outcome;
     struct zangjulf_arrival arrival;
-    struct zangjulf_image told;
+    struct zangjulf_image sizes;
     uint64_t serial;
     if (whole) memset(outputs, value, HALF), zangjulf_post(&sides->library, 0, 0, outputs, HALF);
     if (zangjulf_send(&sides->library, &task, 1, frame, sizeof frame, &sent)) return;
     pass(sides, frame);
     if (zangjulf_arrive(&sides->library, frame, sent.size, &outcome, 1, &arrival)) return;
-    if (whole) zangjulf_read(&sides->library, 0, image, sizeof image, &serial, 1, &told);
+    if (whole) zangjulf_read(&sides->library, 0, image, sizeof image, &serial, 1, &sizes);
     sides->good += outcome.kind == ZANGJULF_INPUTS && (!whole || image[HALF] == (uint8_t)(value + 1));
 }
 

@@ -100,7 +100,7 @@ int plain_send(struct plain *line, const uint8_t *tasks, size_t count, uint8_t *
     return 0;
 }
 
-/* The fault of a datagram's head, or 0; its own bytes are told. */
+/* The fault of a datagram's head, or 0, and how many bytes the datagram has. */
 static int judge_head(const uint8_t *at, size_t left, uint8_t index, size_t *bytes, bool *more) {
     if (left < BESIDE) return 23;
     uint16_t field = word(at + 6);

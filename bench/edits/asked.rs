@@ -1,8 +1,8 @@
-//! What is asked of a plan, as the library's exports take it, and what the plain one tells of it.
+//! What is asked of a plan, as the library's exports take it, and the plain plan's digest of it.
 
+use super::digest::{digest_of_answer, digest_of_plan};
 use super::line::{BARE, FIRST, LAST, NEAR, OTHER, OWN, Places, TWICE, WIDER, places, station};
 use super::plain::{Edit, Group, Plan, Report};
-use super::told::{told_of_answer, told_of_plan};
 
 pub const CONNECT: u8 = 0;
 pub const DISCONNECT: u8 = 1;
@@ -10,7 +10,7 @@ pub const REMAP: u8 = 2;
 pub const MOVE: u8 = 3;
 /// The line is configured from nothing, and what that gives is dropped.
 pub const CONFIGURE: u8 = 4;
-/// All is told that the plan keeps.
+/// A digest of the whole plan.
 pub const WHOLE: u8 = 5;
 
 #[repr(C)]
@@ -37,11 +37,11 @@ impl Asked {
         }
     }
 
-    /// What the plain plan tells of it.
-    pub fn told_by(&self, plan: &mut Plan) -> u64 {
+    /// The plain plan's digest of it.
+    pub fn digest_by(&self, plan: &mut Plan) -> u64 {
         match self.edit() {
-            Some(edit) => told_of_answer(&plan.apply(&edit)),
-            None => told_of_plan(plan),
+            Some(edit) => digest_of_answer(&plan.apply(&edit)),
+            None => digest_of_plan(plan),
         }
     }
 }
@@ -53,8 +53,8 @@ pub struct Case {
     pub edits: Vec<usize>,
 }
 
-/// The edits that are timed, each pair of which leaves the line as it was, and the rows that they are told in. Behind
-/// them the line is configured.
+/// The edits that are timed, and the rows that show them. Each pair leaves the line as it was. After them the line is
+/// configured.
 pub struct Round {
     pub asked: Vec<Asked>,
     pub cases: Vec<Case>,

@@ -68,7 +68,7 @@ fn declared(slaves: usize, names: &Names) -> Vec<f64> {
 
 /// Prints the median and the longest of the declarations, over so many lines of each length, and what the median is of the
 /// one at 64 slaves.
-pub fn tell(turns: usize) {
+pub fn print(turns: usize) {
     println!("| A declared group of one slave, its names | Slaves | Median, ns | To 64 slaves | Longest, ns |");
     println!("|---|---|---|---|---|");
     for names in NAMES {

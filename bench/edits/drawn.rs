@@ -66,7 +66,7 @@ fn edit(draws: &mut Draws, groups: &[Group]) -> Asked {
     }
 }
 
-/// So many edits, some of which are refused, and behind each of them the question after the whole plan.
+/// So many edits, some of them refused, and after each of them the question for the whole plan.
 pub fn edits(seed: u64, groups: &[Group], count: usize) -> Vec<Asked> {
     let mut draws = Draws(seed);
     (0..count).flat_map(|_| [edit(&mut draws, groups), Asked { kind: WHOLE, ..Asked::default() }]).collect()

@@ -1,12 +1,12 @@
-//! How often memory grew: the linker hands every call of `malloc`, `calloc` and `realloc` to the functions here, those of
-//! the library as those of plain Rust. A library can't ask for the count, but it reads a clock around each edit: while
-//! growths are counted, that clock tells them in the place of nanoseconds.
+//! How often memory grew: the linker hands every call of `malloc`, `calloc` and `realloc` to the functions here, from the
+//! library and from plain Rust alike. A library can't ask for the count, but it reads a clock around each edit: while
+//! growths are counted, that clock gives them in the place of nanoseconds.
 
 use std::ffi::{c_int, c_void};
 use std::sync::atomic::{AtomicBool, AtomicU64, Ordering::Relaxed};
 
 static GROWTHS: AtomicU64 = AtomicU64::new(0);
-static ARE_TOLD: AtomicBool = AtomicBool::new(false);
+static ARE_COUNTED: AtomicBool = AtomicBool::new(false);
 
 #[repr(C)]
 pub struct Time {
@@ -46,17 +46,17 @@ extern "C" fn __wrap_realloc(old: *mut c_void, size: usize) -> *mut c_void {
 
 #[unsafe(no_mangle)]
 extern "C" fn __wrap_clock_gettime(clock: c_int, time: *mut Time) -> c_int {
-    if ARE_TOLD.load(Relaxed) {
+    if ARE_COUNTED.load(Relaxed) {
         unsafe { *time = Time { seconds: 0, nanoseconds: GROWTHS.load(Relaxed) as i64 } };
         return 0;
     }
     unsafe { __real_clock_gettime(clock, time) }
 }
 
-/// Does something while the clock tells growths.
+/// Does something while the clock gives growths.
 pub fn counted<T>(work: impl FnOnce() -> T) -> T {
-    ARE_TOLD.store(true, Relaxed);
+    ARE_COUNTED.store(true, Relaxed);
     let done = work();
-    ARE_TOLD.store(false, Relaxed);
+    ARE_COUNTED.store(false, Relaxed);
     done
 }

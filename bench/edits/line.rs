@@ -1,4 +1,4 @@
-//! The lines of the benchmark and their text. The n-th area of each slave has 11 bytes and stands in the n-th task; the
+//! The lines of the benchmark and their text. The n-th area of each slave has 11 bytes and is in the n-th task; the
 //! first four are outputs, the other inputs. So a task of 2,047 slaves has 22,517 bytes, which 16 datagrams of 135 areas
 //! hold, and an edit near the end of the line moves few areas.
 
@@ -13,7 +13,7 @@ pub const OTHER: u16 = 0x1601;
 pub const WIDER: u16 = 0x1602;
 pub const TWICE: u16 = 0x1603;
 
-/// The groups of one slave each: the first of the line, one with ten slaves behind it, and the last one with areas; and
+/// The groups of one slave each: the first of the line, one with ten slaves after it, and the last one with areas; and
 /// the ten's other nine, and a slave without areas at the end. On a line of 8 the nine are two.
 pub const FIRST: u16 = 1;
 pub const NEAR: u16 = 2;
@@ -32,11 +32,11 @@ const IN_DATAGRAM: usize = 135;
 pub struct Places {
     /// Whose last area has no PDO.
     pub empty: usize,
-    /// Which has as many areas before it as behind it.
+    /// Which has as many areas before it as after it.
     pub middle: usize,
-    /// Which has at most 100 areas behind it in its datagram, the middle one of its task.
+    /// Which has at most 100 areas after it in its datagram, the middle one of its task.
     pub hundred: usize,
-    /// Which has 49 slaves with areas behind it, on a short line all but the first.
+    /// Which has 49 slaves with areas after it, on a short line all but the first.
     pub fifty: usize,
 }
 
@@ -87,14 +87,14 @@ impl Maker {
     }
 }
 
-/// A line of so many slaves, the last of which has no areas. The mandatory group has none of them.
+/// A line of so many slaves; the last one has no areas. The mandatory group has none of them.
 pub fn line(slaves: usize) -> Vec<Group> {
     let mut maker = Maker { slaves, place: 0, variables: 0 };
     let mut groups = vec![maker.group(0, 0), maker.group(FIRST, 1)];
     let nine = if slaves < 16 { 2 } else { 9 };
-    let behind = slaves - nine - 3;
+    let most = slaves - nine - 3;
     for alias in OTHERS.. {
-        match behind - maker.place {
+        match most - maker.place {
             0 => break,
             left => groups.push(maker.group(alias, left.min(TOGETHER))),
         }

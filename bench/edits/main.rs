@@ -1,8 +1,8 @@
 //! Edits of a plan, timed against plain Rust that does the same and against the configuring of the same line from
 //! nothing, in one run: on lines of 64, 512 and 2,048 slaves with eight areas of 11 bytes in eight tasks.
 //!
-//! A turn plays rounds of edits in the library, and in plain Rust before it and behind it. Each edit of a round has one
-//! that takes it back, and behind all of them the line is configured. What is printed is ratios: to the configuring in
+//! A turn plays rounds of edits in the library, and in plain Rust before and after it. Each edit of a round has one
+//! that takes it back, and after all of them the line is configured. What is printed is ratios: to the configuring in
 //! the same round, medians over all rounds, and to plain Rust, medians over the turns of the ratios of medians; and how
 //! often memory grew.
 //!
@@ -21,7 +21,7 @@ mod line;
 mod plain;
 #[path = "../../compare/shared/project_text.rs"]
 mod project_text;
-mod told;
+mod digest;
 
 use asked::{Asked, CONFIGURE, Round, WHOLE, joining, played};
 use plain::{Group, Plan, Report};
@@ -32,8 +32,8 @@ const SLAVES: [usize; 3] = [64, 512, 2048];
 
 // What is handed over are slices, each by its first element and its length.
 unsafe extern "C" {
-    fn edits_told(
-        text: *const u8, size: usize, asked: *const Asked, count: usize, told: *mut u64, told_count: usize,
+    fn edits_digests(
+        text: *const u8, size: usize, asked: *const Asked, count: usize, digest: *mut u64, digest_count: usize,
     ) -> usize;
     fn edits_timed(
         text: *const u8, size: usize, asked: *const Asked, count: usize, times: *mut u64, time_count: usize,
@@ -61,16 +61,16 @@ impl Line {
     }
 }
 
-/// Stops the benchmark where the library tells otherwise than plain Rust.
+/// Stops the benchmark where the library answers otherwise than plain Rust.
 fn compare(name: &str, groups: &[Group], asked: &[Asked]) {
     let text = line::text(groups);
     let mut plan = Plan::new(groups);
-    let told: Vec<u64> = asked.iter().map(|one| one.told_by(&mut plan)).collect();
-    let mut found = vec![0; told.len()];
+    let digest: Vec<u64> = asked.iter().map(|one| one.digest_by(&mut plan)).collect();
+    let mut found = vec![0; digest.len()];
     let (start, size) = (text.as_ptr(), text.len());
-    let count = unsafe { edits_told(start, size, asked.as_ptr(), asked.len(), found.as_mut_ptr(), found.len()) };
-    assert_eq!(count, told.len(), "{name}: not all was played");
-    if let Some(place) = (0..count).find(|place| found[*place] != told[*place]) {
+    let count = unsafe { edits_digests(start, size, asked.as_ptr(), asked.len(), found.as_mut_ptr(), found.len()) };
+    assert_eq!(count, digest.len(), "{name}: not all was played");
+    if let Some(place) = (0..count).find(|place| found[*place] != digest[*place]) {
         panic!("{name}: number {place}, {:?}, is answered otherwise", asked[place]);
     }
 }
@@ -124,11 +124,11 @@ fn median(mut values: Vec<f64>) -> f64 {
     values.get(values.len() / 2).copied().unwrap_or(f64::NAN)
 }
 
-/// The rounds of a turn, of the library and of plain Rust before it and behind it.
+/// The rounds of a turn: of the library, and of plain Rust before and after it.
 struct Turn {
     proved: Vec<Vec<u64>>,
     before: Vec<Vec<u64>>,
-    behind: Vec<Vec<u64>>,
+    after: Vec<Vec<u64>>,
 }
 
 struct Times(Vec<Turn>);
@@ -136,7 +136,7 @@ struct Times(Vec<Turn>);
 impl Times {
     fn of(line: &Line, turns: usize, rounds: usize) -> Times {
         let plain = || plain(line, 4 * rounds);
-        Times((0..turns).map(|_| Turn { before: plain(), proved: proved(line, rounds), behind: plain() }).collect())
+        Times((0..turns).map(|_| Turn { before: plain(), proved: proved(line, rounds), after: plain() }).collect())
     }
 
     /// What edits cost of a configuring in the same round.
@@ -145,9 +145,9 @@ impl Times {
         median(rounds.flat_map(|row| edits.iter().map(|edit| row[*edit] as f64 / row[row.len() - 1] as f64)).collect())
     }
 
-    /// The median over the turns of what is found of the times of the library and of plain Rust, before and behind.
+    /// The median over the turns of what is found of the times of the library and of plain Rust, before and after.
     fn over_turns(&self, edits: &[usize], find: impl Fn(f64, f64, f64) -> f64) -> f64 {
-        let found = |turn: &Turn| find(of(&turn.proved, edits), of(&turn.before, edits), of(&turn.behind, edits));
+        let found = |turn: &Turn| find(of(&turn.proved, edits), of(&turn.before, edits), of(&turn.after, edits));
         median(self.0.iter().map(found).collect())
     }
 }
@@ -171,33 +171,33 @@ fn listed(numbers: impl Iterator<Item = u64>) -> String {
 }
 
 /// Prints the rows of a line.
-fn tell(line: &Line, times: &Times, is_wanted: impl Fn(&str) -> bool) {
+fn print(line: &Line, times: &Times, is_wanted: impl Fn(&str) -> bool) {
     let mut plan = Plan::new(&line.groups);
     played(&mut plan, &joining(&line.groups));
     let reports = played(&mut plan, &line.round.asked);
     let (slaves, [own, plain]) = (line.slaves, growths(line));
     let configured = line.round.asked.len() - 1;
     for case in line.round.cases.iter().filter(|case| is_wanted(case.name)) {
-        let told = |tell: fn(&Report) -> u32| listed(case.edits.iter().map(|edit| tell(&reports[*edit]).into()));
+        let reported = |figure: fn(&Report) -> u32| listed(case.edits.iter().map(|edit| figure(&reports[*edit]).into()));
         let grown = |growths: &[u64]| listed(case.edits.iter().map(|edit| growths[*edit]));
-        let (moved, recut) = (told(|report| report.moved), told(|report| report.recut));
+        let (moved, recut) = (reported(|report| report.moved), reported(|report| report.recut));
         let to_configure = times.to_configure(&case.edits);
-        let to_plain = times.over_turns(&case.edits, |own, before, behind| 2.0 * own / (before + behind));
-        let to_itself = times.over_turns(&case.edits, |_, before, behind| behind / before);
+        let to_plain = times.over_turns(&case.edits, |own, before, after| 2.0 * own / (before + after));
+        let to_itself = times.over_turns(&case.edits, |_, before, after| after / before);
         let apart = if (0.9..=1.1).contains(&to_itself) { "" } else { " (plain Rust differs from itself)" };
         let (own, plain) = (grown(&own), grown(&plain));
         print!("| {} | {} | {slaves} | {moved} | {recut} | {to_configure:.4} ", case.class, case.name);
         println!("| {to_plain:.1}{apart} | {own} | {plain} |");
-        tell_nanoseconds(case.name, slaves, times, &case.edits);
+        print_nanoseconds(case.name, slaves, times, &case.edits);
     }
     println!("| | `configure` | {slaves} | | | 1 | | {} | |", own[configured]);
-    tell_nanoseconds("configure", slaves, times, &[configured]);
+    print_nanoseconds("configure", slaves, times, &[configured]);
 }
 
-fn tell_nanoseconds(name: &str, slaves: usize, times: &Times, edits: &[usize]) {
+fn print_nanoseconds(name: &str, slaves: usize, times: &Times, edits: &[usize]) {
     if std::env::var_os("NANOSECONDS").is_some() {
         let proved = times.over_turns(edits, |own, _, _| own);
-        let plain = times.over_turns(edits, |_, before, behind| (before + behind) / 2.0);
+        let plain = times.over_turns(edits, |_, before, after| (before + after) / 2.0);
         eprintln!("{name}, {slaves}: {proved:.0}, plain {plain:.0}");
     }
 }
@@ -217,7 +217,7 @@ fn counted(totals: &mut impl Iterator<Item = f64>, edits: usize) -> Vec<f64> {
 }
 
 /// Prints the instructions of each edit in the second round, by the totals between readings of the clock.
-fn tell_counts(totals: &str) {
+fn print_counts(totals: &str) {
     let mut totals = totals.lines().map(|total| total.trim().parse().expect("a total"));
     println!("| Edit | Slaves | Instructions | Of plain Rust | Ratio |");
     println!("|---|---|---|---|---|");
@@ -242,10 +242,10 @@ fn main() {
     }
     if words.iter().any(|word| word == "counts") {
         let path = std::env::var_os("COUNTS").expect("the file of the totals");
-        return tell_counts(&std::fs::read_to_string(path).expect("totals"));
+        return print_counts(&std::fs::read_to_string(path).expect("totals"));
     }
     if words.iter().any(|word| word == "declare") {
-        return declaring::tell(if few { 1 } else { 9 });
+        return declaring::print(if few { 1 } else { 9 });
     }
     let is_wanted = |name: &str| words.iter().all(|word| word == "few" || name.contains(word.as_str()));
     compare_drawn(if few { 200 } else { 2000 });
@@ -257,6 +257,6 @@ fn main() {
         let line = Line::new(slaves);
         compare_line(&line);
         let times = Times::of(&line, if few { 1 } else { 5 }, if few { 3 } else { 11 });
-        tell(&line, &times, is_wanted);
+        print(&line, &times, is_wanted);
     }
 }

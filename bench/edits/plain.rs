@@ -1,6 +1,6 @@
-//! The same plan in plain Rust, written for speed. What an edit asks of an area stands in one array of small records,
+//! The same plan in plain Rust, written for speed. What an edit asks of an area is in one array of small records,
 //! the areas of a task in one sorted array, and the rows in another. An edit changes the records, packs the spans anew
-//! that it touches, marks the blocks and areas that became different, and tells of the marks.
+//! that it touches, marks the blocks and areas that became different, and reports the marks.
 
 #[path = "edits.rs"]
 mod edits;
@@ -20,7 +20,7 @@ use std::ops::Range;
 const AREAS: usize = 8;
 const TASKS: usize = 8;
 
-/// The slaves that come and go together; those of the first group, with alias 0, stay.
+/// The slaves that come and go together; the first group, with alias 0, stays.
 #[derive(Clone)]
 pub struct Group {
     pub alias: u16,
@@ -38,7 +38,7 @@ pub enum Edit {
 /// The number of a fault, and the task that is named where a task would need more than 16 datagrams.
 pub type Fault = (u8, u8);
 
-/// What an edit did, as the library's report tells it.
+/// What an edit did, as the library reports it.
 #[allow(dead_code)]
 pub struct Report {
     pub epoch: u32,
@@ -50,9 +50,9 @@ pub struct Report {
     pub blocks: Vec<(u16, u8)>,
 }
 
-/// An area: where it stands, and where its assigned entries do among those of all areas.
+/// An area: its place, and where its assigned entries are among the entries of all areas.
 #[derive(Clone, Copy, Default)]
-pub struct Spot {
+pub struct Location {
     pub width: u16,
     pub bit: u16,
     phys: u16,
@@ -84,7 +84,7 @@ pub struct Plan {
     /// The slave with a station address; no slave has the number 65,535.
     stations: Vec<u16>,
     /// Eight for each slave.
-    spots: Vec<Spot>,
+    locations: Vec<Location>,
     offered: Vec<Vec<Pdo>>,
     entries: Vec<(u32, u8)>,
     tasks: Vec<Task>,
@@ -94,7 +94,7 @@ pub struct Plan {
     placed: Vec<Placed>,
     /// The areas of a group, by task and direction.
     keys: Vec<Vec<Key>>,
-    /// The slaves with marks: of each its blocks that moved, and its areas that stand elsewhere.
+    /// The slaves with marks: which blocks and which areas of each moved.
     marked: Range<usize>,
     moved: Vec<u16>,
     shifted: Vec<u8>,
@@ -104,13 +104,13 @@ fn pdo_of(offered: &[Pdo], index: u16) -> Option<&Pdo> {
     offered.iter().find(|pdo| pdo.index == index)
 }
 
-/// Tells of each variable of an area where it stands.
-fn each_row(spot: &Spot, entries: &[(u32, u8)], mut tell: impl FnMut(u32, Place)) {
-    let (task, datagram, is_out) = (spot.task, spot.datagram, !spot.is_input);
-    let mut bit = spot.bit;
-    for (variable, bits) in &entries[spot.first as usize..][..usize::from(spot.count)] {
+/// Visits each variable of an area, with its place.
+fn each_row(location: &Location, entries: &[(u32, u8)], mut visit: impl FnMut(u32, Place)) {
+    let (task, datagram, is_out) = (location.task, location.datagram, !location.is_input);
+    let mut bit = location.bit;
+    for (variable, bits) in &entries[location.first as usize..][..usize::from(location.count)] {
         if *variable != 0 {
-            tell(*variable, Place { task, datagram, bit, bits: *bits, is_out });
+            visit(*variable, Place { task, datagram, bit, bits: *bits, is_out });
         }
         bit += u16::from(*bits);
     }
@@ -125,7 +125,7 @@ impl Plan {
             aliases: vec![u16::MAX; 65_536],
             slaves: Vec::new(),
             stations: vec![u16::MAX; 65_536],
-            spots: vec![Spot::default(); AREAS * count],
+            locations: vec![Location::default(); AREAS * count],
             offered: vec![Vec::new(); AREAS * count],
             entries: Vec::new(),
             tasks: (0..TASKS as u8).map(Task::new).collect(),
@@ -149,8 +149,8 @@ impl Plan {
             let place = self.slaves.len();
             self.stations[usize::from(slave.station)] = place as u16;
             self.slaves.push(Owner { station: slave.station, areas: slave.areas.len() as u8, group: number });
-            for (spot, area) in (AREAS * place..).zip(&slave.areas) {
-                self.declare_area(spot, area);
+            for (location, area) in (AREAS * place..).zip(&slave.areas) {
+                self.declare_area(location, area);
             }
         }
         let slaves = first..self.slaves.len();
@@ -159,22 +159,22 @@ impl Plan {
     }
 
     /// The entries of an area have room for all that it offers.
-    fn declare_area(&mut self, spot: usize, area: &Area) {
+    fn declare_area(&mut self, location: usize, area: &Area) {
         let (phys, task, sm, is_input) = (area.phys, area.task, area.sm, !area.is_out);
         let first = self.entries.len() as u32;
         let room: usize = area.offered.iter().map(|pdo| pdo.entries.len()).sum();
         self.entries.resize(self.entries.len() + room, (0, 0));
-        self.spots[spot] = Spot { phys, task, sm, is_input, first, ..Spot::default() };
-        self.offered[spot].clone_from(&area.offered);
-        self.assign(spot, &area.assigned);
+        self.locations[location] = Location { phys, task, sm, is_input, first, ..Location::default() };
+        self.offered[location].clone_from(&area.offered);
+        self.assign(location, &area.assigned);
     }
 
     /// The area gets these PDOs, which it offers.
-    fn assign(&mut self, spot: usize, pdos: &[u16]) {
-        let own = &mut self.spots[spot];
+    fn assign(&mut self, location: usize, pdos: &[u16]) {
+        let own = &mut self.locations[location];
         (own.count, own.width) = (0, 0);
         for index in pdos {
-            let pdo = pdo_of(&self.offered[spot], *index).expect("an offered PDO");
+            let pdo = pdo_of(&self.offered[location], *index).expect("an offered PDO");
             for entry in &pdo.entries {
                 self.entries[own.first as usize + usize::from(own.count)] = *entry;
                 own.count += 1;
@@ -197,18 +197,18 @@ impl Plan {
 
     /// The block with a number of the slave at a place.
     pub fn block(&self, place: usize, number: u8) -> Block {
-        let spot = self.spots[AREAS * place + usize::from(number / 2)];
-        let Spot { width, bit, phys, datagram, task, sm, is_input, .. } = spot;
+        let location = self.locations[AREAS * place + usize::from(number / 2)];
+        let Location { width, bit, phys, datagram, task, sm, is_input, .. } = location;
         let (offered, assigned) = (Vec::new(), Vec::new());
         let area = Area { is_out: !is_input, sm, phys, task, offered, assigned, width, datagram, bit };
         if number % 2 == 0 { sync_block(&area) } else { fmmu_block(number / 2, &area) }
     }
 
-    /// Tells of each block of the line: its slave's station address, its number and its bytes.
-    pub fn each_block(&self, mut tell: impl FnMut(u16, u8, &Block)) {
+    /// Visits each block of the line: its slave's station address, its number and its bytes.
+    pub fn each_block(&self, mut visit: impl FnMut(u16, u8, &Block)) {
         for (place, slave) in self.slaves.iter().enumerate() {
             if self.groups[usize::from(slave.group)].is_present {
-                (0..2 * slave.areas).for_each(|number| tell(slave.station, number, &self.block(place, number)));
+                (0..2 * slave.areas).for_each(|number| visit(slave.station, number, &self.block(place, number)));
             }
         }
     }
@@ -234,12 +234,12 @@ impl Plan {
     }
 
     /// An area: eight times its slave's place and its number.
-    pub fn spot(&self, spot: usize) -> &Spot {
-        &self.spots[spot]
+    pub fn location(&self, location: usize) -> &Location {
+        &self.locations[location]
     }
 
-    /// Tells of each variable of an area where it stands.
-    pub fn each_variable(&self, spot: usize, tell: impl FnMut(u32, Place)) {
-        each_row(&self.spots[spot], &self.entries, tell);
+    /// Visits each variable of an area, with its place.
+    pub fn each_variable(&self, location: usize, visit: impl FnMut(u32, Place)) {
+        each_row(&self.locations[location], &self.entries, visit);
     }
 }

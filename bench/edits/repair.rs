@@ -1,29 +1,29 @@
-//! The areas of one task in their order, and where its datagrams begin. Behind an edit the spans that it touches are
-//! packed anew; of those behind them that only get another number the areas follow, and all others are left alone.
+//! The areas of one task in their order, and where its datagrams begin. After an edit the spans that it touches are
+//! packed anew. Where later spans only get another number, their areas follow; all others are left alone.
 
-use super::Spot;
+use super::Location;
 use super::layout::{Datagram, Table, address_of};
 
-/// The name of an area: eight times its slave's place and its number, and `INPUT` in front of those of inputs.
+/// The name of an area: eight times its slave's place and its number, and `INPUT` in front for inputs.
 pub type Key = u16;
 
 pub const INPUT: Key = 1 << 14;
 
-/// Behind every area; where a task begins there is 0, as if it were the key of an area.
+/// After every area; where a task begins there is 0, as if it were the key of an area.
 const END: Key = Key::MAX;
 
 /// The bits of the longest datagram.
 const ROOM: u32 = 11_888;
 
 /// Which of all areas a key names.
-pub fn spot_of(key: Key) -> usize {
+pub fn location_of(key: Key) -> usize {
     usize::from(key & (INPUT - 1))
 }
 
-/// Where an area stands after an edit.
+/// The place of an area after an edit.
 #[derive(Clone, Copy)]
 pub struct Placed {
-    pub spot: u16,
+    pub location: u16,
     pub bit: u16,
     pub datagram: u8,
 }
@@ -42,13 +42,13 @@ const UNTOUCHED: [Hull; 2] = [Hull { low: END, high: 0 }; 2];
 struct Cut {
     starts: [Key; 16],
     table: Table,
-    /// The first input, and where it stands.
+    /// The first input, and its place.
     first_input: Key,
     inputs_from: Option<(u8, u16)>,
 }
 
 impl Cut {
-    /// Where a span begins; the last one ends where one behind it would begin.
+    /// Where a span begins; the last one ends where a next one would begin.
     fn start(&self, span: usize) -> Key {
         match span {
             0 => 0,
@@ -118,10 +118,10 @@ impl Task {
         }
     }
 
-    /// Takes the areas out whose keys stand from one key to before another.
-    pub fn remove(&mut self, first: Key, behind: Key) {
+    /// Takes the areas out whose keys are from one key to before another.
+    pub fn remove(&mut self, first: Key, end: Key) {
         let from = self.list.partition_point(|key| *key < first);
-        let to = self.list.partition_point(|key| *key < behind);
+        let to = self.list.partition_point(|key| *key < end);
         if from < to {
             self.touch(self.list[from], self.list[to - 1]);
             self.list.drain(from..to);
@@ -133,24 +133,24 @@ impl Task {
     }
 
     /// Keeps an old span, up to where it ends; where it gets another number its areas follow.
-    fn keep(&self, span: usize, new: &mut Cut, spots: &[Spot], placed: &mut Vec<Placed>) -> Option<Key> {
+    fn keep(&self, span: usize, new: &mut Cut, locations: &[Location], placed: &mut Vec<Placed>) -> Option<Key> {
         let (begin, end) = (self.cut.start(span), self.cut.start(span + 1));
         let number = new.add(self.number, begin, self.cut.table.all[span])?;
         if begin <= new.first_input && new.first_input < end {
-            new.inputs_from = Some((number, spots[spot_of(new.first_input)].bit));
+            new.inputs_from = Some((number, locations[location_of(new.first_input)].bit));
         }
         if usize::from(number) != span {
             let from = self.list.partition_point(|key| *key < begin);
             for key in self.list[from..].iter().take_while(|key| **key < end) {
-                let spot = spot_of(*key);
-                placed.push(Placed { spot: spot as u16, bit: spots[spot].bit, datagram: number });
+                let location = location_of(*key);
+                placed.push(Placed { location: location as u16, bit: locations[location].bit, datagram: number });
             }
         }
         Some(end)
     }
 
     /// Packs a datagram from an area on, up to the first one that doesn't fit.
-    fn pack(&self, begin: Key, new: &mut Cut, spots: &[Spot], placed: &mut Vec<Placed>) -> Option<Key> {
+    fn pack(&self, begin: Key, new: &mut Cut, locations: &[Location], placed: &mut Vec<Placed>) -> Option<Key> {
         let from = self.list.partition_point(|key| *key < begin);
         if from == self.list.len() {
             return Some(END);
@@ -158,8 +158,8 @@ impl Task {
         let number = new.add(self.number, begin, Datagram::default())?;
         let (mut bit, mut expected, mut before, mut end) = (0u32, 0, END, END);
         for key in &self.list[from..] {
-            let (is_input, spot) = (*key >= INPUT, spot_of(*key));
-            let width = u32::from(spots[spot].width);
+            let (is_input, location) = (*key >= INPUT, location_of(*key));
+            let width = u32::from(locations[location].width);
             let begins_byte = width >= 8 || (is_input && before < INPUT);
             let start = if begins_byte { (bit + 7) & !7 } else { bit };
             if start + width > ROOM {
@@ -172,7 +172,7 @@ impl Task {
             if before / 8 != *key / 8 {
                 expected += if is_input { 1 } else { 2 };
             }
-            placed.push(Placed { spot: spot as u16, bit: start as u16, datagram: number });
+            placed.push(Placed { location: location as u16, bit: start as u16, datagram: number });
             (bit, before) = (start + width, *key);
         }
         let datagram = &mut new.table.all[usize::from(number)];
@@ -181,7 +181,7 @@ impl Task {
     }
 
     /// Packs the spans anew that aren't settled: how many they are; none where there would be more than 16 datagrams.
-    pub fn repair(&mut self, spots: &[Spot], placed: &mut Vec<Placed>) -> Option<u32> {
+    pub fn repair(&mut self, locations: &[Location], placed: &mut Vec<Placed>) -> Option<u32> {
         let inputs = self.list.partition_point(|key| *key < INPUT);
         let first_input = self.list.get(inputs).copied().unwrap_or(END);
         let mut new = Cut { first_input, ..Cut::default() };
@@ -192,10 +192,10 @@ impl Task {
             }
             let is_old = self.cut.start(span) == begin;
             begin = if is_old && self.is_settled(begin, self.cut.start(span + 1)) {
-                self.keep(span, &mut new, spots, placed)?
+                self.keep(span, &mut new, locations, placed)?
             } else {
                 recut += 1;
-                self.pack(begin, &mut new, spots, placed)?
+                self.pack(begin, &mut new, locations, placed)?
             };
         }
         new.table.outputs = new.outputs();

@@ -4,7 +4,7 @@ use super::layout::Place;
 
 pub type Row = (u32, Place);
 
-/// A variable that stands elsewhere, appears or goes, and its new place or none.
+/// A variable that moves, appears or goes, and its new place or none.
 pub type Change = (u32, Option<Place>);
 
 /// How many rows from one on have a lower number. The next change is mostly near.
@@ -18,7 +18,7 @@ fn count_below(rows: &[Row], from: usize, variable: u32) -> usize {
     low + rows[low..high.max(low)].partition_point(|row| row.0 < variable)
 }
 
-/// Changes rows in place; the changes stand in the order of their numbers.
+/// Changes rows in place; the changes are in the order of their numbers.
 pub fn change(rows: &mut Vec<Row>, changes: &[Change]) {
     let (mut read, mut write, mut added) = (0, 0, Vec::new());
     for (variable, place) in changes {

@@ -1,6 +1,6 @@
 #!/bin/sh
 # Proves `hc_plan` and what the benchmark needs of it under C names, in a scratch folder; links the benchmark to that
-# static library and runs it. `../shared.sh` tells of KIT and KEPT.
+# static library and runs it. `../shared.sh` explains KIT and KEPT.
 set -eu
 here=$(cd "$(dirname "$0")" && pwd)
 . "$here/../shared.sh"
@@ -8,7 +8,7 @@ bench=$scratch/crates/edits_bench
 take hc_project
 take hc_plan
 echo 'edits_bench staticlib: hc_records hc_project hc_registers hc_places hc_plan libc' >> "$scratch/crates.txt"
-share "$bench" clock edits_asked plans told
+share "$bench" clock digest edits_asked plans
 mkdir -p "$bench/proofs/configured_in"
 # Which ledger the blank is of: `open_line` asks for it.
 cat > "$bench/proofs/configured_in/Invariants.antt" <<'END_OF_PROOF'
@@ -22,14 +22,14 @@ cat > "$bench/src/lib.rt" <<'END_OF_CODE'
 #![tactic(auto)]
 
 mod clock;
+mod digest;
 mod edits_asked;
 mod plans;
-mod told;
 
 use crate::clock::nanoseconds;
+use crate::digest::{digest_of, digest_of_place, digest_of_swap};
 use crate::edits_asked::{EditAsked, edit_of};
 use crate::plans::{applied_in, opened_plan};
-use crate::told::{told_of, told_of_place, told_of_swap};
 use hc_places::configure::open_line;
 use hc_places::table::{Datagram, Places};
 use hc_plan::plan::Plan;
@@ -43,66 +43,66 @@ use std::alloc::{AllocError, Global};
 use std::marker::Brand;
 use std::sync::ledger::Blank;
 
-/// Kinds that are no edit: the line is configured; all that the plan tells.
+/// Kinds that are no edit: the line is configured; a digest of the whole plan.
 const CONFIGURE: u8 = 4;
 
 const WHOLE: u8 = 5;
 
-fn told_of_report(report: &Report) -> u64 {
-    let told = told_of(told_of(1, u64::from(report.epoch)), u64::from(report.recut));
-    let mut told = told_of_swap(told_of(told, u64::from(report.moved)), &report.swap);
+fn digest_of_report(report: &Report) -> u64 {
+    let digest = digest_of(digest_of(1, u64::from(report.epoch)), u64::from(report.recut));
+    let mut digest = digest_of_swap(digest_of(digest, u64::from(report.moved)), &report.swap);
     for (station, number) in report.blocks.as_slice() {
-        told = told_of(told_of(told, u64::from(*station)), u64::from(*number));
+        digest = digest_of(digest_of(digest, u64::from(*station)), u64::from(*number));
     }
-    told
+    digest
 }
 
-fn told_of_fault(fault: EditFault) -> u64 {
+fn digest_of_fault(fault: EditFault) -> u64 {
     let task = match fault {
         EditFault::TooManyDatagrams(task) => task,
         _ => 0,
     };
-    told_of(told_of(2, u64::from(fault.number())), u64::from(task))
+    digest_of(digest_of(2, u64::from(fault.number())), u64::from(task))
 }
 
-fn told_of_datagram(told: u64, datagram: &Datagram) -> u64 {
-    let told = told_of(
-        told_of(told, u64::from(datagram.address)),
+fn digest_of_datagram(digest: u64, datagram: &Datagram) -> u64 {
+    let digest = digest_of(
+        digest_of(digest, u64::from(datagram.address)),
         u64::from(datagram.length),
     );
-    told_of(
-        told_of(told, u64::from(datagram.expected)),
+    digest_of(
+        digest_of(digest, u64::from(datagram.expected)),
         u64::from(datagram.offset),
     )
 }
 
-fn told_of_task(told: u64, places: &Places, task: u8) -> u64 {
-    let mut told = told;
+fn digest_of_task(digest: u64, places: &Places, task: u8) -> u64 {
+    let mut digest = digest;
     for datagram in places.datagrams(task) {
-        told = told_of_datagram(told, datagram);
+        digest = digest_of_datagram(digest, datagram);
     }
     let (outputs, inputs) = places.part(task);
-    told_of(told_of(told, u64::from(outputs)), u64::from(inputs))
+    digest_of(digest_of(digest, u64::from(outputs)), u64::from(inputs))
 }
 
-fn told_of_block(told: u64, station: u16, number: u8, block: &Block) -> u64 {
-    let told = told_of(told_of(told, u64::from(station)), u64::from(number));
-    let mut told = told_of(told, u64::from(block.register()));
+fn digest_of_block(digest: u64, station: u16, number: u8, block: &Block) -> u64 {
+    let digest = digest_of(digest_of(digest, u64::from(station)), u64::from(number));
+    let mut digest = digest_of(digest, u64::from(block.register()));
     for byte in block.bytes() {
-        told = told_of(told, u64::from(*byte));
+        digest = digest_of(digest, u64::from(*byte));
     }
-    told
+    digest
 }
 
 /// All that a plan keeps: the rows, the tables and the blocks.
-fn told_of_plan(plan: &Plan) -> u64 {
+fn digest_of_plan(plan: &Plan) -> u64 {
     let places = plan.places();
-    let mut told = told_of(3, u64::from(plan.epoch()));
+    let mut digest = digest_of(3, u64::from(plan.epoch()));
     for (variable, place) in places.variables() {
-        told = told_of_place(told_of(told, u64::from(variable.number())), place);
+        digest = digest_of_place(digest_of(digest, u64::from(variable.number())), place);
     }
     for task in 0..8 {
-        told = told_of_task(told, places, task);
+        digest = digest_of_task(digest, places, task);
     }
     // no station address is 0
     let mut last = 0;
@@ -115,41 +115,41 @@ fn told_of_plan(plan: &Plan) -> u64 {
                 0
             };
             last = station;
-            told = told_of_block(told, station, number, &block);
+            digest = digest_of_block(digest, station, number, &block);
         }
     }
-    told
+    digest
 }
 
-/// What a plan tells of what is asked.
-fn told_by(alloc: Global, plan: &mut Plan, asked: &EditAsked) -> u64 {
+/// A plan's digest of what is asked.
+fn digest_by(alloc: Global, plan: &mut Plan, asked: &EditAsked) -> u64 {
     if asked.kind == WHOLE {
-        return told_of_plan(plan);
+        return digest_of_plan(plan);
     }
     let Ok(edit) = edit_of(alloc, asked) else {
         return 0;
     };
     match plan.apply(alloc, &edit) {
-        Ok(report) => told_of_report(&report),
-        Err(fault) => told_of_fault(fault),
+        Ok(report) => digest_of_report(&report),
+        Err(fault) => digest_of_fault(fault),
     }
 }
 
-/// Plays what is asked on a project's plan, and tells of each. How many were played.
+/// Plays what is asked on a project's plan: a digest of each. How many were played.
 #[unsafe(no_mangle)]
-pub extern "C" fn edits_told(
+pub extern "C" fn edits_digests(
     alloc: Global,
     text: &[u8],
     asked: &[EditAsked],
-    told: &mut [u64],
+    digest: &mut [u64],
 ) -> usize {
     let Some(mut plan) = opened_plan(alloc, text) else {
         return 0;
     };
     let mut count = 0;
     for one in asked {
-        if count < told.len() {
-            told[count] = told_by(alloc, &mut plan, one);
+        if count < digest.len() {
+            digest[count] = digest_by(alloc, &mut plan, one);
             count += 1;
         }
     }
@@ -175,7 +175,7 @@ fn played_in(alloc: Global, plan: &mut Plan, asked: &EditAsked) -> u64 {
     }
 }
 
-/// Plays what is asked on a project's plan, and tells the nanoseconds of each. How many were played.
+/// Plays what is asked on a project's plan: the nanoseconds of each. How many were played.
 #[unsafe(no_mangle)]
 pub extern "C" fn edits_timed(
     alloc: Global,
@@ -246,7 +246,7 @@ fn declared_in(alloc: Global, plan: &mut Plan, coming: &Coming) -> u64 {
     }
 }
 
-/// Declares groups on a project's plan, and tells the nanoseconds of each. How many were declared.
+/// Declares groups on a project's plan: the nanoseconds of each. How many were declared.
 #[unsafe(no_mangle)]
 pub extern "C" fn groups_declared(
     alloc: Global,

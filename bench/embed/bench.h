@@ -17,15 +17,15 @@ struct counted {
     uint8_t count;
 };
 
-/* An event. Its bytes stand among those of all, from a place on. */
+/* An event. Its bytes are among the bytes of all events, from a place on. */
 struct asked {
     uint8_t kind, task, area, count;
     uint16_t name, first, second;
     uint32_t epoch, from, size;
 };
 
-size_t inside_told(const uint8_t *text, size_t text_size, const struct asked *events, size_t event_count, const uint8_t *bytes,
-                   size_t byte_count, uint64_t *told, size_t told_count);
+size_t inside_digests(const uint8_t *text, size_t text_size, const struct asked *events, size_t event_count, const uint8_t *bytes,
+                   size_t byte_count, uint64_t *digest, size_t digest_count);
 uint64_t inside_timed(const uint8_t *text, size_t text_size, uint32_t writes, const struct timed *timed, uint8_t *bytes, size_t size,
                       uint8_t *out, size_t out_size, const struct counted *counted, size_t counted_count, uint64_t *times,
                       size_t rounds);
@@ -37,10 +37,10 @@ extern const size_t LIST_SIZES[5];
 /* Ends the benchmark. */
 _Noreturn void give_up(const char *why);
 
-/* The project on which all is played; its bytes are told. */
+/* The project on which all is played; `*size` is its bytes. */
 const uint8_t *project(size_t *size);
 
-/* Plays so many drawn events through the library and inside the language: both must tell the same of each. */
+/* Plays so many drawn events through the library and inside the language: both must answer the same to each. */
 void compare(size_t count);
 
 /* Writes and answers owed blocks until there is none; how many. */

@@ -1,7 +1,7 @@
 /* Times calls through the library from C and the same calls inside the language, in one program and in turns: inside, through
  * the library, and inside again. What is printed of a call are medians over nine turns, each of medians over rounds: the
  * nanoseconds of both, their ratio or how much more the library takes, and how far the language differs from itself. First
- * drawn events must be told the same by both.
+ * both must answer drawn events alike.
  *
  * Words: the names of calls, in part, that are timed, or none for all; `count SIDE CALLS NAME` makes so many calls of one kind
  * on one side, `inside` or `through`, and nothing else, for who counts instructions; `names` prints the names. */
@@ -244,7 +244,7 @@ static double timed_of(const struct row *row, bool is_inside, size_t rounds, uin
     struct timed timed = row->timed;
     timed.calls = calls;
     uint32_t writes = prepare(row, &slices);
-    /* nothing was sent yet, of which a serial would tell */
+    /* nothing was sent yet, so no serial says what was */
     if (timed.kind == SERIAL && !writes) give_up("no block was written");
     const uint8_t *text = project(&size);
     uint64_t count = is_inside ? inside_timed(text, size, writes, &timed, slices.in, slices.in_size, slices.out, slices.out_size,
@@ -258,14 +258,14 @@ static double timed_of(const struct row *row, bool is_inside, size_t rounds, uin
     return median(each, rounds);
 }
 
-static void tell(const struct row *row) {
+static void print_row(const struct row *row) {
     double inside[TURNS], through[TURNS], ratio[TURNS], more[TURNS], itself[TURNS];
     for (int i = 0; i < TURNS; i++) {
         double before = timed_of(row, true, MOST_ROUNDS, row->timed.calls);
         through[i] = timed_of(row, false, MOST_ROUNDS, row->timed.calls);
-        double behind = timed_of(row, true, MOST_ROUNDS, row->timed.calls);
-        inside[i] = (before + behind) / 2;
-        ratio[i] = through[i] / inside[i], more[i] = through[i] - inside[i], itself[i] = behind / before;
+        double after = timed_of(row, true, MOST_ROUNDS, row->timed.calls);
+        inside[i] = (before + after) / 2;
+        ratio[i] = through[i] / inside[i], more[i] = through[i] - inside[i], itself[i] = after / before;
     }
     double by = median(ratio, TURNS), most = median(more, TURNS);
     bool is_met = row->is_full ? by <= 1.1 : most <= 30;
@@ -291,6 +291,6 @@ int main(int count, char **words) {
     compare(10000);
     printf("10,000 drawn events are told the same\n");
     for (size_t i = 0; i < ROW_COUNT; i++)
-        if (is_wanted(&ROWS[i], count, words)) tell(&ROWS[i]);
+        if (is_wanted(&ROWS[i], count, words)) print_row(&ROWS[i]);
     return 0;
 }

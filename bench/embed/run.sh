@@ -1,8 +1,8 @@
 #!/bin/sh
 # Times the library for C beside the same calls inside the language: builds the library, and in a scratch folder one that
-# plays and times the calls inside, and links a program of C to both. Words are those of the program (main.c). Without
+# plays and times the calls inside, and links a program of C to both. Words are the program's (main.c). Without
 # words, and where valgrind is, the instructions of each call are counted too: the difference of 40 calls and of 8.
-# `../shared.sh` tells of KIT and KEPT.
+# `../shared.sh` explains KIT and KEPT.
 set -eu
 here=$(cd "$(dirname "$0")" && pwd)
 . "$here/../shared.sh"
@@ -11,7 +11,7 @@ take hc_core
 take hc_project
 take hc_machine
 echo 'embed_bench staticlib: hc_records hc_project hc_places hc_frames hc_plan hc_events hc_core hc_machine libc' >> "$scratch/crates.txt"
-share "$bench" answers bytes clock cores told
+share "$bench" answers bytes clock cores digest
 for part in "$here"/library/*.sh; do
     sh "$part" "$bench"
 done

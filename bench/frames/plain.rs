@@ -1,5 +1,6 @@
 //! The same answers in plain Rust, written for speed: a reader that judges a frame whole before it hands out a part, a
-//! reader that tells of each part while it judges, a writer that copies each byte once, and one that lends parts of zeros.
+//! reader that hands out each part while it judges, a writer that copies each byte once, and one that lends parts of
+//! zeros.
 
 /// A datagram to be written; the library's export has one of the same layout.
 #[repr(C)]
@@ -9,13 +10,13 @@ pub struct Wanted {
     pub size: u16,
 }
 
-/// What a part tells, mixed into what was told before.
-fn told_of(told: u64, start: usize, head: &[u8; 10], size: usize, counter: u16) -> u64 {
+/// A part, mixed into a digest.
+fn digest_of(digest: u64, start: usize, head: &[u8; 10], size: usize, counter: u16) -> u64 {
     let address = u32::from_le_bytes([head[2], head[3], head[4], head[5]]);
     let interrupt = u16::from_le_bytes([head[8], head[9]]);
     let fields = u64::from(address) ^ (u64::from(counter) << 32) ^ (u64::from(interrupt) << 48);
     let place = (start as u64) ^ ((size as u64) << 16) ^ (u64::from(head[0]) << 40);
-    told.wrapping_mul(0x9e37_79b9_7f4a_7c15) ^ fields ^ (place << 8)
+    digest.wrapping_mul(0x9e37_79b9_7f4a_7c15) ^ fields ^ (place << 8)
 }
 
 /// The serial and the bytes of the datagrams, or the number of the fault that shows before them.
@@ -41,7 +42,7 @@ fn region_of(frame: &[u8]) -> Result<(u64, &[u8]), u64> {
     Ok((serial, &rest[..usize::from(size)]))
 }
 
-/// A whole datagram's first ten bytes, its number of data bytes, its working counter, and what stands behind it.
+/// A whole datagram's first ten bytes, its number of data bytes, its working counter, and what comes after it.
 fn whole_of(bytes: &[u8]) -> Option<(&[u8; 10], usize, u16, &[u8])> {
     let (head, rest) = bytes.split_first_chunk::<10>()?;
     let field = u16::from_le_bytes([head[6], head[7]]);
@@ -49,8 +50,8 @@ fn whole_of(bytes: &[u8]) -> Option<(&[u8; 10], usize, u16, &[u8])> {
     if size == 0 || 1486 < size || field & 0x3800 != 0 || rest.len() < size + 2 {
         return None;
     }
-    let (counter, behind) = rest[size..].split_first_chunk::<2>()?;
-    Some((head, size, u16::from_le_bytes(*counter), behind))
+    let (counter, after) = rest[size..].split_first_chunk::<2>()?;
+    Some((head, size, u16::from_le_bytes(*counter), after))
 }
 
 /// What the conditions of a frame look at, datagram by datagram.
@@ -96,11 +97,11 @@ fn judged(region: &[u8], index: u8) -> Result<u64, u64> {
         if seen.last & 0x8000 == 0 {
             return Err(4);
         }
-        let Some((head, _, _, behind)) = whole_of(rest) else {
+        let Some((head, _, _, after)) = whole_of(rest) else {
             return Err(4);
         };
         seen.note(head, index);
-        (rest, count) = (behind, count + 1);
+        (rest, count) = (after, count + 1);
     }
     match seen.fault() {
         Some(fault) => Err(fault),
@@ -120,15 +121,15 @@ pub fn fault(frame: &[u8]) -> Option<u64> {
     whole_frame(frame).err()
 }
 
-/// The part at the front of whole datagrams, and what stands behind it.
+/// The part at the front of whole datagrams, and what comes after it.
 pub fn part_of(bytes: &[u8]) -> Option<(&[u8; 10], usize, u16, &[u8])> {
     let (head, rest) = bytes.split_first_chunk::<10>()?;
     let size = usize::from(u16::from_le_bytes([head[6], head[7]]) & 0x7ff);
-    let (counter, behind) = rest.get(size..)?.split_first_chunk::<2>()?;
-    Some((head, size, u16::from_le_bytes(*counter), behind))
+    let (counter, after) = rest.get(size..)?.split_first_chunk::<2>()?;
+    Some((head, size, u16::from_le_bytes(*counter), after))
 }
 
-/// Judges the frame, then tells of its parts.
+/// Judges the frame, then hands out its parts.
 #[inline(never)]
 pub fn read(frame: &[u8]) -> u64 {
     let (serial, region) = match region_of(frame) {
@@ -139,15 +140,15 @@ pub fn read(frame: &[u8]) -> u64 {
         Ok(count) => count,
         Err(fault) => return fault,
     };
-    let (mut told, mut start, mut rest) = (0, 16, region);
-    while let Some((head, size, counter, behind)) = part_of(rest) {
-        told = told_of(told, start, head, size, counter);
-        (rest, start) = (behind, start + 12 + size);
+    let (mut digest, mut start, mut rest) = (0, 16, region);
+    while let Some((head, size, counter, after)) = part_of(rest) {
+        digest = digest_of(digest, start, head, size, counter);
+        (rest, start) = (after, start + 12 + size);
     }
-    told.wrapping_add(serial).wrapping_add(count)
+    digest.wrapping_add(serial).wrapping_add(count)
 }
 
-/// Tells of the parts while it judges, in one walk. No caller could act on a part so, since a later one may be at fault.
+/// Hands out the parts while it judges, in one walk. No caller could act on a part so, since a later one may be at fault.
 #[inline(never)]
 pub fn read_at_once(frame: &[u8]) -> u64 {
     let (serial, region) = match region_of(frame) {
@@ -155,25 +156,25 @@ pub fn read_at_once(frame: &[u8]) -> u64 {
         Err(fault) => return fault,
     };
     let (mut seen, mut rest, mut count) = (Seen::new(), region, 0u64);
-    let (mut told, mut start) = (0u64, 16);
+    let (mut digest, mut start) = (0u64, 16);
     while !rest.is_empty() {
         if seen.last & 0x8000 == 0 {
             return 4;
         }
-        let Some((head, size, counter, behind)) = whole_of(rest) else {
+        let Some((head, size, counter, after)) = whole_of(rest) else {
             return 4;
         };
         seen.note(head, serial as u8);
-        told = told_of(told, start, head, size, counter);
-        (rest, count, start) = (behind, count + 1, start + 12 + size);
+        digest = digest_of(digest, start, head, size, counter);
+        (rest, count, start) = (after, count + 1, start + 12 + size);
     }
     match seen.fault() {
         Some(fault) => fault,
-        None => told.wrapping_add(serial).wrapping_add(count),
+        None => digest.wrapping_add(serial).wrapping_add(count),
     }
 }
 
-/// Writes the head of a frame into a slice of its exact size, 60 bytes at least, and gives the bytes behind it.
+/// Writes the head of a frame into a slice of its exact size, 60 bytes at least, and gives the bytes after it.
 fn opened(out: &mut [u8], serial: u64) -> Option<&mut [u8]> {
     if out.len() < 60 || 1514 < out.len() || 0xff_ffff_ffff < serial {
         return None;
@@ -192,7 +193,7 @@ fn head_of(serial: u64, datagram: &Wanted, more: bool) -> [u8; 10] {
     [12, serial as u8, a0, a1, a2, a3, low, high, 0, 0]
 }
 
-/// A datagram of zeros at the front of a slice: its data part is lent, beside what stands behind the datagram.
+/// A datagram of zeros at the front of a slice: its data part is lent, beside what comes after the datagram.
 #[inline(never)]
 fn lend<'a>(texts: &'a mut [u8], serial: u64, datagram: &Wanted, more: bool) -> Option<(&'a mut [u8], &'a mut [u8])> {
     let size = usize::from(datagram.size);
@@ -217,11 +218,11 @@ pub fn write_lent(out: &mut [u8], serial: u64, wanted: &[Wanted], data: &[u8]) -
         let Some((part, rest)) = lend(texts, serial, datagram, place + 1 < wanted.len()) else {
             return false;
         };
-        let Some((bytes, behind)) = data.split_at_checked(part.len()) else {
+        let Some((bytes, after)) = data.split_at_checked(part.len()) else {
             return false;
         };
         part.copy_from_slice(bytes);
-        (texts, data) = (rest, behind);
+        (texts, data) = (rest, after);
     }
     true
 }
@@ -238,7 +239,7 @@ pub fn write(out: &mut [u8], serial: u64, wanted: &[Wanted], data: &[u8]) -> boo
         let Some((text, rest)) = texts.split_at_mut_checked(12 + size) else {
             return false;
         };
-        let Some((bytes, behind)) = data.split_at_checked(size) else {
+        let Some((bytes, after)) = data.split_at_checked(size) else {
             return false;
         };
         if 1486 < size {
@@ -247,7 +248,7 @@ pub fn write(out: &mut [u8], serial: u64, wanted: &[Wanted], data: &[u8]) -> boo
         text[..10].copy_from_slice(&head_of(serial, datagram, place + 1 < wanted.len()));
         text[10..10 + size].copy_from_slice(bytes);
         text[10 + size..].copy_from_slice(&[0, 0]);
-        (texts, data) = (rest, behind);
+        (texts, data) = (rest, after);
     }
     true
 }

@@ -1,6 +1,6 @@
 #!/bin/sh
 # Proves `hc_frames` and what the benchmark needs of it under C names, in a scratch folder; links the benchmark to that
-# static library and runs it. `../shared.sh` tells of KIT and KEPT.
+# static library and runs it. `../shared.sh` explains KIT and KEPT.
 set -eu
 here=$(cd "$(dirname "$0")" && pwd)
 . "$here/../shared.sh"
@@ -23,26 +23,26 @@ cat > "$bench/src/lib.rt" <<'END_OF_CODE'
 use hc_frames::building::{build_datagram, build_datagram_of, build_head};
 use hc_frames::reading::{Part, read_frame};
 
-/// What a part tells, mixed into what was told before.
-fn told_of(told: u64, part: &Part<'_>) -> u64 {
+/// A part, mixed into a digest.
+fn digest_of(digest: u64, part: &Part<'_>) -> u64 {
     let fields = u64::from(part.address)
         ^ (u64::from(part.counter) << 32)
         ^ (u64::from(part.interrupt) << 48);
     let place = (part.start as u64)
         ^ ((part.bytes.len() as u64) << 16)
         ^ (u64::from(part.command.code()) << 40);
-    told.wrapping_mul(0x9e37_79b9_7f4a_7c15) ^ fields ^ (place << 8)
+    digest.wrapping_mul(0x9e37_79b9_7f4a_7c15) ^ fields ^ (place << 8)
 }
 
 #[unsafe(no_mangle)]
 pub extern "C" fn frame_read(frame: &[u8]) -> u64 {
     match read_frame(frame) {
         Ok(returned) => {
-            let mut told = 0;
+            let mut digest = 0;
             for part in returned.parts() {
-                told = told_of(told, &part);
+                digest = digest_of(digest, &part);
             }
-            told.wrapping_add(returned.serial())
+            digest.wrapping_add(returned.serial())
                 .wrapping_add(returned.len() as u64)
         }
         Err(fault) => u64::from(fault.number()),
@@ -56,7 +56,7 @@ pub struct Wanted {
     pub size: u16,
 }
 
-/// Writes datagrams one behind the other, each with its next data bytes. False where a slice is too short.
+/// Writes datagrams one after the other, each with its next data bytes. False where a slice is too short.
 fn write_datagrams(out: &mut [u8], serial: u64, wanted: &[Wanted], data: &[u8]) -> bool {
     let [first, others @ ..] = wanted else {
         return true;
@@ -66,9 +66,9 @@ fn write_datagrams(out: &mut [u8], serial: u64, wanted: &[Wanted], data: &[u8]) 
         return false;
     }
     let (text, rest) = out.split_at_mut(12 + size);
-    let (bytes, behind) = data.split_at(size);
+    let (bytes, after) = data.split_at(size);
     build_datagram_of(text, serial, first.address, bytes, !others.is_empty());
-    write_datagrams(rest, serial, others, behind)
+    write_datagrams(rest, serial, others, after)
 }
 
 /// A frame of these datagrams, each data byte copied once, into a slice of its exact size, 60 at least.
@@ -87,7 +87,7 @@ pub extern "C" fn frame_written(
     write_datagrams(texts, serial, wanted, data)
 }
 
-/// Writes datagrams one behind the other, the data part of each lent for its next data bytes.
+/// Writes datagrams one after the other, the data part of each lent for its next data bytes.
 fn lend_datagrams(out: &mut [u8], serial: u64, wanted: &[Wanted], data: &[u8]) -> bool {
     let [first, others @ ..] = wanted else {
         return true;
@@ -97,10 +97,10 @@ fn lend_datagrams(out: &mut [u8], serial: u64, wanted: &[Wanted], data: &[u8]) -
         return false;
     }
     let (text, rest) = out.split_at_mut(12 + size);
-    let (bytes, behind) = data.split_at(size);
+    let (bytes, after) = data.split_at(size);
     let part = build_datagram(text, serial, first.address, first.size, !others.is_empty());
     part.copy_from_slice(bytes);
-    lend_datagrams(rest, serial, others, behind)
+    lend_datagrams(rest, serial, others, after)
 }
 
 #[unsafe(no_mangle)]

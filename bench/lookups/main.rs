@@ -2,7 +2,7 @@
 //! sorted arrays and by walks over the groups, in one run.
 //!
 //! What is printed is ratios of the best of many rounds, and no time. The sorted arrays are timed twice: where the two
-//! differ by more than a tenth it is said so beside the figures. `--times` tells the nanoseconds of a call, too. With
+//! differ by more than a tenth it is said so beside the figures. `--times` prints the nanoseconds of a call, too. With
 //! `--count` nothing is timed: each kind is looked up twice, for who counts the instructions between two readings of the
 //! clock, and `--counts` prints these.
 
@@ -26,16 +26,16 @@ const NAMES: [&str; KINDS] = ["`block`", "`nth_block`", "`position`", "`station`
 // What is handed over are slices, each by its first element and its length.
 unsafe extern "C" {
     fn lookups_timed(
-        text: *const u8, size: usize, groups: u16, asked: *const Asked, count: usize, calls: usize, told: *mut u64,
-        told_count: usize, times: *mut u64, time_count: usize,
+        text: *const u8, size: usize, groups: u16, asked: *const Asked, count: usize, calls: usize, digest: *mut u64,
+        digest_count: usize, times: *mut u64, time_count: usize,
     ) -> bool;
 }
 
-fn told_of(told: u64, number: u64) -> u64 {
-    (told ^ number).wrapping_mul(0x9e37_79b9_7f4a_7c15).rotate_left(29)
+fn digest_of(digest: u64, number: u64) -> u64 {
+    (digest ^ number).wrapping_mul(0x9e37_79b9_7f4a_7c15).rotate_left(29)
 }
 
-/// What is asked of each kind, one kind behind another: drawn, some of it not there.
+/// What is asked of each kind, one kind after another: drawn, some of it not there.
 fn asked(slaves: usize) -> Vec<Asked> {
     let mut state = 20_261_124_u64;
     let mut below = |count: usize| {
@@ -62,7 +62,7 @@ fn asked(slaves: usize) -> Vec<Asked> {
 /// The best time of a call of each kind in nanoseconds, and what was answered, as one number each.
 struct Played {
     nanoseconds: [f64; KINDS],
-    told: [u64; KINDS],
+    digest: [u64; KINDS],
 }
 
 fn best(times: &[u64], calls: usize) -> [f64; KINDS] {
@@ -71,31 +71,31 @@ fn best(times: &[u64], calls: usize) -> [f64; KINDS] {
 }
 
 fn proved(text: &str, asked: &[Asked], rounds: usize) -> Played {
-    let mut told = [0; KINDS];
+    let mut digest = [0; KINDS];
     let mut times = vec![0; KINDS * rounds];
     let is_open = unsafe {
         lookups_timed(
-            text.as_ptr(), text.len(), GROUPS, asked.as_ptr(), asked.len(), CALLS, told.as_mut_ptr(), told.len(),
+            text.as_ptr(), text.len(), GROUPS, asked.as_ptr(), asked.len(), CALLS, digest.as_mut_ptr(), digest.len(),
             times.as_mut_ptr(), times.len(),
         )
     };
     assert!(is_open, "the line could not be opened");
-    Played { nanoseconds: best(&times, CALLS), told }
+    Played { nanoseconds: best(&times, CALLS), digest }
 }
 
 /// The same by plain Rust, with the first of these calls of each kind.
 fn plain(asked: &[Asked], calls: usize, rounds: usize, answer: impl Fn(usize, &Asked) -> u64) -> Played {
-    let mut told = [0; KINDS];
+    let mut digest = [0; KINDS];
     let mut times = Vec::new();
     for _ in 0..rounds {
         for kind in 0..KINDS {
             let own = &asked[CALLS * kind..][..calls];
             let begun = Instant::now();
-            told[kind] = black_box(own).iter().fold(0, |told, one| told_of(told, black_box(answer(kind, one))));
+            digest[kind] = black_box(own).iter().fold(0, |digest, one| digest_of(digest, black_box(answer(kind, one))));
             times.push(begun.elapsed().as_nanos() as u64);
         }
     }
-    Played { nanoseconds: best(&times, calls), told }
+    Played { nanoseconds: best(&times, calls), digest }
 }
 
 /// The proved look-ups, the sorted arrays twice, and the walks.
@@ -105,14 +105,14 @@ fn played(groups: &[Group], slaves: usize) -> [Played; 4] {
     let sorted = Sorted::new(groups);
     let before = plain(&asked, CALLS, ROUNDS, |kind, one| sorted.answer(kind, one));
     let own = proved(&text, &asked, ROUNDS);
-    let behind = plain(&asked, CALLS, ROUNDS, |kind, one| sorted.answer(kind, one));
+    let after = plain(&asked, CALLS, ROUNDS, |kind, one| sorted.answer(kind, one));
     let all = plain(&asked, CALLS, 1, |kind, one| walked(groups, kind, one));
     for kind in 0..KINDS {
-        assert_eq!(own.told[kind], all.told[kind], "{slaves} slaves: {} differs from the walk", NAMES[kind]);
-        assert_eq!(own.told[kind], before.told[kind], "{slaves} slaves: {} differs from the arrays", NAMES[kind]);
+        assert_eq!(own.digest[kind], all.digest[kind], "{slaves} slaves: {} differs from the walk", NAMES[kind]);
+        assert_eq!(own.digest[kind], before.digest[kind], "{slaves} slaves: {} differs from the arrays", NAMES[kind]);
     }
     let walks = plain(&asked, WALKED, 20, |kind, one| walked(groups, kind, one));
-    [own, before, behind, walks]
+    [own, before, after, walks]
 }
 
 /// Plays two rounds of the proved look-ups and of the sorted arrays, for who counts instructions.
@@ -125,8 +125,8 @@ fn count() {
     }
 }
 
-/// Prints the instructions of a call, by the totals between readings of the clock: those of the second round of two.
-fn tell_counts(totals: &str) {
+/// Prints the instructions of a call, by the totals between readings of the clock, in the second round of two.
+fn print_counts(totals: &str) {
     let totals: Vec<f64> = totals.lines().map(|total| total.trim().parse().expect("a total")).collect();
     println!("| Call | Slaves | Instructions | Of the sorted arrays | Ratio |");
     println!("|---|---|---|---|---|");
@@ -145,15 +145,15 @@ fn main() {
     }
     if has("--counts") {
         let path = std::env::var_os("COUNTS").expect("the file of the totals");
-        return tell_counts(&std::fs::read_to_string(path).expect("totals"));
+        return print_counts(&std::fs::read_to_string(path).expect("totals"));
     }
     let tables = SLAVES.map(|slaves| played(&line::line(slaves), slaves));
     println!("| Call | Slaves | Ratio to 64 slaves | Ratio to sorted arrays | Ratio to a walk |");
     println!("|---|---|---|---|---|");
     for kind in 0..KINDS {
-        for (slaves, [own, before, behind, walks]) in SLAVES.iter().zip(&tables) {
+        for (slaves, [own, before, after, walks]) in SLAVES.iter().zip(&tables) {
             let time = own.nanoseconds[kind];
-            let (first, second) = (before.nanoseconds[kind], behind.nanoseconds[kind]);
+            let (first, second) = (before.nanoseconds[kind], after.nanoseconds[kind]);
             println!(
                 "| {} | {slaves} | {:.2} | {:.1} | {:.4} |",
                 NAMES[kind],

@@ -1,6 +1,6 @@
 //! The look-ups in plain Rust: by walks over the declared groups, and in sorted arrays. Of a block both make all bytes. The
-//! arrays have the place of each area of a task, sorted by its key, as a plan keeps them that edits change; the walk tells
-//! it by the slave's position, since the n-th areas of all slaves stand one behind another in the n-th task.
+//! arrays have the place of each area of a task, sorted by its key, as a plan keeps them that edits change; the walk finds
+//! it by the slave's position, since the n-th areas of all slaves follow one another in the n-th task.
 
 use crate::line::{Area, Group, Slave};
 use std::hint::black_box;
@@ -27,14 +27,14 @@ const NONE: u64 = 0xffff_ffff;
 /// How many areas a datagram carries.
 const MOST: usize = 135;
 
-/// Where an area stands: its datagram's number in the task, and its first bit there.
+/// The place of an area: its datagram's number in the task, and its first bit there.
 #[derive(Clone, Copy)]
 pub struct Place {
     datagram: u16,
     bit: u16,
 }
 
-/// A register and the size of bytes, which are made, as one number, as the library's export tells them.
+/// A register and the size of bytes, which are made, as one number, as the library's export gives them.
 fn number_of(register: u64, bytes: &[u8]) -> u64 {
     register << 8 | black_box(bytes).len() as u64
 }
@@ -66,7 +66,7 @@ fn block(slave: &Slave, own: u8, place_of: impl Fn(&Area, u8) -> Place) -> u64 {
     }
 }
 
-/// Where each area of the slave at a position stands.
+/// The place of each area of the slave at a position.
 fn place_at(position: usize, bits: u16) -> Place {
     Place { datagram: (position / MOST) as u16, bit: bits * (position % MOST) as u16 }
 }

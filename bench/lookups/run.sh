@@ -1,6 +1,6 @@
 #!/bin/sh
 # Proves `hc_plan` and what the benchmark needs of it under C names, in a scratch folder; links the benchmark to that
-# static library and runs it. `../shared.sh` tells of KIT and KEPT.
+# static library and runs it. `../shared.sh` explains KIT and KEPT.
 set -eu
 here=$(cd "$(dirname "$0")" && pwd)
 . "$here/../shared.sh"
@@ -8,18 +8,18 @@ bench=$scratch/crates/lookups_bench
 take hc_project
 take hc_plan
 echo 'lookups_bench staticlib: hc_records hc_project hc_registers hc_places hc_plan libc' >> "$scratch/crates.txt"
-share "$bench" clock plans told
+share "$bench" clock digest plans
 cat > "$bench/src/lib.rt" <<'END_OF_CODE'
 //! What the benchmark calls: a function that opens a project's line and looks up in its plan.
 #![tactic(auto)]
 
 mod clock;
+mod digest;
 mod plans;
-mod told;
 
 use crate::clock::nanoseconds;
+use crate::digest::digest_of;
 use crate::plans::opened_plan;
-use crate::told::told_of;
 use hc_plan::plan::Plan;
 use hc_records::edit::Edit;
 use hc_records::records::VarId;
@@ -49,28 +49,28 @@ const PLACE: u8 = 5;
 
 const KINDS: u8 = 6;
 
-/// What is told of no answer.
+/// The digest of no answer.
 const NONE: u64 = 0xffff_ffff;
 
 fn number_of(block: &Block) -> u64 {
     u64::from(block.register()) << 8 | block.bytes().len() as u64
 }
 
-fn told_of_block(plan: &Plan, asked: &Asked) -> u64 {
+fn digest_of_block(plan: &Plan, asked: &Asked) -> u64 {
     match plan.block(asked.station, asked.own) {
         Some(block) => number_of(&block),
         None => NONE,
     }
 }
 
-fn told_of_nth_block(plan: &Plan, asked: &Asked) -> u64 {
+fn digest_of_nth_block(plan: &Plan, asked: &Asked) -> u64 {
     match plan.nth_block(asked.number) {
         Some((station, block)) => u64::from(station) << 32 | number_of(&block),
         None => NONE,
     }
 }
 
-fn told_of_place(plan: &Plan, asked: &Asked) -> u64 {
+fn digest_of_place(plan: &Plan, asked: &Asked) -> u64 {
     let Some(variable) = VarId::new(asked.number) else {
         return NONE;
     };
@@ -83,8 +83,8 @@ fn told_of_place(plan: &Plan, asked: &Asked) -> u64 {
 /// What a plan answers.
 fn answer(plan: &Plan, kind: u8, asked: &Asked) -> u64 {
     match kind {
-        BLOCK => told_of_block(plan, asked),
-        NTH_BLOCK => told_of_nth_block(plan, asked),
+        BLOCK => digest_of_block(plan, asked),
+        NTH_BLOCK => digest_of_nth_block(plan, asked),
         POSITION => match plan.position(asked.station) {
             Ok(position) => u64::from(position),
             Err(_) => NONE,
@@ -94,21 +94,21 @@ fn answer(plan: &Plan, kind: u8, asked: &Asked) -> u64 {
             None => NONE,
         },
         BLOCKS => u64::from(plan.blocks()),
-        PLACE => told_of_place(plan, asked),
+        PLACE => digest_of_place(plan, asked),
         _ => NONE,
     }
 }
 
 /// What a plan answers to all of these, as one number.
 fn answers(plan: &Plan, kind: u8, asked: &[Asked]) -> u64 {
-    let mut told = 0;
+    let mut digest = 0;
     for one in asked {
-        told = told_of(told, answer(plan, kind, one));
+        digest = digest_of(digest, answer(plan, kind, one));
     }
-    told
+    digest
 }
 
-/// What is asked of a kind: there are as many of each, one kind behind another.
+/// What is asked of a kind: there are as many of each, one kind after another.
 fn asked_of(asked: &[Asked], kind: u8, calls: usize) -> &[Asked] {
     let Some(rest) = asked.get(usize::from(kind).saturating_mul(calls)..) else {
         return &[];
@@ -131,8 +131,8 @@ fn opened(alloc: Global, text: &[u8], groups: u16) -> Option<Plan> {
 }
 
 /// Puts a number at the place of a kind, where there is one.
-fn put(told: &mut [u64], kind: u8, number: u64) {
-    if let Some(own) = told.get_mut(usize::from(kind)) {
+fn put(digest: &mut [u64], kind: u8, number: u64) {
+    if let Some(own) = digest.get_mut(usize::from(kind)) {
         *own = number;
     }
 }
@@ -147,7 +147,7 @@ pub extern "C" fn lookups_timed(
     groups: u16,
     asked: &[Asked],
     calls: usize,
-    told: &mut [u64],
+    digest: &mut [u64],
     times: &mut [u64],
 ) -> bool {
     let Some(plan) = opened(alloc, text, groups) else {
@@ -159,7 +159,7 @@ pub extern "C" fn lookups_timed(
         let begun = nanoseconds();
         let found = answers(&plan, kind, own);
         *time = nanoseconds().wrapping_sub(begun);
-        put(told, kind, found);
+        put(digest, kind, found);
         kind = kind.wrapping_add(1) % KINDS;
     }
     true

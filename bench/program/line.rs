@@ -6,7 +6,7 @@ pub const SLAVES: usize = 64;
 pub const AREAS: usize = 8;
 const OUTPUTS: usize = 4;
 const BYTES: usize = 2;
-/// All outputs stand in front of all inputs.
+/// All outputs come before all inputs.
 pub const DATA: usize = SLAVES * AREAS * BYTES;
 pub const LOGICAL: u32 = 0x0100_0000;
 pub const EXPECTED: u16 = 3 * SLAVES as u16;

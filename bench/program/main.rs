@@ -3,7 +3,7 @@
 //!
 //! First the answers to all commands are compared byte by byte. A cycle is the difference of two runs; what is printed is
 //! ratios of medians of runs that are taken in turns, the plain one twice, of one long run of each, and what was resident.
-//! Each ratio is told of seconds, and of the processor's time, which hangs less on what else the machine does.
+//! Each ratio is given of seconds, and of the processor's time, which hangs less on what else the machine does.
 
 #[allow(dead_code)]
 mod line;
@@ -80,7 +80,7 @@ fn medians<const N: usize>(runs: [&dyn Fn() -> Taken; N]) -> [Taken; N] {
 }
 
 /// How often as long one takes as another that was taken twice, and how far that differs from itself.
-fn tell(label: &str, [own, other, again]: [Taken; 3]) {
+fn print(label: &str, [own, other, again]: [Taken; 3]) {
     for (place, name) in ["seconds", "processor"].into_iter().enumerate() {
         let (ratio, itself) = (2.0 * own[place] / (other[place] + again[place]), other[place] / again[place]);
         println!("{label}, {name}: {ratio:.2} times, which differs from itself by {itself:.2}");
@@ -117,7 +117,7 @@ fn compare(program: &str, plain: &str, input: &str) {
     assert!(printed == wanted, "the program and the plain one print unlike texts");
 }
 
-/// Tells what cycles take, and what is resident meanwhile.
+/// Prints what cycles take, and what is resident meanwhile.
 fn time_cycles(program: &str, plain: &str) {
     let [few, some, many] = [FEW, SOME, MANY].map(|count| format!("{}%%\n{}", project(), commands(count)));
     compare(program, plain, &few);
@@ -126,18 +126,18 @@ fn time_cycles(program: &str, plain: &str) {
         [long - short, long_own - short_own]
     };
     let taken = medians([&|| cycles(program), &|| cycles(plain), &|| cycles(plain)]);
-    tell(&format!("cycle 0, 64 slaves, {} times, beside plain Rust", SOME - FEW), taken);
+    print(&format!("cycle 0, 64 slaves, {} times, beside plain Rust", SOME - FEW), taken);
     let [proved, own] = [program, plain].map(|program| run(program, &many).0);
     println!("{MANY} times in one run: {:.2} times plain Rust in seconds, {:.2} in the processor's", proved[0] / own[0], proved[1] / own[1]);
     let (early, late) = resident_between(program, &many);
     println!("resident at line {FEW}: {early} KiB, at line {LAST}: {late} KiB");
 }
 
-/// Tells what a project takes to be read and opened.
+/// Prints what a project takes to be read and opened.
 fn time_opening(program: &str, reader: &str) {
     let text = large_project(true);
     let taken = medians([&|| run(program, &text).0, &|| run(reader, &text).0, &|| run(reader, &text).0]);
-    tell(&format!("a project of {} bytes, read and opened, beside the TOML reader", text.len()), taken);
+    print(&format!("a project of {} bytes, read and opened, beside the TOML reader", text.len()), taken);
 }
 
 fn main() {

@@ -7,9 +7,9 @@
 int main(void) {
     static uint8_t text[8 << 20];
     struct zangjulf line = {0};
-    uint8_t crowded;
+    uint8_t over_limit;
     size_t size = fread(text, 1, sizeof text, stdin);
-    uint8_t answer = zangjulf_open(&line, text, size, 0, &crowded);
+    uint8_t answer = zangjulf_open(&line, text, size, 0, &over_limit);
     if (answer) fprintf(stderr, "open: %s\n", zangjulf_text(answer));
     zangjulf_close(&line);
     return answer != ZANGJULF_DONE;

@@ -45,9 +45,9 @@ fn frame_of(serial: u64, data: &[u8]) -> Box<[u8]> {
 /// The data and the counter of the frame that answers a sending.
 fn answer(frame: &[u8], serial: u64) -> Option<(&[u8], u16)> {
     let (own, region) = plain::reader::whole_frame(frame).ok()?;
-    let (head, size, counter, behind) = plain::reader::part_of(region).expect("a whole datagram");
+    let (head, size, counter, after) = plain::reader::part_of(region).expect("a whole datagram");
     let address = u32::from_le_bytes([head[2], head[3], head[4], head[5]]);
-    let is_own = own == serial && head[0] == 12 && address == LOGICAL && size == DATA && behind.is_empty();
+    let is_own = own == serial && head[0] == 12 && address == LOGICAL && size == DATA && after.is_empty();
     is_own.then_some((&region[10..10 + size], counter))
 }
 
@@ -82,18 +82,18 @@ impl Master {
         let serial = self.serial;
         self.serial += 1;
         let frames = chain(&mut self.segments, vec![frame_of(serial, &self.outputs)], |from| from.recv().ok());
-        let mut told = String::new();
+        let mut outcomes = String::new();
         for frame in &frames {
             match answer(frame, serial) {
                 Some((data, EXPECTED)) => {
                     self.slot.get_or_insert_with(|| vec![0; DATA]).copy_from_slice(data);
-                    told.push_str("inputs 0 0\n");
+                    outcomes.push_str("inputs 0 0\n");
                 }
-                Some((_, counter)) => told.push_str(&format!("wrong count {EXPECTED} {counter}\n")),
-                None => told.push_str("stale\n"),
+                Some((_, counter)) => outcomes.push_str(&format!("wrong count {EXPECTED} {counter}\n")),
+                None => outcomes.push_str("stale\n"),
             }
         }
-        told
+        outcomes
     }
 
     fn poke(&mut self, slave: usize, at: usize, digits: &str) -> String {

@@ -2,7 +2,7 @@
 # Times the program `hotline` beside plain Rust that answers the same commands, sees what is resident in a long run, and
 # times how a large project is read beside the TOML reader alone. Builds the program as `rt run` does, and in a scratch
 # folder a program that only reads TOML. HOTLINE is a built program to be taken in place of that. Where LIBRARY is a folder with
-# libzangjulf.a, and valgrind is there, only the instructions of opening are counted, beside those of the TOML reader alone.
+# libzangjulf.a, and valgrind is there, only the instructions of opening are counted, beside the TOML reader alone.
 set -eu
 here=$(cd "$(dirname "$0")" && pwd)
 . "$here/../shared.sh"

@@ -1,12 +1,12 @@
 //! What is timed, and how plain Rust plays it; and what both are compared on.
 
+use crate::digest::{digest_by_all, digest_of};
 use crate::line::{Asked, guest, line, one_row, thousand_rows, variables};
 use crate::plain::{Change, Publisher, Seat, open};
 use crate::plan::drawn;
 use crate::plan::line::text;
 use crate::plan::plain::{Group, Plan};
 use crate::runs::Programs;
-use crate::told::{told_by_all, told_of};
 use std::hint::black_box;
 use std::time::Instant;
 
@@ -54,12 +54,12 @@ fn show(publisher: &mut Publisher, change: Change) {
 }
 
 /// Prints the nanoseconds of rounds.
-fn tell_rounds(mut round: impl FnMut() -> u64) {
+fn print_rounds(mut round: impl FnMut() -> u64) {
     let sum = (0..ROUNDS).fold(0, |sum: u64, _| {
         let begun = Instant::now();
-        let told = round();
+        let digest = round();
         println!("{}", begun.elapsed().as_nanos());
-        sum.wrapping_add(told)
+        sum.wrapping_add(digest)
     });
     println!("sum {sum}");
 }
@@ -105,17 +105,17 @@ impl Case {
             show(&mut publisher, change(&mut plan, asked).expect("an accepted edit"));
         }
         match self.word {
-            Word::View => tell_rounds(|| self.look(&mut seats[1])),
+            Word::View => print_rounds(|| self.look(&mut seats[1])),
             Word::Value => {
                 let view = seats[1].view();
-                tell_rounds(|| {
-                    (0..self.times).fold(0, |told, _| {
+                print_rounds(|| {
+                    (0..self.times).fold(0, |digest, _| {
                         let values = self.variables.iter().filter_map(|variable| view.value(*variable).ok());
-                        values.fold(told, told_of)
+                        values.fold(digest, digest_of)
                     })
                 });
             }
-            _ => tell_rounds(|| {
+            _ => print_rounds(|| {
                 (0..self.times).for_each(|_| seats[0].learn(black_box(&publisher).note()));
                 0
             }),
@@ -123,7 +123,7 @@ impl Case {
     }
 
     fn look(&self, seat: &mut Seat) -> u64 {
-        (0..self.times).fold(0, |told, _| told + u64::from(black_box(&mut *seat).view().epoch()))
+        (0..self.times).fold(0, |digest, _| digest + u64::from(black_box(&mut *seat).view().epoch()))
     }
 
     fn play_publishings(&self, plan: &mut Plan, seats: usize) {
@@ -179,19 +179,19 @@ fn compare(programs: &Programs, name: &str, groups: &[Group], asked: &[Asked]) {
     let most = entries.map(|entry| entry.0).max().unwrap_or(0) + 2;
     let mut plan = Plan::new(groups);
     let (mut publisher, mut seats) = open(&plan, 8);
-    let (mut rows, mut told) = (String::new(), Vec::new());
+    let (mut rows, mut digest) = (String::new(), Vec::new());
     for one in asked {
         // what is refused makes no change
         if let Some(change) = change(&mut plan, one) {
             show(&mut publisher, change);
             rows.push_str(&one.row());
-            told.push(told_by_all(&mut seats, most));
+            digest.push(digest_by_all(&mut seats, most));
         }
     }
-    let found = programs.told(&format!("{}# asked\n{rows}", text(groups)), &[most]);
-    let same = told.iter().zip(&found).position(|(own, other)| own != other);
-    assert!(same.is_none() && told.len() == found.len(), "{name}: otherwise behind change {same:?} of {}", told.len());
-    eprintln!("{name}: the same behind {} changes", told.len());
+    let found = programs.digest(&format!("{}# asked\n{rows}", text(groups)), &[most]);
+    let same = digest.iter().zip(&found).position(|(own, other)| own != other);
+    assert!(same.is_none() && digest.len() == found.len(), "{name}: otherwise behind change {same:?} of {}", digest.len());
+    eprintln!("{name}: the same behind {} changes", digest.len());
 }
 
 /// Both are compared on the lines that are timed, and on drawn ones.

@@ -1,5 +1,5 @@
-//! A library in front of the C library's: it counts the calls of `malloc`, `calloc` and `realloc`, and while it stands there
-//! the clock tells that count in the place of nanoseconds.
+//! A library in front of the C library's: it counts the calls of `malloc`, `calloc` and `realloc`, and while it is there the
+//! clock gives that count in the place of nanoseconds.
 
 use std::ffi::{c_int, c_void};
 use std::sync::atomic::{AtomicU64, Ordering::Relaxed};

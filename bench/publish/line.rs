@@ -1,5 +1,5 @@
 //! The line of the benchmark, with 64 or 2,048 slaves of eight areas each, and what is asked of it. Task 0 has one datagram
-//! of 12 bytes, task 1 one of 1,486; task 2 has an area that can be made a byte wider, and 1,000 variables behind it;
+//! of 12 bytes, task 1 one of 1,486; task 2 has an area that can be made a byte wider, and 1,000 variables after it;
 //! task 3 has a variable that can change places with a gap. A group of one slave, which isn't present at the opening, has
 //! 1,000 variables of one bit.
 
@@ -104,7 +104,7 @@ impl Maker {
     }
 }
 
-/// The line of so many slaves, the last of which is the guest; all others are mandatory.
+/// The line of so many slaves; the last one is the guest, all others are mandatory.
 pub fn line(slaves: usize) -> Vec<Group> {
     let mut maker = Maker { slaves: slaves - 1, variables: 0 };
     let own = (0..slaves - 1).map(|place| maker.slave(place)).collect();

@@ -1,12 +1,12 @@
-//! Publishings, views, values and notes, timed in `hc_publish` and in plain Rust with two copies behind atomics: `bench
-//! PROGRAM GROWTHS SCRATCH`, where the first is the built program `publish_bench`, the second a library that tells growths
-//! of memory in the place of time, and the last a folder for counts.
+//! Publishings, views, values and notes, timed in `hc_publish` and in plain Rust with two copies that atomics choose
+//! between: `bench PROGRAM GROWTHS SCRATCH`, where the first is the built program `publish_bench`, the second a library
+//! that gives growths of memory in the place of time, and the last a folder for counts.
 //!
 //! Both are programs that play the same changes and print what their rounds took; this one calls them in turns, the plain
-//! one before the proved one and behind it. First both tell what all seats see behind each change, which must be the same.
+//! one before and after the proved one. First both print what all seats see after each change, which must be the same.
 //!
-//! Words behind the folder: `few` for a short run, `times` for no instructions, `often` for 100,000 publishings beside eight seats in threads, any
-//! other one for the calls whose names have it. `plain NUMBER` alone plays a case in plain Rust.
+//! Words after the folder: `few` for a short run, `times` for no instructions, `often` for 100,000 publishings beside eight
+//! seats in threads, any other one for the calls whose names have it. `plain NUMBER` alone plays a case in plain Rust.
 
 mod cases;
 #[allow(dead_code)]
@@ -19,16 +19,16 @@ mod plain;
 #[path = "../edits"]
 mod plan {
     pub mod asked;
+    pub mod digest;
     pub mod drawn;
     pub mod line;
     pub mod plain;
-    pub mod told;
 }
 #[allow(dead_code)]
 #[path = "../../compare/shared/project_text.rs"]
 mod project_text;
+mod digest;
 mod runs;
-mod told;
 
 use cases::{Case, cases, compare_all};
 use runs::{Count, Programs, asked, figures, is_named, median};
@@ -50,7 +50,7 @@ fn memory(bytes: usize) -> f64 {
 }
 
 /// Prints a row.
-fn tell(programs: &Programs, case: &Case, turns: usize, are_counted: bool) {
+fn print(programs: &Programs, case: &Case, turns: usize, are_counted: bool) {
     let found = figures(programs, case, turns);
     let to_memory = case.bytes.map_or(String::new(), |bytes| format!("{:.1}", found.proved / memory(bytes)));
     let [growths, plain_growths] = [programs.proved(case, Count::Growths), programs.plain(case, Count::Growths)];
@@ -71,8 +71,8 @@ fn main() {
         return;
     };
     if words.iter().any(|word| word == "often") {
-        let told = programs.often("", &["2500", "22500"]);
-        return println!("resident KiB at the 10,000th publishing and at the 100,000th: {told}");
+        let printed = programs.often("", &["2500", "22500"]);
+        return println!("resident KiB at the 10,000th publishing and at the 100,000th: {printed}");
     }
     let [few, times] = ["few", "times"].map(|name| words.iter().any(|word| word == name));
     let are_counted = !times;
@@ -80,6 +80,6 @@ fn main() {
     println!("| Call | Slaves | ns | To plain Rust | To a memory copy | Growths | Of plain Rust | Instructions, of plain Rust, their ratio |");
     println!("|---|---|---|---|---|---|---|---|");
     for case in cases.iter().filter(|case| is_named(case, &words)) {
-        tell(&programs, case, if few { 1 } else { 9 }, are_counted);
+        print(&programs, case, if few { 1 } else { 9 }, are_counted);
     }
 }

@@ -1,5 +1,6 @@
-//! The same in plain Rust, written for speed: two copies behind atomics. The publisher changes the copy that isn't shown,
-//! shows it, and waits for the seats that look at the other one, which takes the same changes in at the next publishing.
+//! The same in plain Rust, written for speed: two copies that atomics choose between. The publisher changes the copy that
+//! isn't shown, shows it, and waits for the seats that look at the other one, which takes the same changes in at the next
+//! publishing.
 
 #[path = "../edits/rows.rs"]
 mod rows;
@@ -13,7 +14,7 @@ use std::sync::atomic::{AtomicU64, AtomicUsize, Ordering};
 
 const TASKS: usize = 8;
 const DATAGRAMS: usize = 16;
-/// Room of a datagram's data, with eight bytes behind for values.
+/// Room of a datagram's data, with eight bytes more for values.
 const ROOM: usize = 1496;
 
 pub enum Change {
@@ -40,7 +41,7 @@ pub struct Copy {
 #[derive(Default)]
 struct Turn(AtomicU64);
 
-struct Board {
+struct Shared {
     copies: [UnsafeCell<Copy>; 2],
     shown: AtomicUsize,
     /// Odd while its seat looks.
@@ -48,20 +49,20 @@ struct Board {
 }
 
 // The copy that is shown is only read, and the other one is the publisher's alone.
-unsafe impl Sync for Board {}
+unsafe impl Sync for Shared {}
 
 pub struct Publisher {
-    board: Arc<Board>,
+    shared: Arc<Shared>,
     seats: usize,
     shown: usize,
     pending: Vec<Change>,
     /// What the copy that isn't shown lacks.
-    behind: Vec<Change>,
+    lacking: Vec<Change>,
     published: u64,
 }
 
 pub struct Seat {
-    board: Arc<Board>,
+    shared: Arc<Shared>,
     task: u8,
     turn: u64,
     known: u64,
@@ -106,16 +107,16 @@ impl Copy {
 /// A publisher of a plan at its opening, and so many seats.
 pub fn open(plan: &Plan, seats: usize) -> (Publisher, Vec<Seat>) {
     let copies = [Copy::of(plan), Copy::of(plan)].map(UnsafeCell::new);
-    let board = Arc::new(Board { copies, shown: AtomicUsize::new(0), turns: Default::default() });
+    let shared = Arc::new(Shared { copies, shown: AtomicUsize::new(0), turns: Default::default() });
     let publisher = Publisher {
-        board: board.clone(),
+        shared: shared.clone(),
         seats,
         shown: 0,
         pending: Vec::with_capacity(16),
-        behind: Vec::with_capacity(16),
+        lacking: Vec::with_capacity(16),
         published: 0,
     };
-    let seat = |task| Seat { board: board.clone(), task: task as u8, turn: 0, known: 0 };
+    let seat = |task| Seat { shared: shared.clone(), task: task as u8, turn: 0, known: 0 };
     (publisher, (0..seats).map(seat).collect())
 }
 
@@ -127,13 +128,13 @@ impl Publisher {
     #[inline(never)]
     pub fn publish(&mut self) {
         let spare = 1 - self.shown;
-        let copy = unsafe { &mut *self.board.copies[spare].get() };
-        self.behind.drain(..).for_each(|change| copy.take_in(&change));
+        let copy = unsafe { &mut *self.shared.copies[spare].get() };
+        self.lacking.drain(..).for_each(|change| copy.take_in(&change));
         self.pending.iter().for_each(|change| copy.take_in(change));
-        std::mem::swap(&mut self.pending, &mut self.behind);
-        self.board.shown.store(spare, Ordering::SeqCst);
+        std::mem::swap(&mut self.pending, &mut self.lacking);
+        self.shared.shown.store(spare, Ordering::SeqCst);
         self.shown = spare;
-        for Turn(turn) in &self.board.turns[..self.seats] {
+        for Turn(turn) in &self.shared.turns[..self.seats] {
             let seen = turn.load(Ordering::SeqCst);
             while seen % 2 == 1 && turn.load(Ordering::Acquire) == seen {
                 std::thread::yield_now();
@@ -151,10 +152,10 @@ impl Publisher {
 impl Seat {
     #[inline(never)]
     pub fn view(&mut self) -> View<'_> {
-        let turn = &self.board.turns[usize::from(self.task)].0;
+        let turn = &self.shared.turns[usize::from(self.task)].0;
         turn.store(self.turn + 1, Ordering::SeqCst);
         self.turn += 2;
-        let copy = unsafe { &*self.board.copies[self.board.shown.load(Ordering::SeqCst)].get() };
+        let copy = unsafe { &*self.shared.copies[self.shared.shown.load(Ordering::SeqCst)].get() };
         View { copy, task: self.task, turn, left: self.turn }
     }
 

@@ -1,6 +1,6 @@
 #!/bin/sh
 # Proves `hc_publish` and a program that publishes and views by it, in a scratch folder: a program, since a static library
-# may not wait. Builds the plain Rust beside it and runs both. `../shared.sh` tells of KIT and KEPT.
+# may not wait. Builds the plain Rust beside it and runs both. `../shared.sh` explains KIT and KEPT.
 set -eu
 here=$(cd "$(dirname "$0")" && pwd)
 . "$here/../shared.sh"
@@ -8,7 +8,7 @@ program=$scratch/crates/publish_bench
 take hc_project
 take hc_publish
 echo 'publish_bench: hc_records hc_project hc_places hc_plan hc_events hc_publish anyhow' >> "$scratch/crates.txt"
-share "$program" resident told words
+share "$program" digest resident words
 for part in "$here"/program/*.sh; do
     sh "$part" "$program"
 done

@@ -9,7 +9,7 @@ use std::process::{Command, Stdio};
 pub enum Count {
     /// Its nanoseconds.
     Time,
-    /// How often memory grows: a library in front of the C library's counts that, and tells it in the place of time.
+    /// How often memory grows: a library in front of the C library's counts that, and gives it in the place of time.
     Growths,
     /// Its instructions, by callgrind; none without valgrind.
     Instructions,
@@ -118,8 +118,8 @@ impl Programs {
         format!("{proved:.0}, {plain:.0}, {:.2}", proved / plain)
     }
 
-    /// What the proved program tells of what it is given.
-    pub fn told(&self, given: &str, numbers: &[u32]) -> Vec<u64> {
+    /// The proved program's digests of what it is given.
+    pub fn digest(&self, given: &str, numbers: &[u32]) -> Vec<u64> {
         let numbers: Vec<String> = numbers.iter().map(u32::to_string).collect();
         let text = self.given("told", given, &numbers);
         text.lines().map(|row| row.parse().expect("a number")).collect()
@@ -133,7 +133,7 @@ impl Programs {
         said(Command::new(&self.proved).arg(word).args(numbers).stdin(input))
     }
 
-    /// What the proved program tells of its long run, with these numbers.
+    /// What the proved program prints of its long run, with these numbers.
     pub fn often(&self, given: &str, numbers: &[&str]) -> String {
         let numbers: Vec<String> = numbers.iter().map(|number| number.to_string()).collect();
         self.given("often", given, &numbers).trim().into()
@@ -159,10 +159,10 @@ pub fn figures(programs: &Programs, case: &Case, turns: usize) -> Figures {
     for _ in 0..turns {
         let before = programs.plain(case, Count::Time);
         let proved = programs.proved(case, Count::Time);
-        let behind = programs.plain(case, Count::Time);
+        let after = programs.plain(case, Count::Time);
         times.push(proved);
-        ratios.push(2.0 * proved / (before + behind));
-        apart.push(behind / before);
+        ratios.push(2.0 * proved / (before + after));
+        apart.push(after / before);
     }
     Figures { proved: median(times), to_plain: median(ratios), plain_to_itself: median(apart) }
 }

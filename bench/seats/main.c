@@ -24,7 +24,7 @@ static struct plain_line plain;
 static uint8_t image[ZANGJULF_IMAGE], plain_out[ZANGJULF_IMAGE];
 static uint64_t serials[DATAGRAMS], plain_serials[DATAGRAMS];
 static struct zangjulf_view view;
-static struct plain_view told;
+static struct plain_view plain_seen;
 static size_t size, outputs;
 
 static void give_up(const char *why) {
@@ -100,7 +100,7 @@ static void by_line(void) {
 }
 
 static void view_plain(void) {
-    if (!plain_view(plain.seats[0], plain_out, sizeof plain_out, plain_serials, DATAGRAMS, &told)) give_up("plain_view");
+    if (!plain_view(plain.seats[0], plain_out, sizeof plain_out, plain_serials, DATAGRAMS, &plain_seen)) give_up("plain_view");
 }
 
 static void by_plain(void) {
@@ -118,7 +118,7 @@ static void compare(void) {
     by_line();
     by_plain();
     done(zangjulf_seat_outputs(&seat, own, sizeof own), "seat_outputs");
-    bool is_same = view.epoch == told.epoch && view.size == told.size && view.size == size && view.outputs == told.outputs && view.has == told.has && view.has == 1;
+    bool is_same = view.epoch == plain_seen.epoch && view.size == plain_seen.size && view.size == size && view.outputs == plain_seen.outputs && view.has == plain_seen.has && view.has == 1;
     is_same &= serials[0] == plain_serials[0] && !memcmp(image, plain_out, size);
     is_same &= !memcmp(own, plain.seats[0]->images[plain.seats[0]->shown].sent, outputs);
     if (!is_same) give_up("both sides view different images");
@@ -147,7 +147,7 @@ static double quiet(double *times) {
 }
 
 /* The rounds of both sides. */
-static void tell(const char *what, void (*own)(void), void (*plainly)(void)) {
+static void print_times(const char *what, void (*own)(void), void (*plainly)(void)) {
     static double times[ROUNDS], before[ROUNDS], after[ROUNDS];
     for (int round = 0; round < ROUNDS; round++) {
         before[round] = timed(plainly);
@@ -167,10 +167,10 @@ int main(int count, char **words) {
     exchange();
     compare();
     if (count == 2) {
-        tell("a showing", show_line, show_plain);
-        tell("a showing, the plain one alone with its line", show_line, show_alone);
-        tell("a showing with its view", by_line, by_plain);
-        tell("a showing with its view, the plain one alone with its line", by_line, by_alone);
+        print_times("a showing", show_line, show_plain);
+        print_times("a showing, the plain one alone with its line", show_line, show_alone);
+        print_times("a showing with its view", by_line, by_plain);
+        print_times("a showing with its view, the plain one alone with its line", by_line, by_alone);
         return 0;
     }
     void (*side)(void) = strcmp(words[3], "line") ? by_plain : by_line;

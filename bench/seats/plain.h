@@ -1,5 +1,5 @@
 /* The same duties in plain C11: a line that has of each task the data of its last answer and the outputs, and for each task with a seat
- * a triple buffer, of which one word says which buffer is in the middle, and whether it is newer than the task's. */
+ * a triple buffer, in which one word says which buffer is in the middle, and whether it is newer than the task's. */
 #ifndef PLAIN_H
 #define PLAIN_H
 
@@ -58,7 +58,7 @@ void plain_show(struct plain_line *line);
 /* The same, as a call with a line does it that finds out whether another one runs; false where one does. */
 bool plain_show_alone(struct plain_line *line);
 
-/* The newest image, as zangjulf_seat_view tells it; false where `out` is too short. */
+/* The last image, as zangjulf_seat_view shows it; false where `out` is too short. */
 bool plain_view(struct plain_seat *seat, uint8_t *out, size_t length, uint64_t *serials, size_t room, struct plain_view *view);
 
 #endif

@@ -1,5 +1,5 @@
 //! Chains in plain Rust: `chain_plain SEGMENTS TURNS SLAVES` passes 64 frames so many times through so many slaves in so
-//! many segments, each segment in a thread of its own, and prints a number that tells of frames and memories.
+//! many segments, each segment in a thread of its own, and prints a digest of frames and memories.
 
 mod line;
 mod passing;
@@ -10,7 +10,7 @@ use plain::{MEMORY, Machine};
 use std::sync::mpsc::{Receiver, TryRecvError};
 use std::thread::yield_now;
 
-/// The next frame, once it came: many come one behind another, so nobody sleeps.
+/// The next frame, once it came: many come one after another, so nobody sleeps.
 fn waited(from: &Receiver<Box<[u8]>>) -> Option<Box<[u8]>> {
     loop {
         match from.try_recv() {
@@ -31,7 +31,7 @@ fn main() {
     for _ in 0..turns {
         frames = chain(&mut segments, frames, waited);
     }
-    let told = frames.iter().fold(0, |told, frame| line::told_of(told, frame));
-    let told = segments.iter().flatten().fold(told, |told, machine| line::told_of(told, &*machine.memory));
-    println!("{told}");
+    let digest = frames.iter().fold(0, |digest, frame| line::digest_of(digest, frame));
+    let digest = segments.iter().flatten().fold(digest, |digest, machine| line::digest_of(digest, &*machine.memory));
+    println!("{digest}");
 }

@@ -10,7 +10,7 @@ const ROUNDS: usize = 20;
 const SHORT: usize = 20;
 const LONG: usize = 120;
 
-/// Runs a program and answers its seconds and what it told.
+/// Runs a program: its seconds and what it printed.
 fn run(program: &str, line: &Path, segments: usize, turns: usize, slaves: usize) -> (f64, String) {
     let begun = Instant::now();
     let said = Command::new(program)
@@ -25,13 +25,13 @@ fn run(program: &str, line: &Path, segments: usize, turns: usize, slaves: usize)
 }
 
 /// Prints what a turn of 64 frames through so many slaves costs: the difference of a short and a long run, each the least of
-/// many rounds. Stops where the chains don't tell the same of frames and memories.
+/// many rounds. Stops where the chains print other frames or memories.
 fn print_rows(program: &str, plain: &str, line: &Path, slaves: usize) {
     let mut bytes = full_frame();
     bytes.extend(memories(slaves, 0));
     std::fs::write(line, bytes).expect("the line's file");
     let mut least = [[[f64::MAX; 2]; 3]; 2];
-    let mut told = [String::new(), String::new()];
+    let mut printed = [String::new(), String::new()];
     for _ in 0..ROUNDS {
         for (place, segments) in [1, 2, 4].into_iter().enumerate() {
             for (number, name) in [program, plain].into_iter().enumerate() {
@@ -39,10 +39,10 @@ fn print_rows(program: &str, plain: &str, line: &Path, slaves: usize) {
                     let (seconds, said) = run(name, line, segments, turns, slaves);
                     let best = &mut least[number][place][length];
                     *best = best.min(seconds);
-                    if told[length].is_empty() {
-                        told[length] = said;
+                    if printed[length].is_empty() {
+                        printed[length] = said;
                     } else {
-                        assert!(told[length] == said, "{name} of {segments} segments differs");
+                        assert!(printed[length] == said, "{name} of {segments} segments differs");
                     }
                 }
             }

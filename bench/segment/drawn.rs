@@ -69,8 +69,8 @@ impl Draws {
         let [low, high] = (texts.len() as u16 | 0x1000).to_le_bytes();
         [frame[14], frame[15]] = [low, high];
         frame.extend(texts);
-        let behind = self.below(3) as usize;
-        frame.extend(self.bytes(behind));
+        let after = self.below(3) as usize;
+        frame.extend(self.bytes(after));
         if self.below(12) == 0 {
             let place = self.below(frame.len() as u64) as usize;
             frame[place] ^= 1 << self.below(8);
@@ -82,7 +82,7 @@ impl Draws {
 /// Stops the benchmark where the two leave other bytes.
 pub fn compare() {
     let mut draws = Draws(0x9e37_79b9_7f4a_7c15);
-    let (mut changed, mut kept) = (0, 0);
+    let (mut changed, mut unchanged) = (0, 0);
     for case in 0..3000 {
         let count = 1 + draws.below(3) as usize;
         let memories: Vec<u8> = (0..count).flat_map(|_| draws.memory()).collect();
@@ -94,7 +94,7 @@ pub fn compare() {
         run(Kind::Plain, &mut theirs, &mut their_frame, turns);
         assert!(ours == theirs && our_frame == their_frame, "case {case}: the two differ");
         changed += usize::from(ours != memories);
-        kept += usize::from(our_frame == frame);
+        unchanged += usize::from(our_frame == frame);
     }
-    assert!(1000 < changed && 50 < kept, "the draws meet too little: {changed}, {kept}");
+    assert!(1000 < changed && 50 < unchanged, "the draws meet too little: {changed}, {unchanged}");
 }

@@ -1,5 +1,5 @@
-//! A line of slaves and the frame that goes through it: every slave has two mapped areas of one datagram, of which the
-//! master writes the first and reads the second.
+//! A line of slaves and the frame that goes through it: every slave has two mapped areas of one datagram, the master
+//! writes the first and reads the second.
 
 use crate::plain::MEMORY;
 
@@ -50,7 +50,7 @@ pub fn full_frame() -> Vec<u8> {
     frame_of(12, LOGICAL, &data)
 }
 
-/// A number that tells of these bytes, mixed into what was told before.
-pub fn told_of(told: u64, bytes: &[u8]) -> u64 {
-    bytes.iter().fold(told, |told, byte| (told ^ u64::from(*byte)).wrapping_mul(0x0000_0100_0000_01b3))
+/// These bytes, mixed into a digest.
+pub fn digest_of(digest: u64, bytes: &[u8]) -> u64 {
+    bytes.iter().fold(digest, |digest, byte| (digest ^ u64::from(*byte)).wrapping_mul(0x0000_0100_0000_01b3))
 }

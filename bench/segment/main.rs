@@ -79,7 +79,7 @@ fn medians(memories: &[u8], turns: usize) -> [f64; 3] {
     times.map(median)
 }
 
-/// Passes the frame so many times through a line, of which these words tell.
+/// Passes the frame so many times through a line that these words describe.
 fn count(words: &[String]) {
     let numbers: Vec<usize> = words.iter().map(|word| word.parse().expect("a number")).collect();
     let [kind, slaves, bit, turns] = numbers[..] else {

@@ -36,10 +36,10 @@ fn run_of(block: &[u8; 16], from: usize, end: usize) -> Run {
     let start = u32::from_le_bytes([block[0], block[1], block[2], block[3]]) as usize;
     let length = usize::from(u16::from_le_bytes([block[4], block[5]]));
     let first = 8 * start + usize::from(block[6] & 7);
-    let behind = (8 * (start + length) + usize::from(block[7] & 7) + 1).saturating_sub(8);
+    let mapped_end = (8 * (start + length) + usize::from(block[7] & 7) + 1).saturating_sub(8);
     let memory = 8 * usize::from(u16::from_le_bytes([block[8], block[9]])) + usize::from(block[10] & 7);
-    let behind = behind.min(first + (8 * MEMORY).saturating_sub(memory));
-    let (low, high) = (first.max(from), behind.min(end));
+    let mapped_end = mapped_end.min(first + (8 * MEMORY).saturating_sub(memory));
+    let (low, high) = (first.max(from), mapped_end.min(end));
     Run {
         data: low.wrapping_sub(from),
         memory: memory + (low - first),
@@ -182,9 +182,9 @@ pub fn pass(machines: &mut [Machine], frame: &mut [u8]) {
         let mut rest = &mut frame[16..end];
         while !rest.is_empty() {
             let size = usize::from(u16::from_le_bytes([rest[6], rest[7]]) & 0x7ff);
-            let (datagram, behind) = rest.split_at_mut(12 + size);
+            let (datagram, mapped_end) = rest.split_at_mut(12 + size);
             serve(&mut machine.memory, datagram, size);
-            rest = behind;
+            rest = mapped_end;
         }
     }
 }

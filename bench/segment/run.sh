@@ -1,8 +1,8 @@
 #!/bin/sh
 # Proves `hc_segment` and what the benchmark needs of it, in a scratch folder: a static library that passes frames through
 # a segment, and a program that passes them through chains, since a static library may start no thread. Builds the plain
-# Rust beside them and runs all. `../shared.sh` tells of KIT and KEPT. The word `instructions` counts those of a turn,
-# which needs valgrind, and times nothing.
+# Rust beside them and runs all. `../shared.sh` explains KIT and KEPT. The word `instructions` counts the instructions
+# of a turn, which needs valgrind, and times nothing.
 set -eu
 here=$(cd "$(dirname "$0")" && pwd)
 . "$here/../shared.sh"
@@ -34,7 +34,7 @@ fn machines_of(alloc: Global, memories: &[u8]) -> Result<Vec<SlaveMachine>, Allo
 }
 
 /// Copies the slaves' memories out, one after another.
-fn tell(machines: &[SlaveMachine], memories: &mut [u8]) {
+fn copy_memories(machines: &[SlaveMachine], memories: &mut [u8]) {
     for (k, machine) in machines.iter().enumerate() {
         if k < memories.len() / MEMORY {
             memories[MEMORY * k..MEMORY * k + MEMORY].copy_from_slice(machine.memory());
@@ -57,13 +57,13 @@ pub extern "C" fn segment_run(
     for _ in 0..turns {
         segment.process(frame);
     }
-    tell(segment.machines(), memories);
+    copy_memories(segment.machines(), memories);
     true
 }
 END_OF_CODE
 cat > "$program/src/main.rt" <<'END_OF_CODE'
 //! `chain_bench SEGMENTS TURNS < LINE` passes 64 frames so many times through slaves in so many segments, each segment
-//! in a thread of its own, and prints a number that tells of frames and memories. LINE is the frame's 1,514 bytes, and
+//! in a thread of its own, and prints a digest of frames and memories. LINE is the frame's 1,514 bytes, and
 //! then the slaves' memories.
 #![tactic(auto)]
 
@@ -116,26 +116,26 @@ fn frames_of(alloc: Global, line: &[u8]) -> Result<Vec<FrameBox>, AllocError> {
     Ok(frames)
 }
 
-/// A number that tells of these bytes, mixed into what was told before.
-fn told_of(told: u64, bytes: &[u8]) -> u64 {
-    let mut told = told;
+/// These bytes, mixed into a digest.
+fn digest_of(digest: u64, bytes: &[u8]) -> u64 {
+    let mut digest = digest;
     for byte in bytes {
-        told = (told ^ u64::from(*byte)).wrapping_mul(0x0000_0100_0000_01b3);
+        digest = (digest ^ u64::from(*byte)).wrapping_mul(0x0000_0100_0000_01b3);
     }
-    told
+    digest
 }
 
-fn told_of_all(frames: &[FrameBox], segments: &[Segment]) -> u64 {
-    let mut told = 0;
+fn digest_of_all(frames: &[FrameBox], segments: &[Segment]) -> u64 {
+    let mut digest = 0;
     for frame in frames {
-        told = told_of(told, frame.bytes());
+        digest = digest_of(digest, frame.bytes());
     }
     for segment in segments {
         for machine in segment.machines() {
-            told = told_of(told, machine.memory());
+            digest = digest_of(digest, machine.memory());
         }
     }
-    told
+    digest
 }
 
 fn main(rt: HostRuntime) -> anyhow::Result<()> {
@@ -151,7 +151,7 @@ fn main(rt: HostRuntime) -> anyhow::Result<()> {
     for _ in 0..number_of(&words, 2) {
         frames = chain(&rt, alloc, &mut segments, frames, &Open)?;
     }
-    println!(rt; "{}", told_of_all(&frames, &segments))?;
+    println!(rt; "{}", digest_of_all(&frames, &segments))?;
     Ok(())
 }
 END_OF_CODE
@@ -162,7 +162,7 @@ plain "$here/main.rs" -o "$scratch/bench" -L "$library/out" -l static=segment_be
 counted() {
     valgrind --tool=callgrind --callgrind-out-file=/dev/null "$scratch/bench" count "$@" 2>&1 | sed -n 's/.*Collected : //p'
 }
-# Those of a turn: the difference of 110 turns and of 10.
+# The instructions of a turn: the difference of 110 turns and of 10.
 each() {
     echo $((($(counted "$@" 110) - $(counted "$@" 10)) / 100))
 }

@@ -134,10 +134,10 @@ static void look_at_line(void) {
 
 static void open_line(void) {
     size_t size;
-    uint8_t crowded;
+    uint8_t over_limit;
     struct zangjulf_cost cost;
     char *text = line_text(&size);
-    if (zangjulf_open(&line, (const uint8_t *)text, size, 0, &crowded)) give_up("the project isn't opened");
+    if (zangjulf_open(&line, (const uint8_t *)text, size, 0, &over_limit)) give_up("the project isn't opened");
     free(text);
     for (uint16_t alias = 1; alias <= GROUPS; alias++)
         if (zangjulf_connect(&line, alias, false, &cost)) give_up("a group isn't connected");

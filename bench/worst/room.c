@@ -1,4 +1,4 @@
-/* Tells what memory a line of one slave takes, and a seat of it: bytes that the C library's allocator gave. */
+/* Prints what memory a line of one slave takes, and a seat of it: bytes that the C library's allocator gave. */
 #include <malloc.h>
 #include <stdio.h>
 
@@ -19,9 +19,9 @@ static size_t given(void) {
 int main(void) {
     struct zangjulf line = {0};
     struct zangjulf_seat seat = {0};
-    uint8_t crowded;
+    uint8_t over_limit;
     size_t none = given();
-    if (zangjulf_open(&line, (const uint8_t *)PROJECT, sizeof PROJECT - 1, 0, &crowded)) return 1;
+    if (zangjulf_open(&line, (const uint8_t *)PROJECT, sizeof PROJECT - 1, 0, &over_limit)) return 1;
     size_t open = given();
     if (zangjulf_seat_open(&line, 0, &seat)) return 1;
     printf("a line of one slave: %zu bytes; a seat: %zu more\n", open - none, given() - open);

@@ -1,7 +1,7 @@
 #!/bin/sh
 # Counts the instructions of each call of a cycle in drawn states of the largest line, call by call, by callgrind: the median and
-# the worst of each; and tells what memory a line of one slave takes. The library is built first, unless LIBRARY is a folder that
-# has it. STATES is how many states, 10,000 where it isn't set.
+# the worst of each; and prints what memory a line of one slave takes. The library is built first, unless LIBRARY is a folder
+# that has it. STATES is how many states, 10,000 where it isn't set.
 set -eu
 here=$(cd "$(dirname "$0")" && pwd)
 top=$(cd "$here/../.." && pwd)

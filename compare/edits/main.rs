@@ -1,4 +1,4 @@
-//! Compares what the program prints behind edits with a plain model that works each line out from nothing: lists are
+//! Compares what the program prints after edits with a plain model that works each line out from nothing: lists are
 //! packed from their front, boundaries and blocks are compared list by list.
 
 #[allow(dead_code)]
@@ -55,7 +55,7 @@ struct Met {
     refused: Counts,
     /// Faults of documents by their number.
     faults: Counts,
-    /// Edits that recut a span, those of which a datagram with areas stayed settled, and those that moved a block.
+    /// Edits that recut a span, that left a datagram with areas settled, and that moved a block.
     recut: usize,
     moved: usize,
     others: usize,
@@ -96,11 +96,11 @@ fn script_of(case: &Case, met: &mut Met) -> Script {
             }
         };
         let answer = line.edited(&edit);
-        let told = match &answer {
+        let answered = match &answer {
             Ok((new, recut, moved)) => Ok((new.state.epoch, *recut, *moved)),
             Err(refusal) => Err(*refusal),
         };
-        drawn.add(&mut script, edit_line(told));
+        drawn.add(&mut script, edit_line(answered));
         match answer {
             Ok((new, recut, moved)) => {
                 met.accepted[kind_of(&edit)] += 1;

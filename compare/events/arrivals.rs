@@ -9,7 +9,7 @@ use crate::shared::line::Line;
 /// The kinds of arrivals that are drawn.
 #[derive(Clone, Copy, PartialEq)]
 pub enum Kind {
-    /// A frame as every slave served it, while it is awaited, and behind its time.
+    /// A frame as every slave served it, while it is awaited, and after its time.
     True,
     Late,
     /// With another working counter in some datagrams.
@@ -65,14 +65,14 @@ pub fn returned(draws: &mut Draws, line: &Line, sending: &Sending) -> Arrival {
     Arrival { serial: sending.serial, datagrams }
 }
 
-/// The bytes of a frame that comes back; what stands behind its datagrams may be anything.
+/// The bytes of a frame that comes back; what follows its datagrams may be anything.
 pub fn bytes_of(draws: &mut Draws, arrival: &Arrival) -> Vec<u8> {
     let mut bytes = frame_text(arrival.serial, &arrival.datagrams);
     let size: usize = arrival.datagrams.iter().map(|one| 12 + one.data.len()).sum();
     if draws.is(30) {
         bytes.truncate(16 + size);
-        let behind = if draws.is(5) { draws.below(700) } else { draws.below(6) };
-        bytes.extend((0..behind).map(|_| draws.below(256) as u8));
+        let padding = if draws.is(5) { draws.below(700) } else { draws.below(6) };
+        bytes.extend((0..padding).map(|_| draws.below(256) as u8));
     }
     bytes
 }
@@ -105,11 +105,11 @@ fn rearranged(draws: &mut Draws, mut arrival: Arrival) -> Arrival {
 }
 
 /// Of another master: with a serial that none of the sendings has, with the index of one, or with other commands; or bytes.
-fn foreign(draws: &mut Draws, past: &[Entry], arrival: Arrival) -> Vec<u8> {
+fn foreign(draws: &mut Draws, history: &[Entry], arrival: Arrival) -> Vec<u8> {
     let Arrival { serial, mut datagrams } = arrival;
     match draws.below(6) {
         0 => frame_text(0xff_ffff_ffff, &datagrams),
-        1 => frame_text(next_serial(past) + 256 * draws.between(1, 9) as u64 + serial % 256, &datagrams),
+        1 => frame_text(next_serial(history) + 256 * draws.between(1, 9) as u64 + serial % 256, &datagrams),
         2 => frame_text(serial ^ 256, &datagrams),
         3 => {
             for datagram in &mut datagrams {
@@ -130,36 +130,36 @@ fn foreign(draws: &mut Draws, past: &[Entry], arrival: Arrival) -> Vec<u8> {
 }
 
 /// A sending as the next one would be.
-fn next_sending(draws: &mut Draws, past: &[Entry]) -> Option<Sending> {
-    match sent_write(past) {
+fn next_sending(draws: &mut Draws, history: &[Entry]) -> Option<Sending> {
+    match sent_write(history) {
         Ok(sending) => Some(sending),
-        Err(_) => sent_tasks(past, &[draws.below(3) as u8]).ok()?.into_iter().next(),
+        Err(_) => sent_tasks(history, &[draws.below(3) as u8]).ok()?.into_iter().next(),
     }
 }
 
 /// Whether a frame that comes back now is the answer to a sending.
-fn is_awaited(past: &[Entry], sending: &Sending) -> bool {
+fn is_awaited(history: &[Entry], sending: &Sending) -> bool {
     let datagrams = sending.datagrams.iter().map(|(_, datagram, _)| datagram.clone());
-    answer(past, &Arrival { serial: sending.serial, datagrams: datagrams.collect() }) != Answer::Stale
+    answer(history, &Arrival { serial: sending.serial, datagrams: datagrams.collect() }) != Answer::Stale
 }
 
 /// A frame that was sent, mostly one that is awaited, as it comes back, and whether it is awaited.
-fn one_sent(draws: &mut Draws, past: &[Entry]) -> Option<(Arrival, bool)> {
-    let sendings = past.iter().enumerate().filter_map(|(place, entry)| match entry {
+fn one_sent(draws: &mut Draws, history: &[Entry]) -> Option<(Arrival, bool)> {
+    let sendings = history.iter().enumerate().filter_map(|(place, entry)| match entry {
         Entry::Sent(sending) => Some((place, sending)),
         _ => None,
     });
     let sent: Vec<(usize, &Sending)> = sendings.collect();
-    let newest = &sent[sent.len().saturating_sub(12)..];
-    let awaited: Vec<&(usize, &Sending)> = newest.iter().filter(|(_, sending)| is_awaited(past, sending)).collect();
+    let recent = &sent[sent.len().saturating_sub(12)..];
+    let awaited: Vec<&(usize, &Sending)> = recent.iter().filter(|(_, sending)| is_awaited(history, sending)).collect();
     let (place, sending) = match draws.below(10) {
         0..=4 if !awaited.is_empty() => **awaited.last()?,
         5..=7 if !awaited.is_empty() => **draws.one_of(&awaited),
-        0..=8 if !newest.is_empty() => *draws.one_of(newest),
+        0..=8 if !recent.is_empty() => *draws.one_of(recent),
         _ if !sent.is_empty() => *draws.one_of(&sent),
         _ => return None,
     };
-    Some((returned(draws, line(&past[..place]), sending), is_awaited(past, sending)))
+    Some((returned(draws, line(&history[..place]), sending), is_awaited(history, sending)))
 }
 
 /// One byte of a frame changed: mostly in front, or one of the upper bits of a length field.
@@ -178,8 +178,8 @@ fn with_changed_byte(draws: &mut Draws, mut bytes: Vec<u8>, datagrams: &[Datagra
 }
 
 /// Bytes that arrive; `before` are those that arrived up to here. Nothing, where nothing was sent that could come back.
-pub fn drawn(draws: &mut Draws, past: &[Entry], before: &[Vec<u8>]) -> Option<(Kind, Vec<u8>)> {
-    let (arrival, is_awaited) = one_sent(draws, past)?;
+pub fn drawn(draws: &mut Draws, history: &[Entry], before: &[Vec<u8>]) -> Option<(Kind, Vec<u8>)> {
+    let (arrival, is_awaited) = one_sent(draws, history)?;
     Some(match draws.below(100) {
         0..=39 => (if is_awaited { Kind::True } else { Kind::Late }, bytes_of(draws, &arrival)),
         40..=53 => {
@@ -199,10 +199,10 @@ pub fn drawn(draws: &mut Draws, past: &[Entry], before: &[Vec<u8>]) -> Option<(K
             let back = if draws.is(60) { draws.below(before.len().min(6)) } else { draws.below(before.len()) };
             (Kind::Repeated, before[before.len() - 1 - back].clone())
         }
-        84..=89 => (Kind::Foreign, foreign(draws, past, arrival)),
+        84..=89 => (Kind::Foreign, foreign(draws, history, arrival)),
         90..=93 => {
-            let next = next_sending(draws, past)?;
-            let arrival = returned(draws, line(past), &next);
+            let next = next_sending(draws, history)?;
+            let arrival = returned(draws, line(history), &next);
             (Kind::Early, bytes_of(draws, &arrival))
         }
         _ => {

@@ -1,4 +1,4 @@
-//! A script while it is drawn: what comes next is drawn along the model, which tells what must be printed.
+//! A script while it is drawn: what comes next is drawn along the model, which says what must be printed.
 
 use super::arrivals::{KINDS, Kind, bytes_of, drawn, returned};
 use super::machines::MEMORY;
@@ -37,7 +37,7 @@ fn words_of(tasks: &[u8]) -> Vec<u32> {
 
 impl Run<'_> {
     /// What a reply prints, its refusal counted.
-    fn told(&mut self, reply: Reply) -> Vec<String> {
+    fn printed(&mut self, reply: Reply) -> Vec<String> {
         reply.unwrap_or_else(|refusal| self.met.refuse(refusal))
     }
 
@@ -48,7 +48,7 @@ impl Run<'_> {
             self.met.declared += 1;
             self.names.add(group);
         }
-        self.told(reply).remove(0)
+        self.printed(reply).remove(0)
     }
 
     pub fn edit(&mut self, drawn: &Drawn) {
@@ -138,7 +138,7 @@ impl Run<'_> {
     }
 
     fn drawn_arrival(&mut self) {
-        if let Some((kind, bytes)) = drawn(&mut self.draws, &self.model.past, &self.arrived) {
+        if let Some((kind, bytes)) = drawn(&mut self.draws, &self.model.history, &self.arrived) {
             self.arrive(place_of(kind), bytes);
         }
     }
@@ -147,7 +147,7 @@ impl Run<'_> {
         self.met.reads += 1;
         self.events += 1;
         let reply = self.model.read(task);
-        let lines = self.told(reply);
+        let lines = self.printed(reply);
         let empty = lines.iter().filter(|line| line.ends_with(" none")).count();
         self.met.empty_slots += empty;
         self.met.full_slots += lines.len() - 1 - empty;
@@ -162,7 +162,7 @@ impl Run<'_> {
     /// Owed blocks are written, and most writes answered at once.
     fn program(&mut self) {
         for _ in 0..60 {
-            if owed(&self.model.past).is_empty() || !self.draws.is(98) {
+            if owed(&self.model.history).is_empty() || !self.draws.is(98) {
                 return;
             }
             for sending in self.write() {
@@ -185,10 +185,10 @@ impl Run<'_> {
         self.drawn_read();
     }
 
-    /// A frame comes before it is sent, and the same bytes again behind that.
+    /// A frame comes before it is sent, and the same bytes again after that.
     fn foretell(&mut self) {
-        let (past, task) = (&self.model.past, self.draws.below(self.case.shape.tasks) as u8);
-        let sending = sent_write(past).ok().or_else(|| sent_tasks(past, &[task]).ok()?.into_iter().next());
+        let (history, task) = (&self.model.history, self.draws.below(self.case.shape.tasks) as u8);
+        let sending = sent_write(history).ok().or_else(|| sent_tasks(history, &[task]).ok()?.into_iter().next());
         let Some(sending) = sending else {
             return;
         };
@@ -219,7 +219,7 @@ impl Run<'_> {
         self.script.add("take", &[], vec![format!("taken {} refused {}", taken.accepted, taken.refused)]);
     }
 
-    /// Posts of a task, at times more than can wait; most are taken at once, some behind an edit.
+    /// Posts of a task, at times more than can wait; most are taken at once, some after an edit.
     fn post_some(&mut self) {
         let task = drawn_task(&mut self.draws, self.model.line(), true);
         let count = if self.draws.is(10) { WAITING + 1 } else { self.draws.between(1, 2) };
@@ -302,7 +302,7 @@ impl Run<'_> {
         let (station, at, count) = self.drawn_range(most);
         let bytes: Vec<u8> = (0..count).map(|_| self.draws.below(256) as u8).collect();
         let reply = self.model.poke(station, at, &bytes);
-        let lines = self.told(reply);
+        let lines = self.printed(reply);
         self.script.add_range("poke", &[station.into(), at as u32], &bytes, lines);
     }
 
@@ -311,7 +311,7 @@ impl Run<'_> {
         let most = if self.draws.is(10) { 1486 } else { 20 };
         let (station, at, count) = self.drawn_range(most);
         let reply = self.model.peek(station, at, count);
-        let lines = self.told(reply);
+        let lines = self.printed(reply);
         self.script.add("peek", &[station.into(), at as u32, count as u32], lines);
     }
 
@@ -345,7 +345,7 @@ impl Run<'_> {
             20..=25 => return self.view(),
             _ => {}
         }
-        let is_owed = !owed(&self.model.past).is_empty();
+        let is_owed = !owed(&self.model.history).is_empty();
         match self.draws.below(100) {
             0..=2 => self.drawn_edit(),
             3..=7 if is_owed => self.program(),

@@ -37,7 +37,7 @@ fn set_bit(bytes: &mut [u8], at: usize, value: bool) {
 
 impl Machine {
     /// No frame has met it: zeros but for its alias.
-    fn fresh(alias: u16) -> Machine {
+    fn started(alias: u16) -> Machine {
         let mut memory = vec![0; MEMORY];
         memory[ALIAS..ALIAS + 2].copy_from_slice(&alias.to_le_bytes());
         Machine { memory }
@@ -56,9 +56,9 @@ impl Machine {
             let start = u64::from(u32::from_le_bytes([block[0], block[1], block[2], block[3]]));
             let length = u64::from(u16::from_le_bytes([block[4], block[5]]));
             let physical = usize::from(u16::from_le_bytes([block[8], block[9]]));
-            let (first, behind) = (8 * start + low(6), (8 * (start + length) + low(7) + 1).saturating_sub(8));
+            let (first, end) = (8 * start + low(6), (8 * (start + length) + low(7) + 1).saturating_sub(8));
             let memory = 8 * physical + low(10) as usize;
-            let pairs = (first.max(bits.start)..behind.min(bits.end)).map(|one| (one, memory + (one - first) as usize));
+            let pairs = (first.max(bits.start)..end.min(bits.end)).map(|one| (one, memory + (one - first) as usize));
             Fmmu { reads: block[11] & 1 == 1, writes: block[11] & 2 == 2, pairs: pairs.filter(|pair| pair.1 < 8 * MEMORY).collect() }
         };
         active.map(fmmu).collect()
@@ -128,14 +128,14 @@ impl Machine {
 pub struct Machines(pub Vec<(u16, Machine)>);
 
 impl Machines {
-    /// Those of a line behind an edit: slaves that were there before keep theirs, the others have fresh ones.
+    /// The machines of a line after an edit: slaves that were there before keep theirs, the others have new ones.
     pub fn of(line: &Line, before: &Machines) -> Machines {
         let mut machines = Vec::new();
         for declared in line.state.declared.iter().filter(|one| one.is_present) {
             for (place, slave) in declared.group.slaves.iter().enumerate() {
                 let own = before.0.iter().find(|(station, _)| *station == slave.station).map(|(_, own)| own.clone());
                 let alias = if place == 0 { declared.group.alias } else { 0 };
-                machines.push((slave.station, own.unwrap_or_else(|| Machine::fresh(alias))));
+                machines.push((slave.station, own.unwrap_or_else(|| Machine::started(alias))));
             }
         }
         Machines(machines)

@@ -70,7 +70,7 @@ fn script_of(case: &Case, met: &mut Met) -> Script {
 fn compare_all(program: &[String], seed: Option<u64>) -> Result<(), String> {
     let mut met = Met::default();
     let compared = compare_cases(program, &CASES, seed, |case| script_of(case, &mut met))?;
-    met.tell();
+    met.print();
     println!("{} bytes read, {} lines compared", compared.bytes, compared.lines);
     if seed.is_none() && !met.is_enough() { Err("the draws meet too little".to_string()) } else { Ok(()) }
 }

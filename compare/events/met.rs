@@ -128,7 +128,7 @@ impl Met {
             && [self.missed_along, self.wrong_along].iter().all(|count| *count >= 20)
     }
 
-    pub fn tell(&self) {
+    pub fn print(&self) {
         let Met { edits, writes, sends, reads, inputs, wrong, passed, done, missed, stale, .. } = self;
         println!(
             "{} events: {edits} edits, {writes} writes, {sends} sends, {} arrivals, {reads} reads",

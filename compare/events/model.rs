@@ -16,11 +16,11 @@ use std::rc::Rc;
 pub type Reply = Result<Vec<String>, Refusal>;
 
 pub struct Model {
-    pub past: Vec<Entry>,
+    pub history: Vec<Entry>,
     /// What tasks see is what stood in the record at the last publishing: so many entries.
     seen: usize,
     publishings: usize,
-    /// The publishing with this number, counted from 1, is refused: what was new shows behind the next turn.
+    /// The publishing with this number, counted from 1, is refused: what was new shows after the next turn.
     pub unpublished: Option<usize>,
     /// The posts of each task that weren't taken yet, the oldest first.
     waiting: [Vec<Post>; TASKS as usize],
@@ -59,22 +59,22 @@ pub fn sent_lines(sendings: &[Sending]) -> Vec<String> {
 impl Model {
     pub fn of(opened: Line) -> Model {
         let machines = Machines::of(&opened, &Machines(Vec::new()));
-        let past = vec![Entry::Opened(Rc::new(opened))];
-        Model { past, seen: 1, publishings: 0, unpublished: None, waiting: Default::default(), machines }
+        let history = vec![Entry::Opened(Rc::new(opened))];
+        Model { history, seen: 1, publishings: 0, unpublished: None, waiting: Default::default(), machines }
     }
 
-    /// Behind each command that changes the record.
+    /// After each command that changes the record.
     fn publish(&mut self) {
         self.publishings += 1;
         if self.unpublished != Some(self.publishings) {
-            self.seen = self.past.len();
+            self.seen = self.history.len();
         }
     }
 
-    /// Behind each turn, before which there were so many publishings: one that published nothing publishes what a refused
+    /// After each turn that began with so many publishings: a turn that published nothing publishes what a refused
     /// publishing left.
     pub fn catch_up(&mut self, publishings: usize) {
-        if self.publishings == publishings && self.seen < self.past.len() {
+        if self.publishings == publishings && self.seen < self.history.len() {
             self.publish();
         }
     }
@@ -91,7 +91,7 @@ impl Model {
 
     /// The present line.
     pub fn line(&self) -> &Line {
-        line(&self.past)
+        line(&self.history)
     }
 
     pub fn layout(&self) -> Vec<String> {
@@ -108,28 +108,28 @@ impl Model {
 
     /// The frame of a datagram as it would be sent next.
     pub fn show(&self, task: u8, number: u8) -> String {
-        let data = |_: &_| outputs(&self.past, task, number.into());
-        show_line(&self.line().layout, next_serial(&self.past), task, number, data)
+        let data = |_: &_| outputs(&self.history, task, number.into());
+        show_line(&self.line().layout, next_serial(&self.history), task, number, data)
     }
 
     pub fn edit(&mut self, edit: &Edit) -> Reply {
         let (new, recut, moved) = self.line().edited(edit)?;
-        let told = edit_line(Ok((new.state.epoch, recut, moved)));
+        let line_printed = edit_line(Ok((new.state.epoch, recut, moved)));
         self.machines = Machines::of(&new, &self.machines);
-        self.past.push(Entry::Edited(Rc::new(new)));
+        self.history.push(Entry::Edited(Rc::new(new)));
         self.publish();
-        Ok(vec![told])
+        Ok(vec![line_printed])
     }
 
     fn send_write(&mut self) -> Result<Sending, Refusal> {
-        let sending = sent_write(&self.past)?;
-        self.past.push(Entry::Sent(sending.clone()));
+        let sending = sent_write(&self.history)?;
+        self.history.push(Entry::Sent(sending.clone()));
         Ok(sending)
     }
 
     fn send_tasks(&mut self, tasks: &[u8]) -> Result<Vec<Sending>, Refusal> {
-        let sendings = sent_tasks(&self.past, tasks)?;
-        self.past.extend(sendings.iter().cloned().map(Entry::Sent));
+        let sendings = sent_tasks(&self.history, tasks)?;
+        self.history.extend(sendings.iter().cloned().map(Entry::Sent));
         Ok(sendings)
     }
 
@@ -147,8 +147,8 @@ impl Model {
     }
 
     fn take_in(&mut self, arrival: Arrival) -> Answer {
-        let answer = answer(&self.past, &arrival);
-        self.past.push(Entry::Came { arrival, answer: answer.clone() });
+        let answer = answer(&self.history, &arrival);
+        self.history.push(Entry::Came { arrival, answer: answer.clone() });
         answer
     }
 
@@ -165,7 +165,7 @@ impl Model {
         }
         let Line { state, layout, .. } = self.line();
         let slot_line = |number| {
-            let data = slot(&self.past, task, number);
+            let data = slot(&self.history, task, number);
             format!("slot {number} {}", data.map_or("none".to_string(), hex))
         };
         let datagrams = layout.tasks[usize::from(task)].datagrams.len();
@@ -179,18 +179,18 @@ impl Model {
 
     pub fn post(&mut self, task: u8, settings: &[Setting]) -> Reply {
         let waiting = if task < TASKS { self.waiting(task) } else { 0 };
-        let post = post(line(&self.past[..self.seen]), task, settings, waiting)?;
+        let post = post(line(&self.history[..self.seen]), task, settings, waiting)?;
         self.waiting[usize::from(task)].push(post);
         Ok(vec!["posted".to_string()])
     }
 
-    /// All posts that wait are taken, those of task 0 first.
+    /// All posts that wait are taken, task 0's first.
     pub fn take(&mut self) -> Taken {
         let mut taken = Taken { accepted: 0, refused: 0 };
         for task in 0..TASKS {
             for post in std::mem::take(&mut self.waiting[usize::from(task)]) {
                 if is_accepted(self.line(), task, &post) {
-                    self.past.push(Entry::Posted { task, bytes: post.bytes });
+                    self.history.push(Entry::Posted { task, bytes: post.bytes });
                     taken.accepted += 1;
                 } else {
                     taken.refused += 1;
@@ -202,7 +202,7 @@ impl Model {
     }
 
     pub fn view(&self, task: u8, variable: u32) -> Reply {
-        let seen = &self.past[..self.seen];
+        let seen = &self.history[..self.seen];
         let value = viewed(seen, task, variable)?;
         Ok(vec![format!("epoch {} var {variable} value {value}", line(seen).state.epoch)])
     }
@@ -225,7 +225,7 @@ impl Model {
             done += 1;
         }
         self.publish();
-        (done, owed(&self.past).len())
+        (done, owed(&self.history).len())
     }
 
     /// Tasks are sent along the line, and all frames come back: the answer to each.

@@ -111,7 +111,7 @@ fn print(reply: Reply) {
     }
 }
 
-/// Answers the commands of lines, the first of which has this number: the exit status.
+/// Answers the commands of lines; the first line has this number: the exit status.
 fn answer_lines_from(model: &mut Model, lines: &[&str], first: usize) -> u8 {
     let mut at = 0;
     while at < lines.len() {

@@ -5,9 +5,9 @@ use crate::shared::draws::Draws;
 use crate::shared::line::Line;
 use crate::shared::packing::{Place, TASKS};
 
-/// The variables of the line that stand so, with their places.
-fn variables(line: &Line, stands: impl Fn(&Place) -> bool) -> Vec<(u32, &Place)> {
-    line.variables().iter().filter(|(_, place)| stands(place)).map(|(variable, place)| (*variable, place)).collect()
+/// The variables of the line with such a place, and their places.
+fn variables(line: &Line, is_chosen: impl Fn(&Place) -> bool) -> Vec<(u32, &Place)> {
+    line.variables().iter().filter(|(_, place)| is_chosen(place)).map(|(variable, place)| (*variable, place)).collect()
 }
 
 /// A task, most often one with areas of the direction.
@@ -89,20 +89,20 @@ pub fn drawn_view(draws: &mut Draws, line: &Line, names: &[u32]) -> (u8, u32) {
     (task, variable)
 }
 
-/// The words of a task's command that is none: `words` are those of a post of at least one value.
+/// The words of a task's command that is none, made of `words`, a post of at least one value.
 pub fn malformed(draws: &mut Draws, words: Vec<String>) -> Vec<String> {
     let mut words = words;
     let last = words.len() - 1;
-    let (front, behind) = words[last].split_once('=').map(|(one, two)| (one.to_string(), two.to_string())).unwrap_or_default();
+    let (front, after) = words[last].split_once('=').map(|(one, two)| (one.to_string(), two.to_string())).unwrap_or_default();
     let spoilt = match draws.below(8) {
         0 => format!("{front}="),
-        1 => format!("={behind}"),
+        1 => format!("={after}"),
         2 => front,
-        3 => format!("{front}=={behind}"),
-        4 => format!("{front}=-{behind}"),
-        5 => format!("{front}={behind}="),
+        3 => format!("{front}=={after}"),
+        4 => format!("{front}=-{after}"),
+        5 => format!("{front}={after}="),
         6 => format!("{front}=18446744073709551616"),
-        _ => format!("4294967296={behind}"),
+        _ => format!("4294967296={after}"),
     };
     match draws.below(10) {
         0 => vec!["take".to_string(), "0".to_string()],

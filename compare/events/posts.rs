@@ -22,7 +22,7 @@ fn bit_of(bytes: &[u8], at: usize) -> u8 {
     bytes[at / 8] >> (at % 8) & 1
 }
 
-/// The number that stands in some bits, the least significant one first.
+/// The number in some bits, the least significant one first.
 fn number_at(bytes: &[u8], at: usize, bits: u8) -> u64 {
     (0..usize::from(bits)).map(|place| u64::from(bit_of(bytes, at + place)) << place).sum()
 }
@@ -80,26 +80,26 @@ pub fn is_accepted(line: &Line, task: u8, post: &Post) -> bool {
 }
 
 /// Accepted posts and edits, the newest first, each with the line in front of it.
-fn news(past: &[Entry]) -> Vec<(&Line, &Entry)> {
-    let mut news = Vec::new();
+fn posts_and_edits(history: &[Entry]) -> Vec<(&Line, &Entry)> {
+    let mut posts_and_edits = Vec::new();
     let mut present = None;
-    for entry in past {
+    for entry in history {
         match (entry, present) {
-            (Entry::Posted { .. } | Entry::Edited(_), Some(line)) => news.push((line, entry)),
+            (Entry::Posted { .. } | Entry::Edited(_), Some(line)) => posts_and_edits.push((line, entry)),
             _ => {}
         }
         if let Entry::Opened(line) | Entry::Edited(line) = entry {
             present = Some(&**line);
         }
     }
-    news.reverse();
-    news
+    posts_and_edits.reverse();
+    posts_and_edits
 }
 
-/// The value of an output variable of the line: that of the last accepted post of the task that it then had, as far back as
-/// it had a place all along; else 0.
-fn output(news: &[(&Line, &Entry)], variable: u32) -> u64 {
-    for (line, entry) in news {
+/// The value of an output variable of the line, from the last accepted post of the task that it then had, as far back as it
+/// had a place all along; else 0.
+fn output(posts_and_edits: &[(&Line, &Entry)], variable: u32) -> u64 {
+    for (line, entry) in posts_and_edits {
         let Some(place) = line.variables().get(&variable) else {
             return 0;
         };
@@ -113,25 +113,25 @@ fn output(news: &[(&Line, &Entry)], variable: u32) -> u64 {
     0
 }
 
-/// The data in which a task's datagram is sent: the values of its output variables where they stand, and zeros.
-pub fn outputs(past: &[Entry], task: u8, number: usize) -> Vec<u8> {
-    let (line, news) = (line(past), news(past));
+/// The data in which a task's datagram is sent: the values of its output variables in their places, and zeros.
+pub fn outputs(history: &[Entry], task: u8, number: usize) -> Vec<u8> {
+    let (line, posts_and_edits) = (line(history), posts_and_edits(history));
     let length = line.layout.datagram(task, number).map_or(0, |datagram| datagram.length);
     let mut data = vec![0; length as usize];
     for (variable, place) in line.variables() {
         if place.is_out && place.task == task && place.datagram == number {
-            put_number(&mut data, place.bit as usize, place.bits, output(&news, *variable));
+            put_number(&mut data, place.bit as usize, place.bits, output(&posts_and_edits, *variable));
         }
     }
     data
 }
 
 /// The value of an input variable as a task views it.
-pub fn viewed(past: &[Entry], task: u8, variable: u32) -> Result<u64, Refusal> {
+pub fn viewed(history: &[Entry], task: u8, variable: u32) -> Result<u64, Refusal> {
     if task >= TASKS {
         return Err(Refusal::of(8));
     }
-    let Some(place) = line(past).variables().get(&variable) else {
+    let Some(place) = line(history).variables().get(&variable) else {
         return Err(Refusal::named(1, "NoSuchVariable"));
     };
     if place.is_out {
@@ -140,6 +140,6 @@ pub fn viewed(past: &[Entry], task: u8, variable: u32) -> Result<u64, Refusal> {
     if place.task != task {
         return Err(Refusal::named(3, "OtherTask"));
     }
-    let data = slot(past, task, place.datagram).ok_or(Refusal::named(4, "NotAnswered"))?;
+    let data = slot(history, task, place.datagram).ok_or(Refusal::named(4, "NotAnswered"))?;
     Ok(number_at(data, place.bit as usize, place.bits))
 }

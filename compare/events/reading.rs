@@ -31,19 +31,19 @@ fn cut(mut bytes: &[u8]) -> Option<Vec<&[u8]>> {
         if size < 1 || size > 1486 || field & 0x3800 != 0 || bytes.len() < 12 + size {
             return None;
         }
-        let (own, behind) = bytes.split_at(12 + size);
+        let (own, after) = bytes.split_at(12 + size);
         datagrams.push(own);
-        if behind.is_empty() {
+        if after.is_empty() {
             return Some(datagrams);
         }
         if field & 0x8000 == 0 {
             return None;
         }
-        bytes = behind;
+        bytes = after;
     }
 }
 
-/// What stands in a frame, or the number of the first refusal whose condition holds.
+/// What is in a frame, or the number of the first refusal whose condition holds.
 pub fn read(frame: &[u8]) -> Result<Arrival, usize> {
     if frame.len() < 28 {
         return Err(20);

@@ -11,7 +11,7 @@ use crate::shared::line::Line;
 use crate::shared::packing::TASKS;
 use std::rc::Rc;
 
-/// What a datagram carries: that of a task with a number, or the block of a slave at a register.
+/// What a datagram carries: a task's data, by its number, or the block of a slave at a register.
 #[derive(Clone, Copy, PartialEq)]
 pub enum Item {
     Process { task: u8, number: usize },
@@ -41,7 +41,7 @@ pub enum Answer {
 }
 
 pub enum Entry {
-    /// The opening, and an accepted edit, each with the line behind it.
+    /// The opening, and an accepted edit, each with the line after it.
     Opened(Rc<Line>),
     Edited(Rc<Line>),
     Sent(Sending),
@@ -58,24 +58,24 @@ pub enum Entry {
 }
 
 /// The present line.
-pub fn line(past: &[Entry]) -> &Line {
-    let lines = past.iter().rev().filter_map(|entry| match entry {
+pub fn line(history: &[Entry]) -> &Line {
+    let lines = history.iter().rev().filter_map(|entry| match entry {
         Entry::Opened(line) | Entry::Edited(line) => Some(line),
         _ => None,
     });
     lines.into_iter().next().expect("an opening")
 }
 
-fn sendings(past: &[Entry]) -> impl Iterator<Item = &Sending> {
-    past.iter().filter_map(|entry| match entry {
+fn sendings(history: &[Entry]) -> impl Iterator<Item = &Sending> {
+    history.iter().filter_map(|entry| match entry {
         Entry::Sent(sending) => Some(sending),
         _ => None,
     })
 }
 
 /// The serial of the next sending: how many there were.
-pub fn next_serial(past: &[Entry]) -> u64 {
-    sendings(past).count() as u64
+pub fn next_serial(history: &[Entry]) -> u64 {
+    sendings(history).count() as u64
 }
 
 impl Sending {
@@ -96,15 +96,14 @@ impl Sending {
     }
 }
 
-/// What an arrival is behind a list of entries. It answers the sending that it fits where since that no edit was accepted
-/// and no arrival that fits came. A datagram of it is stale where it was sent again since; else its working counter
-/// decides.
-pub fn answer(past: &[Entry], arrival: &Arrival) -> Answer {
+/// What an arrival is after a list of entries. It answers the sending that it fits, unless an edit was accepted or a
+/// fitting arrival came since. A datagram of it is stale where it was sent again since; else its working counter decides.
+pub fn answer(history: &[Entry], arrival: &Arrival) -> Answer {
     let fitting = |entry: &Entry| matches!(entry, Entry::Sent(sending) if sending.fits(arrival));
-    let Some(place) = past.iter().position(fitting) else {
+    let Some(place) = history.iter().position(fitting) else {
         return Answer::Stale;
     };
-    let (Entry::Sent(sending), since) = (&past[place], &past[place + 1..]) else {
+    let (Entry::Sent(sending), since) = (&history[place], &history[place + 1..]) else {
         return Answer::Stale;
     };
     let ends = |entry: &Entry| match entry {
@@ -134,8 +133,8 @@ pub fn answer(past: &[Entry], arrival: &Arrival) -> Answer {
 }
 
 /// The data of a datagram's last good answer since the last accepted edit.
-pub fn slot(past: &[Entry], task: u8, number: usize) -> Option<&[u8]> {
-    let in_epoch = past.iter().rev().take_while(|entry| !matches!(entry, Entry::Edited(_)));
+pub fn slot(history: &[Entry], task: u8, number: usize) -> Option<&[u8]> {
+    let in_epoch = history.iter().rev().take_while(|entry| !matches!(entry, Entry::Edited(_)));
     let good = in_epoch.filter_map(|entry| match entry {
         Entry::Came { arrival, answer: Answer::Answered { outcomes, .. } } => {
             let place = outcomes.iter().position(|one| *one == (Item::Process { task, number }, Outcome::Good))?;
@@ -156,16 +155,16 @@ fn is_confirmed(since: &[Entry], serial: u64) -> bool {
     })
 }
 
-/// The bytes that a slave of the line is known to have in a block: those of the last write since it was connected, where
-/// that had a good answer.
-fn known(past: &[Entry], station: u16, register: u16) -> Option<&[u8]> {
-    for (place, entry) in past.iter().enumerate().rev() {
+/// The bytes that a slave of the line is known to have in a block: what was written last since it was connected, where
+/// that write had a good answer.
+fn known(history: &[Entry], station: u16, register: u16) -> Option<&[u8]> {
+    for (place, entry) in history.iter().enumerate().rev() {
         match entry {
             Entry::Sent(sending) if sending.carries(Item::Block { station, register }) => {
                 let (_, datagram, _) = &sending.datagrams[0];
-                return is_confirmed(&past[place..], sending.serial).then_some(&datagram.data[..]);
+                return is_confirmed(&history[place..], sending.serial).then_some(&datagram.data[..]);
             }
-            Entry::Edited(_) if !line(&past[..place]).has(station) => return None,
+            Entry::Edited(_) if !line(&history[..place]).has(station) => return None,
             _ => {}
         }
     }
@@ -173,22 +172,22 @@ fn known(past: &[Entry], station: u16, register: u16) -> Option<&[u8]> {
 }
 
 /// The blocks of the line that their slaves aren't known to have, each with its slave's station address.
-pub fn owed(past: &[Entry]) -> Vec<&(u16, Block)> {
-    let is_owed = |(station, block): &&(u16, Block)| known(past, *station, block.register) != Some(&block.bytes);
-    line(past).blocks.iter().filter(is_owed).collect()
+pub fn owed(history: &[Entry]) -> Vec<&(u16, Block)> {
+    let is_owed = |(station, block): &&(u16, Block)| known(history, *station, block.register) != Some(&block.bytes);
+    line(history).blocks.iter().filter(is_owed).collect()
 }
 
 /// The frames in which tasks are sent next: a datagram joins the frame before it where the 2 bytes of the EtherCAT header
 /// and 12 bytes and the data of each datagram are at most the 1,500 bytes of an Ethernet frame.
-fn frames_of(past: &[Entry], tasks: &[u8]) -> Vec<Sending> {
-    let layout = &line(past).layout;
+fn frames_of(history: &[Entry], tasks: &[u8]) -> Vec<Sending> {
+    let layout = &line(history).layout;
     let mut frames: Vec<Sending> = Vec::new();
     for task in tasks {
         for (number, own) in layout.tasks[usize::from(*task)].datagrams.iter().enumerate() {
-            let datagram = Datagram::sent(LRW, own.address, outputs(past, *task, number));
+            let datagram = Datagram::sent(LRW, own.address, outputs(history, *task, number));
             let bytes = |frame: &Sending| frame.datagrams.iter().map(|(_, one, _)| 12 + one.data.len()).sum::<usize>();
             if frames.last().is_none_or(|last| 2 + bytes(last) + 12 + datagram.data.len() > 1500) {
-                let serial = next_serial(past) + frames.len() as u64;
+                let serial = next_serial(history) + frames.len() as u64;
                 frames.push(Sending { serial, datagrams: Vec::new() });
             }
             let last = frames.last_mut().expect("a frame");
@@ -199,24 +198,24 @@ fn frames_of(past: &[Entry], tasks: &[u8]) -> Vec<Sending> {
 }
 
 /// What sending some tasks comes to: nothing is sent while a block is owed.
-pub fn sent_tasks(past: &[Entry], tasks: &[u8]) -> Result<Vec<Sending>, Refusal> {
+pub fn sent_tasks(history: &[Entry], tasks: &[u8]) -> Result<Vec<Sending>, Refusal> {
     if tasks.iter().any(|task| *task >= TASKS) {
         return Err(Refusal::of(8));
     }
-    match owed(past).len() {
-        0 => Ok(frames_of(past, tasks)),
+    match owed(history).len() {
+        0 => Ok(frames_of(history, tasks)),
         count => Err(Refusal::carrying(17, count)),
     }
 }
 
 /// The write of the first owed block. A slave that takes it raises the working counter by 1 (ETG.1000.4, 5.4).
-pub fn sent_write(past: &[Entry]) -> Result<Sending, Refusal> {
-    let owed = owed(past);
+pub fn sent_write(history: &[Entry]) -> Result<Sending, Refusal> {
+    let owed = owed(history);
     let Some((station, block)) = owed.first() else {
         return Err(Refusal::of(18));
     };
     let (station, register) = (*station, block.register);
     let address = u32::from(station) | u32::from(register) << 16;
     let datagram = Datagram::sent(FPWR, address, block.bytes.clone());
-    Ok(Sending { serial: next_serial(past), datagrams: vec![(Item::Block { station, register }, datagram, 1)] })
+    Ok(Sending { serial: next_serial(history), datagrams: vec![(Item::Block { station, register }, datagram, 1)] })
 }

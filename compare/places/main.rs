@@ -34,7 +34,7 @@ struct Area {
     pdos: Vec<Pdo>,
 }
 
-/// A slave, and a line of its own behind its station address.
+/// A slave, and a line of its own after its station address.
 #[derive(Clone)]
 struct Slave {
     station: String,
@@ -137,7 +137,7 @@ impl At {
         &mut self.slave(project).areas[self.area]
     }
 
-    /// The alias and the station address behind a place, where they can be read.
+    /// The alias and the station address after a place, where they can be read.
     fn numbers(self, project: &Project) -> String {
         let (alias, slaves) = &project[self.group];
         let mut text = String::new();
@@ -158,7 +158,7 @@ fn two(draws: &mut Draws) -> [At; 2] {
     if (both[0].group, both[0].slave) == (both[1].group, both[1].slave) { two(draws) } else { both }
 }
 
-/// Spoils an area in one place: how, and the rest of the path behind the area.
+/// Spoils an area in one place: how, and the rest of the path after the area.
 fn spoil_missing(draws: &mut Draws, area: &mut Area) -> &'static str {
     match draws.below(4) {
         0 => {
@@ -205,7 +205,7 @@ fn spoil_outside(draws: &mut Draws, area: &mut Area) -> &'static str {
     }
 }
 
-/// The wide PDOs of an area with 12,288 bits, the last of which begins at 8,192.
+/// The wide PDOs of an area with 12,288 bits; the last one begins at 8,192.
 fn widen(area: &mut Area) {
     let gaps = |index: usize| Pdo { index: format!("{index}"), entries: vec![["0".into(), "64".into()]; 64] };
     area.pdos = (0..3).map(|place| gaps(0x1700 + place)).collect();
@@ -304,12 +304,12 @@ fn run(words: &[String], text: &str) -> Option<(String, i32)> {
 }
 
 /// Whether the program prints what is wanted.
-fn is_told(words: &[String], text: &str, wanted: &str, status: i32) -> bool {
-    let told = run(words, text);
-    if told.as_ref().is_some_and(|(said, code)| said == wanted && *code == status) {
+fn is_printed(words: &[String], text: &str, wanted: &str, status: i32) -> bool {
+    let printed = run(words, text);
+    if printed.as_ref().is_some_and(|(said, code)| said == wanted && *code == status) {
         return true;
     }
-    println!("{wanted:?} with status {status} is wanted, and {told:?} was printed");
+    println!("{wanted:?} with status {status} is wanted, and {printed:?} was printed");
     false
 }
 
@@ -319,7 +319,7 @@ fn main() -> ExitCode {
         eprintln!("usage: places PROGRAM [ARGUMENT..]");
         return ExitCode::from(64);
     }
-    if !is_told(&words, &text_of(&project()), "ok\n", 0) {
+    if !is_printed(&words, &text_of(&project()), "ok\n", 0) {
         return ExitCode::from(1);
     }
     let mut draws = Draws(7);
@@ -328,7 +328,7 @@ fn main() -> ExitCode {
             let mut spoilt = project();
             let (name, place) = spoil(fault, &mut draws, &mut spoilt);
             let wanted = format!("project fault {fault} {name}\nat {place}\n");
-            if !is_told(&words, &text_of(&spoilt), &wanted, 3) {
+            if !is_printed(&words, &text_of(&spoilt), &wanted, 3) {
                 return ExitCode::from(1);
             }
         }

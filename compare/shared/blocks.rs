@@ -42,7 +42,7 @@ fn fmmu_block(layout: &Layout, rank: usize, slave: &Slave, number: usize) -> Blo
 }
 
 /// A slave's blocks: for each area in record order its sync manager block, then its FMMU block.
-pub fn blocks_of(layout: &Layout, rank: usize, slave: &Slave) -> Vec<Block> {
+pub fn slave_blocks(layout: &Layout, rank: usize, slave: &Slave) -> Vec<Block> {
     let numbers = 0..slave.areas.len();
     numbers.flat_map(|n| [sync_manager_block(&slave.areas[n]), fmmu_block(layout, rank, slave, n)]).collect()
 }
@@ -50,7 +50,7 @@ pub fn blocks_of(layout: &Layout, rank: usize, slave: &Slave) -> Vec<Block> {
 /// All blocks of a line, each with the station address of its slave.
 pub fn line_blocks(line: &[Member], layout: &Layout) -> Vec<(u16, Block)> {
     let blocks = |(rank, slave): &Member| -> Vec<(u16, Block)> {
-        blocks_of(layout, *rank, slave).into_iter().map(|block| (slave.station, block)).collect()
+        slave_blocks(layout, *rank, slave).into_iter().map(|block| (slave.station, block)).collect()
     };
     line.iter().flat_map(blocks).collect()
 }

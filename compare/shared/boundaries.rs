@@ -1,4 +1,4 @@
-//! What an edit cuts anew, by comparing the lists of the line before it and behind it. This project's profile;
+//! What an edit cuts anew, by comparing the lists of the line before and after it. This project's profile;
 //! docs/meaning/DEFINITIONS.md has it under "What an edit leaves as it was".
 
 use super::packing::{Key, Layout, Placed};

@@ -26,7 +26,7 @@ pub struct Compared {
     pub bytes: usize,
 }
 
-/// Compares what a program prints over the scripts of all cases, or over that of one seed.
+/// Compares what a program prints over the scripts of all cases, or over the script of one seed.
 pub fn compare_cases(
     program: &[String], cases: &[Case], seed: Option<u64>, mut script_of: impl FnMut(&Case) -> Script,
 ) -> Result<Compared, String> {

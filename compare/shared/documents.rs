@@ -1,4 +1,4 @@
-//! Documents that declare a group, drawn, and what is told of those that declare none.
+//! Documents that declare a group, drawn, and the faults of documents that declare none.
 
 use super::draws::Draws;
 use super::edits::Edit;
@@ -61,12 +61,12 @@ impl Drawn {
     }
 }
 
-/// The line that tells a document's fault.
+/// The line that prints a document's fault.
 pub fn fault_line(number: usize) -> String {
     format!("declare fault {number} {}", NAMES[number])
 }
 
-/// Whether something stands twice in a list.
+/// Whether something is twice in a list.
 fn repeats<T: PartialEq>(list: &[T]) -> bool {
     list.iter().enumerate().any(|(place, one)| list[..place].contains(one))
 }
@@ -98,7 +98,7 @@ fn is_unknown(area: &Area) -> bool {
     area.assigned.iter().any(|index| !offered.contains(index)) || repeats(&area.assigned) || repeats(&offered)
 }
 
-/// The numbers of all faults from 3 on that groups have as a document; the mandatory group stands first.
+/// The numbers of all faults from 3 on that groups have as a document; the mandatory group comes first.
 fn faults_of(groups: &[Group]) -> Vec<usize> {
     let slaves: Vec<&Slave> = groups.iter().flat_map(|group| &group.slaves).collect();
     let areas: Vec<&Area> = slaves.iter().flat_map(|slave| &slave.areas).collect();
@@ -244,7 +244,7 @@ fn document(draws: &mut Draws, state: &State, shape: Shape) -> Document {
     Document { text: if draws.is(15) { text.replace('\n', "\r\n") } else { text }, group }
 }
 
-/// An edit of a state, of which so many in a hundred are declarations: mostly one that can be carried out.
+/// An edit of a state, mostly one that can be carried out; so many in a hundred are declarations.
 pub fn drawn_edit(draws: &mut Draws, state: &State, shape: Shape, declarations: usize) -> Drawn {
     if draws.is(declarations) {
         return Drawn::Document(document(draws, state, shape));

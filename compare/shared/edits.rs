@@ -1,6 +1,6 @@
 //! Edits of a line, and what refuses them.
 
-use super::packing::{MOST_BITS, TASKS, crowded_task};
+use super::packing::{MOST_BITS, TASKS, over_limit_task};
 use super::records::{Area, Declared, Group, Slave, State};
 
 #[derive(Clone)]
@@ -20,7 +20,7 @@ pub struct Refusal {
     carried: Option<usize>,
 }
 
-/// The names of refusals by their numbers; those of unreadable frames begin at 20. Posts and views have their own.
+/// The names of refusals by their numbers; unreadable frames begin at 20. Posts and views have their own.
 const NAMES: [&str; 36] = [
     "",
     "UnknownAlias",
@@ -199,13 +199,13 @@ fn changed(state: &State, edit: &Edit) -> State {
     new
 }
 
-/// The state behind an edit, or the lowest refusal whose condition holds.
+/// The state after an edit, or the lowest refusal whose condition holds.
 pub fn edited(state: &State, edit: &Edit) -> Result<State, Refusal> {
     if let Some(number) = own_faults(state, edit).into_iter().min() {
         return Err(Refusal::of(number));
     }
     let new = changed(state, edit);
-    match crowded_task(&new.line()) {
+    match over_limit_task(&new.line()) {
         Some(task) => Err(Refusal::carrying(12, task.into())),
         None => Ok(new),
     }

@@ -1,9 +1,9 @@
-//! A line as it stands between two edits: its state, and all that follows from it, worked out from nothing.
+//! A line as it is between two edits: its state, and all that follows from it, worked out from nothing.
 
 use super::blocks::{Block, line_blocks, moved};
 use super::boundaries::recut;
 use super::edits::{Edit, Refusal, edited};
-use super::packing::{Layout, Place, crowded_task, layout_of};
+use super::packing::{Layout, Place, layout_of, over_limit_task};
 use super::records::{Group, State};
 use std::cell::OnceCell;
 use std::collections::BTreeMap;
@@ -25,7 +25,7 @@ impl Line {
         Line { state, layout, blocks, variables: OnceCell::new() }
     }
 
-    /// Where each variable of the line stands.
+    /// The place of each variable of the line.
     pub fn variables(&self) -> &BTreeMap<u32, Place> {
         self.variables.get_or_init(|| self.layout.variables(&self.state.line()))
     }
@@ -33,11 +33,11 @@ impl Line {
     /// The line at its opening, or the lowest task that needs too many datagrams.
     pub fn opened(groups: &[Group]) -> Result<Line, u8> {
         let state = State::opened(groups);
-        let crowded = crowded_task(&state.line());
-        crowded.map_or_else(|| Ok(Line::of(state)), Err)
+        let over_limit = over_limit_task(&state.line());
+        over_limit.map_or_else(|| Ok(Line::of(state)), Err)
     }
 
-    /// The line behind an edit, and what became different.
+    /// The line after an edit, and what became different.
     pub fn edited(&self, edit: &Edit) -> Result<(Line, usize, usize), Refusal> {
         let new = Line::of(edited(&self.state, edit)?);
         let (recut, moved) = (recut(&self.layout, &new.layout), moved(&self.blocks, &new.blocks));

@@ -1,4 +1,4 @@
-//! What both comparisons stand on: drawn projects and edits, the plain model of a line, and the program over scripts.
+//! What both comparisons use: drawn projects and edits, the plain model of a line, and the program over scripts.
 
 pub mod blocks;
 pub mod boundaries;

@@ -1,4 +1,4 @@
-//! Where the areas of a line stand: each task's list is packed from its front. The rules of packing are this project's
+//! The places of a line's areas: each task's list is packed from its front. The rules of packing are this project's
 //! profile; docs/meaning/DEFINITIONS.md has them.
 
 use super::records::{Area, Member, Slave};
@@ -18,7 +18,7 @@ pub struct Key {
     pub area: usize,
 }
 
-/// An area with a width, and where it stands: the number of its datagram, and its first bit in that.
+/// An area with a width, and its place: the number of its datagram, and its first bit in that.
 #[derive(Clone, Copy)]
 pub struct Placed {
     pub key: Key,
@@ -36,7 +36,7 @@ pub struct Datagram {
     pub offset: u32,
 }
 
-/// A task's areas where they stand, its datagrams, and the bytes of its outputs and of its inputs.
+/// A task's areas in their places, its datagrams, and the bytes of its outputs and of its inputs.
 #[derive(Clone)]
 pub struct Task {
     pub areas: Vec<Placed>,
@@ -49,11 +49,11 @@ pub struct Task {
 #[derive(Clone)]
 pub struct Layout {
     pub tasks: Vec<Task>,
-    /// Each area that stands somewhere, with its task.
+    /// Each area that has a place, with its task.
     pub places: BTreeMap<Key, (u8, Placed)>,
 }
 
-/// Where a variable stands: the bit counts in its datagram.
+/// The place of a variable: the bit counts in its datagram.
 pub struct Place {
     pub task: u8,
     pub datagram: usize,
@@ -76,8 +76,8 @@ pub fn task_list(line: &[Member], task: u8) -> Vec<(Key, u32)> {
     of_line(true).chain(of_line(false)).collect()
 }
 
-/// Each area behind the one before it: one of 8 bits or more, and the first input behind an output, begins at a byte
-/// border; one that would end past the longest datagram begins the next datagram.
+/// Each area follows the one before it. An area of 8 bits or more, and the first input after an output, begins at a
+/// byte border; one that would end beyond the longest datagram begins the next datagram.
 pub fn packed(list: &[(Key, u32)]) -> Vec<Placed> {
     let mut areas: Vec<Placed> = Vec::new();
     for (key, width) in list {
@@ -102,7 +102,7 @@ pub fn datagram_count(areas: &[Placed]) -> usize {
 }
 
 /// The lowest task that needs too many datagrams.
-pub fn crowded_task(line: &[Member]) -> Option<u8> {
+pub fn over_limit_task(line: &[Member]) -> Option<u8> {
     (0..TASKS).find(|task| datagram_count(&packed(&task_list(line, *task))) > MOST_DATAGRAMS)
 }
 
@@ -145,12 +145,12 @@ impl Layout {
         self.tasks[usize::from(task)].datagrams.get(number)
     }
 
-    /// Where a slave's area stands; nowhere without a width.
+    /// The place of a slave's area; none without a width.
     pub fn place_of(&self, rank: usize, slave: &Slave, number: usize) -> Option<(u8, Placed)> {
         self.places.get(&key_of(rank, number, &slave.areas[number])).copied()
     }
 
-    /// Where all variables stand, by their numbers.
+    /// The places of all variables, by their numbers.
     pub fn variables(&self, line: &[Member]) -> BTreeMap<u32, Place> {
         let mut variables = BTreeMap::new();
         for (rank, slave) in line {
@@ -170,7 +170,7 @@ impl Layout {
         variables
     }
 
-    /// Where a variable stands: behind the entries before it, over the assigned PDOs in assigned order. No place has the
+    /// The place of a variable: after the entries before it, over the assigned PDOs in assigned order. No place has the
     /// number 0, which is a gap's.
     pub fn place(&self, line: &[Member], variable: u32) -> Option<Place> {
         for (rank, slave) in line {

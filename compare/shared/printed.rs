@@ -1,6 +1,6 @@
 //! The lines that the program prints, as docs/use/PROGRAM.md has them.
 
-use super::blocks::{Block, blocks_of};
+use super::blocks::{Block, slave_blocks};
 use super::edits::{Edit, Refusal, naming_fault};
 use super::frames::{Datagram, LRW, frame_text};
 use super::packing::{self, Layout, TASKS};
@@ -35,7 +35,7 @@ pub fn regs_lines(state: &State, layout: &Layout, station: u16) -> Vec<String> {
     }
     let line = state.line();
     let own = line.iter().filter(|(_, slave)| slave.station == station);
-    own.flat_map(|(rank, slave)| blocks_of(layout, *rank, slave)).map(|block| block_line(&block)).collect()
+    own.flat_map(|(rank, slave)| slave_blocks(layout, *rank, slave)).map(|block| block_line(&block)).collect()
 }
 
 pub fn place_line(state: &State, layout: &Layout, variable: u32) -> String {
@@ -84,7 +84,7 @@ pub fn edit_words(edit: &Edit) -> (&'static str, Vec<u32>) {
         Edit::Move { station, area, task } => {
             ("move", [*station, u16::from(*area), u16::from(*task)].map(u32::from).to_vec())
         }
-        // its document stands behind the line
+        // its document comes after the line
         Edit::Declare(_) => ("declare", Vec::new()),
     }
 }

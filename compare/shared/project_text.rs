@@ -9,7 +9,7 @@ pub struct Pdo {
     pub entries: Vec<(u32, u8)>,
 }
 
-/// What the text tells of an area.
+/// What the text says of an area.
 pub struct AreaKeys<'a> {
     pub is_out: bool,
     pub sm: u8,

@@ -28,7 +28,7 @@ pub struct Shape {
     pub widths: Widths,
 }
 
-/// The first byte of a slave's process memory, and the first one behind it.
+/// The first byte of a slave's process memory, and the first one after it.
 pub const MEMORY: (usize, usize) = (0x1000, 0x3000);
 
 /// The bits of a PDO of 512 bytes, of four that make 736 to 738 and 743 bytes with it, and of two small ones: two
@@ -137,7 +137,7 @@ impl Maker<'_> {
         assigned
     }
 
-    /// The areas stand one behind another in the slave's memory, with gaps between some; what has no room there isn't
+    /// The areas follow one another in the slave's memory, with gaps between some; what has no room there isn't
     /// offered.
     fn areas(&mut self) -> Vec<Area> {
         let mut managers: Vec<u8> = (0..16).collect();
@@ -192,7 +192,7 @@ fn drawn_as(variable: u32) -> usize {
     (variable & 0x7fff_ffff) as usize
 }
 
-/// A group of one to three slaves, beside those of a state. At times a name of it is taken.
+/// A group of one to three slaves, beside a state's groups. At times a name of it is taken.
 pub fn new_group(draws: &mut Draws, state: &State, shape: Shape) -> Group {
     let declared = || state.declared.iter().map(|one| &one.group);
     let stations = state.slaves().map(|(_, slave)| usize::from(slave.station)).collect();
@@ -233,7 +233,7 @@ fn coming_or_going(draws: &mut Draws, state: &State) -> Edit {
     if is_present != draws.is(12) { Edit::Disconnect(alias) } else { Edit::Connect(alias) }
 }
 
-/// A slave's station address and an area of it, mostly those of a slave of the line that has the area.
+/// A slave's station address and an area of it, mostly of a slave of the line that has the area.
 fn named_area(draws: &mut Draws, state: &State) -> (u16, u8, Option<Area>) {
     let is_of_line = draws.is(94);
     let is_bare = draws.is(2);

@@ -25,14 +25,14 @@ impl Names {
         &self.variables
     }
 
-    /// And those of a group that is declared later.
+    /// And the questions about a group that is declared later.
     pub fn add(&mut self, group: &Group) {
         self.stations.extend(group.slaves.iter().map(|slave| slave.station));
         self.variables.extend(group.variables());
     }
 }
 
-/// Asks for a slave's blocks, a variable's place or a datagram's frame; `show` tells that of a task's datagram.
+/// Asks for a slave's blocks, a variable's place or a datagram's frame; `show` prints the frame of a task's datagram.
 pub fn ask(draws: &mut Draws, script: &mut Script, line: &Line, names: &Names, show: impl Fn(u8, u8) -> String) {
     match draws.below(4) {
         0 | 1 => {

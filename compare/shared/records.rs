@@ -20,7 +20,7 @@ pub struct Slave {
     pub areas: Vec<Area>,
 }
 
-/// Slaves that come and go together; those of the first group, with alias 0, stay.
+/// Slaves that come and go together; the first group, with alias 0, stays.
 #[derive(Clone)]
 pub struct Group {
     pub alias: u16,

@@ -48,8 +48,8 @@ fn shortened(text: &str, other: &str) -> String {
     let same = text.bytes().zip(other.bytes()).take_while(|(one, other)| one == other).count();
     let from = same.saturating_sub(30);
     let shown: String = text.chars().skip(from).take(90).collect();
-    let (front, behind) = (if from > 0 { ".." } else { "" }, if text.len() > from + 90 { ".." } else { "" });
-    format!("{front}{shown}{behind}")
+    let (front, after) = (if from > 0 { ".." } else { "" }, if text.len() > from + 90 { ".." } else { "" });
+    format!("{front}{shown}{after}")
 }
 
 /// Where what was printed isn't what is wanted.
@@ -77,7 +77,7 @@ fn difference(script: &Script, status: Option<i32>, printed: &[u8]) -> Result<()
     }
 }
 
-/// Runs a program over a script, and tells where it prints something else than is wanted.
+/// Runs a program over a script: where it prints something else than is wanted.
 pub fn compare(program: &[String], script: &Script) -> Result<(), String> {
     assert!(script.input.len() <= MOST_INPUT, "seed {}: the script is too long", script.seed);
     let (status, printed) = run(program, &script.input).map_err(|error| format!("seed {}: {error}", script.seed))?;
@@ -110,8 +110,8 @@ fn asked() -> Option<Asked> {
     }
 }
 
-/// What a comparison does with its arguments: `drawn` draws the script of a seed, and `compare_all` runs those of all
-/// seeds, or of one.
+/// What a comparison does with its arguments: `drawn` draws the script of a seed, and `compare_all` runs the scripts of
+/// all seeds, or of one.
 pub fn main_of(
     name: &str, drawn: impl Fn(u64) -> Option<Script>,
     compare_all: impl Fn(&[String], Option<u64>) -> Result<(), String>,

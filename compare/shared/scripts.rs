@@ -24,7 +24,7 @@ pub struct Script {
 }
 
 impl Script {
-    /// The project's text and the line behind it.
+    /// The project's text and the line after it.
     pub fn of(seed: u64, groups: &[Group]) -> Script {
         let input = text_of(groups) + "%%\n";
         let lines = input.lines().count();
@@ -41,7 +41,7 @@ impl Script {
         }
     }
 
-    /// A gap between words, or in front of the first and behind the last where `least` is 0.
+    /// A gap between words, or before the first and after the last where `least` is 0.
     fn gap(&mut self, least: usize) -> String {
         let more = if self.spelling.is(3) { self.spelling.between(1, 3) } else { 0 };
         " ".repeat(least + more)
@@ -64,8 +64,8 @@ impl Script {
             self.input.push_str(&gap);
             self.input.push_str(word);
         }
-        let behind = self.gap(0);
-        self.input.push_str(&behind);
+        let after = self.gap(0);
+        self.input.push_str(&after);
         self.end_line();
         self.lines
     }
@@ -91,7 +91,7 @@ impl Script {
         self.wanted.extend(answer.into_iter().map(|text| Wanted { line, text }));
     }
 
-    /// A declaration that no line closes, with which the run ends: what stands in it isn't read.
+    /// A declaration that no line closes, with which the run ends: its content isn't read.
     pub fn add_unclosed(&mut self, document: &str) {
         let line = self.add_document(document);
         self.wanted.push(Wanted { line, text: format!("line {line}: bad command") });
@@ -135,7 +135,7 @@ impl Script {
         self.add_range(name, &[], bytes, answer);
     }
 
-    /// A command of a name, numbers, and bytes behind them.
+    /// A command of a name, numbers, and bytes after them.
     pub fn add_range(&mut self, name: &str, numbers: &[u32], bytes: &[u8], answer: Vec<String>) {
         let is_upper = self.spelling.is(10);
         let digits = bytes.iter().map(|byte| if is_upper { format!("{byte:02X}") } else { format!("{byte:02x}") });

@@ -1,5 +1,5 @@
 //! A project's text, read as far as the forms go in which the scripts here have it: arrays of tables under headers or in one
-//! line, integers, strings, arrays and comments; the keys of a table stand right behind its header.
+//! line, integers, strings, arrays and comments; the keys of a table come right after its header.
 
 use super::records::{Area, Group, Pdo, Slave};
 use std::iter::Peekable;
@@ -36,7 +36,7 @@ impl Rest<'_> {
         }
     }
 
-    /// Whether this stands next; then it is passed over.
+    /// Whether this comes next; then it is passed over.
     fn takes(&mut self, wanted: char) -> bool {
         self.skip();
         self.chars.next_if_eq(&wanted).is_some()
@@ -191,7 +191,7 @@ fn set(groups: &mut [Group], header: &str, key: &str, value: &Value) -> Option<(
     Some(())
 }
 
-/// Sets a key, or begins the tables that stand behind it in one line.
+/// Sets a key, or begins the tables that follow it in one line.
 fn take(groups: &mut Vec<Group>, header: &str, key: &str, value: &Value) -> Option<()> {
     let name = if header.is_empty() { key.to_string() } else { format!("{header}.{key}") };
     if !["group", "slave", "area"].contains(&key) {
@@ -203,7 +203,7 @@ fn take(groups: &mut Vec<Group>, header: &str, key: &str, value: &Value) -> Opti
     tables.iter().try_for_each(|table| nest(groups, &name, table))
 }
 
-/// A table that stands in one line, as if it stood under a header.
+/// A table in one line, as if it came under a header.
 fn nest(groups: &mut Vec<Group>, header: &str, table: &Value) -> Option<()> {
     let Value::Table(pairs) = table else {
         return None;

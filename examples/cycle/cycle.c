@@ -40,7 +40,7 @@ static void must(const char *call, uint8_t answer) {
 /* --- the simulated network ------------------------------------------------------------------------------------------------- */
 
 /* What a slave does between two frames: it moves so many bytes of its outputs to its inputs. An axis is then where it was sent,
- * and the gripper is closed where it was told to close. */
+ * and the gripper is closed where it was to close. */
 #define SLAVES 5
 static const struct {
     uint16_t station, outputs, inputs, bytes;

@@ -3,10 +3,10 @@
  * task of the machine's inputs and outputs in each fourth one: at 1,000 cycles a second these are tasks of 1 and 4 ms. None of the
  * three waits for another. Meanwhile the gripper comes and goes (`tool.c`).
  *
- * Each slave answers with what was put out to it in the frame before. So each image that a task views must be whole: outputs and
- * inputs are those of one posting each, and neither ever goes back. At the end the last post is followed to its input. The memory
- * of the process is told after a tenth of the cycles and at the end, and doesn't grow. Where no namespace can be made it says so,
- * and ends with status 77.
+ * Each slave answers with what was put out to it in the frame before. So each image that a task views must be whole: outputs
+ * and inputs are each of one posting, and neither ever goes back. At the end the last post is followed to its input. The memory
+ * of the process is printed after a tenth of the cycles and at the end, and doesn't grow. Where no namespace can be made it
+ * says so, and ends with status 77.
  *
  *     tasks PROJECT CYCLES CYCLES_A_SECOND [CAPTURE]
  *
@@ -172,7 +172,7 @@ static void follow(struct worker *motion) {
     if (number_of(motion, motion->image + OUTPUTS, INPUTS) != motion->posted) fail(motion, "the last post isn't read");
 }
 
-static void tell(const struct worker *worker, unsigned long not_taken) {
+static void print_counts(const struct worker *worker, unsigned long not_taken) {
     printf("%s: views %lu, new images %lu, answered up to %u, posts for an earlier epoch %lu, four posts waited %lu times, longest step %ld us\n", worker->name,
            worker->views, worker->images, worker->read, not_taken, worker->full, worker->longest_step / 1000);
 }
@@ -200,7 +200,7 @@ int main(int count, char **words) {
     cycle(0);
     follow(&workers[MOTION]);
     wire_close();
-    for (int i = 0; i < 2; i++) tell(&workers[i], refused[i]), zangjulf_seat_close(&workers[i].seat);
+    for (int i = 0; i < 2; i++) print_counts(&workers[i], refused[i]), zangjulf_seat_close(&workers[i].seat);
     zangjulf_close(&tool.line);
     printf("cycles %s, tools docked %lu, tools given up %lu, longest change %ld us, memory %ld KiB early, %ld KiB late\n", words[2], tool.docked, tool.given_up,
            tool.longest_change / 1000, early, late);

@@ -4,7 +4,7 @@
     python3 tools/bodies/check.py --list
 
 An edit is applied as a whole to a clone of what is committed, and `rt check` gives a verdict on each function: a function's
-proof rests on its own body and on the contracts of what it calls, so the verdict is that of its body alone. A body is refused
+proof rests on its own body and on the contracts of what it calls, so the verdict is on its body alone. A body is refused
 by its contract where a goal of its function isn't proved. One refused only because a proof names what the edit took away says
 little of the contract, and counts as not refused.
 """

@@ -1,4 +1,4 @@
-"""Which PDOs of a device a slave offers and has assigned: those of the ESI file, or those that are asked for."""
+"""Which PDOs of a device a slave offers and has assigned: by the ESI file, or as they are asked for."""
 
 from collections.abc import Iterable
 from dataclasses import dataclass, field
@@ -37,7 +37,7 @@ class ChosenArea:
 
 
 def found_device(devices: Iterable[Device], choice: Choice) -> Device:
-    """The device that is asked for: the one there is, or that of a type, of its last revision if none is named."""
+    """The device that is asked for: the one there is, or the one of a type, of its last revision if none is named."""
     if choice.type is None:
         matching = list(devices)
         if len({device.type for device in matching}) > 1:

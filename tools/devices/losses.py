@@ -112,7 +112,7 @@ def reach_losses(areas: list[ChosenArea]) -> Iterator[Loss]:
 
 
 def buffer_losses(device: Device, areas: list[ChosenArea]) -> Iterator[Loss]:
-    """Three buffers of an area that overlap those of another one, or a mailbox."""
+    """Three buffers of an area that overlap another area's buffers, or a mailbox."""
     spans = [
         Span(f"sync manager {area.manager.number}", area.manager.start, 3 * area.assigned_bytes()) for area in areas
     ]

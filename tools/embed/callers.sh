@@ -12,7 +12,7 @@ compiled() {
 # compiled_fuzz WORDS..: the caller that draws, likewise, over the plain model or the one that `model` names
 compiled_fuzz() {
     compiled fuzz -Itools/embed tools/embed/draws.c tools/embed/growths.c tools/embed/judge.c "${model:-tools/embed/model.c}" \
-        tools/embed/news.c tools/embed/seated.c tools/embed/words.c $wrapped "$@"
+        tools/embed/pending.c tools/embed/seated.c tools/embed/words.c $wrapped "$@"
 }
 
 # edges CALLER LABEL FLAGS..: what a caller may do wrong
@@ -20,7 +20,7 @@ edges() {
     wrong=$1 label=$2
     shift 2
     compiled "$wrong" "$@" && timeout 60 "$scratch/$wrong" examples/tool_changer.toml >"$scratch/printed"
-    tell_said $? "$label"
+    report_run $? "$label"
 }
 
 # threads LABEL FLAGS..: threads that meet at one handle
@@ -28,7 +28,7 @@ threads() {
     label=$1
     shift
     compiled threads -D_POSIX_C_SOURCE=200809L -pthread "$@" && timeout 60 "$scratch/threads" examples/tool_changer.toml >"$scratch/printed" 2>&1
-    tell_said $? "$label"
+    report_run $? "$label"
 }
 
 # seats_at_speed SHOWS LABEL FLAGS..: an owner that shows so often and two tasks, at full speed
@@ -36,23 +36,23 @@ seats_at_speed() {
     shows=$1 label=$2
     shift 2
     compiled seat_threads -pthread "$@" && timeout 300 "$scratch/seat_threads" "$shows" >"$scratch/printed" 2>&1
-    tell_said $? "$label"
+    report_run $? "$label"
 }
 
 # header: alone, as C11 and as C++17; and a C++ program that asks what it is linked with
 header() {
     echo '#include "zangjulf.h"' >"$scratch/alone.c"
     gcc -std=c11 $warnings -Wconversion -Wsign-conversion -Iinclude -fsyntax-only "$scratch/alone.c"
-    tell $? "the header isn't C11 without warnings"
+    report $? "the header isn't C11 without warnings"
     g++ -std=c++17 $warnings -Wconversion -Wsign-conversion -Iinclude -fsyntax-only -x c++ "$scratch/alone.c"
-    tell $? "the header isn't C++17 without warnings"
+    report $? "the header isn't C++17 without warnings"
     gcc -std=c11 $warnings -Iinclude tools/embed/layout.c -o "$scratch/layout" && "$scratch/layout" >"$scratch/layout.txt"
-    tell $? "the header's structs aren't printed"
+    report $? "the header's structs aren't printed"
     g++ -std=c++17 $warnings -Iinclude tools/embed/linked.cpp build/libzangjulf.a -o "$scratch/linked" &&
         "$scratch/linked" >"$scratch/printed"
-    tell_said $? "the library is another version than the header's"
+    report_run $? "the library is another version than the header's"
     ! nm -g --defined-only build/libzangjulf.a | grep ' [A-Z] ' | grep -qv ' zangjulf_'
-    tell $? "the archive exports more than the header's calls"
+    report $? "the archive exports more than the header's calls"
 }
 
 # master NAME FILES..: an example of a master over raw frames
@@ -60,7 +60,7 @@ master() {
     name=$1
     shift
     gcc -std=c11 -O2 $warnings -pthread -Iinclude "examples/master/$name.c" examples/master/wire.c "$@" build/libzangjulf.a -o "$scratch/$name"
-    tell $? "the example $name isn't built"
+    report $? "the example $name isn't built"
 }
 
 # callers_of_seats SHOWS EVERY: callers that do wrong, a line and eight seats that are closed in every so many-th order, and so many
@@ -69,7 +69,7 @@ callers_of_seats() {
     edges seats "C callers of seats that do wrong" -fsanitize=address,undefined
     edges seats "growths refused to a C caller of seats" -DWRAPPED tools/embed/growths.c $wrapped
     compiled closings -fsanitize=address,undefined && timeout 2400 "$scratch/closings" "$2" >"$scratch/printed" 2>&1
-    tell_said $? "a line and eight seats that are closed"
+    report_run $? "a line and eight seats that are closed"
     seats_at_speed "$1" "tasks at full speed" -O2
     seats_at_speed 100000 "tasks at full speed, under the address sanitizer" -fsanitize=address,undefined
 }
@@ -77,37 +77,37 @@ callers_of_seats() {
 # callers_in_c CALLS: players, callers that do wrong, the page's cycle, and so many drawn calls
 callers_in_c() {
     compiled play tools/embed/words.c -fsanitize=address,undefined
-    tell $? "the C player isn't built"
+    report $? "the C player isn't built"
     play C "$scratch/play"
     edges edges "C callers that do wrong" -fsanitize=address,undefined
     edges edges "growths refused to a C caller" -DWRAPPED tools/embed/growths.c $wrapped
     compiled steady tools/embed/growths.c $wrapped && timeout 60 "$scratch/steady" >"$scratch/printed"
-    tell_said $? "a cycle that takes memory"
+    report_run $? "a cycle that takes memory"
     threads "threads that meet at one handle" -O2
     threads "threads that meet at one handle, under the address sanitizer" -fsanitize=address,undefined
     compiled_fuzz && timeout 900 "$scratch/fuzz" examples/tool_changer.toml "$1" 1 >"$scratch/printed"
-    tell_said $? "$1 drawn calls from C"
+    report_run $? "$1 drawn calls from C"
     master master
     master docking examples/master/tool.c
     master tasks examples/master/tool.c
     gcc -std=c11 -g -O1 $warnings -fsanitize=address,undefined -Iinclude examples/cycle/cycle.c build/libzangjulf.a -o "$scratch/cycle" &&
         timeout 60 "$scratch/cycle" examples/tool_changer.toml >"$scratch/printed" && diff examples/cycle/cycle.out "$scratch/printed"
-    tell_said $? "the cycle of docs/use/EMBEDDING.md: < is written, > is printed"
+    report_run $? "the cycle of docs/use/EMBEDDING.md: < is written, > is printed"
 }
 
 # callers_in_rust: the crate's player, and the examples in its pages
 callers_in_rust() {
     export CARGO_TARGET_DIR=$scratch/target ZANGJULF_LIB_DIR=$PWD/build ZANGJULF_LAYOUT=$scratch/layout.txt
     cargo build --quiet --offline --release --manifest-path bindings/rust/Cargo.toml --example play >"$scratch/printed" 2>&1
-    tell_said $? "the Rust player isn't built"
+    report_run $? "the Rust player isn't built"
     play Rust "$scratch/target/release/examples/play"
     cargo test --quiet --offline --manifest-path bindings/rust/Cargo.toml >"$scratch/printed" 2>&1
-    tell_said $? "an example in the crate's pages fails, or its structs are laid out in another way"
+    report_run $? "an example in the crate's pages fails, or its structs are laid out in another way"
 }
 
 # callers_in_python: the package's player, and what it refuses
 callers_in_python() {
     play Python python3 bindings/python/play.py
     timeout 60 python3 bindings/python/refusals.py examples/tool_changer.toml "$scratch/layout.txt" >"$scratch/printed" 2>&1
-    tell_said $? "what the Python package refuses, or how its structs are laid out"
+    report_run $? "what the Python package refuses, or how its structs are laid out"
 }

@@ -3,8 +3,8 @@
 passed=0
 failed=0
 
-# tell STATUS WORDS..: one more that passed, or failed and is told; its status is that status
-tell() {
+# report STATUS WORDS..: counts one more that passed, or failed and is named; its status is that status
+report() {
     was=$1
     shift
     if [ "$was" -eq 0 ]; then
@@ -16,9 +16,9 @@ tell() {
     return "$was"
 }
 
-# tell_said STATUS WORDS..: likewise, and the end of what was printed is shown where it failed
-tell_said() {
-    tell "$@" && return
+# report_run STATUS WORDS..: likewise, and the end of what was printed is shown where it failed
+report_run() {
+    report "$@" && return
     tail -n 20 "$scratch/printed"
     return 1
 }
@@ -26,7 +26,7 @@ tell_said() {
 # has COMMAND: whether it is there; one that is missing counts as failed
 has() {
     command -v "$1" >/dev/null && return
-    tell 1 "$1 is missing"
+    report 1 "$1 is missing"
     return 1
 }
 
@@ -37,7 +37,7 @@ play() {
     for input in examples/*.in; do
         sed '1,/^%%$/d' "$input" | grep -qE '^(scan|name|program|cycle|poke|peek)' && continue
         timeout 120 "$@" <"$input" >"$scratch/played" 2>"$scratch/printed" && diff "${input%.in}.out" "$scratch/played" >"$scratch/printed"
-        tell_said $? "$label, $input: < is written, > is printed"
+        report_run $? "$label, $input: < is written, > is printed"
     done
 }
 

@@ -1,7 +1,7 @@
 /* A line and its eight seats are closed in each of the 362,880 orders, under the address sanitizer. Each seat has viewed an image, has
  * a newer one to view, and has a post that waits. After each closing those that are left go on: the line shows and takes, a seat views
  * what was shown last, and posts until its line is closed. With a number as argument only each so many-th order is tried. It ends with
- * status 1 at an answer that can't be; what is live at the end the sanitizer tells. */
+ * status 1 at an answer that can't be; the sanitizer names what is live at the end. */
 #include <stdio.h>
 #include <stdlib.h>
 #include <string.h>

@@ -19,15 +19,15 @@ drawn() {
     (timeout 300 "$scratch/fuzz" "$1" "$2" "$3" "$scratch/drawn" $declare >"$scratch/printed") 2>/dev/null
 }
 
-# wrong_models: drawn calls find a model of register writes of which one line is wrong. Each has a name, and what sed makes of it
+# wrong_models: drawn calls find a model of register writes with one wrong line. Each has a name, and what sed makes of it
 wrong_models() {
     model=$scratch/model.c
     while read -r name edit; do
         sed "$edit" tools/embed/model.c >"$model"
         [ "$(diff tools/embed/model.c "$model" | grep -c '^>')" -eq 1 ] && compiled_fuzz
-        tell $? "the model with $name isn't built"
+        report $? "the model with $name isn't built"
         ! (timeout 300 "$scratch/fuzz" examples/tool_changer.toml 30000 3 >"$scratch/printed") 2>/dev/null </dev/null
-        tell $? "drawn calls don't find the model with $name"
+        report $? "drawn calls don't find the model with $name"
     done <<'END'
 older_frames_that_confirm s/ || known->serial != sending->serial//
 writes_answered_after_a_forget s/ || sending->forgets < model->forgets_at_write//
@@ -45,40 +45,40 @@ compare_drawn() {
     for project in examples/tool_changer.in examples/bit_terminals.in examples/two_groups.in; do
         for seed in 1 2; do
             drawn $project 30000 $seed && same_inside "$hotline"
-            tell $? "calls drawn of $project by seed $seed: < is answered from C, > is printed inside" ||
+            report $? "calls drawn of $project by seed $seed: < is answered from C, > is printed inside" ||
                 cat "$scratch/printed" "$scratch/difference"
             commands=$((commands + $(sed -n 's/.*, \([0-9]*\) of them written as commands.*/\1/p' "$scratch/printed")))
         done
     done
     echo "embed: $commands commands are answered from C as inside the language"
     [ "$commands" -ge 20000 ]
-    tell $? "fewer than 20,000 commands were compared"
+    report $? "fewer than 20,000 commands were compared"
     drawn examples/tool_changer.in 30000 3
     for way in byte line epoch; do
         ! same_inside "$scratch/wrong" $way "$hotline"
-        tell $? "drawn calls agree with a program with another $way"
+        report $? "drawn calls agree with a program with another $way"
     done
     for name in place read read=2 read=3 connect arrive arrive=2 send open next_change next_write forget forget=2 preview post close \
         counters share owed_block get_value put_bits; do
         compiled_fuzz tools/embed/wrong.c -DWRONG_$name -Wl,--wrap=zangjulf_${name%=*}
-        tell $? "the wrong $name isn't built"
+        report $? "the wrong $name isn't built"
         ! { drawn examples/tool_changer.in 30000 3 && same_inside "$hotline"; }
-        tell $? "drawn calls don't find the wrong $name"
+        report $? "drawn calls don't find the wrong $name"
     done
     # what the program has no command for is found by the model alone
     for name in next_writes next_writes=2 next_writes=3 arrive=3 seat_open seat_close show seat_view seat_view=2 seat_view=3 seat_view=4 \
         seat_outputs seat_post seat_post=2 seat_post=3 seat_post=4 take_posts take_posts=2; do
         compiled_fuzz tools/embed/wrong.c -DWRONG_$name -Wl,--wrap=zangjulf_${name%=*}
-        tell $? "the wrong $name isn't built"
+        report $? "the wrong $name isn't built"
         ! (timeout 300 "$scratch/fuzz" examples/tool_changer.in 100000 3 >"$scratch/printed") 2>/dev/null
-        tell $? "drawn calls don't find the wrong $name"
+        report $? "drawn calls don't find the wrong $name"
     done
     # and so is, by tasks at full speed, an image that goes back, outputs that are torn, and a post that is dropped
     for name in seat_view=4 seat_outputs seat_post=3; do
         compiled seat_threads -O2 -pthread tools/embed/wrong.c -DWRONG_$name -Wl,--wrap=zangjulf_${name%=*}
-        tell $? "the wrong $name isn't built"
+        report $? "the wrong $name isn't built"
         ! (timeout 60 "$scratch/seat_threads" 100001 >"$scratch/printed") 2>/dev/null
-        tell $? "tasks at full speed don't find the wrong $name"
+        report $? "tasks at full speed don't find the wrong $name"
     done
     wrong_models
 }

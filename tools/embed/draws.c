@@ -41,7 +41,7 @@ uint8_t *last(const struct guarded *room, size_t size) { return room->end - size
 #define DECLARED_ALIAS 900
 #define DECLARED_STATION 9000
 
-/* The numbers that stand behind a key in the project. */
+/* The numbers after a key in the project. */
 struct numbers {
     uint16_t each[64];
     size_t count;
@@ -50,7 +50,7 @@ static struct numbers stations, aliases, pdos;
 char text[1 << 16];
 size_t text_size;
 
-static struct numbers numbers_behind(const char *key) {
+static struct numbers numbers_after(const char *key) {
     struct numbers found = {{0}, 0};
     for (const char *at = text; (at = strstr(at, key)) && found.count < 64; at += strlen(key))
         found.each[found.count++] = (uint16_t)strtoul(at + strlen(key), NULL, 0);
@@ -80,7 +80,7 @@ bool read_project(const char *name) {
     char *end = strstr(text, "\n%%\n");
     if (end) text_size = (size_t)(end + 1 - text);
     text[text_size] = 0;
-    stations = numbers_behind("station = "), aliases = numbers_behind("alias = "), pdos = numbers_behind("index = ");
+    stations = numbers_after("station = "), aliases = numbers_after("alias = "), pdos = numbers_after("index = ");
     return text_size > 0;
 }
 

@@ -1,4 +1,4 @@
-/* What is drawn: numbers, those of a project that is read, and room for slices. */
+/* What is drawn: numbers, also of a project that is read, and room for slices. */
 #ifndef DRAWS_H
 #define DRAWS_H
 
@@ -18,7 +18,7 @@ uint64_t below(uint64_t n);
 /* A length: mostly small or enough, sometimes any. */
 size_t some_length(size_t most);
 
-/* Room whose end is that of its last page that can be touched. */
+/* Room that ends with its last page that can be touched. */
 struct guarded {
     uint8_t *end;
     size_t size;
@@ -39,7 +39,7 @@ uint16_t some_alias(void);
 uint16_t some_pdo(void);
 
 /* The text of a group, mostly of one slave with one area whose numbers are free or taken, sometimes another one or spoilt, at
- * the end of a room; its bytes are told. */
+ * the end of a room; `*size` is its bytes. */
 uint8_t *some_group(const struct guarded *room, size_t *size);
 
 #endif

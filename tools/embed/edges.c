@@ -1,6 +1,6 @@
 /* What a C caller may do wrong or unluckily: closed handles, slices that are too short, tasks that can't be sent together,
  * growths of memory that are refused; and a simulated line, written, sent and read. It is given the project of the tool
- * changer, and ends with status 1 at the first answer that isn't the one that include/zangjulf.h tells. Growths are refused
+ * changer, and ends with status 1 at the first answer that isn't the one in include/zangjulf.h. Growths are refused
  * where it is linked with --wrap=malloc, --wrap=realloc and --wrap=free, and WRAPPED is defined. */
 #include <stdio.h>
 #include <stdlib.h>
@@ -190,7 +190,7 @@ static void write_at_once(struct zangjulf *line) {
     free(single);
 }
 
-/* Outputs reach the slaves, inputs the tasks, and each is told as a change, in order. */
+/* Outputs reach the slaves, inputs the tasks, and each is handed out as a change, in order. */
 static void exchange(struct zangjulf *line) {
     const uint8_t tasks[2] = {0, 1}, outputs[14] = {1, 2, 3, 4, 5, 6, 7, 8, 9, 10, 11, 12, 13, 14};
     uint8_t *frames = slice(80), *data = slice(26);
@@ -208,7 +208,7 @@ static void exchange(struct zangjulf *line) {
     EXPECT(zangjulf_send(line, tasks, 2, frames, 80, &sent) == ZANGJULF_DONE && sent.frames == 1 && sent.size == 68);
     EXPECT(zangjulf_frame_size(frames) == 68 && frames[68] == 0xaa);
     pass(frames, sent.size);
-    /* axis X has the first six output bytes, axis Y the others; its second byte is a gap, of which nothing is sent */
+    /* axis X has the first six output bytes, axis Y the others; its second byte is a gap, and nothing is sent of it */
     EXPECT(memories[1][0x1100] == 1 && memories[1][0x1105] == 6 && memories[2][0x1100] == 7 && memories[2][0x1107] == 14);
     EXPECT(!memories[2][0x1101]);
     EXPECT(zangjulf_is_mine(frames, sent.size));
@@ -286,7 +286,8 @@ static void edit(struct zangjulf *line) {
     free(blank);
 }
 
-/* A group is declared: asked first, then done; it is taken then, and comes when it is connected. A text of no group is told. */
+/* A group is declared: asked first, then done; it is taken then, and comes when it is connected. A text of no group is refused.
+ * */
 static void declare(struct zangjulf *line) {
     static const char group[] = "[[group]]\nalias = 900\n[[group.slave]]\nstation = 9001\n";
     struct zangjulf_cost cost;

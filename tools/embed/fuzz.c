@@ -1,17 +1,17 @@
-/* Draws calls of the C library: any order, any numbers, any bytes, handles that are open and closed, slices of any length,
- * each of which ends where a page that can't be touched begins, growths that are refused. It ends with status 1 at an answer
- * that include/zangjulf.h doesn't allow, at a slice that was written though the call was refused, at an outcome, an age, a
- * counter, an owed block or a frame of register writes that isn't the plain model's (model.h), at an image, outputs or a post of a
- * seat that isn't its model's (seated.h), at bits that aren't those taken one by one, at a change that isn't the next of what
- * happened, at a line that is full of changes and isn't answered so, or the other way round, and where memory is live once all
- * handles are closed.
+/* Draws calls of the C library: any order, any numbers, any bytes, open and closed handles, slices of any length that end where
+ * a page that can't be touched begins, refused growths. It ends with status 1 at an answer that include/zangjulf.h doesn't
+ * allow, at a slice that was written though the call was refused, at an outcome, an age, a counter, an owed block or a frame of
+ * register writes that isn't the plain model's (model.h), at an image, outputs or a post of a seat that isn't its model's
+ * (seated.h), at bits that differ from bits taken one by one, at a change that isn't the next of what happened, at a line
+ * that is full of changes and isn't answered so, or the other way round, and where memory is live once all handles are
+ * closed.
  *
  *     fuzz PROJECT CALLS SEED [FOLDER [declare]]
  *
  * PROJECT is a text, which a line `%%` may end. With FOLDER each opened line leaves two files there: N.in is the script of
  * those calls for which the program hotline has a command (docs/use/PROGRAM.md), and N.out what they were answered, in the
  * program's words. A call that changes nothing and has no command is left out, as one with a short slice, a refused growth or
- * a question; so what stands must be what the program prints, whatever was called in between. Posts, for which there is no
+ * a question; so the rest must be what the program prints, whatever was called in between. Posts, for which there is no
  * command, are of zeros there, as if none had been made; a group is declared there only with `declare`. */
 #define _GNU_SOURCE
 #include <stdarg.h>
@@ -22,13 +22,13 @@
 #include "growths.h"
 #include "judge.h"
 #include "model.h"
-#include "news.h"
+#include "pending.h"
 #include "seated.h"
 #include "words.h"
 
 #define LINES 3
 #define SLAVES 32
-#define KEPT 8
+#define FRAMES 8
 #define MOST_SCRIPT 3000000 /* the program reads 4,194,304 bytes at most */
 
 static unsigned long commands;
@@ -40,19 +40,19 @@ struct line {
     struct zangjulf handle;
     struct model model;
     struct owner owner;
-    struct news news;
+    struct pending pending;
     uint32_t most_changes;
-    uint8_t kept[KEPT][ZANGJULF_FRAME];
-    size_t kept_sizes[KEPT], newest;
-    FILE *script, *told;
+    uint8_t frames[FRAMES][ZANGJULF_FRAME];
+    size_t frame_sizes[FRAMES], last_frame;
+    FILE *script, *answers;
 };
 static struct line lines[LINES];
 static const char *folder;
 static bool declares;
 
 static void end_script(struct line *line) {
-    if (line->script && (fclose(line->script) || fclose(line->told))) exit(2);
-    line->script = line->told = NULL;
+    if (line->script && (fclose(line->script) || fclose(line->answers))) exit(2);
+    line->script = line->answers = NULL;
 }
 
 static FILE *created(unsigned number, const char *kind) {
@@ -67,16 +67,16 @@ static void begin_script(struct line *line, const uint8_t *text, size_t size, un
     static unsigned scripts;
     if (!folder || number == ZANGJULF_MEMORY) return;
     line->script = created(scripts, "in");
-    line->told = created(scripts++, "out");
+    line->answers = created(scripts++, "out");
     fwrite(text, 1, size, line->script);
     fprintf(line->script, "%%%%\n");
     if (!number) return;
-    tell_opening(line->told, number, task);
+    print_opening(line->answers, number, task);
     end_script(line);
 }
 
-/* Whether an answered call stands in the line's script: not one that changed nothing and for which the program has no word. */
-static bool is_told(struct line *line, unsigned number) {
+/* Whether an answered call goes into the line's script: not one that changed nothing and for which the program has no word. */
+static bool is_scripted(struct line *line, unsigned number) {
     if (line->script && ftell(line->script) > MOST_SCRIPT) end_script(line);
     return line->script && number != ZANGJULF_MEMORY && number != ZANGJULF_ROOM && number < ZANGJULF_CHANGES_FULL;
 }
@@ -109,16 +109,16 @@ static uint8_t *machine_of(uint16_t station) {
 }
 
 static void keep(struct line *line, const uint8_t *frame, size_t size) {
-    size_t i = line->newest = (line->newest + 1) % KEPT;
+    size_t i = line->last_frame = (line->last_frame + 1) % FRAMES;
     uint16_t station;
-    memcpy(line->kept[i], frame, size);
-    line->kept_sizes[i] = size;
+    memcpy(line->frames[i], frame, size);
+    line->frame_sizes[i] = size;
     if (!below(8)) return;
     for (uint32_t k = 0; !zangjulf_station(&line->handle, k, &station); k++) {
         uint8_t *in = last(&ins, size);
-        memcpy(in, line->kept[i], size);
+        memcpy(in, line->frames[i], size);
         if (zangjulf_slave_process(machine_of(station), ZANGJULF_SLAVE_MEMORY, in, size)) fail("a slave", 0);
-        memcpy(line->kept[i], in, size);
+        memcpy(line->frames[i], in, size);
     }
 }
 
@@ -130,7 +130,7 @@ static void opening(struct line *line) {
     if (!below(3) && size) moved[below(size)] = (uint8_t)draw();
     if (size) moved[size - 1] = '\n';
     end_script(line);
-    forget_news(&line->news);
+    forget_pending(&line->pending);
     line->most_changes = !below(3) ? 0 : below(3) ? 1 + (uint32_t)below(3) : UINT32_MAX;
     unsigned number = zangjulf_open(&line->handle, moved, size, line->most_changes, &task);
     bool is_fault = number == ZANGJULF_TOO_MANY_DATAGRAMS || number == ZANGJULF_MEMORY || (number > 200 && number <= ZANGJULF_PROJECT_AREA_TOO_BIG);
@@ -142,19 +142,19 @@ static void opening(struct line *line) {
 
 /* Whether a line that keeps changes would have too many with so many more: 252 answers just that, where no change was missed. */
 static void expect_full(const struct line *line, bool was_open, unsigned number, size_t more) {
-    bool is_full = was_open && line->most_changes && line->news.count + more > line->most_changes;
-    if (!was_open || (line->most_changes && !line->news.is_sure)) return;
+    bool is_full = was_open && line->most_changes && line->pending.count + more > line->most_changes;
+    if (!was_open || (line->most_changes && !line->pending.is_sure)) return;
     if ((number == ZANGJULF_CHANGES_FULL) != is_full) fail("a line full of changes and 252", number);
 }
 
 static void closing(struct line *line) {
     zangjulf_close(&line->handle);
     end_script(line);
-    forget_news(&line->news);
+    forget_pending(&line->pending);
     owner_left(&line->owner);
 }
 
-static void telling(struct line *line, bool was_open) {
+static void asking(struct line *line, bool was_open) {
     uint32_t word = 0;
     uint64_t serial = 0;
     expect(zangjulf_epoch(&line->handle, &word), was_open, "\0");
@@ -189,9 +189,9 @@ static void writing(struct line *line, bool was_open) {
     if (number) expect_untouched(out, room, number);
     else model_sent(&line->model, &line->handle, out), keep(line, out, write.size);
     if (number == ZANGJULF_ROOM && (write.size != 60 || room >= 60)) fail("a write's room", number);
-    if (!is_told(line, number)) return;
+    if (!is_scripted(line, number)) return;
     say(line, "write\n");
-    tell_write(line->told, number, serial, out, write.size);
+    print_write(line->answers, number, serial, out, write.size);
 }
 
 /* There is no command for it: what is written of the line ends with a frame of register writes. */
@@ -250,11 +250,11 @@ static void sending(struct line *line, bool was_open) {
     if (number) expect_untouched(out, room, number);
     if (number == ZANGJULF_UNPROGRAMMED && sent.owed != owed) fail("how many blocks are owed", number);
     if (number == ZANGJULF_ROOM && sent.size <= room) fail("a sending's room", number);
-    if (is_told(line, number)) {
+    if (is_scripted(line, number)) {
         say(line, "send");
         for (size_t i = 0; i < count; i++) fprintf(line->script, " %u", tasks[i]);
         fprintf(line->script, "\n");
-        tell_sending(line->told, number, serial, out, &sent);
+        print_sending(line->answers, number, serial, out, &sent);
     }
     const uint8_t *frame = out;
     for (size_t i = 0; !number && i < sent.frames; i++, frame += zangjulf_frame_size(frame)) {
@@ -268,11 +268,11 @@ static void sending(struct line *line, bool was_open) {
 
 static void arriving(struct line *line, bool was_open) {
     const struct line *from = below(8) ? line : &lines[below(LINES)];
-    size_t i = below(3) ? from->newest : below(KEPT), size = from->kept_sizes[i];
+    size_t i = below(3) ? from->last_frame : below(FRAMES), size = from->frame_sizes[i];
     size_t room = line->script ? ZANGJULF_OUTCOMES : some_length(ZANGJULF_OUTCOMES);
     if (!below(10)) size = below(size + 1);
     uint8_t *in = last(&ins, size);
-    memcpy(in, from->kept[i], size);
+    memcpy(in, from->frames[i], size);
     if (!below(6) && size) in[below(size)] = (uint8_t)draw();
     struct zangjulf_outcome *outcomes = (void *)last(&words, room * sizeof *outcomes);
     struct zangjulf_arrival arrival = {0, 0, 0, 0};
@@ -283,12 +283,12 @@ static void arriving(struct line *line, bool was_open) {
     if (number == ZANGJULF_MEMORY && !line->most_changes) fail("memory where no change is kept", number);
     if (is_judged || is_full) expect_full(line, was_open, number, model_adds(&line->model, in));
     if (is_judged && !model_arrived(&line->model, in, number, &arrival, outcomes, room)) fail("another arrival than the model's", number);
-    if (!number && line->most_changes) add_answers(&line->news, in, outcomes, arrival.datagrams, room);
-    if (!size || !is_told(line, number)) return;
+    if (!number && line->most_changes) add_answers(&line->pending, in, outcomes, arrival.datagrams, room);
+    if (!size || !is_scripted(line, number)) return;
     say(line, "arrive ");
-    tell_hex(line->script, in, size);
+    print_hex(line->script, in, size);
     fprintf(line->script, "\n");
-    tell_arrival(line->told, number, outcomes, arrival.datagrams);
+    print_arrival(line->answers, number, outcomes, arrival.datagrams);
 }
 
 static void reading(struct line *line, bool was_open) {
@@ -304,9 +304,9 @@ static void reading(struct line *line, bool was_open) {
     if (!number && image.size != (size_t)part.outputs + part.inputs) fail("the bytes of an image", number);
     if (!number && !model_reads(&line->model, task, &image, serials, many)) fail("another image than the model's", number);
     if (!number) expect_untouched(out + image.size, room - image.size, number);
-    if (!is_told(line, number)) return;
+    if (!is_scripted(line, number)) return;
     say(line, "read %u\n", task);
-    tell_image(line->told, number, &line->handle, task, &image, out);
+    print_image(line->answers, number, &line->handle, task, &image, out);
 }
 
 static void changing(struct line *line, bool was_open) {
@@ -317,7 +317,7 @@ static void changing(struct line *line, bool was_open) {
     expect(number, was_open, "\0\x1d\x64");
     if (number) expect_untouched(out, room, number);
     if (was_open && !line->most_changes && number != ZANGJULF_NOTHING) fail("a change that wasn't to be kept", number);
-    if (was_open && line->most_changes && !is_next(&line->news, number, &change, out, room)) fail("not the next change", number);
+    if (was_open && line->most_changes && !is_next(&line->pending, number, &change, out, room)) fail("not the next change", number);
 }
 
 static void previewing(struct line *line, bool was_open) {
@@ -328,9 +328,9 @@ static void previewing(struct line *line, bool was_open) {
     unsigned number = zangjulf_preview(&line->handle, task, datagram, out, room, &size);
     expect(number, was_open, "\0\x64\x1d");
     if (number) expect_untouched(out, room, number);
-    if (!is_told(line, number)) return;
+    if (!is_scripted(line, number)) return;
     say(line, "show %u %u\n", task, datagram);
-    tell_preview(line->told, number, task, serial, out, size);
+    print_preview(line->answers, number, task, serial, out, size);
 }
 
 static void looking(struct line *line, bool was_open) {
@@ -345,9 +345,9 @@ static void looking(struct line *line, bool was_open) {
     uint8_t *out = fresh(room);
     unsigned number = zangjulf_place(handle, variable, &place);
     expect(number, was_open, "\0\x64");
-    if (is_told(line, number)) {
+    if (is_scripted(line, number)) {
         say(line, "place %u\n", variable);
-        tell_place(line->told, number, variable, &place);
+        print_place(line->answers, number, variable, &place);
     }
     expect(zangjulf_datagram(handle, (uint8_t)below(9), (uint8_t)below(17), &datagram), was_open, "\0\x64");
     expect(zangjulf_part(handle, (uint8_t)draw(), &part), was_open, "\0");
@@ -355,16 +355,16 @@ static void looking(struct line *line, bool was_open) {
     number = zangjulf_block(handle, station, (uint8_t)below(6), out, room, &block);
     expect(number, was_open, "\0\x64\x1d");
     if (number) expect_untouched(out, room, number);
-    if (is_told(line, ZANGJULF_DONE)) {
+    if (is_scripted(line, ZANGJULF_DONE)) {
         say(line, "regs %u\n", station);
-        tell_blocks(line->told, handle, station);
+        print_blocks(line->answers, handle, station);
         say(line, "layout\n");
-        tell_layout(line->told, handle);
+        print_layout(line->answers, handle);
     }
     expect(zangjulf_station(handle, (uint32_t)below(9), &station), was_open, "\0\x64");
 }
 
-/* What the model knows, and the library tells of itself. */
+/* What the model knows, and the library says of itself. */
 static void counting(struct line *line, bool was_open) {
     struct zangjulf_counters counters;
     uint8_t task = (uint8_t)below(9), datagram = (uint8_t)below(4);
@@ -435,7 +435,7 @@ static unsigned asked_for(struct line *line, struct edit *edit, bool asks, struc
     }
 }
 
-static void tell_edited(struct line *line, const struct edit *edit, unsigned number, const struct zangjulf_cost *cost) {
+static void print_edited(struct line *line, const struct edit *edit, unsigned number, const struct zangjulf_cost *cost) {
     switch (edit->kind) {
     case 0: say(line, "connect %u\n", edit->alias); break;
     case 1: say(line, "disconnect %u\n", edit->alias); break;
@@ -449,10 +449,10 @@ static void tell_edited(struct line *line, const struct edit *edit, unsigned num
         say(line, "declare\n");
         fwrite(edit->text, 1, edit->size, line->script);
         fprintf(line->script, "%%%%\n");
-        tell_declaration(line->told, number, cost);
+        print_declaration(line->answers, number, cost);
         return;
     }
-    tell_edit(line->told, number, cost);
+    print_edit_answer(line->answers, number, cost);
 }
 
 /* An edit asked for and then carried out: unless a growth was refused both answer the same. */
@@ -481,8 +481,8 @@ static void editing(struct line *line, bool was_open) {
     if (!is_full && asked != ZANGJULF_MEMORY && number != ZANGJULF_MEMORY && (asked != number || would.moved != cost.moved)) fail("what an edit was told to do", number);
     if (is_left_out) return;
     if (!number) model_edited(&line->model, &line->handle);
-    if (!number && line->most_changes) add_edit(&line->news);
-    if (is_told(line, number)) tell_edited(line, &edit, number, &cost);
+    if (!number && line->most_changes) add_edit(&line->pending);
+    if (is_scripted(line, number)) print_edited(line, &edit, number, &cost);
 }
 
 static void call_once(struct line *line) {
@@ -491,7 +491,7 @@ static void call_once(struct line *line) {
     switch (below(was_open ? 2000 : 20) ? below(14) : 14) {
     case 10: case 11: case 12: case 13: draw_seat_call(&line->handle, &line->owner, folder); break;
     case 0:
-        if (below(folder ? 150 : 3)) call = "telling", telling(line, was_open);
+        if (below(folder ? 150 : 3)) call = "telling", asking(line, was_open);
         else call = "forget", forgetting(line, was_open);
         break;
     case 1: call = "post"; posting(line, was_open); break;
@@ -524,7 +524,7 @@ int main(int count, char **arguments) {
     begin_draws(strtoull(arguments[3], NULL, 0));
     unsigned long most = strtoul(arguments[2], NULL, 0);
     long before = live;
-    for (int i = 0; i < LINES; i++) forget_news(&lines[i].news);
+    for (int i = 0; i < LINES; i++) forget_pending(&lines[i].pending);
     for (calls = 0; calls < most; calls++) call_once(&lines[below(LINES)]);
     left = -1;
     for (int i = 0; i < LINES; i++) closing(&lines[i]);

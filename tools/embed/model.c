@@ -181,8 +181,8 @@ bool model_arrived(struct model *model, const uint8_t *frame, unsigned number, c
     size_t places[ZANGJULF_OUTCOMES], count = heads_of(frame, came, places);
     const struct sending *sending = answered_by(model, frame, came, count);
     if (!sending) return number == ZANGJULF_STALE;
-    bool is_write = came[0].command == 5, is_news = false;
-    if (is_write && count == 1) {
+    bool is_register_write = came[0].command == 5, has_answer = false;
+    if (is_register_write && count == 1) {
         unsigned wanted = write_answer(model, sending, (uint16_t)number_at(frame + places[0] + came[0].length, 2));
         const struct head *head = &sending->heads[0];
         if (number != wanted) return false;
@@ -190,14 +190,14 @@ bool model_arrived(struct model *model, const uint8_t *frame, unsigned number, c
     }
     for (size_t i = 0; i < count; i++) {
         uint16_t got = (uint16_t)number_at(frame + places[i] + came[i].length, 2);
-        expected[i] = is_write ? block_outcome(model, sending, i, places[i], got) : outcome_of(model, sending, i, places[i], got);
-        is_news |= expected[i].kind != ZANGJULF_SENT_AGAIN;
+        expected[i] = is_register_write ? block_outcome(model, sending, i, places[i], got) : outcome_of(model, sending, i, places[i], got);
+        has_answer |= expected[i].kind != ZANGJULF_SENT_AGAIN;
     }
-    if (!is_news) return number == ZANGJULF_STALE;
-    if (number != (is_write ? ZANGJULF_WRITTEN : ZANGJULF_DONE) || arrival->datagrams != count || arrival->serial != sending->serial) return false;
+    if (!has_answer) return number == ZANGJULF_STALE;
+    if (number != (is_register_write ? ZANGJULF_WRITTEN : ZANGJULF_DONE) || arrival->datagrams != count || arrival->serial != sending->serial) return false;
     if (arrival->station || arrival->start) return false;
     for (size_t i = 0; i < count; i++) {
-        if (!is_write) judged(model, &expected[i], sending->serial);
+        if (!is_register_write) judged(model, &expected[i], sending->serial);
         else if (expected[i].kind == ZANGJULF_BLOCK_WRITTEN) awaited_block(model, sending, i)->is_confirmed = true;
         if (i < room && !is_same(&outcomes[i], &expected[i])) return false;
     }

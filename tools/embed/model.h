@@ -1,6 +1,7 @@
-/* A plain model of what a line tells of its sendings: of each arrival the outcomes with their names, counts and places in the
- * frame; how old each datagram's data are; the counters, and what each slave adds to one; which register blocks are owed. It knows
- * the frames and the answers that were accepted, and of the library only its configuration (datagrams, blocks, stations). */
+/* A plain model of what a line answers about its sendings: of each arrival the outcomes with their names, counts and places in
+ * the frame; how old each datagram's data are; the counters, and what each slave adds to one; which register blocks are owed.
+ * It knows the frames and the answers that were accepted, and of the library only its configuration (datagrams, blocks,
+ * stations). */
 #ifndef MODEL_H
 #define MODEL_H
 
@@ -83,7 +84,7 @@ bool model_reads(const struct model *model, uint8_t task, const struct zangjulf_
 bool model_counts(const struct model *model, uint8_t task, uint8_t datagram, const struct zangjulf_counters *counters);
 
 /* Whether each slave of the line adds to the counter of a datagram what its FMMU blocks say, and all of them its expected counter;
- * where the task has no such datagram, whether none is told. */
+ * where the task has no such datagram, whether none is answered. */
 bool model_shares(const struct zangjulf *line, uint8_t task, uint8_t number);
 
 /* Whether these blocks are owed, in this order, and no other one. */

@@ -4,10 +4,10 @@
 by_pkg_config() {
     (cd "$outside" && export PKG_CONFIG_PATH="$scratch/prefix/lib/pkgconfig" &&
         gcc -std=c11 -Wall -Wextra -Werror play.c words.c $(pkg-config --cflags --libs zangjulf) -o by_pkg_config)
-    tell $? "no C program is built by pkg-config"
+    report $? "no C program is built by pkg-config"
     play "C by pkg-config" env LD_LIBRARY_PATH="$scratch/prefix/lib" "$outside/by_pkg_config"
     [ "$(PKG_CONFIG_PATH="$scratch/prefix/lib/pkgconfig" pkg-config --modversion zangjulf)" = "$version" ]
-    tell $? "pkg-config tells another version than $version"
+    report $? "pkg-config tells another version than $version"
 }
 
 # by_cmake: likewise by CMake, the shared library and the archive; a version that is too new isn't found
@@ -26,7 +26,7 @@ add_executable(archive play.c words.c)
 target_link_libraries(archive Zangjulf::static)
 END
     (cd "$outside" && cmake -B made -DCMAKE_PREFIX_PATH="$scratch/prefix" . && cmake --build made) >"$scratch/printed" 2>&1
-    tell_said $? "no C program is built by CMake"
+    report_run $? "no C program is built by CMake"
     play "C by CMake" "$outside/made/shared"
     play "C by CMake, the archive" "$outside/made/archive"
 }
@@ -36,12 +36,12 @@ installed() {
     outside=$scratch/outside
     mkdir "$outside"
     tools/install.sh "$scratch/before" >"$scratch/printed" 2>&1
-    tell_said $? "the library isn't installed"
+    report_run $? "the library isn't installed"
     mv "$scratch/before" "$scratch/prefix"
     readelf -d "$scratch/prefix/lib/libzangjulf.so" | grep -q "soname: \[libzangjulf.so.$abi\]"
-    tell $? "the shared object has another name than libzangjulf.so.$abi"
+    report $? "the shared object has another name than libzangjulf.so.$abi"
     ! nm -D --defined-only "$scratch/prefix/lib/libzangjulf.so" | grep -v " A ZANGJULF_$abi\$" | grep -qv ' zangjulf_'
-    tell $? "the shared object exports more than the header's calls"
+    report $? "the shared object exports more than the header's calls"
     cp tools/embed/play.c tools/embed/words.c tools/embed/words.h "$outside/"
     ! has pkg-config || by_pkg_config
     ! { has cmake && has make; } || by_cmake
@@ -51,7 +51,7 @@ installed() {
 rust_outside() {
     export CARGO_TARGET_DIR=$scratch/target
     RUSTDOCFLAGS='-D warnings' cargo doc --quiet --offline --no-deps --manifest-path bindings/rust/Cargo.toml >"$scratch/printed" 2>&1
-    tell_said $? "cargo doc warns"
+    report_run $? "cargo doc warns"
     mkdir -p "$scratch/rust/src"
     cp bindings/rust/examples/play.rs "$scratch/rust/src/main.rs"
     cat >"$scratch/rust/Cargo.toml" <<END
@@ -65,7 +65,7 @@ zangjulf = { path = "$PWD/bindings/rust" }
 END
     (cd "$scratch/rust" && env -u ZANGJULF_LIB_DIR PKG_CONFIG_PATH="$scratch/prefix/lib/pkgconfig" \
         cargo build --quiet --offline --release) >"$scratch/printed" 2>&1
-    tell_said $? "no Rust program is built outside the repository"
+    report_run $? "no Rust program is built outside the repository"
     play "Rust outside the repository" "$scratch/target/release/outside"
 }
 
@@ -73,12 +73,12 @@ END
 python_outside() {
     python3 -m venv "$scratch/venv" >"$scratch/printed" 2>&1 &&
         "$scratch/venv/bin/pip" install --quiet --no-index --disable-pip-version-check ./bindings/python >>"$scratch/printed" 2>&1
-    tell_said $? "pip doesn't install the package"
+    report_run $? "pip doesn't install the package"
     mkdir "$scratch/python"
     cp bindings/python/play.py "$scratch/python/"
     play "Python outside the repository" "$scratch/venv/bin/python" "$scratch/python/play.py"
     (cd "$scratch/python" && "$scratch/venv/bin/python" -m zangjulf) >"$scratch/printed"
     grep -qx "zangjulf $version" "$scratch/printed" && grep -q "^library $scratch/venv/" "$scratch/printed" &&
         grep -q '^logic=proved ' "$scratch/printed"
-    tell_said $? "python -m zangjulf tells another version, another library than the installed one, or no verdict"
+    report_run $? "python -m zangjulf tells another version, another library than the installed one, or no verdict"
 }

@@ -24,7 +24,7 @@ static void write_block(void) {
     struct zangjulf_write write;
     zangjulf_next_serial(&line, &serial);
     unsigned number = zangjulf_next_write(&line, out, sizeof out, &write);
-    tell_write(stdout, number, serial, out, write.size);
+    print_write(stdout, number, serial, out, write.size);
 }
 
 static void send_tasks(char **words, size_t count) {
@@ -35,7 +35,7 @@ static void send_tasks(char **words, size_t count) {
     for (size_t i = 0; i < count; i++) tasks[i] = (uint8_t)number_in(words[i]);
     zangjulf_next_serial(&line, &serial);
     unsigned number = zangjulf_send(&line, tasks, count, out, sizeof out, &sent);
-    tell_sending(stdout, number, serial, out, &sent);
+    print_sending(stdout, number, serial, out, &sent);
 }
 
 static void arrive(const char *word) {
@@ -48,14 +48,14 @@ static void arrive(const char *word) {
         out[i] = (uint8_t)byte;
     }
     unsigned number = zangjulf_arrive(&line, out, size, outcomes, ZANGJULF_OUTCOMES, &arrival);
-    tell_arrival(stdout, number, outcomes, arrival.datagrams);
+    print_arrival(stdout, number, outcomes, arrival.datagrams);
 }
 
 static void read_task(unsigned long task) {
     uint64_t serials[ZANGJULF_DATAGRAMS];
     struct zangjulf_image image = {0, 0, 0, 0};
     unsigned number = zangjulf_read(&line, (uint8_t)task, out, sizeof out, serials, ZANGJULF_DATAGRAMS, &image);
-    tell_image(stdout, number, &line, (uint8_t)task, &image, out);
+    print_image(stdout, number, &line, (uint8_t)task, &image, out);
 }
 
 static void show(unsigned long task, unsigned long datagram) {
@@ -63,26 +63,26 @@ static void show(unsigned long task, unsigned long datagram) {
     size_t size = 0;
     zangjulf_next_serial(&line, &serial);
     unsigned number = zangjulf_preview(&line, (uint8_t)task, (uint8_t)datagram, out, sizeof out, &size);
-    tell_preview(stdout, number, (unsigned)task, serial, out, size);
+    print_preview(stdout, number, (unsigned)task, serial, out, size);
 }
 
 static void find(unsigned long variable) {
     struct zangjulf_place place;
     unsigned number = zangjulf_place(&line, (uint32_t)variable, &place);
-    tell_place(stdout, number, (uint32_t)variable, &place);
+    print_place(stdout, number, (uint32_t)variable, &place);
 }
 
 static bool same_cost(const struct zangjulf_cost *a, const struct zangjulf_cost *b) {
     return a->epoch == b->epoch && a->recut == b->recut && a->moved == b->moved && a->places == b->places;
 }
 
-/* What an edit answered. What it would cost is asked before it is carried out: both must tell the same. */
+/* What an edit answered. What it would cost is asked before it is carried out: both must answer the same. */
 static void print_edit(unsigned asked, const struct zangjulf_cost *would, unsigned number, const struct zangjulf_cost *cost) {
     if (asked != number || (!number && !same_cost(would, cost))) {
         printf("asked %u, answered %u\n", asked, number);
         exit(1);
     }
-    tell_edit(stdout, number, cost);
+    print_edit_answer(stdout, number, cost);
 }
 
 static unsigned edit(char **words, size_t count, bool asks, struct zangjulf_cost *cost) {
@@ -99,8 +99,8 @@ static unsigned edit(char **words, size_t count, bool asks, struct zangjulf_cost
 
 static void run(char **words, size_t count) {
     const char *name = words[0];
-    if (!strcmp(name, "layout") && count == 1) tell_layout(stdout, &line);
-    else if (!strcmp(name, "regs") && count == 2) tell_blocks(stdout, &line, (uint16_t)number_in(words[1]));
+    if (!strcmp(name, "layout") && count == 1) print_layout(stdout, &line);
+    else if (!strcmp(name, "regs") && count == 2) print_blocks(stdout, &line, (uint16_t)number_in(words[1]));
     else if (!strcmp(name, "show") && count == 3) show(number_in(words[1]), number_in(words[2]));
     else if (!strcmp(name, "place") && count == 2) find(number_in(words[1]));
     else if (!strcmp(name, "write") && count == 1) write_block();
@@ -130,7 +130,7 @@ int main(void) {
     uint8_t task = 0;
     unsigned number = zangjulf_open(&line, (const uint8_t *)input, (size_t)(end - input), 0, &task);
     if (number) {
-        tell_opening(stdout, number, task);
+        print_opening(stdout, number, task);
         return 3;
     }
     char *rest;

@@ -1,6 +1,6 @@
 /* Seats, in one thread: what each call answers, what is there after it, and what a caller may do wrong or unluckily: closed seats and
  * lines, slices that are too short, posts for another epoch, a fifth post, a task that gets another seat. It is given the project of
- * the tool changer, and ends with status 1 at the first answer that isn't the one that include/zangjulf.h tells. Growths are
+ * the tool changer, and ends with status 1 at the first answer that isn't the one in include/zangjulf.h. Growths are
  * refused where it is linked with --wrap=malloc, --wrap=realloc and --wrap=free, and WRAPPED is defined. */
 #include <stdio.h>
 #include <stdlib.h>
@@ -135,7 +135,7 @@ static void images(struct zangjulf *line, struct zangjulf_seat *seat) {
     EXPECT(zangjulf_seat_view(seat, data, IMAGE, serials, 2, &view) == ZANGJULF_DONE && view.epoch == 0 && view.size == IMAGE && view.outputs == OUTPUTS && !view.has);
     EXPECT(!serials[0] && serials[1] == 7 && !data[0] && !data[IMAGE - 1]);
     for (uint8_t i = 0; i < OUTPUTS; i++) posted[i] = (uint8_t)(i + 1);
-    posted[7] = 0; /* a gap, of which nothing is sent */
+    posted[7] = 0; /* a gap: nothing is sent of it */
     EXPECT(zangjulf_post(line, 0, 0, posted, OUTPUTS) == ZANGJULF_DONE);
     uint64_t first = exchange(line, 0);
     EXPECT(zangjulf_show(line) == ZANGJULF_DONE);
@@ -256,32 +256,32 @@ static void of_a_line(void) {
 /* Each growth of the opening of a seat refused in turn: line and seat as they were, and nothing more is live. */
 static void refused_seats(void) {
     struct zangjulf line = {0};
-    struct zangjulf_seat seat = {0}, kept = {0};
+    struct zangjulf_seat seat = {0}, other = {0};
     struct zangjulf_view view;
     struct zangjulf_taken taken;
     uint8_t data[IMAGE];
     long before = live, growths = 0;
     open_line(&line);
-    EXPECT(zangjulf_seat_open(&line, 1, &kept) == ZANGJULF_DONE && zangjulf_show(&line) == ZANGJULF_DONE);
+    EXPECT(zangjulf_seat_open(&line, 1, &other) == ZANGJULF_DONE && zangjulf_show(&line) == ZANGJULF_DONE);
     for (bool is_spent = true; is_spent; growths++) {
         long opened = live;
         left = growths;
-        unsigned number = zangjulf_seat_open(&line, growths % 2 ? 1 : 0, growths % 2 ? &kept : &seat);
+        unsigned number = zangjulf_seat_open(&line, growths % 2 ? 1 : 0, growths % 2 ? &other : &seat);
         is_spent = left < 0;
         left = -1;
         EXPECT(number == (is_spent ? ZANGJULF_MEMORY : ZANGJULF_DONE));
-        EXPECT(!is_spent || (live == opened && !seat.is_open && kept.is_open));
+        EXPECT(!is_spent || (live == opened && !seat.is_open && other.is_open));
     }
     EXPECT(growths > 8);
-    EXPECT(zangjulf_seat_view(&kept, data, sizeof data, NULL, 0, &view) == ZANGJULF_DONE);
+    EXPECT(zangjulf_seat_view(&other, data, sizeof data, NULL, 0, &view) == ZANGJULF_DONE);
     left = 0;
-    EXPECT(zangjulf_show(&line) == ZANGJULF_DONE && zangjulf_seat_view(&kept, data, sizeof data, NULL, 0, &view) == ZANGJULF_DONE);
-    EXPECT(zangjulf_seat_post(&kept, 0, data, view.outputs) == ZANGJULF_DONE && zangjulf_take_posts(&line, &taken) == ZANGJULF_DONE && taken.accepted == 2);
+    EXPECT(zangjulf_show(&line) == ZANGJULF_DONE && zangjulf_seat_view(&other, data, sizeof data, NULL, 0, &view) == ZANGJULF_DONE);
+    EXPECT(zangjulf_seat_post(&other, 0, data, view.outputs) == ZANGJULF_DONE && zangjulf_take_posts(&line, &taken) == ZANGJULF_DONE && taken.accepted == 2);
     EXPECT(left == 0);
     left = -1;
     zangjulf_seat_close(&seat);
     zangjulf_close(&line);
-    zangjulf_seat_close(&kept);
+    zangjulf_seat_close(&other);
     EXPECT(live == before);
 }
 #endif

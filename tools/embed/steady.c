@@ -62,7 +62,7 @@ static void cycle(struct zangjulf *line, const uint8_t *tasks, size_t count, uin
     struct zangjulf_outcome outcomes[ZANGJULF_OUTCOMES];
     struct zangjulf_arrival arrival;
     struct zangjulf_sent sent;
-    struct zangjulf_image told;
+    struct zangjulf_image read_sizes;
     uint64_t serials[ZANGJULF_DATAGRAMS], read;
     uint8_t image[ZANGJULF_IMAGE], outputs[4] = {0};
     for (size_t i = 0; i < count; i++) {
@@ -76,8 +76,8 @@ static void cycle(struct zangjulf *line, const uint8_t *tasks, size_t count, uin
         for (size_t i = 0; i < arrival.datagrams; i++) expect(outcomes[i].kind, ZANGJULF_INPUTS, "an outcome");
     }
     for (size_t i = 0; i < count; i++) {
-        expect(zangjulf_read(line, tasks[i], image, sizeof image, serials, ZANGJULF_DATAGRAMS, &told), ZANGJULF_DONE, "read");
-        expect(zangjulf_get_value(line, 2 + 2u * tasks[i], image, told.size, &read), ZANGJULF_DONE, "get_value");
+        expect(zangjulf_read(line, tasks[i], image, sizeof image, serials, ZANGJULF_DATAGRAMS, &read_sizes), ZANGJULF_DONE, "read");
+        expect(zangjulf_get_value(line, 2 + 2u * tasks[i], image, read_sizes.size, &read), ZANGJULF_DONE, "get_value");
         expect(read == 0x07070707, 1, "a value");
     }
 }
@@ -104,10 +104,10 @@ int main(void) {
     static const uint8_t tasks[ZANGJULF_TASKS] = {0, 1, 2, 3, 4, 5, 6, 7};
     struct zangjulf_seat seats[ZANGJULF_TASKS] = {{0}};
     char text[8192];
-    uint8_t crowded;
+    uint8_t over_limit;
     for (size_t count = 1; count <= ZANGJULF_TASKS; count += ZANGJULF_TASKS - 1) {
         struct zangjulf line = {0};
-        expect(zangjulf_open(&line, (const uint8_t *)text, write_project(text, sizeof text), 0, &crowded), ZANGJULF_DONE, "open");
+        expect(zangjulf_open(&line, (const uint8_t *)text, write_project(text, sizeof text), 0, &over_limit), ZANGJULF_DONE, "open");
         program(&line);
         for (uint8_t i = 0; i < count; i++) expect(zangjulf_seat_open(&line, i, &seats[i]), ZANGJULF_DONE, "seat_open");
         for (uint32_t i = 0; i < FIRST; i++) cycle(&line, tasks, count, i), cycle_of_seats(&line, seats, count, i);

@@ -1,6 +1,6 @@
-/* Threads that meet at one handle. First two threads look while none changes: each answer is that of a line at rest. Then they
+/* Threads that meet at one handle. First two threads look while none changes: each answer is as of a line at rest. Then they
  * look while a third one posts, sends, takes what arrives and edits, all at full speed: each answer is either
- * ZANGJULF_BUSY or right, and never ZANGJULF_CLOSED; an epoch, a serial and what stands in a line never go back. It is given
+ * ZANGJULF_BUSY or right, and never ZANGJULF_CLOSED; an epoch, a serial and the content of a line never go back. It is given
  * the project of the tool changer, runs for two seconds, and ends with status 1 at the first answer that can't be. */
 #include <pthread.h>
 #include <stdatomic.h>
@@ -46,7 +46,7 @@ struct seen {
     uint64_t serial;
 };
 
-/* Looks at all that a look-up tells. What the mandatory group has stands in every line. */
+/* Looks at all that a look-up answers. What the mandatory group has is in every line. */
 static void look(struct count *count, struct seen *seen) {
     uint32_t epoch = 77, owed = 7777, position = 77;
     uint64_t serial = 77, serials[ZANGJULF_DATAGRAMS];

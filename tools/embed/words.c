@@ -13,67 +13,67 @@ static const char *const PROJECT_FAULTS[] = {
     "RepeatedVariable", "UnknownPdo", "AreaTooBig", "Memory", "NotOneGroup",
 };
 
-void tell_opening(FILE *to, unsigned number, unsigned task) {
+void print_opening(FILE *to, unsigned number, unsigned task) {
     if (number == ZANGJULF_TOO_MANY_DATAGRAMS) fprintf(to, "open fault 1 %s %u\n", FAULTS[number], task);
     else if (number == ZANGJULF_MEMORY) fprintf(to, "open fault 2 %s\n", FAULTS[number]);
     else fprintf(to, "project fault %u %s\n", number - 200, PROJECT_FAULTS[number - 200]);
 }
 
 /* The front of a refusal's line. */
-static void tell_fault(FILE *to, unsigned number) { fprintf(to, "refused %u %s", number, FAULTS[number]); }
+static void print_fault(FILE *to, unsigned number) { fprintf(to, "refused %u %s", number, FAULTS[number]); }
 
-void tell_refusal(FILE *to, unsigned number) {
-    tell_fault(to, number);
+void print_refusal(FILE *to, unsigned number) {
+    print_fault(to, number);
     fprintf(to, "\n");
 }
 
-void tell_hex(FILE *to, const uint8_t *bytes, size_t size) {
+void print_hex(FILE *to, const uint8_t *bytes, size_t size) {
     for (size_t i = 0; i < size; i++) fprintf(to, "%02x", bytes[i]);
 }
 
-static void tell_frame(FILE *to, const char *word, uint64_t serial, const uint8_t *frame, size_t size) {
+static void print_frame(FILE *to, const char *word, uint64_t serial, const uint8_t *frame, size_t size) {
     fprintf(to, "%s %llu: ", word, (unsigned long long)serial);
-    tell_hex(to, frame, size);
+    print_hex(to, frame, size);
     fprintf(to, "\n");
 }
 
-void tell_edit(FILE *to, unsigned number, const struct zangjulf_cost *cost) {
+void print_edit_answer(FILE *to, unsigned number, const struct zangjulf_cost *cost) {
     if (number == ZANGJULF_TOO_MANY_DATAGRAMS) {
-        tell_fault(to, number);
+        print_fault(to, number);
         fprintf(to, " %u\n", cost->crowded);
     } else if (number) {
-        tell_refusal(to, number);
+        print_refusal(to, number);
     } else {
         fprintf(to, "epoch %u recut %u moved %u\n", cost->epoch, cost->recut, cost->moved);
     }
 }
 
-void tell_declaration(FILE *to, unsigned number, const struct zangjulf_cost *cost) {
+void print_declaration(FILE *to, unsigned number, const struct zangjulf_cost *cost) {
     if (number > 200 && number <= ZANGJULF_PROJECT_NOT_ONE_GROUP) fprintf(to, "declare fault %u %s\n", number - 200, PROJECT_FAULTS[number - 200]);
-    else tell_edit(to, number, cost);
+    else print_edit_answer(to, number, cost);
 }
 
-void tell_write(FILE *to, unsigned number, uint64_t serial, const uint8_t *frame, size_t size) {
-    if (number) tell_refusal(to, number);
-    else tell_frame(to, "sent", serial, frame, size);
+void print_write(FILE *to, unsigned number, uint64_t serial, const uint8_t *frame, size_t size) {
+    if (number) print_refusal(to, number);
+    else print_frame(to, "sent", serial, frame, size);
 }
 
-void tell_sending(FILE *to, unsigned number, uint64_t serial, const uint8_t *frames, const struct zangjulf_sent *sent) {
+void print_sending(FILE *to, unsigned number, uint64_t serial, const uint8_t *frames, const struct zangjulf_sent *sent) {
     if (number == ZANGJULF_UNPROGRAMMED) {
-        tell_fault(to, number);
+        print_fault(to, number);
         fprintf(to, " %u\n", sent->owed);
     } else if (number) {
-        tell_refusal(to, number);
+        print_refusal(to, number);
     } else if (!sent->frames) {
         fprintf(to, "no frame\n");
     }
     for (size_t i = 0; !number && i < sent->frames; i++) {
-        tell_frame(to, "sent", serial + i, frames, zangjulf_frame_size(frames));
+        print_frame(to, "sent", serial + i, frames, zangjulf_frame_size(frames));
         frames += zangjulf_frame_size(frames);
     }
 }
 
-static void tell_outcome(FILE *to, const struct zangjulf_outcome *outcome) {
+static void print_outcome(FILE *to, const struct zangjulf_outcome *outcome) {
     switch (outcome->kind) {
     case ZANGJULF_INPUTS: fprintf(to, "inputs %u %u\n", outcome->task, outcome->datagram); break;
     case ZANGJULF_WRONG_COUNT: fprintf(to, "wrong count %u %u\n", outcome->expected, outcome->got); break;
@@ -81,21 +81,21 @@ static void tell_outcome(FILE *to, const struct zangjulf_outcome *outcome) {
     }
 }
 
-void tell_arrival(FILE *to, unsigned number, const struct zangjulf_outcome *outcomes, size_t count) {
+void print_arrival(FILE *to, unsigned number, const struct zangjulf_outcome *outcomes, size_t count) {
     switch (number) {
     case ZANGJULF_DONE:
-        for (size_t i = 0; i < count; i++) tell_outcome(to, &outcomes[i]);
+        for (size_t i = 0; i < count; i++) print_outcome(to, &outcomes[i]);
         break;
     case ZANGJULF_WRITE_DONE: fprintf(to, "write done\n"); break;
     case ZANGJULF_WRITE_MISSED: fprintf(to, "write missed\n"); break;
     case ZANGJULF_STALE: fprintf(to, "stale\n"); break;
-    default: tell_refusal(to, number);
+    default: print_refusal(to, number);
     }
 }
 
-void tell_image(FILE *to, unsigned number, const struct zangjulf *line, uint8_t task, const struct zangjulf_image *image, const uint8_t *data) {
+void print_image(FILE *to, unsigned number, const struct zangjulf *line, uint8_t task, const struct zangjulf_image *image, const uint8_t *data) {
     if (number) {
-        tell_refusal(to, number);
+        print_refusal(to, number);
         return;
     }
     fprintf(to, "epoch %u\n", image->epoch);
@@ -103,19 +103,19 @@ void tell_image(FILE *to, unsigned number, const struct zangjulf *line, uint8_t 
         struct zangjulf_datagram datagram = {0, 0, 0, 0};
         zangjulf_datagram(line, task, (uint8_t)i, &datagram);
         fprintf(to, "slot %zu ", i);
-        if (image->has >> i & 1) tell_hex(to, data + datagram.offset, datagram.length);
+        if (image->has >> i & 1) print_hex(to, data + datagram.offset, datagram.length);
         else fprintf(to, "none");
         fprintf(to, "\n");
     }
 }
 
-void tell_preview(FILE *to, unsigned number, unsigned task, uint64_t serial, const uint8_t *frame, size_t size) {
-    if (task >= ZANGJULF_TASKS) tell_refusal(to, ZANGJULF_NO_SUCH_TASK);
+void print_preview(FILE *to, unsigned number, unsigned task, uint64_t serial, const uint8_t *frame, size_t size) {
+    if (task >= ZANGJULF_TASKS) print_refusal(to, ZANGJULF_NO_SUCH_TASK);
     else if (number) fprintf(to, "none\n");
-    else tell_frame(to, "frame", serial, frame, size);
+    else print_frame(to, "frame", serial, frame, size);
 }
 
-void tell_place(FILE *to, unsigned number, uint32_t variable, const struct zangjulf_place *place) {
+void print_place(FILE *to, unsigned number, uint32_t variable, const struct zangjulf_place *place) {
     if (number) {
         fprintf(to, "none\n");
         return;
@@ -124,7 +124,7 @@ void tell_place(FILE *to, unsigned number, uint32_t variable, const struct zangj
     fprintf(to, "var %u task %u datagram %u bit %u bits %u dir %s\n", variable, place->task, place->datagram, place->bit, place->bits, way);
 }
 
-void tell_layout(FILE *to, const struct zangjulf *line) {
+void print_layout(FILE *to, const struct zangjulf *line) {
     uint32_t epoch = 0;
     zangjulf_epoch(line, &epoch);
     fprintf(to, "epoch %u\n", epoch);
@@ -139,11 +139,11 @@ void tell_layout(FILE *to, const struct zangjulf *line) {
     }
 }
 
-void tell_blocks(FILE *to, const struct zangjulf *line, uint16_t station) {
+void print_blocks(FILE *to, const struct zangjulf *line, uint16_t station) {
     uint32_t position = 0;
     unsigned number = zangjulf_position(line, station, &position);
     if (number) {
-        tell_refusal(to, number);
+        print_refusal(to, number);
         return;
     }
     struct zangjulf_block block;

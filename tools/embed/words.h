@@ -8,42 +8,42 @@
 #include "zangjulf.h"
 
 /* A handle that isn't opened: the number of a project's fault, or the task that needs too many datagrams. */
-void tell_opening(FILE *to, unsigned number, unsigned task);
+void print_opening(FILE *to, unsigned number, unsigned task);
 
 /* A refusal that has nothing but its fault. */
-void tell_refusal(FILE *to, unsigned number);
+void print_refusal(FILE *to, unsigned number);
 
 /* An edit, as it was answered. */
-void tell_edit(FILE *to, unsigned number, const struct zangjulf_cost *cost);
+void print_edit_answer(FILE *to, unsigned number, const struct zangjulf_cost *cost);
 
 /* The declaration of a group, as it was answered. */
-void tell_declaration(FILE *to, unsigned number, const struct zangjulf_cost *cost);
+void print_declaration(FILE *to, unsigned number, const struct zangjulf_cost *cost);
 
 /* A register write, whose frame was sent with a serial. */
-void tell_write(FILE *to, unsigned number, uint64_t serial, const uint8_t *frame, size_t size);
+void print_write(FILE *to, unsigned number, uint64_t serial, const uint8_t *frame, size_t size);
 
 /* Tasks that were sent, from a serial on. */
-void tell_sending(FILE *to, unsigned number, uint64_t serial, const uint8_t *frames, const struct zangjulf_sent *sent);
+void print_sending(FILE *to, unsigned number, uint64_t serial, const uint8_t *frames, const struct zangjulf_sent *sent);
 
 /* An arrival. */
-void tell_arrival(FILE *to, unsigned number, const struct zangjulf_outcome *outcomes, size_t count);
+void print_arrival(FILE *to, unsigned number, const struct zangjulf_outcome *outcomes, size_t count);
 
 /* What a task of an open line reads. */
-void tell_image(FILE *to, unsigned number, const struct zangjulf *line, uint8_t task, const struct zangjulf_image *image, const uint8_t *data);
+void print_image(FILE *to, unsigned number, const struct zangjulf *line, uint8_t task, const struct zangjulf_image *image, const uint8_t *data);
 
 /* The frame of a datagram of a task, as it would be sent next with a serial. */
-void tell_preview(FILE *to, unsigned number, unsigned task, uint64_t serial, const uint8_t *frame, size_t size);
+void print_preview(FILE *to, unsigned number, unsigned task, uint64_t serial, const uint8_t *frame, size_t size);
 
 /* The place of a variable. */
-void tell_place(FILE *to, unsigned number, uint32_t variable, const struct zangjulf_place *place);
+void print_place(FILE *to, unsigned number, uint32_t variable, const struct zangjulf_place *place);
 
 /* The layout of an open line. */
-void tell_layout(FILE *to, const struct zangjulf *line);
+void print_layout(FILE *to, const struct zangjulf *line);
 
 /* The register blocks of a slave of an open line. */
-void tell_blocks(FILE *to, const struct zangjulf *line, uint16_t station);
+void print_blocks(FILE *to, const struct zangjulf *line, uint16_t station);
 
 /* Bytes as hexadecimal digits. */
-void tell_hex(FILE *to, const uint8_t *bytes, size_t size);
+void print_hex(FILE *to, const uint8_t *bytes, size_t size);
 
 #endif

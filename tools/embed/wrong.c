@@ -38,8 +38,8 @@ uint8_t __wrap_zangjulf_connect(struct zangjulf *handle, uint16_t alias, bool as
 }
 #endif
 
-/* a register write that no slave took is told as done; an outcome of another datagram; a block among several that no slave took is
- * told as written */
+/* a register write that no slave took is answered as done; an outcome of another datagram; a block among several that no slave
+ * took is answered as written */
 #ifdef WRONG_arrive
 uint8_t __real_zangjulf_arrive(struct zangjulf *handle, const uint8_t *bytes, size_t length, struct zangjulf_outcome *outcomes, size_t room, struct zangjulf_arrival *arrival);
 uint8_t __wrap_zangjulf_arrive(struct zangjulf *handle, const uint8_t *bytes, size_t length, struct zangjulf_outcome *outcomes, size_t room, struct zangjulf_arrival *arrival) {
@@ -71,11 +71,11 @@ uint8_t __wrap_zangjulf_open(struct zangjulf *handle, const uint8_t *text, size_
 }
 #endif
 
-#ifdef WRONG_next_change /* changes that are never told */
+#ifdef WRONG_next_change /* changes that are never handed out */
 uint8_t __real_zangjulf_next_change(struct zangjulf *handle, uint8_t *out, size_t length, struct zangjulf_change *change);
 uint8_t __wrap_zangjulf_next_change(struct zangjulf *handle, uint8_t *out, size_t length, struct zangjulf_change *change) {
-    static unsigned told;
-    if (++told % 50 == 0) __real_zangjulf_next_change(handle, out, length, change);
+    static unsigned calls;
+    if (++calls % 50 == 0) __real_zangjulf_next_change(handle, out, length, change);
     return __real_zangjulf_next_change(handle, out, length, change);
 }
 #endif
@@ -122,7 +122,7 @@ uint8_t __wrap_zangjulf_forget(struct zangjulf *handle, uint16_t station) {
 }
 #endif
 
-#ifdef WRONG_preview /* a byte behind the slice */
+#ifdef WRONG_preview /* a byte after the slice */
 uint8_t __real_zangjulf_preview(const struct zangjulf *handle, uint8_t task, uint8_t datagram, uint8_t *out, size_t length, size_t *size);
 uint8_t __wrap_zangjulf_preview(const struct zangjulf *handle, uint8_t task, uint8_t datagram, uint8_t *out, size_t length, size_t *size) {
     unsigned number = __real_zangjulf_preview(handle, task, datagram, out, length, size);
@@ -281,7 +281,7 @@ uint8_t __wrap_zangjulf_seat_post(struct zangjulf_seat *seat, uint32_t epoch, co
 }
 #endif
 
-#ifdef WRONG_take_posts /* posts that are refused are told as accepted; posts that are left */
+#ifdef WRONG_take_posts /* refused posts are answered as accepted; posts that are left */
 uint8_t __real_zangjulf_take_posts(struct zangjulf *handle, struct zangjulf_taken *taken);
 uint8_t __wrap_zangjulf_take_posts(struct zangjulf *handle, struct zangjulf_taken *taken) {
 #if WRONG_take_posts == 2

@@ -69,7 +69,7 @@ def begun_after(slave: Node, path: str, line: float) -> Iterator[tuple[str, str,
 
 
 def every_slave(document: Node) -> Iterator[tuple[str, Node]]:
-    """The slaves of a document, those of groups too, with their paths."""
+    """The slaves of a document, also in groups, with their paths."""
     tables = [("", document), *((f"group[{index}]", group) for index, group in enumerate(document.listed("group")))]
     for path, table in tables:
         for index, slave in enumerate(table.listed("slave")):

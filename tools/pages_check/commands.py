@@ -11,7 +11,7 @@ from pathlib import Path
 
 from findings import Finding
 from pages import Block, Pages, blocks
-from quotes import pieces, stands_in
+from quotes import is_part_of, pieces
 
 MOST_LEFT_OUT = 12  # blocks of commands that are not run, each with its reason
 SECONDS = 120
@@ -43,7 +43,7 @@ def steps(pages: Pages) -> Iterator[Step]:
 
 
 def check_commands(pages: Pages) -> Iterator[Finding]:
-    """Commands stand in blocks of `sh`. Those that nobody runs are few, and what is said to run others names them."""
+    """Commands are in blocks of `sh`. Those that nobody runs are few, and what is said to run others names them."""
     for page, text in pages.texts.items():
         for block in blocks(page, text):
             for at, line in enumerate(block.lines if block.language is None else ()):
@@ -98,6 +98,6 @@ def run_step(step: Step, folder: Path) -> Finding | None:
         return Finding("run", block.page, block.line, f"status {done.returncode}: {said}")
     if step.printed:
         for piece in pieces(step.printed.lines):
-            if not stands_in(piece, done.stdout):
+            if not is_part_of(piece, done.stdout):
                 return Finding("run", block.page, step.printed.line, f"not printed: {piece[0]} ..")
     return None

@@ -12,7 +12,7 @@ MARK = re.compile(r"^<!-- (?P<kind>[a-z ]+?)(?:: (?P<words>.*))? -->$")
 
 @dataclass(frozen=True)
 class Block:
-    """A fenced block, or an indented one (language None): its lines, and the mark that stands before it."""
+    """A fenced block, or an indented one (language None): its lines, and the mark before it."""
 
     page: str
     line: int  # of its first line of text, counted from 1
@@ -24,7 +24,7 @@ class Block:
 
 @dataclass(frozen=True)
 class Pages:
-    """The texts of all pages, and those of the other files of the repository, by their paths."""
+    """The texts of all pages and of the other files of the repository, by their paths."""
 
     root: Path
     texts: dict[str, str]

@@ -7,11 +7,11 @@ from findings import Finding
 from pages import Block, Pages, blocks
 
 CODE = {"rust", "c", "python", "toml", "text", "antt"}  # "text" is what a program printed
-GAPS = {"..", "/* .. */", "// .."}  # a line of its own: what comes next stands elsewhere in the source
+GAPS = {"..", "/* .. */", "// .."}  # a line of its own: what comes next is elsewhere in the source
 
 
 def check_quotes(pages: Pages) -> Iterator[Finding]:
-    """Each block of code is quoted: its pieces stand in its source, line for line."""
+    """Each block of code is quoted: its pieces are in its source, line for line."""
     for page, text in pages.texts.items():
         for block in blocks(page, text):
             if block.language in CODE:
@@ -32,7 +32,7 @@ def _check_block(pages: Pages, block: Block) -> Iterator[Finding]:
         yield Finding("quote", block.page, block.line, f"{block.words} isn't there")
         return
     for piece in pieces(block.lines):
-        if not stands_in(piece, source):
+        if not is_part_of(piece, source):
             yield Finding("quote", block.page, block.line, f"not in {block.words}: {piece[0].strip()} ..")
 
 
@@ -47,8 +47,8 @@ def pieces(lines: tuple[str, ...]) -> list[list[str]]:
     return [piece for piece in found if any(line.strip() for line in piece)]
 
 
-def stands_in(piece: list[str], source: str) -> bool:
-    """Whether the lines stand in the source one after another, however far they are indented."""
+def is_part_of(piece: list[str], source: str) -> bool:
+    """Whether the lines are in the source one after another, however far they are indented."""
     wanted = _flush(piece)
     lines = source.split("\n")
     first = wanted[0].strip()

@@ -1,4 +1,4 @@
-"""Where the parts of a row stand, and which of its names have room along or upright."""
+"""Where the parts of a row are, and which of its names have room along or upright."""
 
 from dataclasses import dataclass
 
@@ -44,7 +44,7 @@ BITS_NAMES = Lettering("small", SMALL, "small", SMALL)
 
 @dataclass(frozen=True)
 class Bar:
-    """Where a row stands: pixels for a byte, its top, and the heights of its bands."""
+    """Where a row is: pixels for a byte, its top, and the heights of its bands."""
 
     scale: int
     top: float

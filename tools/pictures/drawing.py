@@ -40,16 +40,16 @@ class Picture:
 
     def add_task_heading(self, task: int) -> None:
         """The task with the bytes of its outputs and inputs."""
-        told = self.parts_of(task)
+        carried = self.parts_of(task)
         self.y += 16
         content = [label(MARGIN, self.y, f"Task {task} {self.view.task_name(task)}".rstrip(), "task")]
-        for row, (name, (outputs, inputs)) in enumerate(told):
+        for row, (name, (outputs, inputs)) in enumerate(carried):
             said = f"{plural(outputs, 'byte')} of outputs, {plural(inputs, 'byte')} of inputs"
             said = said if self.view.before is None else f"{STATE_WORDS[name]}: {said}"
             words = label(BARS, self.y + 14 * row, said, "words")
             content.append(element("g", words, kind="parts", data_state=name, data_outputs=outputs, data_inputs=inputs))
         self.content.append(element("g", *content, kind="task-heading", data_task=task))
-        self.y += 14 * (len(told) - 1) + 8
+        self.y += 14 * (len(carried) - 1) + 8
 
     def parts_of(self, task: int) -> list[tuple[str, tuple[int, int]]]:
         """The bytes of a task's outputs and inputs by state, those that an edit left as they were once."""
@@ -62,8 +62,8 @@ class Picture:
     def add_datagram(self, name: tuple[int, int]) -> None:
         """The rows of a datagram: one where nothing changed, else what there is of before and after."""
         before, after = self.before.get(name), self.after.get(name)
-        if before and after and before.mark is after.mark is Mark.KEPT:
-            self.add_row(Row("both", after.datagram, Mark.KEPT, after.fields), after.datagram.length)
+        if before and after and before.mark is after.mark is Mark.UNCHANGED:
+            self.add_row(Row("both", after.datagram, Mark.UNCHANGED, after.fields), after.datagram.length)
         else:
             rows = [row for row in (before, after) if row]
             length = max(row.datagram.length for row in rows)
@@ -76,10 +76,10 @@ class Picture:
             self.y += ROW_GAP - PAIR_GAP
 
     def add_row(self, row: Row, length: int) -> tuple[Bar, list[Run]]:
-        """A row with its numbers at the left: where its areas stand."""
+        """A row with its numbers at the left, and the places of its areas."""
         content, bar, runs = self.drawers[row.state != "before"].drawn(row, self.y, length)
         datagram = row.datagram
-        told = {
+        carried = {
             "data_state": row.state,
             "data_task": datagram.task,
             "data_datagram": datagram.number,
@@ -91,12 +91,12 @@ class Picture:
             "data_scale": bar.scale,
         }
         numbers = self.row_numbers(row) + self.captions(bar)
-        self.content.append(element("g", numbers, content, kind="datagram", **told))
+        self.content.append(element("g", numbers, content, kind="datagram", **carried))
         self.y = bar.bottom() + ROW_GAP
         return bar, runs
 
     def row_numbers(self, row: Row) -> str:
-        """What `layout` says of the datagram, and of which state."""
+        """What `layout` says of the datagram, and in which state."""
         datagram, y = row.datagram, self.y + 12
         content = [label(MARGIN, y, f"datagram {datagram.number}", "name")]
         if row.mark in (Mark.NEW, Mark.GONE):
@@ -120,10 +120,10 @@ class Picture:
     def add_ways(self, before: tuple[Bar, list[Run]], after: tuple[Bar, list[Run]]) -> None:
         """From each moved area of a row to the place that it has in the row below: the way that it went."""
         (old_bar, old_runs), (new_bar, new_runs) = before, after
-        old = {name_of(run): run for run in old_runs if is_moved(run)}
+        old = {station_and_area(run): run for run in old_runs if is_moved(run)}
         for run in new_runs:
-            if is_moved(run) and name_of(run) in old:
-                self.content.append(way(old_bar, old[name_of(run)], new_bar, run))
+            if is_moved(run) and station_and_area(run) in old:
+                self.content.append(way(old_bar, old[station_and_area(run)], new_bar, run))
 
 
 def is_moved(run: Run) -> bool:
@@ -131,7 +131,7 @@ def is_moved(run: Run) -> bool:
     return len(run.items) == 1 and run.mark is Mark.MOVED
 
 
-def name_of(run: Run) -> tuple[int, int]:
+def station_and_area(run: Run) -> tuple[int, int]:
     """The first area of a run, by slave and place in its record."""
     return run.items[0].place.station, run.items[0].place.area
 
@@ -139,15 +139,15 @@ def name_of(run: Run) -> tuple[int, int]:
 def way(old_bar: Bar, old: Run, new_bar: Bar, new: Run) -> str:
     """The band between two places of an area; it ends above the ruler's numbers."""
     foot, top = old_bar.foot(), new_bar.top + 1
-    station, area = name_of(new)
+    station, area = station_and_area(new)
     points = [
         (old_bar.x(old.bit), foot),
         (old_bar.x(old.bit) + old_bar.width(old.bits), foot),
         (new_bar.x(new.bit) + new_bar.width(new.bits), top),
         (new_bar.x(new.bit), top),
     ]
-    told = {"data_station": station, "data_area": area, "data_left": BARS, "data_scale": new_bar.scale}
-    return void("polygon", kind="way", points=" ".join(f"{spelt(x)},{spelt(y)}" for x, y in points), **told)
+    carried = {"data_station": station, "data_area": area, "data_left": BARS, "data_scale": new_bar.scale}
+    return void("polygon", kind="way", points=" ".join(f"{spelt(x)},{spelt(y)}" for x, y in points), **carried)
 
 
 def width_of(view: View) -> int:
@@ -157,13 +157,13 @@ def width_of(view: View) -> int:
     return max([LEAST_WIDTH, *(BARS + length * scale_of(length) + MARGIN + 24 for length in lengths)])
 
 
-def told_of(view: View) -> dict[str, Attribute]:
+def numbers_of(view: View) -> dict[str, Attribute]:
     """What the picture as a whole stands for: the epochs, and what lies between them."""
-    told = {"data_epoch": view.after.epoch}
+    carried = {"data_epoch": view.after.epoch}
     if view.change:
-        told |= {"data_epoch_before": view.before.epoch, "data_change": view.change.words}
-        told |= {"data_recut": view.change.recut, "data_moved": view.change.moved}
-    return told
+        carried |= {"data_epoch_before": view.before.epoch, "data_change": view.change.words}
+        carried |= {"data_recut": view.change.recut, "data_moved": view.change.moved}
+    return carried
 
 
 def hatch() -> str:
@@ -183,7 +183,7 @@ def picture(view: View, style: str = PICTURE) -> str:
     frame = {"xmlns": "http://www.w3.org/2000/svg", "kind": "picture", "role": "img"}
     frame |= {"viewBox": f"0 0 {width} {height}", "width": width, "height": height}
     parts = [
-        opened("svg", **frame, **told_of(view)),
+        opened("svg", **frame, **numbers_of(view)),
         element("title", f"The line of {text(view.name)}, epoch {view.after.epoch}"),
         element("style", style) if style else "",
         element("defs", hatch()),

@@ -10,7 +10,7 @@ PLAIN = re.compile(r"[\w .:,;/…×–-]*")
 
 
 def text(words: str | int) -> str:
-    """A text as it stands between tags or in an attribute."""
+    """A text as it is written between tags or in an attribute."""
     if isinstance(words, int) or PLAIN.fullmatch(words):
         return str(words)
     return escape(FORBIDDEN.sub("\ufffd", words))

@@ -1,4 +1,4 @@
-"""What stands above and below the rows: the line and its edit, groups, legend, and what no datagram carries."""
+"""What is above and below the rows: the line and its edit, groups, legend, and what no datagram carries."""
 
 from pictures.bars import LOWER
 from pictures.elements import element, label, void
@@ -49,7 +49,7 @@ class Words:
         self.content.append(label(self.left, self.y, words, kind))
 
     def add_list(self, name: str, phrases: list[str], most: int = 2) -> None:
-        """A name and the phrases behind it, where there are any."""
+        """A name and the phrases after it, where there are any."""
         if not phrases:
             return
         indent = 118
@@ -87,12 +87,12 @@ def heading(view: View, left: float, width: float) -> tuple[str, float]:
     written = view.blocks_to_write()
     differ = view.change and view.change.is_other_text
     words.add_list("Other blocks" if differ else "Blocks to write", block_phrases(written), 3)
-    told = {
+    carried = {
         "data_present": " ".join(str(group.alias) for group in present),
         "data_written": " ".join(f"{station}/0x{block.register:04x}" for station, _, block in written),
     }
     chips, bottom = legend(view, left, words.y + 10, width)
-    return "\n".join([element("g", *words.content, kind="head", **told), chips]), bottom
+    return "\n".join([element("g", *words.content, kind="head", **carried), chips]), bottom
 
 
 def block_phrases(written: list[tuple[int, int, Block]]) -> list[str]:
@@ -150,8 +150,8 @@ def footing(view: View, left: float, width: float, top: float) -> tuple[str, flo
     words.add_list("No process data", [f"{slave.station} {slave.name}".strip() for slave in bare])
     unmapped = [f"{station} SM {area.sync_manager} ({area.direction})" for station, area in empty]
     words.add_list("Areas of 0 bits", unmapped)
-    told = {
+    carried = {
         "data_bare": " ".join(str(slave.station) for slave in bare),
         "data_empty": " ".join(f"{station}/{area.number}" for station, area in empty),
     }
-    return element("g", *words.content, kind="foot", **told), words.y + 18
+    return element("g", *words.content, kind="foot", **carried), words.y + 18

@@ -1,4 +1,4 @@
-"""The report's style, and the little script that sorts and searches its tables; without it they stand as made."""
+"""The report's style, and the little script that sorts and searches its tables; without it they are as made."""
 
 from pictures.style import DARK, GREEN, LIGHT, PURPLE, VERMILLION, variables, with_plain
 from pictures.tables import selectors
@@ -45,7 +45,7 @@ MONOSPACED = 'font-family: "DejaVu Sans Mono", Menlo, Consolas, monospace; overf
 
 
 def style_of(columns: dict[str, list[str]]) -> str:
-    """The report's style; the columns of each table tell which cells are numbers, and which are code."""
+    """The report's style; the columns of each table say which cells are numbers, and which are code."""
     numbers, code = selectors(columns, "number", "td", "th"), selectors(columns, "code", "td")
     return with_plain(f"{STYLE}{numbers} {{ text-align: right; }}\n{code} {{ {MONOSPACED}; }}\n")
 

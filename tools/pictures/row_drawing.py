@@ -40,8 +40,8 @@ def cell_words(run: Run, homes: dict[int, Home]) -> list[str]:
 
 
 def bits_words(run: Run, area_mark: Mark) -> list[str]:
-    """The bits of a cell, behind the letter of its mark where that isn't its area's."""
-    if run.mark in (area_mark, Mark.KEPT):
+    """The bits of a cell, after the letter of its mark where that isn't its area's."""
+    if run.mark in (area_mark, Mark.UNCHANGED):
         return [str(run.bits)]
     return [f"{MARK_LETTERS[run.mark]} {run.bits}", MARK_LETTERS[run.mark]]
 
@@ -54,7 +54,7 @@ def cells_below(run: Run, scale: int) -> list[Run]:
 
 
 def place_words(bit: int, bits: int) -> str:
-    """Where bits of a datagram stand, for a reader who counts bytes."""
+    """Where bits of a datagram are, for a reader who counts bytes."""
     return f"bit {bit} (byte {bit // 8}, bit {bit % 8}), {plural(bits, 'bit')}"
 
 
@@ -89,8 +89,8 @@ def badges(bar: Bar, runs: list[Run]) -> list[str]:
         way = way_of(run) if BITS_NAMES.fitting([way_of(run)], width - BADGE - 4) else ""
         x = max(left if way else left + (width - BADGE) / 2, free)
         words = label(x + BADGE + 4, y + 10, way, "small whence") if way else ""
-        drawn.append(badge_at(x, y, run.mark) + words if run.mark is not Mark.KEPT else "")
-        free = x + BADGE if run.mark is not Mark.KEPT else free
+        drawn.append(badge_at(x, y, run.mark) + words if run.mark is not Mark.UNCHANGED else "")
+        free = x + BADGE if run.mark is not Mark.UNCHANGED else free
     return drawn
 
 
@@ -136,7 +136,7 @@ class RowDrawer:
             for _, below in cells
             for cell in below
         ]
-        badges = 0 if row.mark is Mark.KEPT else BADGES
+        badges = 0 if row.mark is Mark.UNCHANGED else BADGES
         return Bar(scale, top, badges, max([BAND, *names]), max([CELL, *numbers]))
 
     def areas(self, run: Run, bar: Bar, badge: str) -> str:
@@ -147,21 +147,21 @@ class RowDrawer:
         name = bar.name(AREA_NAMES, area_words(run, self.slaves), run, y, height)
         content = [element("title", text(self.area_title(run))), box, name, badge]
         kind = f"{place.direction} {run.mark.value}"
-        told = {"data_direction": place.direction, "data_mark": run.mark.value}
-        told |= {"data_bit": run.bit, "data_bits": run.bits}
+        carried = {"data_direction": place.direction, "data_mark": run.mark.value}
+        carried |= {"data_bit": run.bit, "data_bits": run.bits}
         if len(run.items) == 1:
-            told |= {"data_station": place.station, "data_area": place.area, "data_sync_manager": place.sync_manager}
-            return element("g", *content, kind=f"area {kind}", **told)
+            carried |= {"data_station": place.station, "data_area": place.area, "data_sync_manager": place.sync_manager}
+            return element("g", *content, kind=f"area {kind}", **carried)
         places = [field.place for field in run.items]
         folded = " ".join(f"{own.station}/{own.area}:{own.sync_manager}:{own.bit}:{own.bits}" for own in places)
-        return element("g", *content, kind=f"areas {kind}", data_areas=folded, **told)
+        return element("g", *content, kind=f"areas {kind}", data_areas=folded, **carried)
 
     def area_title(self, run: Run) -> str:
         """What is said where a pointer rests on an area."""
         place = run.items[0].place
         words = DIRECTION_WORDS[place.direction]
         where = place_words(run.bit, run.bits)
-        said = "" if run.mark is Mark.KEPT else f"; {MARK_WORDS[run.mark]} {way_of(run)}".rstrip()
+        said = "" if run.mark is Mark.UNCHANGED else f"; {MARK_WORDS[run.mark]} {way_of(run)}".rstrip()
         if len(run.items) > 1:
             last = run.items[-1].place.station
             return f"{len(run.items)} {words} areas of slaves {place.station} to {last}: {where}{said}"
@@ -179,12 +179,12 @@ class RowDrawer:
         size = label(x + width / 2, y + height - 4, bits, "small", text_anchor="middle") if bits else ""
         name = bar.name(VARIABLE_NAMES, cell_words(run, self.homes), run, y, bar.cell)
         content = [element("title", text(self.cell_title(run))), box, name, size]
-        kind, told = self.told(run)
+        kind, carried = self.carried(run)
         kind = f"{kind} {direction} {run.mark.value}{'' if run.mark is areas.mark else ' own'}"
-        return element("g", *content, kind=kind, data_bit=run.bit, data_bits=run.bits, data_mark=run.mark.value, **told)
+        return element("g", *content, kind=kind, data_bit=run.bit, data_bits=run.bits, data_mark=run.mark.value, **carried)
 
     @staticmethod
-    def told(run: Run) -> tuple[str, dict[str, Attribute]]:
+    def carried(run: Run) -> tuple[str, dict[str, Attribute]]:
         """What kind of cells a run has, and what it says of them beside its own bits."""
         variables = [cell for cell in run.items if cell.number is not None]
         if not variables:
@@ -198,7 +198,7 @@ class RowDrawer:
         """What is said where a pointer rests on a variable or a gap."""
         numbers = [cell.number for cell in run.items if cell.number is not None]
         where = place_words(run.bit, run.bits)
-        said = "" if run.mark is Mark.KEPT else f"; {run.mark.value}"
+        said = "" if run.mark is Mark.UNCHANGED else f"; {run.mark.value}"
         if not numbers:
             return f"gap: {where}{said}"
         if len(run.items) > 1:

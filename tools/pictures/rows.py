@@ -19,7 +19,7 @@ BROAD = 168
 
 VariablesByArea = dict[tuple[int, int], list[VariablePlace]]
 Marking = Callable[[VariablePlace], Mark]
-# What is folded: fields, cells of a field, or runs of them, of which all have a mark.
+# What is folded: fields, cells of a field, or runs of them; all have a mark.
 Item = Any
 Bounds = Callable[[Item], tuple[int, int]]
 Joins = Callable[[Item, Item], bool]
@@ -37,7 +37,7 @@ class Cell:
 
 @dataclass(frozen=True)
 class Field:
-    """An area with what it is made of; `way` tells where it stands in the other state, if it moved."""
+    """An area with what it is made of; `way` says where it is in the other state, if it moved."""
 
     place: AreaPlace
     mark: Mark
@@ -47,7 +47,7 @@ class Field:
 
 @dataclass(frozen=True)
 class Run:
-    """Fields, or cells of one field, that stand in a row; one that is alone is drawn as itself, more are folded."""
+    """Fields, or cells of one field, in a row; one that is alone is drawn as itself, more are folded."""
 
     items: list[Item]
     bit: int
@@ -125,17 +125,17 @@ class Rows:
     def row_mark(datagram: Datagram, fields: list[Field], other: State | None, is_after: bool) -> Mark:
         """Of a datagram: new, gone, moved where anything in it is another, or kept."""
         if other is None:
-            return Mark.KEPT
+            return Mark.UNCHANGED
         found = other.datagrams.get((datagram.task, datagram.number))
         if found is None:
             return Mark.NEW if is_after else Mark.GONE
         marks = {field.mark for field in fields} | {cell.mark for field in fields for cell in field.cells}
-        return Mark.KEPT if found == datagram and marks <= {Mark.KEPT} else Mark.MOVED
+        return Mark.UNCHANGED if found == datagram and marks <= {Mark.UNCHANGED} else Mark.MOVED
 
 
 def runs_of(items: list[Item], bounds: Bounds, joins: Joins, narrow: float, broad: float) -> list[Run]:
-    """The items in runs: items of fewer bits than `narrow` that `joins` lets stand together are in one, until the run
-    has as many bits as `broad`. `bounds` tells an item's first bit and the one behind its last."""
+    """The items in runs: items of fewer bits than `narrow` that `joins` lets be together are in one, until the run has
+    as many bits as `broad`. `bounds` gives an item's first bit and the one after its last."""
 
     def is_narrow(item: Item) -> bool:
         return bounds(item)[1] - bounds(item)[0] < narrow
@@ -183,7 +183,7 @@ def cell_runs(cells: list[Cell], scale: int) -> list[Run]:
 
 
 def unused_of(row: Row, runs: list[Run]) -> list[tuple[int, int]]:
-    """The bits of a row between its runs and behind the last one, as (bit, bits): no area has them."""
+    """The bits of a row between its runs and after the last one, as (bit, bits): no area has them."""
     unused, bit = [], 0
     for run in [*runs, None]:
         begin = row.datagram.length * 8 if run is None else run.bit

@@ -1,4 +1,4 @@
-"""The state of a line in the program's words: datagrams, register blocks, and where areas and variables stand."""
+"""The state of a line in the program's words: datagrams, register blocks, and the places of areas and variables."""
 
 import re
 from bisect import bisect_right
@@ -53,7 +53,7 @@ class Block:
 
 @dataclass(frozen=True)
 class AreaPlace:
-    """Where an area of some bits stands: its datagram, and its first bit in the datagram's data."""
+    """The place of an area of some bits: its datagram, and its first bit in the datagram's data."""
 
     station: int
     area: int
@@ -65,13 +65,13 @@ class AreaPlace:
     bits: int
 
     def end(self) -> int:
-        """The first bit behind it."""
+        """The first bit after it."""
         return self.bit + self.bits
 
 
 @dataclass(frozen=True)
 class VariablePlace:
-    """Where a variable stands: its datagram, its first bit there, and its bits."""
+    """The place of a variable: its datagram, its first bit there, and its bits."""
 
     number: int
     task: int
@@ -87,7 +87,7 @@ Areas = dict[tuple[int, int], list[AreaPlace]]
 
 @dataclass(frozen=True)
 class State:
-    """A line behind some edits. `blocks` has the present slaves alone, by station address in declared order."""
+    """A line after some edits. `blocks` has the present slaves alone, by station address in declared order."""
 
     epoch: int
     parts: dict[int, tuple[int, int]]
@@ -114,7 +114,7 @@ def datagrams_of(lines: list[str]) -> tuple[dict[int, tuple[int, int]], Datagram
     return parts, datagrams
 
 
-def blocks_of(lines: list[str]) -> list[Block] | None:
+def read_blocks(lines: list[str]) -> list[Block] | None:
     """The register blocks in the lines of `regs`; none where the slave is absent."""
     if lines == [ABSENT]:
         return None
@@ -123,7 +123,7 @@ def blocks_of(lines: list[str]) -> list[Block] | None:
 
 
 def area_place(slave: Slave, area: Area, fmmu: Block, datagrams: list[Datagram], addresses: list[int]) -> AreaPlace:
-    """Where an active FMMU maps an area: logical start address, length, start and stop bit tell its bits."""
+    """Where an active FMMU maps an area: logical start address, length, start and stop bit give its bits."""
     logical, length = fmmu.word(0, 4), fmmu.word(4)
     datagram = datagrams[bisect_right(addresses, logical) - 1]
     bit = (logical - datagram.address) * 8 + fmmu.data[6]
@@ -155,13 +155,13 @@ def variables_of(lines: list[str]) -> dict[int, VariablePlace]:
 
 
 def state_of(session: Session, project: Project) -> State:
-    """The state that the program tells when it is asked for everything."""
+    """The state that the program prints when it is asked for everything."""
     slaves = [slave for slave, _ in project.slaves()]
     longer = [b"layout\n", *(b"regs %d\n" % slave.station for slave in slaves)]
     single = [b"place %d\n" % variable for variable in sorted(project.homes)]
     (layout, *printed), places = session.answers(longer, single)
     parts, datagrams = datagrams_of(layout[1:])
-    told = [(slave.station, blocks_of(lines)) for slave, lines in zip(slaves, printed)]
-    blocks = {station: rows for station, rows in told if rows is not None}
+    asked = [(slave.station, read_blocks(lines)) for slave, lines in zip(slaves, printed)]
+    blocks = {station: rows for station, rows in asked if rows is not None}
     epoch = int(layout[0].split()[1])
     return State(epoch, parts, datagrams, blocks, areas_of(project, blocks, datagrams), variables_of(places))

@@ -1,4 +1,4 @@
-"""Colours of Okabe and Ito, and the letter that stands beside each, so that no colour means anything by itself."""
+"""Colours of Okabe and Ito, and the letter beside each, so that no colour means anything by itself."""
 
 import re
 

@@ -8,7 +8,7 @@ from pictures.states import Block, Datagram, VariablePlace
 from pictures.style import DIRECTION_LETTERS, DIRECTION_WORDS, MARK_LETTERS
 from pictures.views import Mark, View, mark_between
 
-# The columns of each table. What stands behind a bar tells how a column is set.
+# The columns of each table. What comes after a bar says how a column is set.
 CHANGE, NAME = "change|", "name|"
 DATAGRAMS = ["task|number", "datagram|number", "logical address|code", "bytes|number", "working counter|number"]
 DATAGRAMS_BEFORE = ["bytes before|number", "working counter before|number"]
@@ -43,10 +43,10 @@ def table(name: str, columns: list[str], rows: list[str], title: str) -> str:
     return element("section", element("h2", title), element("p", search, found), drawn, kind="searched")
 
 
-def row_of(told: str, name: str | int, cells: list[str | int], mark: Mark) -> str:
-    """A row of a table that stands for something, told by a name, with the mark that an edit left on it."""
+def row_of(kind: str, name: str | int, cells: list[str | int], mark: Mark) -> str:
+    """A row of a table, for a thing of a kind by its name, with the mark that an edit left on it."""
     shown = "".join([f"<td>{text(words)}</td>" for words in cells])
-    return f'<tr data-{told}="{name}" class="{mark.value}">{shown}</tr>\n'
+    return f'<tr data-{kind}="{name}" class="{mark.value}">{shown}</tr>\n'
 
 
 def or_nothing(record: object, *names: str) -> list[str | int]:
@@ -56,7 +56,7 @@ def or_nothing(record: object, *names: str) -> list[str | int]:
 
 def mark_words(mark: Mark) -> str:
     """The letter and the word of a mark; nothing where nothing changed."""
-    return "" if mark is Mark.KEPT else f"{MARK_LETTERS[mark]} {mark.value}"
+    return "" if mark is Mark.UNCHANGED else f"{MARK_LETTERS[mark]} {mark.value}"
 
 
 def direction_words(direction: str) -> str:
@@ -88,27 +88,27 @@ class Tables:
             return {name: own for name, (own, _) in shown.items()}
         return {name: [CHANGE, *own, *before] for name, (own, before) in shown.items()}
 
-    def row(self, told: str, name: str | int, cells: list[str | int], before: list[str | int], mark: Mark) -> str:
+    def row(self, kind: str, name: str | int, cells: list[str | int], before: list[str | int], mark: Mark) -> str:
         """A row with what was before, as words, and its mark."""
         shown = [mark_words(mark), *cells, *before] if self.has_before else cells
-        return row_of(told, name, shown, mark)
+        return row_of(kind, name, shown, mark)
 
     def mark(self, before: object, after: object) -> Mark:
-        """The mark of what stands in the line before, after or both; alone all is as it is."""
-        return mark_between(before, after) if self.has_before else Mark.KEPT
+        """The mark of what is in the line before, after or both; alone all is as it is."""
+        return mark_between(before, after) if self.has_before else Mark.UNCHANGED
 
     def table(self, name: str, rows: list[str], title: str) -> str:
         """A table by its name."""
         return table(name, self.columns()[name], rows, title)
 
     def datagrams(self) -> str:
-        """Every datagram of the line, and those of the line before."""
+        """Every datagram of the line, and of the line before."""
         old, new = self.view.before.datagrams if self.has_before else {}, self.view.after.datagrams
         rows = [self.datagram(name, old.get(name), new.get(name)) for name in sorted(old.keys() | new.keys())]
         return self.table("datagrams", rows, "Datagrams")
 
     def datagram(self, name: tuple[int, int], before: Datagram | None, after: Datagram | None) -> str:
-        """A datagram; where it is gone its numbers of before alone. Its mark is that of its row in the picture."""
+        """A datagram; where it is gone its numbers of before alone. Its row in the picture has the same mark."""
         shown = after or before
         cells = [shown.task, shown.number, f"0x{shown.address:08x}", *or_nothing(after, "length", "expected")]
         earlier = or_nothing(before, "length", "expected")
@@ -133,7 +133,7 @@ class Tables:
         return self.row("variable", variable, cells, [place], self.mark(before, after))
 
     def blocks(self) -> str:
-        """Every register block of the line, and those of the line before."""
+        """Every register block of the line, and of the line before."""
         old, new = self.view.before.blocks if self.has_before else {}, self.view.after.blocks
         rows = [
             self.block(station, *pair)
@@ -154,7 +154,7 @@ class Tables:
 
 def pairs(before: list[Block], after: list[Block]) -> Iterator[tuple[int, Block | None, Block | None]]:
     """A slave's blocks before and after by their registers, each with the number of its area."""
-    # A slave's blocks stand in pairs, an area's sync manager and its FMMU.
+    # A slave's blocks come in pairs, an area's sync manager and its FMMU.
     old = {block.register: (row // 2, block) for row, block in enumerate(before)}
     new = {block.register: (row // 2, block) for row, block in enumerate(after)}
     for register in {**new, **old}:
@@ -167,7 +167,7 @@ def datagram_marks(view: View) -> dict[tuple[int, int], Mark]:
     rows = Rows(view)
     marks = {name: row.mark for name, row in rows.of_state(view.before, False).items()} if view.before else {}
     after = {name: row.mark for name, row in rows.of_state(view.after, True).items()}
-    return {**marks, **{name: marks.get(name, mark) if mark is Mark.KEPT else mark for name, mark in after.items()}}
+    return {**marks, **{name: marks.get(name, mark) if mark is Mark.UNCHANGED else mark for name, mark in after.items()}}
 
 
 def meaning(block: Block) -> str:

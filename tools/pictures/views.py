@@ -1,4 +1,4 @@
-"""What is drawn: a line alone, or beside it the line before its last edits or that of another text, with what moved."""
+"""What is drawn: a line alone, or beside it the line before its last edits or another text's line, with what moved."""
 
 import re
 from dataclasses import dataclass
@@ -22,7 +22,7 @@ PASSED_OVER = {
 class Mark(Enum):
     """What an edit made of an area, a variable or a register block."""
 
-    KEPT = "kept"
+    UNCHANGED = "kept"
     NEW = "new"
     MOVED = "moved"
     GONE = "gone"
@@ -73,7 +73,7 @@ class View:
         return self.project.tasks.get(task) or self.declares(False).tasks.get(task, "")
 
     def said_of_change(self) -> str:
-        """What lies between the two lines, behind its words."""
+        """What lies between the two lines, after its words."""
         change, before, after = self.change, self.before.epoch, self.after.epoch
         if change.is_other_text:
             return f": its line in epoch {before}"
@@ -82,31 +82,31 @@ class View:
 
 
 class Marks:
-    """The marks of areas and variables: of what stands in the old line or in the new one, as seen in the other."""
+    """The marks of areas and variables: of what is in the old line or in the new one, as seen in the other."""
 
     def __init__(self, view: View) -> None:
         self.before, self.after = view.before, view.after
         self.old_areas, self.new_areas = areas_by_name(view.before), areas_by_name(view.after)
-        # A slave's blocks stand in pairs, an area's sync manager and its FMMU.
+        # A slave's blocks come in pairs, an area's sync manager and its FMMU.
         self.written = {(station, row // 2) for station, row, _ in view.blocks_to_write()}
 
     def of_area(self, place: AreaPlace, is_after: bool) -> Mark:
         """Of an area: new, gone, moved where one of its blocks has to be written, or kept."""
         name = (place.station, place.area)
         if self.before is None:
-            return Mark.KEPT
+            return Mark.UNCHANGED
         if name not in (self.old_areas if is_after else self.new_areas):
             return Mark.NEW if is_after else Mark.GONE
-        return Mark.MOVED if name in self.written else Mark.KEPT
+        return Mark.MOVED if name in self.written else Mark.UNCHANGED
 
     def other_place(self, place: AreaPlace, is_after: bool) -> AreaPlace | None:
-        """Where an area of one state stands in the other, or None."""
+        """The place of an area of one state in the other, or None."""
         return (self.old_areas if is_after else self.new_areas).get((place.station, place.area))
 
     def of_variable(self, place: VariablePlace, is_after: bool) -> Mark:
         """Of a variable: new, gone, moved where its place is another, or kept."""
         if self.before is None:
-            return Mark.KEPT
+            return Mark.UNCHANGED
         other = (self.before if is_after else self.after).variables.get(place.number)
         return mark_between(other, place) if is_after else mark_between(place, other)
 
@@ -114,7 +114,7 @@ class Marks:
 def mark_between(before: object, after: object) -> Mark:
     """The mark of what an edit turned into something else, or of what it brought or took where one is None."""
     if before == after:
-        return Mark.KEPT
+        return Mark.UNCHANGED
     if before is None:
         return Mark.NEW
     return Mark.GONE if after is None else Mark.MOVED
@@ -133,7 +133,7 @@ def is_declaration(lines: list[bytes]) -> bool:
 
 
 def commands_in(content: bytes) -> list[list[bytes]]:
-    """The lines of each command: one, or those of a `declare` up to the one that ends its document."""
+    """The lines of each command: one, or a `declare` with all lines up to the end of its document."""
     commands, lines = [], []
     for line in content.split(b"\n"):
         lines.append(line + b"\n")
@@ -176,11 +176,11 @@ class Run:
         ]
 
     def session(self, commands: list[list[bytes]]) -> Session:
-        """The text behind some commands."""
+        """The text after some commands."""
         return Session(self.program, self.text, [b"".join(lines) for lines in commands])
 
     def line(self, count: int) -> tuple[Project, State]:
-        """The line behind so many accepted edits, and the project that declares it."""
+        """The line after so many accepted edits, and the project that declares it."""
         commands = self.commands[: self.edits[count].row] if count < len(self.edits) else self.commands
         accepted = [self.commands[edit.row] for edit in self.edits[:count]]
         declared = [b"".join(lines[1:-1]) for lines in accepted if is_declaration(lines)]
@@ -190,7 +190,7 @@ class Run:
         return project, state_of(self.session(commands), project)
 
     def edits_since(self, epoch: int | None) -> list[Edit]:
-        """The accepted edits behind an epoch, or the last one."""
+        """The accepted edits after an epoch, or the last one."""
         if epoch is None:
             return self.edits[-1:]
         last = self.edits[-1].epoch if self.edits else 0
@@ -200,7 +200,7 @@ class Run:
 
 
 def view_since(run: Run, epoch: int | None) -> View:
-    """The line behind all commands, beside that of an epoch or, without one, that before the last accepted edit."""
+    """The line after all commands, beside the line of an epoch or, without one, the line before the last accepted edit."""
     project, after = run.line(len(run.edits))
     edits = run.edits_since(epoch)
     if not edits:
@@ -212,7 +212,7 @@ def view_since(run: Run, epoch: int | None) -> View:
 
 
 def view_against(run: Run, other: Run) -> View:
-    """The line behind all commands, beside that of another text behind all of its own."""
+    """The line after all commands, beside another text's line after all of its own."""
     project, after = run.line(len(run.edits))
     earlier, before = other.line(len(other.edits))
     return View(run.name, project, after, run.answers, earlier, before, Change(f"against {other.name}", True))

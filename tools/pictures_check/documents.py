@@ -11,7 +11,7 @@ ATTRIBUTE = re.compile(r' ([\w-]+)="([^"<]*)"')
 
 
 class Node:
-    """An element: its tag, its attributes, its elements, and the texts that stand in it directly."""
+    """An element: its tag, its attributes, its elements, and the texts directly in it."""
 
     def __init__(self, tag, attributes):
         self.tag, self.attributes, self.nodes, self.texts = tag, dict(attributes), [], []

@@ -1,7 +1,7 @@
 #!/usr/bin/env -S python3 -B
 """Draws an input of `hotline` with 2,048 slaves from a seed: a mandatory group, and modules that dock in turn.
 
-    drawn_line.py SEED    the project and the commands; the module that stands first on the line docks last
+    drawn_line.py SEED    the project and the commands; the module that is first on the line docks last
 """
 
 import random

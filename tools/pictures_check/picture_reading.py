@@ -1,4 +1,4 @@
-"""Reads a picture: the numbers that its elements carry, those that are written, and where boxes stand."""
+"""Reads a picture: the numbers that its elements carry or that are written, and where boxes are."""
 
 import re
 
@@ -9,13 +9,13 @@ NEAR = 0.02
 
 
 class PictureReader:
-    """Compares a picture with what is told of its input."""
+    """Compares a picture with what its input requires."""
 
-    def __init__(self, told, root):
-        self.told, self.root, self.said = told, root, []
-        self.found = {name: {"datagrams": {}, "areas": {}, "variables": {}, "parts": {}} for name in told.states()}
+    def __init__(self, required, root):
+        self.required, self.root, self.said = required, root, []
+        self.found = {name: {"datagrams": {}, "areas": {}, "variables": {}, "parts": {}} for name in required.states()}
         self.tops = {}
-        self.covered = {name: covered(state) for name, state in told.states().items()}
+        self.covered = {name: covered(state) for name, state in required.states().items()}
 
     def expect(self, what, wanted, found):
         """Says where something else is found than is wanted."""
@@ -31,7 +31,7 @@ class PictureReader:
             self.read_datagram(node)
         for node in self.root.tagged("polygon"):
             self.read_way(node)
-        for name, state in self.told.states().items():
+        for name, state in self.required.states().items():
             self.compare(name, state)
         for datagram, tops in self.tops.items():
             if len(tops) == 2 and tops["after"] < tops["before"]:
@@ -40,25 +40,25 @@ class PictureReader:
 
     def read_whole(self):
         """Epochs, the edit and its answer, blocks to write, and slaves and areas that no datagram carries."""
-        told, after = self.told, self.told.after
+        required, after = self.required, self.required.after
         self.expect("epoch", str(after.epoch), self.root.data("epoch"))
-        before = str(told.before.epoch) if told.before else None
+        before = str(required.before.epoch) if required.before else None
         self.expect("epoch before", before, self.root.data("epoch-before"))
-        change = told.change
+        change = required.change
         for name in ("recut", "moved"):
             self.expect(name, change and getattr(change, name), self.root.data(name))
         self.expect("change", change and change.words, self.root.data("change"))
         head, foot = (self.root.all(lambda node: kind in node.kinds())[0] for kind in ("head", "foot"))
         written = {tuple(row.split("/")) for row in (head.data("written") or "").split()}
-        self.expect("blocks to write", {(str(station), at) for station, at in told.written}, written)
+        self.expect("blocks to write", {(str(station), at) for station, at in required.written}, written)
         if change:
             self.expect("their count", change.moved or str(len(written)), str(len(written)))
             said = change.said
             lines = [line.removesuffix(said).rstrip("…") for line in head.words() if line.endswith(said)]
             self.expect("lines of the change", [True], [bool(line) and change.words.startswith(line) for line in lines])
-        present = {str(told.records.aliases[station]) for station in after.present}
+        present = {str(required.records.aliases[station]) for station in after.present}
         self.expect("present groups", present | {"0"}, set(head.data("present").split()))
-        bare = {str(station) for station in after.present if not told.records.areas[station]}
+        bare = {str(station) for station in after.present if not required.records.areas[station]}
         self.expect("slaves without process data", bare, set(foot.data("bare").split()))
         empty = {f"{station}/{area}" for station, area in after.pairs if (station, area) not in after.areas}
         self.expect("areas of 0 bits", empty, set(foot.data("empty").split()))
@@ -66,12 +66,12 @@ class PictureReader:
     def states_of(self, node):
         """The states that an element stands for."""
         name = node.data("state")
-        return list(self.told.states()) if name == "both" else [name]
+        return list(self.required.states()) if name == "both" else [name]
 
     def read_parts(self, heading):
         """A task's name, and the bytes of its outputs and inputs, as they are carried and as they are written."""
         task = heading.number("task")
-        name = self.told.records.tasks.get(task) or self.told.earlier.tasks.get(task, "")
+        name = self.required.records.tasks.get(task) or self.required.earlier.tasks.get(task, "")
         self.expect("name of a task", [f"Task {task} {name}".rstrip()], heading.words())
         for node in heading.all(lambda node: "parts" in node.kinds()):
             parts = node.number("outputs"), node.number("inputs")
@@ -80,12 +80,12 @@ class PictureReader:
                 self.found[state]["parts"][heading.number("task")] = parts
 
     def read_datagram(self, node):
-        """A row: its numbers, and all that stands in it."""
+        """A row: its numbers, and all that is in it."""
         name = node.number("task"), node.number("datagram")
         address, length, expected = node.data("address"), node.number("length"), node.number("expected")
         written = [f"datagram {name[1]}", address, f"{length} byte{'' if length == 1 else 's'}"]
         written.append(f"working counter {expected}")
-        if self.told.before:
+        if self.required.before:
             written.append({"both": "as before"}.get(node.data("state"), node.data("state")))
         for words in written:
             self.expect(f"written of datagram {name}", words, words if words in node.words() else node.words())
@@ -96,7 +96,7 @@ class PictureReader:
         self.read_boxes(node, name, length)
 
     def read_ruler(self, row):
-        """The numbers of the bytes: each stands beside its byte's beginning."""
+        """The numbers of the bytes: each is beside its byte's beginning."""
         ruler = next(node for node in row.nodes if "ruler" in node.kinds())
         for text in ruler.tagged("text"):
             wanted = row.number("left") + int(text.text()) * row.number("scale") + 3
@@ -123,7 +123,7 @@ class PictureReader:
         self.expect(f"bits below the areas of datagram {name}", joined(areas), joined(lower))
 
     def box(self, row, node):
-        """The bits of an element, whose box must stand where they are."""
+        """The bits of an element, whose box must be where they are."""
         bit, bits = node.number("bit"), node.number("bits")
         rect = next(child for child in node.nodes if child.tag == "rect")
         scale = row.number("scale") / 8
@@ -156,7 +156,7 @@ class PictureReader:
     def read_whence(self, node, area, state):
         """Where a moved area was or will be, if that is written."""
         for text in (child for child in node.nodes if "whence" in child.kinds()):
-            other = (self.told.before if state == "after" else self.told.after).areas[area]
+            other = (self.required.before if state == "after" else self.required.after).areas[area]
             word = "from" if state == "after" else "to"
             wanted = f"{word} task {other[2]} datagram {other[3]} bit {other[4]}"
             self.expect(f"whence or whither of area {area}", wanted, text.text())
@@ -170,7 +170,7 @@ class PictureReader:
             allowed = [f"{stations}, {len(rows)} areas", stations, f"{letter} ×{len(rows)}"]
         else:
             short = f"{letter} {station} SM {manager}"
-            records = self.told.records_in(row.data("state"))
+            records = self.required.records_in(row.data("state"))
             allowed = [f"{letter} {station}", short, f"{short} {records.shown_name(station)}"]
         if words or node.number("bits") * row.number("scale") >= NAMED_AREA * 8:
             self.expect(f"name of area {rows[0]}", True, len(words) == 1 and words[0] in allowed)
@@ -193,7 +193,7 @@ class PictureReader:
         """What is written in a variable's box: its number, or how many are folded, and its bits."""
         bits, mark = node.number("bits"), node.data("mark")
         self.expect(f"class of variable {numbers[0]}", mark, node.kinds()[2])
-        records, letter = self.told.records_in(row.data("state")), mark[0].upper()
+        records, letter = self.required.records_in(row.data("state")), mark[0].upper()
         names = [records.variable_names.get(numbers[0]) or str(numbers[0]), str(numbers[0])]
         if node.data("variables"):
             ends = f"{numbers[0]}…{numbers[-1]}"
@@ -220,7 +220,7 @@ class PictureReader:
         xs = [float(point.split(",")[0]) for point in node.attributes["points"].split()]
         scale, left = node.number("scale") / 8, node.number("left")
         ends = []
-        for state in (self.told.before, self.told.after):
+        for state in (self.required.before, self.required.after):
             *_, bit, bits = state.areas[area]
             ends.append([left + bit * scale, left + (bit + bits) * scale])
         wanted = [*ends[0], *reversed(ends[1])]
@@ -228,13 +228,13 @@ class PictureReader:
             self.said.append(f"way of area {area}: {wanted} is wanted, {xs} is found")
 
     def compare(self, name, state):
-        """All of a state: nothing may lack, and nothing may stand there besides."""
-        told = self.told
+        """All of a state: nothing may lack, and nothing may be there besides."""
+        required = self.required
         wanted = {
             "datagrams": state.datagrams,
             "parts": state.parts,
-            "areas": {area: (*place, told.area_mark(area, name)) for area, place in state.areas.items()},
-            "variables": {own: (*place, told.variable_mark(own, name)) for own, place in state.variables.items()},
+            "areas": {area: (*place, required.area_mark(area, name)) for area, place in state.areas.items()},
+            "variables": {own: (*place, required.variable_mark(own, name)) for own, place in state.variables.items()},
         }
         for kind, rows in wanted.items():
             found = self.found[name][kind]
@@ -249,7 +249,7 @@ def covered(state):
 
 
 def joined(intervals):
-    """Intervals that stand side by side joined; where two overlap both stay."""
+    """Intervals side by side are joined; where two overlap both stay."""
     ends = []
     for begin, end in sorted(intervals):
         if ends and ends[-1][1] == begin:

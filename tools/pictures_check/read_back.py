@@ -17,19 +17,19 @@ from xml.etree import ElementTree
 from documents import tree_of
 from picture_reading import PictureReader
 from report_reading import ReportReader
-from told import Told
+from required import Required
 
 MOST = 20
 
 
-def differences(told, picture):
-    """In what a picture or a report differs from what is told of its input."""
+def differences(required, picture):
+    """In what a picture or a report differs from what its input requires."""
     text = Path(picture).read_text()
     if picture.endswith(".svg"):
         ElementTree.fromstring(text)
     root = tree_of(text)
-    found = PictureReader(told, root.first("svg")).differences()
-    return found + (ReportReader(told, root).differences() if picture.endswith(".html") else [])
+    found = PictureReader(required, root.first("svg")).differences()
+    return found + (ReportReader(required, root).differences() if picture.endswith(".html") else [])
 
 
 def main(words):
@@ -41,9 +41,9 @@ def main(words):
     parser.add_argument("--since", type=int)
     parser.add_argument("--against", type=Path)
     asked = parser.parse_args(words)
-    told, status = Told(asked.program, asked.input, asked.since, asked.against), 0
+    required, status = Required(asked.program, asked.input, asked.since, asked.against), 0
     for picture in asked.pictures:
-        for difference in differences(told, picture)[:MOST]:
+        for difference in differences(required, picture)[:MOST]:
             print(f"{picture}: {difference}")
             status = 1
     return status

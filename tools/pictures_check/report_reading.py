@@ -1,11 +1,11 @@
-"""Reads the tables of a report: what their rows carry, and what stands written in their cells."""
+"""Reads the tables of a report: what their rows carry, and what is written in their cells."""
 
 
 class ReportReader:
-    """Compares the tables of a report with what is told of its input."""
+    """Compares the tables of a report with what its input requires."""
 
-    def __init__(self, told, root):
-        self.told, self.root, self.said = told, root, []
+    def __init__(self, required, root):
+        self.required, self.root, self.said = required, root, []
 
     def expect(self, what, wanted, found):
         """Says where something else is found than is wanted."""
@@ -26,7 +26,7 @@ class ReportReader:
         found = []
         for table in (node for node in self.root.tagged("table") if node.attributes.get("id") == name):
             columns = [node.text() for node in table.first("thead").tagged("th")]
-            self.expect(f"change first in {name}", bool(self.told.before), columns[0] == "change")
+            self.expect(f"change first in {name}", bool(self.required.before), columns[0] == "change")
             for row in table.first("tbody").nodes:
                 found.append((row, dict(zip(columns, (cell.text() for cell in row.nodes)))))
         return found
@@ -42,27 +42,27 @@ class ReportReader:
             self.expect(f"written in {name}, {key}", written, {own: cells.get(own) for own in written})
 
     def pair(self, kind, key):
-        """What is told of something before and after; without an edit both are the same."""
-        after = getattr(self.told.after, kind).get(key)
-        return (getattr(self.told.before, kind).get(key) if self.told.before else after), after
+        """What is required of something before and after; without an edit both are the same."""
+        after = getattr(self.required.after, kind).get(key)
+        return (getattr(self.required.before, kind).get(key) if self.required.before else after), after
 
     def keys(self, kind):
         """All that there is of a kind in one of the states."""
-        return {key for state in self.told.states().values() for key in getattr(state, kind)}
+        return {key for state in self.required.states().values() for key in getattr(state, kind)}
 
     def changes(self, before, after, written):
         """The mark of a row, and its words where there is an edit."""
         mark = "kept" if before == after else "new" if before is None else "gone" if after is None else "moved"
-        if self.told.before:
+        if self.required.before:
             written["change"] = "" if mark == "kept" else f"{mark[0].upper()} {mark}"
         return mark
 
     def changed_datagrams(self):
         """The datagrams in which an area or a variable is marked."""
-        told, changed = self.told, set()
-        for name, state in told.states().items():
-            changed |= {place[2:4] for area, place in state.areas.items() if told.area_mark(area, name) != "kept"}
-            changed |= {place[:2] for own, place in state.variables.items() if told.variable_mark(own, name) != "kept"}
+        required, changed = self.required, set()
+        for name, state in required.states().items():
+            changed |= {place[2:4] for area, place in state.areas.items() if required.area_mark(area, name) != "kept"}
+            changed |= {place[:2] for own, place in state.variables.items() if required.variable_mark(own, name) != "kept"}
         return changed
 
     def datagrams(self):
@@ -73,7 +73,7 @@ class ReportReader:
             numbers = [str(number) for number in after[1:]] if after else ["", ""]
             written = {"task": str(key[0]), "datagram": str(key[1]), "bytes": numbers[0], "working counter": numbers[1]}
             written["logical address"] = f"0x{(after or before)[0]:08x}"
-            if self.told.before:
+            if self.required.before:
                 old = [str(number) for number in before[1:]] if before else ["", ""]
                 written |= {"bytes before": old[0], "working counter before": old[1]}
             mark = self.changes(before, after, written)
@@ -88,18 +88,18 @@ class ReportReader:
         for key in self.keys("variables"):
             before, after = self.pair("variables", key)
             task, datagram, bit, bits, direction = after or before
-            address = (self.told.after if after else self.told.before).datagrams[task, datagram][0]
+            address = (self.required.after if after else self.required.before).datagrams[task, datagram][0]
             written = {"variable": str(key), "bits": str(bits), "task": str(task), "datagram": str(datagram)}
             written |= {"first bit": str(bit), "byte.bit": f"{bit // 8}.{bit % 8}"}
             written |= {"direction": "O output" if direction == "out" else "I input"}
             written |= {"logical address": f"0x{address + bit // 8:08x}"}
-            records = self.told.records_in("after" if after else "before")
+            records = self.required.records_in("after" if after else "before")
             station = records.homes[key][0]
             written |= {"station address": str(station), "alias": str(records.aliases[station])}
             written["slave"] = records.shown_name(station)
-            if self.told.records.variable_names or self.told.earlier.variable_names:
+            if self.required.records.variable_names or self.required.earlier.variable_names:
                 written["name"] = records.variable_names.get(key, "")
-            if self.told.before:
+            if self.required.before:
                 written["place before"] = "task {} datagram {} bit {}".format(*before[:3]) if before else ""
             wanted[str(key)] = (self.changes(before, after, written), written)
         return wanted
@@ -113,7 +113,7 @@ class ReportReader:
             name = f"sync manager {number}" if kind == "sm" else f"FMMU {number}"
             written = {"station address": str(key[0]), "register": key[1], "block": name}
             written["bytes"] = after[1] if after else ""
-            if self.told.before:
+            if self.required.before:
                 written["bytes before"] = before[1] if before else ""
             wanted[f"{key[0]}/{key[1]}"] = (self.changes(before, after, written), written)
         return wanted

@@ -5,7 +5,7 @@
 
 Each way is something that a maker could get wrong: a number that is carried, one that is written, the place of a box,
 an area left out, before and after exchanged; and in a report a number in a cell, a row left out, and a datagram whose
-change isn't told.
+change isn't shown.
 """
 
 import re

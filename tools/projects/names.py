@@ -97,7 +97,7 @@ class Names:
 
 
 def names_of(project: Project) -> Names:
-    """The names of a project, all of which must be right."""
+    """The names of a project; all must be right."""
     names = Names(project)
     if names.faults:
         raise Refusal("\n".join(map(str, names.faults)))

@@ -140,7 +140,7 @@ def optional(table: Node, key: str) -> list[Node]:
     return [] if found is None else of_kind(found, key, list)
 
 
-def name_of(table: Node) -> tuple[str, int]:
+def name_and_line(table: Node) -> tuple[str, int]:
     """The name that people gave, and its line; the format ignores the key, so it may be of any kind."""
     found = table.get("name")
     return (found.value, found.line) if found and isinstance(found.value, str) else ("", table.line)
@@ -158,7 +158,7 @@ class Records:
 
     def group(self, table: Node) -> Group:
         """A group that comes and goes."""
-        alias, (name, line) = needed(table, "alias", int), name_of(table)
+        alias, (name, line) = needed(table, "alias", int), name_and_line(table)
         return Group(alias, name, self.slaves(table, name), table.line, line)
 
     def slaves(self, table: Node, name: str) -> list[Slave]:
@@ -168,7 +168,7 @@ class Records:
     def slave(self, table: Node, name: str) -> Slave:
         """A slave."""
         areas = [self.area(number, area) for number, area in enumerate(optional(table, "area"))]
-        own, line = name_of(table)
+        own, line = name_and_line(table)
         return Slave(needed(table, "station", int), own or name, areas, table.line, own, line)
 
     def area(self, number: int, table: Node) -> Area:
@@ -189,7 +189,7 @@ class Records:
         return Pdo(needed(table, "index", int), read, table.line)
 
     def entry(self, node: Node, name: str, line: int | None) -> Entry:
-        """An entry; its line is that of its name, if it has one."""
+        """An entry; its line is its name's line, if it has one."""
         pair = of_kind(node, "an entry", list)
         if len(pair) != 2:
             raise Refusal(f"line {node.line}: MissingField: an entry isn't two integers")
@@ -219,7 +219,7 @@ class Records:
         if tasks and not isinstance(tasks.value, list):
             self.fault(tasks.line, "NoSuchTask", "task isn't an array of tables")
         for table in document.listed("task"):
-            number, (name, line) = table.get("number"), name_of(table)
+            number, (name, line) = table.get("number"), name_and_line(table)
             if number is None or type(number.value) is not int or not 0 <= number.value < TASKS:
                 self.fault(table.line, "NoSuchTask", f"a named task has no number from 0 to {TASKS - 1}")
             elif number.value in named:

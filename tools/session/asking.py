@@ -5,7 +5,7 @@ from dataclasses import dataclass
 
 from pictures.states import PLACE, Datagram, VariablePlace, datagrams_of
 from projects.faults import Refusal
-from session.replay import Command, Kept, Replay, command_of
+from session.replay import Command, Recorded, Replay, command_of
 from session.values import Value, bits_at
 from wire.frames import Frame, frame_bytes, read_frame, with_counters
 
@@ -29,15 +29,15 @@ class Layout:
 
 
 class Questions:
-    """Questions about the line as the kept commands left it, or as other ones would."""
+    """Questions about the line as the recorded commands left it, or as other ones would."""
 
-    def __init__(self, replay: Replay, kept: list[Kept] | None = None) -> None:
+    def __init__(self, replay: Replay, recorded: list[Recorded] | None = None) -> None:
         self.replay = replay
-        self.kept = replay.kept if kept is None else kept
+        self.recorded = replay.recorded if recorded is None else recorded
 
     def ask(self, *commands: Command) -> list[str]:
-        """The lines that are printed for some commands, of which none is kept."""
-        return self.replay.answers(list(commands), self.kept)
+        """The lines that are printed for some commands; none is recorded."""
+        return self.replay.answers(list(commands), self.recorded)
 
     def layout(self) -> Layout:
         """The line's datagrams."""
@@ -84,7 +84,7 @@ class Questions:
 
     def owed_writes(self, most: int) -> list[Frame]:
         """The frames that would write the owed blocks in turn, where each is written well; at most so many."""
-        writes, played = [], list(self.kept)
+        writes, played = [], list(self.recorded)
         while len(writes) < most:
             write = command_of(["write"])
             lines = self.replay.answers([write], played)
@@ -93,6 +93,6 @@ class Questions:
                 break
             frame = read_frame(bytes.fromhex(found[2]))
             back = command_of(["arrive", frame_bytes(with_counters(frame, [1])).hex()])
-            played += [Kept(write, lines), Kept(back, ["write done"])]
+            played += [Recorded(write, lines), Recorded(back, ["write done"])]
             writes.append(frame)
         return writes

@@ -14,7 +14,7 @@ from projects.records import Project, read_project
 from session.asking import Questions
 from session.describing import Describer
 from session.help import HELP, one_command
-from session.replay import ACCEPTED, EDITS, Command, Kept, Replay, command_of, is_refused
+from session.replay import ACCEPTED, EDITS, Command, Recorded, Replay, command_of, is_refused
 from session.spelling import Speller, words_of
 from session.values import Value, read_value
 
@@ -46,7 +46,7 @@ class Line:
 
     def read_names(self) -> None:
         """Reads the project anew, with the groups that were declared."""
-        declared = [one.command.document() for one in self.replay.kept if one.command.name == "declare"]
+        declared = [one.command.document() for one in self.replay.recorded if one.command.name == "declare"]
         documents = [document_of("a declared group", text) for text in declared]
         self.project: Project = read_project(document_of(self.name, self.replay.text), documents)
         self.names: Names = names_of(self.project)
@@ -77,7 +77,7 @@ class Line:
         return self.speller.command(words)
 
     def set(self, words: list[str]) -> list[str]:
-        """Posts values, and keeps those of all variables that aren't named; nothing is posted where one is wrong."""
+        """Posts values, and keeps the values of all variables that aren't named; nothing is posted where one is wrong."""
         settings = dict(self.setting(word) for word in words)
         if not settings:
             raise Refusal("WrongCount: set takes NAME=VALUE, once or more")
@@ -164,7 +164,7 @@ class Line:
         lines = before.ask(edit)
         if not ACCEPTED.fullmatch(lines[-1]):
             return [f"would be answered: {lines[-1]}"]
-        after = Questions(self.replay, [*self.replay.kept, Kept(edit, lines)])
+        after = Questions(self.replay, [*self.replay.recorded, Recorded(edit, lines)])
         owed = after.owed()
         tasks = sorted({task for task, _ in changed_datagrams(before, after)})
         return [
@@ -176,14 +176,14 @@ class Line:
 
     def diff(self, words: list[str]) -> list[str]:
         """The layout and the variables' places before and after the last edit."""
-        last = max((place for place, one in enumerate(self.replay.kept) if one.is_edit()), default=None)
+        last = max((place for place, one in enumerate(self.replay.recorded) if one.is_edit()), default=None)
         if last is None:
             return ["no edit was accepted"]
-        before = Questions(self.replay, self.replay.kept[:last])
-        after = Questions(self.replay, self.replay.kept[: last + 1])
+        before = Questions(self.replay, self.replay.recorded[:last])
+        after = Questions(self.replay, self.replay.recorded[: last + 1])
         changed = list(difflib.unified_diff(before.layout().lines, after.layout().lines, lineterm="", n=0))[2:]
         lines = [line for line in changed if not line.startswith("@@")]
-        return [str(self.replay.kept[last].command), *lines, *self.moved(before, after)]
+        return [str(self.replay.recorded[last].command), *lines, *self.moved(before, after)]
 
     def moved(self, before: Questions, after: Questions) -> list[str]:
         """The variables whose places differ, with both."""
@@ -216,7 +216,7 @@ class Line:
 
     def history(self, words: list[str]) -> list[str]:
         """The commands that changed something, in order."""
-        return [f"{number} {one.command}" for number, one in enumerate(self.replay.kept, 1)] or ["no command is kept"]
+        return [f"{number} {one.command}" for number, one in enumerate(self.replay.recorded, 1)] or ["no command is kept"]
 
     def save(self, words: list[str]) -> list[str]:
         """Writes an input of hotline that plays the session."""

@@ -97,7 +97,7 @@ def state(line: Line) -> dict[str, Any]:
 
 def drawn(line: Line) -> str:
     """The picture of a line with its last edit, or why there is none."""
-    edits = b"".join(one.command.lines for one in line.replay.kept if one.is_edit())
+    edits = b"".join(one.command.lines for one in line.replay.recorded if one.is_edit())
     try:
         return picture(view_since(Run(line.replay.program, line.name, line.replay.text, edits), None))
     except Refusal as refusal:

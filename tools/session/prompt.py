@@ -11,7 +11,7 @@ from session.spelling import PROGRAM
 PROMPT = "> "
 
 
-def candidates(line: Line) -> list[str]:
+def completions(line: Line) -> list[str]:
     """The words that can be completed: commands and names, in quotes where they have blanks."""
     names = [one.name for one in [*line.names.slaves, *line.names.groups, *line.names.tasks, *line.names.variables.values()]]
     quoted = [f'"{name}"' if " " in name else name for name in names if name]
@@ -22,7 +22,7 @@ def completer(line: Line) -> Callable[[str, int], str | None]:
     """What `readline` asks for the words that begin with a text."""
 
     def complete(text: str, state: int) -> str | None:
-        found = [word for word in candidates(line) if word.lower().startswith(text.lower())]
+        found = [word for word in completions(line) if word.lower().startswith(text.lower())]
         return found[state] if state < len(found) else None
 
     return complete

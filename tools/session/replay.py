@@ -1,4 +1,4 @@
-"""A session over a program that reads its whole input first: each question replays the commands that were kept."""
+"""A session over a program that reads its whole input first: each question replays the recorded commands."""
 
 import re
 from dataclasses import dataclass
@@ -37,7 +37,7 @@ class Command:
 
 
 @dataclass(frozen=True)
-class Kept:
+class Recorded:
     """A command that changed something, and the lines that the program printed for it."""
 
     command: Command
@@ -59,15 +59,15 @@ def is_refused(lines: list[str]) -> bool:
 
 
 class Replay:
-    """A project text and the commands kept so far."""
+    """A project text and the commands recorded so far."""
 
     def __init__(self, program: Program, text: bytes) -> None:
         self.program, self.text = program, text
-        self.kept: list[Kept] = []
+        self.recorded: list[Recorded] = []
 
-    def answers(self, commands: list[Command], kept: list[Kept] | None = None) -> list[str]:
-        """What the program prints for some commands after the kept ones, or after others; nothing is kept of them."""
-        before = self.kept if kept is None else kept
+    def answers(self, commands: list[Command], recorded: list[Recorded] | None = None) -> list[str]:
+        """What the program prints for some commands after the recorded ones, or after others; none of them is recorded."""
+        before = self.recorded if recorded is None else recorded
         played = [one.command.lines for one in before] + [command.lines for command in commands]
         ran = self.program.ran(input_of(self.text, played))
         lines = ran.lines[sum(len(one.lines) for one in before) :]
@@ -78,22 +78,22 @@ class Replay:
         raise Refusal(lines[-1] if lines else f"the program ended with status {ran.status} and said nothing")
 
     def play(self, commands: list[Command]) -> list[list[str]]:
-        """What each command prints, one after another; those that change something are kept, all of them or none."""
-        kept, answers = list(self.kept), []
+        """What each command prints, one after another; those that change something are recorded, all of them or none."""
+        recorded, answers = list(self.recorded), []
         for command in commands:
-            lines = self.answers([command], kept)
+            lines = self.answers([command], recorded)
             answers.append(lines)
             if is_refused(lines):
                 return answers
             if command.name in CHANGES:
-                kept.append(Kept(command, lines))
-        self.kept = kept
+                recorded.append(Recorded(command, lines))
+        self.recorded = recorded
         return answers
 
     def undo(self) -> Command | None:
-        """Forgets the last kept command, which is answered; None where there is none."""
-        return self.kept.pop().command if self.kept else None
+        """Forgets the last recorded command, and gives it; None where there is none."""
+        return self.recorded.pop().command if self.recorded else None
 
     def script(self) -> bytes:
-        """An input of the program that plays what was kept."""
-        return input_of(self.text, [one.command.lines for one in self.kept])
+        """An input of the program that plays what was recorded."""
+        return input_of(self.text, [one.command.lines for one in self.recorded])

@@ -1,7 +1,7 @@
 """The session as a page on this machine: one address of the loopback, one session, no file of its own.
 
 A request is answered only where it names this page's host, and a command only where the page itself sent it: its origin
-and the token that stands in the page must be this session's. So no other page in the same browser reaches it.
+and the token in the page must be this session's. So no other page in the same browser reaches it.
 """
 
 import hmac

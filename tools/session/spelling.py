@@ -61,7 +61,7 @@ class Speller:
         }
 
     def station(self, word: str) -> int:
-        """The station address of a slave, by its name or by that of a group that has no other slave."""
+        """The station address of a slave, by its name or by the name of a group that has no other slave."""
         alone = [group.slaves[0].station for group in self.project.groups if group.name == word and len(group.slaves) == 1]
         named = any(slave.name == word for slave in self.names.slaves)
         return alone[0] if len(alone) == 1 and not named else self.names.station(word)

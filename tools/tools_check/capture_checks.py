@@ -110,7 +110,7 @@ def frames_in(capture: bytes) -> list[bytes]:
 
 
 def check_run(checks: Checks, name: str, count: int) -> None:
-    """A capture of an example: as many frames as its script sends, of which tshark marks none malformed."""
+    """A capture of an example: as many frames as its script sends; tshark marks none malformed."""
     path = checks.scratch / f"{name}.pcap"
     ended = checks.tool("capture", EXAMPLES / f"{name}.in", path, "--program", checks.program)
     checks.equal(f"the capture of {name}", (0, ""), (ended.status, ended.complaint))
@@ -169,7 +169,7 @@ def fields_of(block: bytes) -> tuple[int, ...]:
 
 
 def check_refusals(checks: Checks) -> None:
-    """Runs of which there is no capture say why: a bad command, no project, and a program whose answers differ."""
+    """Runs that leave no capture say why: a bad command, no project, and a program whose answers differ."""
     project = (EXAMPLES / "tool_changer.toml").read_text() + "%%\n"
     path = checks.scratch / "none.pcap"
     bad = checks.file("bad.in", project + "layout\nlayuot\n")

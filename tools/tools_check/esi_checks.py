@@ -12,7 +12,7 @@ COUPLER, OUTPUTS, DRIVE, TOOL = (SAMPLES / f"{name}.xml" for name in ("coupler",
 # Register blocks by ETG.1000.4. A sync manager: start address, length, control (0x64: buffered, written by the master,
 # interrupt in the slave, watchdog; 0x20: buffered, read, interrupt in the slave), status, activate, and one byte more.
 # An FMMU: logical start address, length, first and last bit, physical start address and bit, type (1 read, 2 write),
-# activate, three bytes. Numbers have their least significant byte first. Outputs stand before inputs, each area of
+# activate, three bytes. Numbers have their least significant byte first. Outputs come before inputs, each area of
 # whole bytes after the one before it, from 0x01000000 on in task 0 and from 0x04000000 on in task 3. A slave adds 2 to
 # the working counter for what it writes to its memory and 1 for what it reads from it.
 LINE = [
@@ -149,7 +149,7 @@ def check_alternatives(checks: Checks) -> None:
 
 
 def check_group(checks: Checks) -> None:
-    """A tool of three devices, of which one has its outputs where a text can't have them."""
+    """A tool of three devices; one has its outputs where a text can't have them."""
     made = checks.tool("esi", TOOL, *TOOL_WORDS)
     checks.equal("a tool", 1, made.status)
     found = configured(checks, made.said, "connect 7\nlayout\nregs 2001\nregs 2002\nregs 2003\n", 2)

@@ -125,7 +125,7 @@ def check_day(checks: Checks, project: Path) -> None:
 
 
 def completed(terminal: Terminal, beginning: str) -> str:
-    """A line of which the terminal completes the last word."""
+    """A line whose last word the terminal completes."""
     os.write(terminal.file, beginning.encode() + b"\t")
     time.sleep(0.3)
     os.write(terminal.file, b"\n")

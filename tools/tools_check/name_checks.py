@@ -147,10 +147,10 @@ def compiled(checks: Checks, compiler: str, text: str, name: str, options: list[
 def check_program(checks: Checks) -> None:
     """The program ignores names: it configures the same line without them."""
     plain = TEXT.replace("name", "label")
-    behind = b"\n%%\nlayout\nregs 1002\nconnect 100\nregs 2001\nplace 1\n"
-    wanted = checks.hotline(plain.encode() + behind)
+    commands = b"\n%%\nlayout\nregs 1002\nconnect 100\nregs 2001\nplace 1\n"
+    wanted = checks.hotline(plain.encode() + commands)
     checks.equal("a line without names", 0, wanted[0])
-    checks.equal("a line with names", wanted, checks.hotline(TEXT.encode() + behind))
+    checks.equal("a line with names", wanted, checks.hotline(TEXT.encode() + commands))
 
 
 def check_lookups(checks: Checks) -> None:

@@ -70,7 +70,7 @@ def named(text: str) -> str:
         names = [NAMES.get(int(number), "") for number in ENTRY.findall(found[1])]
         return found[0] + (f", names = {str(names).replace(chr(39), chr(34))}" if any(names) else "")
 
-    # An inline table takes a list of names behind a comma; below a header it has a line of its own.
+    # An inline table takes a list of names after a comma; below a header it has a line of its own.
     lines = [ENTRIES.sub(with_names, line) for line in text.splitlines()]
     return TASKS + "\n".join(line.replace(", names", "\nnames") if line.startswith("entries") else line for line in lines) + "\n"
 

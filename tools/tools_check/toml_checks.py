@@ -38,7 +38,7 @@ def is_taken(text: bytes) -> bool:
 
 
 def check_declared(checks: Checks, texts: list[bytes], taken: list[bool]) -> None:
-    """Each text as the document of a `declare`: the program tells of each whether it is TOML."""
+    """Each text as the document of a `declare`: the program says of each whether it is TOML."""
     for first in range(0, len(texts), PORTION):
         portion = texts[first : first + PORTION]
         _, lines = checks.hotline(b"%%\n" + b"".join(b"declare\n" + text + b"%%\n" for text in portion))
@@ -80,10 +80,10 @@ def check_notations(checks: Checks) -> None:
     stations = [slave.station for slave, _ in read_project(read_toml(plain), []).slaves()]
     questions = ["layout", "connect 1", *(f"regs {station}" for station in stations)]
     questions += ["place 1", "place 4294967295", "place 3"]
-    behind = ("\n%%\n" + "\n".join(questions) + "\n").encode()
-    wanted = checks.hotline(plain + behind)
+    commands = ("\n%%\n" + "\n".join(questions) + "\n").encode()
+    wanted = checks.hotline(plain + commands)
     checks.equal("status of a project", 0, wanted[0])
     for seed in range(NOTATIONS):
         text = Notation(seed).document(PROJECT).encode()
         checks.equal(f"notation {seed}, read", PROJECT, read_toml(text).plain())
-        checks.equal(f"notation {seed}, configured", wanted, checks.hotline(text + behind))
+        checks.equal(f"notation {seed}, configured", wanted, checks.hotline(text + commands))

@@ -13,7 +13,7 @@ from projects.faults import Refusal
 from projects.files import document_of
 from projects.names import number_in
 from projects.records import Project, read_project
-from session.replay import ACCEPTED, CHANGES, EDITS, Command, Kept, Replay, command_of
+from session.replay import ACCEPTED, CHANGES, EDITS, Command, Recorded, Replay, command_of
 from wire.frames import Frame, frame_bytes, read_frame
 from wire.line import Slaves
 
@@ -58,7 +58,7 @@ class Play:
 
     def declared(self) -> list[bytes]:
         """The documents of the groups that were declared."""
-        return [one.command.document() for one in self.replay.kept if one.command.name == "declare"]
+        return [one.command.document() for one in self.replay.recorded if one.command.name == "declare"]
 
     def project(self, declared: list[bytes]) -> Project:
         """The project with groups that were declared later."""
@@ -78,13 +78,13 @@ class Play:
             return self.cycle(command.words[1:])
         if command.name in ("poke", "peek"):
             return self.memory(command)
-        return self.told(command)
+        return self.passed_on(command)
 
-    def told(self, command: Command) -> list[str]:
+    def passed_on(self, command: Command) -> list[str]:
         """What the program answers to a command that the simulated line has no part in."""
         lines = self.replay.answers([command])
         if command.name in CHANGES:
-            self.replay.kept.append(Kept(command, lines))
+            self.replay.recorded.append(Recorded(command, lines))
         if command.name == "arrive":
             self.frames.append(Passed(bytes.fromhex(command.words[1]), True))
         self.frames += [Passed(bytes.fromhex(found[1]), False) for line in lines if (found := SENT.fullmatch(line))]
@@ -107,7 +107,7 @@ class Play:
 
     def cycle(self, tasks: list[str]) -> list[str]:
         """Process data of tasks, sent and taken in."""
-        lines = self.told(command_of(["send", *tasks]))
+        lines = self.passed_on(command_of(["send", *tasks]))
         found = [SENT.fullmatch(line) for line in lines]
         if not all(found):
             return lines
@@ -120,13 +120,13 @@ class Play:
         """What the program answers to a frame that came back."""
         command = command_of(["arrive", frame_bytes(back).hex()])
         lines = self.replay.answers([command])
-        self.replay.kept.append(Kept(command, lines))
+        self.replay.recorded.append(Recorded(command, lines))
         return lines
 
     def write_all(self) -> list[str]:
         """Owed register blocks, written one after another until one isn't done or none is owed."""
         done = 0
-        while found := SENT.fullmatch(self.told(command_of(["write"]))[0]):
+        while found := SENT.fullmatch(self.passed_on(command_of(["write"]))[0]):
             if self.taken(self.round_trip(read_frame(bytes.fromhex(found[1])))) != [DONE]:
                 break
             done += 1

@@ -90,7 +90,7 @@ fn send_into(
     }
 }
 
-/// Fills the data of a frame of one datagram, and puts the counter behind them.
+/// Fills the data of a frame of one datagram, and puts the counter after them.
 fn put_data(frame: &mut [u8], length: u16, counter: u16, byte: u8) {
     let end = DATA + usize::from(length);
     if let Some(data) = frame.get_mut(DATA..end) {
@@ -120,7 +120,7 @@ fn returned_of(
     Some(frame)
 }
 
-/// The frames of tasks as they come back, from those that stand in the arena.
+/// The frames of tasks as they come back, from the frames in the arena.
 fn all_returned(
     alloc: Global,
     conductor: &Conductor,
@@ -211,29 +211,29 @@ END_OF_CODE
 cat > "$1/src/task.rt" <<'END_OF_CODE'
 //! A task's part of a cycle.
 
-use crate::told::told_of;
+use crate::digest::digest_of;
 use hc_conductor::seat::TaskSeat;
 use hc_conductor::view::TaskView;
 use hc_records::records::VarId;
 
-/// What a view tells of variables, behind its epoch.
-fn told_by(view: &TaskView, variables: &[VarId]) -> u64 {
-    let mut told = told_of(0, u64::from(view.epoch()));
+/// The digest of a view's epoch and of variables in it.
+fn digest_by(view: &TaskView, variables: &[VarId]) -> u64 {
+    let mut digest = digest_of(0, u64::from(view.epoch()));
     for variable in variables {
-        told = match view.value(*variable) {
-            Ok(value) => told_of(told, value),
-            Err(fault) => told_of(told_of(told, 99), u64::from(fault.number())),
+        digest = match view.value(*variable) {
+            Ok(value) => digest_of(digest, value),
+            Err(fault) => digest_of(digest_of(digest, 99), u64::from(fault.number())),
         };
     }
-    told
+    digest
 }
 
 /// A view is taken and left.
 pub fn looked(seat: TaskSeat, variables: &[VarId]) -> (TaskSeat, u64) {
     match seat.view() {
         Ok(view) => {
-            let told = told_by(&view, variables);
-            (view.leave(), told)
+            let digest = digest_by(&view, variables);
+            (view.leave(), digest)
         }
         Err(seat) => (seat, 0),
     }
@@ -251,10 +251,10 @@ END_OF_CODE
 cat > "$1/src/cycle.rt" <<'END_OF_CODE'
 //! Whole cycles in one thread.
 
+use crate::digest::digest_of;
 use crate::given::Given;
 use crate::master::Frames;
 use crate::task::{looked, posted};
-use crate::told::told_of;
 use hc_conductor::conductor::Conductor;
 use hc_conductor::seat::TaskSeat;
 use hc_conductor::taking::Taken;
@@ -283,12 +283,12 @@ pub fn tasks_of(alloc: Global, seats: Vec<TaskSeat>, count: u32) -> Option<Vec<T
 }
 
 /// A task looks and posts.
-fn play_task(task: Task, variables: &[VarId], byte: u8, told: u64) -> (Task, u64) {
+fn play_task(task: Task, variables: &[VarId], byte: u8, digest: u64) -> (Task, u64) {
     let Task { seat, number } = task;
     let (mut seat, seen) = looked(seat, variables);
     let done = posted(&mut seat, byte);
-    let told = told_of(told_of(told, seen), u64::from(done));
-    (Task { seat, number }, told)
+    let digest = digest_of(digest_of(digest, seen), u64::from(done));
+    (Task { seat, number }, digest)
 }
 
 /// Each task looks and posts; they go over into the other list, in turned order.
@@ -297,25 +297,25 @@ fn play_tasks(
     tasks: &mut Vec<Task>,
     others: &mut Vec<Task>,
     byte: u8,
-    told: u64,
+    digest: u64,
 ) -> Option<u64> {
-    let mut told = told;
+    let mut digest = digest;
     for _ in 0..8 {
         let Some(task) = tasks.pop() else {
-            return Some(told);
+            return Some(digest);
         };
         let variables = given.of_task(task.number);
-        let (task, next) = play_task(task, variables, byte, told);
-        told = next;
+        let (task, next) = play_task(task, variables, byte, digest);
+        digest = next;
         others.push(task).ok()?;
     }
-    Some(told)
+    Some(digest)
 }
 
-/// What was taken, mixed into what was told.
-fn told_of_taken(told: u64, taken: Taken) -> u64 {
+/// What was taken, mixed into a digest.
+fn digest_of_taken(digest: u64, taken: Taken) -> u64 {
     let Taken { accepted, refused } = taken;
-    told_of(told_of(told, u64::from(accepted)), u64::from(refused))
+    digest_of(digest_of(digest, u64::from(accepted)), u64::from(refused))
 }
 
 /// A cycle: posts are taken, tasks sent and answered, all is published, and each task looks and posts. What was seen.
@@ -329,11 +329,11 @@ pub fn play<R: Wait>(
     others: &mut Vec<Task>,
     byte: u8,
 ) -> Option<u64> {
-    let told = told_of_taken(0, conductor.take_posts());
-    let told = told_of(told, u64::from(frames.exchange(alloc, conductor)));
+    let digest = digest_of_taken(0, conductor.take_posts());
+    let digest = digest_of(digest, u64::from(frames.exchange(alloc, conductor)));
     let Ok(()) = conductor.publish(rt, alloc) else {
         return None;
     };
-    play_tasks(given, tasks, others, byte, told)
+    play_tasks(given, tasks, others, byte, digest)
 }
 END_OF_CODE

@@ -18,7 +18,7 @@ use std::sync::Wait;
 use std::sync::atomic::{AtomicBool, Ordering};
 use std::thread::Threads;
 
-/// What was resident in kibibytes behind the first cycles and behind all, and how many posts were made and taken.
+/// What was resident in kibibytes after the first cycles and after all, and how many posts were made and taken.
 struct LongRun {
     early: u64,
     late: u64,
@@ -26,7 +26,7 @@ struct LongRun {
 }
 
 /// All blocks are written, and so many cycles played, so many more, and one more: how far it is then, and what was
-/// resident behind the first cycles and behind all.
+/// resident after the first cycles and after all.
 fn played<R: Wait + Files + AllocGlobal>(
     rt: &R,
     alloc: Global,
@@ -60,14 +60,14 @@ fn resident_beside<R: Threads + Wait + Files + AllocGlobal>(
     let seats = eight_of(seats)?;
     let mut master = Master::of(0x5eed);
     let is_done = AtomicBool::new(false);
-    let (worked, told) = work_eight(rt, seats, &is_done, || -> Option<(u64, u64, u64)> {
-        let told = played(rt, alloc, conductor, &mut master, first, all);
+    let (worked, found) = work_eight(rt, seats, &is_done, || -> Option<(u64, u64, u64)> {
+        let found = played(rt, alloc, conductor, &mut master, first, all);
         is_done.store(true, Ordering::SeqCst);
-        told
+        found
     });
     master.take_posts(conductor);
     let (moment, posts) = worked?;
-    let (last, early, late) = told?;
+    let (last, early, late) = found?;
     if moment == last && posts == master.taken() {
         Some(LongRun { early, late, posts })
     } else {
@@ -75,7 +75,7 @@ fn resident_beside<R: Threads + Wait + Files + AllocGlobal>(
     }
 }
 
-/// Opens the line, and prints what is resident behind the first cycles and behind all, and how many posts there were.
+/// Opens the line, and prints what is resident after the first cycles and after all, and how many posts there were.
 pub fn cycle_often<R: Threads + Wait + Files + AllocGlobal + Print>(
     rt: &R,
     alloc: Global,
@@ -85,9 +85,9 @@ pub fn cycle_often<R: Threads + Wait + Files + AllocGlobal + Print>(
     let Some((mut conductor, seats)) = opened_line(rt, alloc, EIGHT) else {
         return false;
     };
-    let told = resident_beside(rt, alloc, &mut conductor, seats, first, all);
+    let found = resident_beside(rt, alloc, &mut conductor, seats, first, all);
     conductor.finish(rt);
-    match told {
+    match found {
         Some(LongRun { early, late, posts }) => {
             println!(rt; "{early} {late} {posts}").is_ok()
         }

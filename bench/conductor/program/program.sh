@@ -4,12 +4,13 @@ set -eu
 mkdir -p "$1/src"
 cat > "$1/src/main.rt" <<'END_OF_CODE'
 //! `conductor_bench WORD NUMBER.. < LINE` plays cycles by `hc_conductor`, all in one thread or beside tasks in threads, and
-//! prints what was told or how long it took. LINE is a project's text, and behind it a row `# variables` and a row for each task: the variables that it
-//! looks at.
+//! prints digests or how long it took. LINE is a project's text, then a row `# variables` and a row for each task: the
+//! variables that it looks at.
 #![tactic(auto)]
 
 mod bytes;
 mod cycle;
+mod digest;
 mod fates;
 mod given;
 mod lines;
@@ -21,7 +22,6 @@ mod rounds;
 mod sendings;
 mod stress;
 mod task;
-mod told;
 mod words;
 mod working;
 
@@ -47,7 +47,7 @@ fn is_done<R: Threads + Wait + Sync + Clock + Print + Files + AllocGlobal>(
     };
     let (first, second, third) = three_of(words);
     match word.as_str() {
-        "told" => rounds::tell(rt, alloc, given, first, second),
+        "told" => rounds::print_digests(rt, alloc, given, first, second),
         "cycle" => rounds::time_cycles(rt, alloc, given, first, second, third),
         "send" => sendings::time_sendings(rt, alloc, given, Writers::Sender, first, second, third),
         "workers" => sendings::time_sendings(rt, alloc, given, Writers::Workers, first, second, third),
@@ -96,7 +96,7 @@ fn variables_of(alloc: Global, row: &str) -> Result<Vec<VarId>, AllocError> {
 }
 
 impl Given {
-    /// What stands before the row `# variables`, and the rows behind it.
+    /// What comes before the row `# variables`, and the rows after it.
     pub fn of(alloc: Global, text: &str) -> Result<Given, AllocError> {
         let (line, rows) = match text.split_once("# variables\n") {
             Some(parts) => parts,

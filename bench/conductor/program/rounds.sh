@@ -6,9 +6,9 @@ cat > "$1/src/rounds.rt" <<'END_OF_CODE'
 //! Rounds of cycles.
 
 use crate::cycle::{Task, play, tasks_of};
+use crate::digest::digest_of;
 use crate::given::Given;
 use crate::master::{Frames, opened, write_all};
-use crate::told::told_of;
 use hc_conductor::conductor::Conductor;
 use hc_conductor::seat::TaskSeat;
 use std::alloc::Global;
@@ -42,7 +42,7 @@ fn prepared(
     })
 }
 
-/// Two cycles, behind which the tasks stand in the order of before.
+/// Two cycles; after them the tasks are in the order of before.
 fn play_two<R: Wait>(
     rt: &R,
     alloc: Global,
@@ -58,7 +58,7 @@ fn play_two<R: Wait>(
     } = played;
     let first = play(rt, alloc, given, conductor, frames, tasks, others, byte)?;
     let second = play(rt, alloc, given, conductor, frames, others, tasks, byte)?;
-    Some(told_of(first, second))
+    Some(digest_of(first, second))
 }
 
 /// So many times two cycles.
@@ -70,11 +70,11 @@ fn play_often<R: Wait>(
     played: &mut Played,
     times: u32,
 ) -> Option<u64> {
-    let mut told = 0;
+    let mut digest = 0;
     for _ in 0..times {
-        told = told_of(told, play_two(rt, alloc, given, conductor, played, 0x5a)?);
+        digest = digest_of(digest, play_two(rt, alloc, given, conductor, played, 0x5a)?);
     }
-    Some(told)
+    Some(digest)
 }
 
 /// Rounds, with the nanoseconds of each.
@@ -90,9 +90,9 @@ fn time_rounds<R: Wait + Clock + Print>(
     let mut sum = 0;
     for _ in 0..rounds {
         let begun = Instant::now(rt).ok()?;
-        let told = play_often(rt, alloc, given, conductor, played, times)?;
+        let digest = play_often(rt, alloc, given, conductor, played, times)?;
         let time = begun.elapsed(rt).ok()?.as_nanos();
-        sum = told_of(sum, told);
+        sum = digest_of(sum, digest);
         println!(rt; "{time}").ok()?;
     }
     Some(sum)
@@ -130,7 +130,7 @@ pub fn time_cycles<R: Wait + Clock + Print>(
 }
 
 /// What was seen in each two cycles, and the bytes that were sent last.
-fn tell_rounds<R: Wait + Print>(
+fn print_each<R: Wait + Print>(
     rt: &R,
     alloc: Global,
     given: &Given,
@@ -141,17 +141,17 @@ fn tell_rounds<R: Wait + Print>(
     for round in 0..rounds {
         let [byte, _, _, _] = round.to_le_bytes();
         played.frames.fill(byte ^ 0x55);
-        let mut told = play_two(rt, alloc, given, conductor, played, byte)?;
+        let mut digest = play_two(rt, alloc, given, conductor, played, byte)?;
         for own in played.frames.arena() {
-            told = told_of(told, u64::from(*own));
+            digest = digest_of(digest, u64::from(*own));
         }
-        println!(rt; "{told}").ok()?;
+        println!(rt; "{digest}").ok()?;
     }
     Some(())
 }
 
 /// What was seen in so many times two cycles of so many tasks.
-pub fn tell<R: Wait + Print>(
+pub fn print_digests<R: Wait + Print>(
     rt: &R,
     alloc: Global,
     given: &Given,
@@ -162,7 +162,7 @@ pub fn tell<R: Wait + Print>(
         return false;
     };
     let done = match prepared(alloc, &mut conductor, seats, count) {
-        Some(mut played) => tell_rounds(rt, alloc, given, &mut conductor, &mut played, rounds),
+        Some(mut played) => print_each(rt, alloc, given, &mut conductor, &mut played, rounds),
         None => None,
     };
     conductor.finish(rt);

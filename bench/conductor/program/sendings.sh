@@ -6,9 +6,9 @@ mkdir -p "$1/src"
 cat > "$1/src/sendings.rt" <<'END_OF_CODE'
 //! Rounds of sendings of tasks, whose frames are not answered.
 
+use crate::digest::digest_of;
 use crate::given::Given;
 use crate::master::{ARENA, opened, send, write_all};
-use crate::told::told_of;
 use hc_conductor::conductor::Conductor;
 use hc_events::faults::CoreFault;
 use hc_events::sending::Sending;
@@ -80,11 +80,11 @@ fn sent_often<R: Threads + Sync>(
     arena: &mut [u8],
     times: u32,
 ) -> Option<u64> {
-    let mut told = 0;
+    let mut digest = 0;
     for _ in 0..times {
-        told = told_of(told, sent(rt, alloc, conductor, writers, count, arena)?);
+        digest = digest_of(digest, sent(rt, alloc, conductor, writers, count, arena)?);
     }
-    Some(told)
+    Some(digest)
 }
 
 /// Rounds, with the nanoseconds of each. The sum is of the frames and of the bytes that were written last.
@@ -103,13 +103,13 @@ fn time_rounds<R: Threads + Sync + Clock + Print>(
     let mut sum = 0;
     for _ in 0..rounds {
         let begun = Instant::now(rt).ok()?;
-        let told = sent_often(rt, alloc, conductor, writers, count, &mut arena, times)?;
+        let digest = sent_often(rt, alloc, conductor, writers, count, &mut arena, times)?;
         let time = begun.elapsed(rt).ok()?.as_nanos();
-        sum = told_of(sum, told);
+        sum = digest_of(sum, digest);
         println!(rt; "{time}").ok()?;
     }
     for own in arena.as_slice() {
-        sum = told_of(sum, u64::from(*own));
+        sum = digest_of(sum, u64::from(*own));
     }
     Some(sum)
 }

@@ -70,7 +70,7 @@ impl Row {
         missed.join(", ")
     }
 
-    pub fn tell(&self) {
+    pub fn print(&self) {
         let Row { class, name, slaves, .. } = self;
         let [core, plan, plain] = [self.core, self.plan, self.plain].map(|time| format!("{:.2}", time / 1000.0));
         print!("| {class} | {name} | {slaves} | {} | {core} | {plan} | {plain} ", listed(&self.moved));

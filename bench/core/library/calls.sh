@@ -23,25 +23,25 @@ not_true : (b : Bool) → not b ≡ true → b ≡ false
 not_true false e = refl
 not_true true e = cc
 
-is_filled : (past : History) (task d : ℕ) (frame : Frame) (can : Bool) → can ≡ (nat_lt d (datagram_count (task_places task (line_of past))) && has_serials past 1)
-    → cond can (Some (frame_of_one (next_serial past) (task, d) (line_data_length (line_of past) (task, d)))) None ≡ Some frame → CanBeFilled past frame
-is_filled past task d frame false is e = cc
-is_filled past task d frame true is e =
-    let one = frame_of_one (next_serial past) (task, d) (line_data_length (line_of past) (task, d)) in
+is_filled : (history : History) (task d : ℕ) (frame : Frame) (can : Bool) → can ≡ (nat_lt d (datagram_count (task_places task (line_of history))) && has_serials history 1)
+    → cond can (Some (frame_of_one (next_serial history) (task, d) (line_data_length (line_of history) (task, d)))) None ≡ Some frame → CanBeFilled history frame
+is_filled history task d frame false is e = cc
+is_filled history task d frame true is e =
+    let one = frame_of_one (next_serial history) (task, d) (line_data_length (line_of history) (task, d)) in
     let same : one ≡ frame = cc in
-    let count = datagram_count (task_places task (line_of past)) in
-    let parts = and_parts (nat_lt d count) (has_serials past 1) (sym is) in
+    let count = datagram_count (task_places task (line_of history)) in
+    let parts = and_parts (nat_lt d count) (has_serials history 1) (sym is) in
     let inside : d < count = ltb-true d count parts.0 in
-    let left : next_serial past + 1 ≤ SETUP_SERIAL = ltb-false SETUP_SERIAL (next_serial past + 1) (not_true (nat_lt SETUP_SERIAL (next_serial past + 1)) parts.1) in
-    subst (CanBeFilled past) same
+    let left : next_serial history + 1 ≤ SETUP_SERIAL = ltb-false SETUP_SERIAL (next_serial history + 1) (not_true (nat_lt SETUP_SERIAL (next_serial history + 1)) parts.1) in
+    subst (CanBeFilled history) same
     (record {
-      is_placed = All-cons (IsInLine (line_of past)) (task, d) [] inside (All-nil (IsInLine (line_of past)));
-      counted = alone-counted (line_of past) (next_serial past) (task, d);
+      is_placed = All-cons (IsInLine (line_of history)) (task, d) [] inside (All-nil (IsInLine (line_of history)));
+      counted = alone-counted (line_of history) (next_serial history) (task, d);
       serial = omega (arith, left);
     })
 
-pub preview_filled : (past : History) (task d : ℕ) (frame : Frame) → preview past task d ≡ Some frame → CanBeFilled past frame
-preview_filled past task d frame e = is_filled past task d frame (nat_lt d (datagram_count (task_places task (line_of past))) && has_serials past 1) refl e
+pub preview_filled : (history : History) (task d : ℕ) (frame : Frame) → preview history task d ≡ Some frame → CanBeFilled history frame
+preview_filled history task d frame e = is_filled history task d frame (nat_lt d (datagram_count (task_places task (line_of history))) && has_serials history 1) refl e
 END_OF_PROOF
 cat > "$1/src/lib.rt" <<'END_OF_CODE'
 //! What the benchmark calls: each function opens a project's line and plays events in its core.
@@ -51,22 +51,22 @@ mod answers;
 mod bytes;
 mod clock;
 mod cores;
+mod digest;
 mod edits;
 mod edits_asked;
 mod plans;
-mod told;
 
 ghost use Rattle.std.specs.Prelude.{◌≡◌, All, OnOk, length};
 ghost use Rattle.hc_events.specs.Sendings.{sent_frame_size};
 ghost use Rattle.hc_core.specs.Filled.{CanBeFilled};
 ghost use Rattle.hc_core.specs.Proposed.{IsProposal};
 
-use crate::answers::{told_of_answer, told_of_changes};
+use crate::answers::{digest_of_answer, digest_of_changes};
 use crate::bytes::{bytes_from, put_serial};
 use crate::clock::nanoseconds;
 use crate::cores::{opened, own_write_all_and_take, send, write_all_and_take, write_and_take};
+use crate::digest::digest_of;
 use crate::edits_asked::{EditAsked, edit_of};
-use crate::told::told_of;
 use hc_core::keeping::Core;
 use hc_events::answer::{Answer, Arrived};
 use hc_events::event::Event;
@@ -75,7 +75,7 @@ use hc_events::sending::Sending;
 use hc_records::items::Items;
 use std::alloc::{AllocError, Global};
 
-/// An event. Its bytes stand among those of all, from a place on.
+/// An event. Its bytes are among the bytes of all events, from a place on.
 #[repr(C)]
 pub struct Asked {
     pub kind: u8,
@@ -132,30 +132,30 @@ fn play(alloc: Global, core: &mut Core, events: &[Asked], bytes: &[u8]) {
     }
 }
 
-/// What a core tells of an event: its answer, the changes, how many blocks are owed, and the next serial.
-fn told_by(alloc: Global, core: &mut Core, asked: &Asked, bytes: &[u8]) -> u64 {
+/// The digest of an event: its answer, the changes, how many blocks are owed, and the next serial.
+fn digest_by(alloc: Global, core: &mut Core, asked: &Asked, bytes: &[u8]) -> u64 {
     let answer = serve(alloc, core, asked, bytes);
-    let told = told_of_answer(0, &answer);
-    let told = told_of_changes(told, core.take_changes(alloc).as_slice());
-    told_of(told_of(told, u64::from(core.owed())), core.next_serial())
+    let digest = digest_of_answer(0, &answer);
+    let digest = digest_of_changes(digest, core.take_changes(alloc).as_slice());
+    digest_of(digest_of(digest, u64::from(core.owed())), core.next_serial())
 }
 
-/// Plays events on a project's line, and tells of each. How many were played.
+/// Plays events on a project's line: a digest of each. How many were played.
 #[unsafe(no_mangle)]
-pub extern "C" fn core_told(
+pub extern "C" fn core_digests(
     alloc: Global,
     text: &[u8],
     events: &[Asked],
     bytes: &[u8],
-    told: &mut [u64],
+    digest: &mut [u64],
 ) -> usize {
     let Some(mut core) = opened(alloc, text) else {
         return 0;
     };
     let mut count = 0;
     for asked in events {
-        if count < told.len() {
-            told[count] = told_by(alloc, &mut core, asked, bytes);
+        if count < digest.len() {
+            digest[count] = digest_by(alloc, &mut core, asked, bytes);
             count += 1;
         }
     }
@@ -272,8 +272,8 @@ fn own_arrive(alloc: Global, core: &mut Core, frame: &[u8]) -> Option<Arrived> {
 
 /// An arrival that answers a sending of tasks, by its own call, and the changes that it makes.
 fn own_take_answer(alloc: Global, core: &mut Core, frame: &[u8]) -> u64 {
-    let told = own_arrive(alloc, core, frame);
-    let answered = matches!(told, Some(Arrived::Answered));
+    let arrived = own_arrive(alloc, core, frame);
+    let answered = matches!(arrived, Some(Arrived::Answered));
     u64::from(answered & !core.take_changes(alloc).is_empty())
 }
 
@@ -307,7 +307,7 @@ fn own_post(core: &mut Core, task: u8, bytes: &[u8]) -> u64 {
     u64::from(core.post(task, epoch, bytes).is_ok())
 }
 
-/// What is timed of events' own calls, once. It tells 1 where the answer is the one that is looked for.
+/// What is timed of events' own calls, once. It gives 1 where the answer is the one that is looked for.
 fn own_once(
     alloc: Global,
     core: &mut Core,
@@ -324,8 +324,8 @@ fn own_once(
             sent & own_take_answer(alloc, core, frame)
         }
         OWN_ARRIVE_ALONE => {
-            let told = own_arrive(alloc, core, frame);
-            u64::from(matches!(told, Some(Arrived::Stale)))
+            let arrived = own_arrive(alloc, core, frame);
+            u64::from(matches!(arrived, Some(Arrived::Stale)))
         }
         OWN_WRITES_AND_ARRIVE => u64::from(own_write_all_and_take(alloc, core)),
         OWN_READ_IMAGE => {
@@ -335,7 +335,7 @@ fn own_once(
     }
 }
 
-/// What is timed of events, once. It tells 1 where the answer is the one that is looked for.
+/// What is timed of events, once. It gives 1 where the answer is the one that is looked for.
 fn once(
     alloc: Global,
     core: &mut Core,

@@ -47,7 +47,7 @@ fn nothing_in() -> u64 {
     nanoseconds().wrapping_sub(begun)
 }
 
-/// The nanoseconds of an edit of a core; the most where it was refused. The changes that it makes are dropped behind it.
+/// The nanoseconds of an edit of a core; the most where it was refused. The changes that it makes are dropped after it.
 fn edited_in(alloc: Global, core: &mut Core, edit: &Edit) -> u64 {
     let begun = nanoseconds();
     let answer = core.step(alloc, Event::Edit(edit));
@@ -89,7 +89,7 @@ fn plan_played_in(alloc: Global, plan: &mut Plan, asked: &EditAsked) -> u64 {
     }
 }
 
-/// Plays what is asked on the core of a project's line, and tells the nanoseconds of each. How many were played.
+/// Plays what is asked on the core of a project's line: the nanoseconds of each. How many were played.
 #[unsafe(no_mangle)]
 pub extern "C" fn core_edits_timed(
     alloc: Global,
@@ -111,7 +111,7 @@ pub extern "C" fn core_edits_timed(
     count
 }
 
-/// Plays what is asked on the plan of a project's line, and tells the nanoseconds of each. How many were played.
+/// Plays what is asked on the plan of a project's line: the nanoseconds of each. How many were played.
 #[unsafe(no_mangle)]
 pub extern "C" fn plan_edits_timed(
     alloc: Global,

@@ -11,17 +11,17 @@ mod answers;
 mod bytes;
 mod clock;
 mod cores;
+mod digest;
 mod playing;
 mod timing;
-mod told;
 END_OF_CODE
 cat > "$1/src/playing.rt" <<'END_OF_CODE'
-//! Drawn events, each told as a number.
+//! Drawn events, each with a digest.
 
-use crate::answers::told_of_answer;
+use crate::answers::digest_of_answer;
 use crate::bytes::bytes_from;
 use crate::cores::{opened, send};
-use crate::told::told_of;
+use crate::digest::digest_of;
 use hc_core::keeping::Core;
 use hc_events::answer::Answer;
 use hc_events::change::Change;
@@ -31,7 +31,7 @@ use hc_records::edit::Edit;
 use hc_records::items::Items;
 use std::alloc::Global;
 
-/// An event. Its bytes stand among those of all, from a place on.
+/// An event. Its bytes are among the bytes of all events, from a place on.
 #[repr(C)]
 pub struct Asked {
     pub kind: u8,
@@ -100,46 +100,46 @@ fn serve(alloc: Global, core: &mut Core, asked: &Asked, bytes: &[u8]) -> Answer 
     }
 }
 
-fn told_of_change(told: u64, change: &Change) -> u64 {
+fn digest_of_change(digest: u64, change: &Change) -> u64 {
     match change {
-        Change::Swapped(_) => told_of(told, 32),
+        Change::Swapped(_) => digest_of(digest, 32),
         Change::Good(good) => {
-            let told = told_of(told_of(told, 31), u64::from(good.task()));
-            let mut told = told_of(told, u64::from(good.datagram()));
+            let digest = digest_of(digest_of(digest, 31), u64::from(good.task()));
+            let mut digest = digest_of(digest, u64::from(good.datagram()));
             for byte in good.bytes() {
-                told = told_of(told, u64::from(*byte));
+                digest = digest_of(digest, u64::from(*byte));
             }
-            told
+            digest
         }
     }
 }
 
-/// What a core tells of an event: its answer, the changes, how many blocks are owed, and the next serial.
-fn told_by(alloc: Global, core: &mut Core, asked: &Asked, bytes: &[u8]) -> u64 {
+/// The digest of an event: its answer, the changes, how many blocks are owed, and the next serial.
+fn digest_by(alloc: Global, core: &mut Core, asked: &Asked, bytes: &[u8]) -> u64 {
     let answer = serve(alloc, core, asked, bytes);
-    let mut told = told_of_answer(0, &answer);
+    let mut digest = digest_of_answer(0, &answer);
     for change in core.take_changes(alloc).as_slice() {
-        told = told_of_change(told, change);
+        digest = digest_of_change(digest, change);
     }
-    told_of(told_of(told, u64::from(core.owed())), core.next_serial())
+    digest_of(digest_of(digest, u64::from(core.owed())), core.next_serial())
 }
 
-/// Plays events on a project's line, and tells of each. How many were played.
+/// Plays events on a project's line: a digest of each. How many were played.
 #[unsafe(no_mangle)]
-pub extern "C" fn inside_told(
+pub extern "C" fn inside_digests(
     alloc: Global,
     text: &[u8],
     events: &[Asked],
     bytes: &[u8],
-    told: &mut [u64],
+    digest: &mut [u64],
 ) -> usize {
     let Some(mut core) = opened(alloc, text) else {
         return 0;
     };
     let mut count = 0;
     for asked in events {
-        if count < told.len() {
-            told[count] = told_by(alloc, &mut core, asked, bytes);
+        if count < digest.len() {
+            digest[count] = digest_by(alloc, &mut core, asked, bytes);
             count += 1;
         }
     }

@@ -114,7 +114,7 @@ fn exchange(alloc: Global, core: &mut Core, list: u8, out: &mut [u8], counted: &
     u64::from(answered & !core.take_changes(alloc).is_empty())
 }
 
-/// What a core tells of itself and of its line by a name.
+/// What a core says of itself and of its line by a name.
 fn look(core: &Core, kind: u8, task: u8, name: u16) -> u64 {
     match kind {
         EPOCH => u64::from(core.plan().epoch() == u32::from(name)),
@@ -212,7 +212,7 @@ fn move_to(alloc: Global, core: &mut Core, station: u16, task: u8) -> u64 {
     edit(alloc, core, &made)
 }
 
-/// Two edits, of which the second leads back to the line as it was; or one that is only asked for.
+/// Two edits, the second back to the line as it was; or one edit that is only asked for.
 fn edits(alloc: Global, core: &mut Core, timed: &Timed) -> u64 {
     let name = timed.name;
     match timed.kind {
@@ -244,7 +244,7 @@ fn process(memory: &mut [u8], frame: &mut [u8]) -> u64
     1
 }
 
-/// What is timed, once. It tells 1 where the answer is the one that is looked for.
+/// What is timed, once. It gives 1 where the answer is the one that is looked for.
 fn once(
     alloc: Global,
     core: &mut Core,

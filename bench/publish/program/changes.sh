@@ -96,7 +96,7 @@ fn add_changes(
     Some(())
 }
 
-/// The changes of all that is asked, so many times one behind another.
+/// The changes of all that is asked, so many times one after another.
 pub fn changes_of(
     alloc: Global,
     plan: &mut Plan,
@@ -123,7 +123,7 @@ ghost use Rattle.publish_bench.specs.Lists.{all_of};
 use crate::asked::{Asked, Given};
 use crate::changes::changes_of;
 use crate::lines::opened_line;
-use crate::telling::told_by_all;
+use crate::view_digests::digest_by_all;
 use hc_events::change::Change;
 use hc_plan::plan::Plan;
 use hc_publish::publisher::Publisher;
@@ -235,7 +235,7 @@ pub fn time_publishings<R: Wait + Clock + Print>(
 }
 
 /// Each thing asked is published, and what all seats see then is printed as a number.
-fn tell_each<R: Wait + Clock + Print>(
+fn print_each<R: Wait + Clock + Print>(
     rt: &R,
     alloc: Global,
     plan: &mut Plan,
@@ -249,19 +249,19 @@ fn tell_each<R: Wait + Clock + Print>(
     let mut seats = seats;
     for asked in given.asked.as_slice() {
         play(rt, alloc, plan, publisher, &[*asked], 1)?;
-        let (back, told) = told_by_all(alloc, seats, variables)?;
+        let (back, digest) = digest_by_all(alloc, seats, variables)?;
         seats = back;
-        println!(rt; "{told}").ok()?;
+        println!(rt; "{digest}").ok()?;
     }
     Some(())
 }
 
-/// What all seats see behind each thing asked, with that many variables.
-pub fn tell<R: Wait + Clock + Print>(rt: &R, alloc: Global, given: &Given, variables: u32) -> bool {
+/// What all seats see after each thing asked, with that many variables.
+pub fn print_digests<R: Wait + Clock + Print>(rt: &R, alloc: Global, given: &Given, variables: u32) -> bool {
     let Some((mut plan, mut publisher, seats)) = opened_line(rt, alloc, &[given.line.as_str()]) else {
         return false;
     };
-    let done = tell_each(
+    let done = print_each(
         rt,
         alloc,
         &mut plan,
@@ -373,7 +373,7 @@ invariant-loop l = Follows l.initial.plan l.changes.items l.plan
 END_OF_PROOF
 cat > "$1/proofs/rounds/tell_each/Invariants.antt" <<'END_OF_PROOF'
 use Rattle.publish_bench.specs.Lines.{LeadsTo}
-use Rattle.publish_bench.proofs.rounds.tell_each.Given as goal
+use Rattle.publish_bench.proofs.rounds.print_each.Given as goal
 
 abbrev pub invariant-loop-asked : goal.invariant-loop-asked
 invariant-loop-asked g l = LeadsTo l.publisher l.plan

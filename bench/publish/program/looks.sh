@@ -9,9 +9,9 @@ ghost use Rattle.hc_publish.specs.PublishedState.{origin_of};
 ghost use Rattle.hc_publish.specs.Seats.{seat_origin};
 
 use crate::asked::Given;
+use crate::digest::digest_of;
 use crate::lines::opened_line;
 use crate::rounds::{nanoseconds_since, play};
-use crate::told::told_of;
 use hc_publish::publisher::Publisher;
 use hc_publish::seat::Seat;
 use hc_publish::view::View;
@@ -24,24 +24,24 @@ use std::time::Instant;
 /// How many rounds are timed.
 const ROUNDS: u32 = 32;
 
-/// A view is taken and left, and its epoch told.
-fn looked(seat: Seat, told: u64) -> (Seat, u64) {
+/// A view is taken and left; its epoch goes into a sum.
+fn looked(seat: Seat, digest: u64) -> (Seat, u64) {
     match seat.view() {
         Ok(view) => {
-            let told = told.wrapping_add(u64::from(view.epoch()));
-            (view.leave(), told)
+            let digest = digest.wrapping_add(u64::from(view.epoch()));
+            (view.leave(), digest)
         }
-        Err(seat) => (seat, told),
+        Err(seat) => (seat, digest),
     }
 }
 
 /// So many views one after another.
 fn looked_often(mut seat: Seat, times: u32) -> (Seat, u64) {
-    let mut told = 0;
+    let mut digest = 0;
     for _ in 0..times {
-        (seat, told) = looked(seat, told);
+        (seat, digest) = looked(seat, digest);
     }
-    (seat, told)
+    (seat, digest)
 }
 
 /// Rounds of views, with the nanoseconds of each.
@@ -50,10 +50,10 @@ fn time_seat<R: Clock + Print>(rt: &R, seat: Seat, times: u32) -> Option<u64> {
     let mut sum = 0_u64;
     for _ in 0..ROUNDS {
         let begun = Instant::now(rt).ok()?;
-        let (back, told) = looked_often(seat, times);
+        let (back, digest) = looked_often(seat, times);
         let time = nanoseconds_since(rt, begun)?;
         seat = back;
-        sum = sum.wrapping_add(told);
+        sum = sum.wrapping_add(digest);
         println!(rt; "{time}").ok()?;
     }
     Some(sum)
@@ -61,15 +61,15 @@ fn time_seat<R: Clock + Print>(rt: &R, seat: Seat, times: u32) -> Option<u64> {
 
 /// The values of all these variables, so many times.
 fn read_often(view: &View, variables: &[VarId], times: u32) -> u64 {
-    let mut told = 0;
+    let mut digest = 0;
     for _ in 0..times {
         for variable in variables {
             if let Ok(value) = view.value(*variable) {
-                told = told_of(told, value);
+                digest = digest_of(digest, value);
             }
         }
     }
-    told
+    digest
 }
 
 /// Rounds of values, with the nanoseconds of each.
@@ -176,8 +176,8 @@ fn time<R: Wait + Clock + Print>(
     sum
 }
 
-/// The number that tells that nothing was left out goes last.
-fn is_told<R: Print>(rt: &R, sum: Option<u64>) -> bool {
+/// Prints last the number which shows that nothing was left out.
+fn is_printed<R: Print>(rt: &R, sum: Option<u64>) -> bool {
     match sum {
         Some(sum) => println!(rt; "sum {sum}").is_ok(),
         None => false,
@@ -192,7 +192,7 @@ pub fn time_views<R: Wait + Clock + Print>(
     task: u32,
     times: u32,
 ) -> bool {
-    is_told(rt, time(rt, alloc, given, Timed::Views, task, times))
+    is_printed(rt, time(rt, alloc, given, Timed::Views, task, times))
 }
 
 /// The values of the given variables in a view of a task's seat, so many times a round.
@@ -203,7 +203,7 @@ pub fn time_values<R: Wait + Clock + Print>(
     task: u32,
     times: u32,
 ) -> bool {
-    is_told(rt, time(rt, alloc, given, Timed::Values, task, times))
+    is_printed(rt, time(rt, alloc, given, Timed::Values, task, times))
 }
 
 /// Notes that the last seat learns, so many a round.
@@ -231,7 +231,7 @@ pub fn time_notes<R: Wait + Clock + Print>(
     given: &Given,
     times: u32,
 ) -> bool {
-    is_told(rt, time_last(rt, alloc, given, times))
+    is_printed(rt, time_last(rt, alloc, given, times))
 }
 END_OF_CODE
 cat > "$1/src/stress.rt" <<'END_OF_CODE'
@@ -252,7 +252,7 @@ use std::sync::Wait;
 use std::sync::atomic::{AtomicBool, Ordering};
 use std::thread::Threads;
 
-/// So many turns, and so many more: what is resident behind the first ones, and behind all.
+/// So many turns, and so many more: what is resident after the first ones, and after all.
 fn resident_twice<R: Wait + Files + AllocGlobal>(
     rt: &R,
     alloc: Global,
@@ -270,8 +270,8 @@ fn resident_twice<R: Wait + Files + AllocGlobal>(
     Some((early, late))
 }
 
-/// The same beside eight seats. None where a view was not of one epoch, or behind an earlier one, or the last one not of
-/// all.
+/// The same beside eight seats. None where a view was not of one epoch, or older than an earlier one, or the last one
+/// not of all.
 fn resident_beside<R: Threads + Wait + Files + AllocGlobal>(
     rt: &R,
     alloc: Global,
@@ -285,23 +285,23 @@ fn resident_beside<R: Threads + Wait + Files + AllocGlobal>(
 {
     let seats = eight_of(seats)?;
     let is_done = AtomicBool::new(false);
-    let (moment, told) = watch_eight(
+    let (moment, digest) = watch_eight(
         rt,
         seats,
         &is_done,
         || -> Option<(u64, u64)>
             requires { LeadsTo publisher.now plan.now }
         {
-            let told = resident_twice(rt, alloc, plan, publisher, first, rest);
+            let digest = resident_twice(rt, alloc, plan, publisher, first, rest);
             is_done.store(true, Ordering::SeqCst);
-            told
+            digest
         },
     );
     let last = 4 * (u64::from(first) + u64::from(rest)) + 1;
-    if moment == Some(last) { told } else { None }
+    if moment == Some(last) { digest } else { None }
 }
 
-/// Opens the line, and prints what is resident behind the first turns and behind all.
+/// Opens the line, and prints what is resident after the first turns and after all.
 pub fn publish_often<R: Threads + Wait + Files + AllocGlobal + Print>(
     rt: &R,
     alloc: Global,
@@ -311,9 +311,9 @@ pub fn publish_often<R: Threads + Wait + Files + AllocGlobal + Print>(
     let Some((mut plan, mut publisher, seats)) = opened_line(rt, alloc, &[EIGHT]) else {
         return false;
     };
-    let told = resident_beside(rt, alloc, &mut plan, &mut publisher, seats, first, rest);
+    let digest = resident_beside(rt, alloc, &mut plan, &mut publisher, seats, first, rest);
     publisher.finish(rt);
-    match told {
+    match digest {
         Some((early, late)) => println!(rt; "{early} {late}").is_ok(),
         None => false,
     }

@@ -1,14 +1,15 @@
 #!/bin/sh
-# Writes the program's beginning, what is asked of it and what it tells, into the folder that it is given.
+# Writes the program's beginning, what is asked of it and what it prints, into the folder that it is given.
 set -eu
 mkdir -p "$1/proofs" "$1/specs" "$1/src"
 cat > "$1/src/main.rt" <<'END_OF_CODE'
-//! `publish_bench WORD NUMBER.. < LINE` publishes and views by `hc_publish`, as the word asks, and prints what was told
-//! or how long it took. LINE is a project's text, and behind it a row `# asked` and a row of numbers for each thing asked.
+//! `publish_bench WORD NUMBER.. < LINE` publishes and views by `hc_publish`, as the word asks, and prints digests or how
+//! long it took. LINE is a project's text, then a row `# asked` and a row of numbers for each thing asked.
 #![tactic(auto)]
 
 mod asked;
 mod changes;
+mod digest;
 mod eight;
 mod lines;
 mod looks;
@@ -16,9 +17,8 @@ mod projects;
 mod resident;
 mod rounds;
 mod stress;
-mod telling;
-mod told;
 mod turns;
+mod view_digests;
 mod watched;
 mod words;
 
@@ -42,7 +42,7 @@ fn is_done<R: Threads + Wait + Clock + Print + Files + AllocGlobal>(
     };
     let (first, second, third) = three_of(words);
     match word.as_str() {
-        "told" => rounds::tell(rt, rt.alloc(), given, first),
+        "told" => rounds::print_digests(rt, rt.alloc(), given, first),
         "publish" => rounds::time_publishings(rt, rt.alloc(), given, first, second, third),
         "view" => looks::time_views(rt, rt.alloc(), given, first, second),
         "value" => looks::time_values(rt, rt.alloc(), given, first, second),
@@ -137,7 +137,7 @@ impl Given {
         Ok(())
     }
 
-    /// What stands before the row `# asked`, and the rows behind it.
+    /// What comes before the row `# asked`, and the rows after it.
     pub fn of(alloc: Global, text: &str) -> Result<Given, AllocError> {
         let (line, rows) = match text.split_once("# asked\n") {
             Some(parts) => parts,
@@ -155,7 +155,7 @@ impl Given {
     }
 }
 
-/// The PDOs of a remap: those of the two that aren't 0.
+/// The PDOs of a remap: the ones of the two that aren't 0.
 fn pdos_of(alloc: Global, asked: &Asked) -> Result<Items<u16>, AllocError> {
     let mut pdos = Vec::new(alloc);
     if asked.first != 0 {
@@ -186,80 +186,80 @@ pub fn edit_of(alloc: Global, asked: &Asked) -> Result<Edit, AllocError> {
 }
 END_OF_CODE
 cat > "$1/src/telling.rt" <<'END_OF_CODE'
-//! What views tell, as one number.
+//! What views show, as one number.
 
-use crate::told::{told_of, told_of_bytes, told_of_place};
+use crate::digest::{digest_of, digest_of_bytes, digest_of_place};
 use hc_publish::seat::Seat;
 use hc_publish::view::View;
 use hc_records::records::VarId;
 use std::alloc::Global;
 
-/// Where a variable stands, and its value or the number of a fault.
-fn told_of_variable(told: u64, view: &View, variable: VarId) -> u64 {
-    let told = match view.place(variable) {
-        Some(place) => told_of_place(told, &place),
-        None => told_of(told, 99),
+/// The place of a variable, and its value or the number of a fault.
+fn digest_of_variable(digest: u64, view: &View, variable: VarId) -> u64 {
+    let digest = match view.place(variable) {
+        Some(place) => digest_of_place(digest, &place),
+        None => digest_of(digest, 99),
     };
     match view.value(variable) {
-        Ok(value) => told_of(told_of(told, 1), value),
-        Err(fault) => told_of(told_of(told, 2), u64::from(fault.number())),
+        Ok(value) => digest_of(digest_of(digest, 1), value),
+        Err(fault) => digest_of(digest_of(digest, 2), u64::from(fault.number())),
     }
 }
 
 /// The variables with the numbers from 1 on, each seventh and the first sixteen.
-fn told_of_variables(told: u64, view: &View, variables: u32) -> u64 {
-    let mut told = told;
+fn digest_of_variables(digest: u64, view: &View, variables: u32) -> u64 {
+    let mut digest = digest;
     for number in 1..variables {
         if number % 7 == 0 || number < 17 {
             if let Some(variable) = VarId::new(number) {
-                told = told_of_variable(told, view, variable);
+                digest = digest_of_variable(digest, view, variable);
             }
         }
     }
-    told
+    digest
 }
 
 /// The data of the task's datagrams.
-fn told_of_inputs(told: u64, view: &View) -> u64 {
-    let mut told = told;
+fn digest_of_inputs(digest: u64, view: &View) -> u64 {
+    let mut digest = digest;
     for datagram in 0..16 {
-        told = match view.inputs(datagram) {
-            Some(bytes) => told_of_bytes(told, bytes),
-            None => told_of(told, 98),
+        digest = match view.inputs(datagram) {
+            Some(bytes) => digest_of_bytes(digest, bytes),
+            None => digest_of(digest, 98),
         };
     }
-    told
+    digest
 }
 
-/// All that a view tells.
-fn told_by(view: &View, variables: u32) -> u64 {
+/// The digest of a whole view.
+fn digest_by(view: &View, variables: u32) -> u64 {
     let (outputs, inputs) = view.part();
-    let told = told_of(told_of(0, u64::from(view.epoch())), u64::from(outputs));
-    let told = told_of_inputs(told_of(told, u64::from(inputs)), view);
-    told_of_variables(told, view, variables)
+    let digest = digest_of(digest_of(0, u64::from(view.epoch())), u64::from(outputs));
+    let digest = digest_of_inputs(digest_of(digest, u64::from(inputs)), view);
+    digest_of_variables(digest, view, variables)
 }
 
 /// A view is taken and left.
-fn told_by_seat(seat: Seat, variables: u32) -> (Seat, u64) {
+fn digest_by_seat(seat: Seat, variables: u32) -> (Seat, u64) {
     match seat.view() {
         Ok(view) => {
-            let told = told_by(&view, variables);
-            (view.leave(), told)
+            let digest = digest_by(&view, variables);
+            (view.leave(), digest)
         }
         Err(seat) => (seat, 0),
     }
 }
 
-/// What each seat's view tells, from the first on.
-pub fn told_by_all(alloc: Global, seats: Vec<Seat>, variables: u32) -> Option<(Vec<Seat>, u64)> {
+/// The digest of each seat's view, from the first on.
+pub fn digest_by_all(alloc: Global, seats: Vec<Seat>, variables: u32) -> Option<(Vec<Seat>, u64)> {
     let mut left = Vec::new(alloc);
-    let mut told = 0;
+    let mut digest = 0;
     for seat in seats {
-        let (seat, own) = told_by_seat(seat, variables);
+        let (seat, own) = digest_by_seat(seat, variables);
         left.push(seat).ok()?;
-        told = told_of(told, own);
+        digest = digest_of(digest, own);
     }
-    Some((left, told))
+    Some((left, digest))
 }
 END_OF_CODE
 cat > "$1/specs/Lib.antt" <<'END_OF_PROOF'
@@ -275,7 +275,7 @@ use Rattle.hc_events.specs.Changes.{AreLegalFrom}
 use Rattle.hc_events.specs.UpdatesLaws.{state_after_changes}
 use Rattle.hc_publish.specs.PublishedState.{PublishedState, pending, published}
 
--- the changes are legal behind a state, and lead to another
+-- the changes are legal after a state, and lead to another
 pub record Follows (old : State) (changes : List Change) (new : State) : Type 0 where
   pub legal : AreLegalFrom old changes
   pub leads : state_after_changes old changes ≡ new

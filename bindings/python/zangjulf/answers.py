@@ -145,7 +145,7 @@ class View(NamedTuple):
 
 
 class Taken(NamedTuple):
-    """What became of the posts that were taken: the tasks of which one was accepted, and those of which one was refused."""
+    """What became of the posts that were taken: the tasks with an accepted post, and the tasks with a refused one."""
 
     accepted: list[int]
     refused: list[int]

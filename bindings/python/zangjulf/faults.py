@@ -198,7 +198,7 @@ class UnknownCommand(FrameFault):
 
 
 class IndexMismatch(FrameFault):
-    """A datagram's index is not that of the frame's serial."""
+    """A datagram's index does not fit the frame's serial."""
 
     number = 27
     text = "a datagram's index is not that of the frame's serial"

@@ -1,4 +1,4 @@
-"""Bits of bytes, the location of a project's faults, and frames beside those of a line."""
+"""Bits of bytes, the location of a project's faults, and a master's frames beside a line's."""
 
 from __future__ import annotations
 
@@ -35,7 +35,7 @@ def get_bits(data: Bytes, bit: int, bits: int) -> int:
 
 
 def put_bits(data: bytearray | memoryview, bit: int, bits: int, value: int) -> None:
-    """Replaces 1 to 64 bits from a bit on by those of a number. `Misused`, `TooWide`."""
+    """Replaces 1 to 64 bits from a bit on by the bits of a number. `Misused`, `TooWide`."""
     if memoryview(data).readonly:
         raise TypeError("bits are replaced where they are: hand in a bytearray")
     _done(c.call("put_bits", *c.slice_of(data), bit, bits, value))

@@ -5,7 +5,7 @@ use std::error::Error;
 use std::io::{self, Read, Write};
 use zangjulf::{Arrival, Dir, Edit, Fault, Line, Outcome, OutcomeKind, FRAMES, IMAGE};
 
-type Told = Result<(), Box<dyn Error>>;
+type Printed = Result<(), Box<dyn Error>>;
 
 fn number(word: &str) -> Result<u32, Box<dyn Error>> {
     Ok(match word.strip_prefix("0x") {
@@ -23,7 +23,7 @@ fn bytes_in(word: &str) -> Result<Vec<u8>, Box<dyn Error>> {
     Ok(pairs.collect::<Result<_, _>>()?)
 }
 
-fn layout(line: &Line, out: &mut impl Write) -> Told {
+fn layout(line: &Line, out: &mut impl Write) -> Printed {
     writeln!(out, "epoch {}", line.epoch())?;
     for task in 0..8 {
         let mut number = 0;
@@ -40,7 +40,7 @@ fn layout(line: &Line, out: &mut impl Write) -> Told {
     Ok(())
 }
 
-fn regs(line: &Line, station: u16, out: &mut impl Write) -> Told {
+fn regs(line: &Line, station: u16, out: &mut impl Write) -> Printed {
     line.position(station)?;
     let mut bytes = [0; 16];
     for number in 0.. {
@@ -59,14 +59,14 @@ fn regs(line: &Line, station: u16, out: &mut impl Write) -> Told {
     Ok(())
 }
 
-fn place(line: &Line, variable: u32, out: &mut impl Write) -> Told {
+fn place(line: &Line, variable: u32, out: &mut impl Write) -> Printed {
     let Some(place) = line.place(variable) else { return Ok(writeln!(out, "none")?) };
     let dir = if place.dir == Dir::In { "in" } else { "out" };
     let (task, datagram, bit, bits) = (place.task, place.datagram, place.bit, place.bits);
     Ok(writeln!(out, "var {variable} task {task} datagram {datagram} bit {bit} bits {bits} dir {dir}")?)
 }
 
-fn edit(line: &mut Line, edit: Edit<'_>, out: &mut impl Write) -> Told {
+fn edit(line: &mut Line, edit: Edit<'_>, out: &mut impl Write) -> Printed {
     let asked = line.cost(&edit);
     let cost = line.edit(&edit);
     assert_eq!(asked, cost, "an edit does what it was told to cost");
@@ -74,7 +74,7 @@ fn edit(line: &mut Line, edit: Edit<'_>, out: &mut impl Write) -> Told {
     Ok(writeln!(out, "epoch {} recut {} moved {}", cost.epoch, cost.recut, cost.moved)?)
 }
 
-fn outcome(it: Outcome, out: &mut impl Write) -> Told {
+fn outcome(it: Outcome, out: &mut impl Write) -> Printed {
     match it.kind {
         OutcomeKind::Inputs => writeln!(out, "inputs {} {}", it.task, it.datagram)?,
         OutcomeKind::WrongCount => writeln!(out, "wrong count {} {}", it.expected, it.got)?,
@@ -83,7 +83,7 @@ fn outcome(it: Outcome, out: &mut impl Write) -> Told {
     Ok(())
 }
 
-fn arrive(line: &mut Line, bytes: &[u8], out: &mut impl Write) -> Told {
+fn arrive(line: &mut Line, bytes: &[u8], out: &mut impl Write) -> Printed {
     match line.arrive(bytes)? {
         Arrival::WriteDone(_) => writeln!(out, "write done")?,
         Arrival::WriteMissed(_) => writeln!(out, "write missed")?,
@@ -95,7 +95,7 @@ fn arrive(line: &mut Line, bytes: &[u8], out: &mut impl Write) -> Told {
     Ok(())
 }
 
-fn read(line: &Line, task: u8, out: &mut impl Write) -> Told {
+fn read(line: &Line, task: u8, out: &mut impl Write) -> Printed {
     let mut data = vec![0; IMAGE];
     let image = line.read(task, &mut data)?;
     writeln!(out, "epoch {}", image.epoch)?;
@@ -111,7 +111,7 @@ fn read(line: &Line, task: u8, out: &mut impl Write) -> Told {
 }
 
 /// A refusal, as the program prints it.
-fn refused(fault: &Fault, out: &mut impl Write) -> Told {
+fn refused(fault: &Fault, out: &mut impl Write) -> Printed {
     write!(out, "refused {} {}", fault.number(), fault.name())?;
     match fault {
         Fault::TooManyDatagrams(task) => write!(out, " {task}")?,
@@ -121,7 +121,7 @@ fn refused(fault: &Fault, out: &mut impl Write) -> Told {
     Ok(writeln!(out)?)
 }
 
-fn run(line: &mut Line, words: &[&str], frames: &mut [u8], out: &mut impl Write) -> Told {
+fn run(line: &mut Line, words: &[&str], frames: &mut [u8], out: &mut impl Write) -> Printed {
     let serial = line.next_serial();
     match words {
         ["layout"] => layout(line, out),
@@ -160,7 +160,7 @@ fn run(line: &mut Line, words: &[&str], frames: &mut [u8], out: &mut impl Write)
     }
 }
 
-fn main() -> Told {
+fn main() -> Printed {
     let mut input = Vec::new();
     io::stdin().read_to_end(&mut input)?;
     let text = String::from_utf8(input)?;

@@ -29,8 +29,8 @@ impl Line {
         Ok(cost)
     }
 
-    /// Carries an edit out: what it did. Faults 1 to 13 and 31 to 35, the lowest that holds, those of a project where
-    /// a declared text is no group's, `ChangesFull` where none of these holds and the line keeps changes and has as many as it
+    /// Carries an edit out: what it did. Faults 1 to 13 and 31 to 35, the lowest that holds, a project's fault where a
+    /// declared text is no group's, `ChangesFull` where none of these holds and the line keeps changes and has as many as it
     /// may, and `Memory`; then nothing changed.
     ///
     /// ```

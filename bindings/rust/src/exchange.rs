@@ -276,8 +276,8 @@ impl Line {
     }
 
     /// A frame arrives: any bytes, without the check sequence. The faults 20 to 27 of a frame that can't be read, `ChangesFull`
-    /// where the line keeps changes and has no room for those of all good answers, `Memory`, but never of a line that keeps no
-    /// changes; then nothing changed.
+    /// where the line keeps changes and has no room for the changes of all good answers, `Memory`, but never of a line that
+    /// keeps no changes; then nothing changed.
     ///
     /// ```
     /// # fn main() -> Result<(), Box<dyn std::error::Error>> {

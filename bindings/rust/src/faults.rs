@@ -6,7 +6,7 @@ use std::fmt;
 /// Declares the faults: name, what goes with it, number, and text, as include/zangjulf.h has them.
 macro_rules! faults {
     ($($name:ident $(($kind:ty))? = $number:literal, $text:literal;)*) => {
-        /// Why a call is refused; nothing changed then. Numbers and texts are those of `include/zangjulf.h`.
+        /// Why a call is refused; nothing changed then. Numbers and texts are as in `include/zangjulf.h`.
         #[derive(Clone, Copy, Debug, PartialEq, Eq)]
         pub enum Fault {
             $(#[doc = $text] $name $(($kind))?,)*

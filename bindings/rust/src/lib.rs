@@ -42,7 +42,7 @@ pub const IMAGE: usize = 16 * 1486;
 /// The bytes of a simulated slave's memory.
 pub const SLAVE_MEMORY: usize = 12_288;
 
-/// The first byte of the source address of a master's own EtherCAT frames, beside those of the library.
+/// The first byte of the source address of a master's own EtherCAT frames, beside the library's.
 pub const OTHER_SOURCE: u8 = 0x06;
 
 /// The version of the library that is linked: its three numbers.

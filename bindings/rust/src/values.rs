@@ -1,4 +1,4 @@
-//! Values of variables and bits in bytes, and frames beside those of a line.
+//! Values of variables and bits in bytes, and a master's frames beside a line's.
 
 use crate::faults::Fault;
 use crate::ffi;
@@ -62,8 +62,8 @@ pub fn get_bits(bytes: &[u8], bit: usize, bits: u8) -> Result<u64, Fault> {
     Ok(value)
 }
 
-/// Replaces 1 to 64 bits of bytes, from a bit on, by those of a number; every other bit stays. `Misused` where they don't lie
-/// within the bytes, `TooWide`; then the bytes are as they were.
+/// Replaces 1 to 64 bits of bytes, from a bit on, by the bits of a number; every other bit stays. `Misused` where they don't
+/// lie within the bytes, `TooWide`; then the bytes are as they were.
 ///
 /// ```
 /// # fn main() -> Result<(), Box<dyn std::error::Error>> {

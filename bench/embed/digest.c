@@ -1,4 +1,4 @@
-/* Drawn events, played through the library and inside the language, which must tell the same of each: the answer, byte by
+/* Drawn events, played through the library and inside the language, which must give the same of each: the answer, byte by
  * byte, the changes, how many blocks are owed and the next serial. */
 #include <stdio.h>
 #include <string.h>
@@ -7,15 +7,15 @@
 
 #define MOST 20000
 #define MOST_BYTES (1 << 24)
-#define KEPT 16
+#define FRAMES 16
 
 enum { POST, TASKS, WRITE, ARRIVE, CONNECT, DISCONNECT, REMAP, MOVE, READ };
 
 static struct zangjulf line;
 static struct asked events[MOST];
-static uint64_t told[MOST], inside[MOST];
-static uint8_t bytes[MOST_BYTES], out[ZANGJULF_FRAMES], kept[KEPT][ZANGJULF_FRAME];
-static size_t used, kept_sizes[KEPT];
+static uint64_t digest[MOST], inside[MOST];
+static uint8_t bytes[MOST_BYTES], out[ZANGJULF_FRAMES], frames[FRAMES][ZANGJULF_FRAME];
+static size_t used, frame_sizes[FRAMES];
 static uint64_t state = 0x9e3779b97f4a7c15;
 
 static uint64_t below(uint64_t n) {
@@ -24,29 +24,29 @@ static uint64_t below(uint64_t n) {
 }
 
 /* Mixed as inside the language. */
-static uint64_t mixed(uint64_t told, uint64_t number) {
-    told = (told ^ number) * 0x9e3779b97f4a7c15;
-    return told << 29 | told >> 35;
+static uint64_t mixed(uint64_t digest, uint64_t number) {
+    digest = (digest ^ number) * 0x9e3779b97f4a7c15;
+    return digest << 29 | digest >> 35;
 }
 
-static uint64_t mixed_bytes(uint64_t told, const uint8_t *own, size_t size) {
-    for (size_t i = 0; i < size; i++) told = mixed(told, own[i]);
-    return told;
+static uint64_t mixed_bytes(uint64_t digest, const uint8_t *own, size_t size) {
+    for (size_t i = 0; i < size; i++) digest = mixed(digest, own[i]);
+    return digest;
 }
 
 static uint64_t refused(unsigned number) { return mixed(mixed(0, 20), number); }
 
 /* A frame comes back as the line leaves it: its counters as they are expected, or another one. */
-static void keep(const uint8_t *frame, size_t size, bool is_write) {
-    size_t i = below(KEPT), at = 16;
-    memcpy(kept[i], frame, size);
-    kept_sizes[i] = size;
-    uint8_t *own = kept[i];
+static void keep(const uint8_t *frame, size_t size, bool is_register_write) {
+    size_t i = below(FRAMES), at = 16;
+    memcpy(frames[i], frame, size);
+    frame_sizes[i] = size;
+    uint8_t *own = frames[i];
     for (bool is_last = false; !is_last;) {
         size_t length = (size_t)(own[at + 6] | own[at + 7] << 8) & 0x7ff;
         struct zangjulf_datagram datagram = {.expected = 1};
         uint32_t address = (uint32_t)(own[at + 2] | own[at + 3] << 8 | own[at + 4] << 16) | (uint32_t)own[at + 5] << 24;
-        for (unsigned slot = 0; !is_write && slot < 128; slot++)
+        for (unsigned slot = 0; !is_register_write && slot < 128; slot++)
             if (!zangjulf_datagram(&line, (uint8_t)(slot / 16), (uint8_t)(slot % 16), &datagram) && datagram.address == address) break;
         is_last = !(own[at + 7] & 0x80);
         own[at + 10 + length] = (uint8_t)(below(8) ? datagram.expected : below(4));
@@ -108,11 +108,11 @@ static uint64_t outcome(uint64_t mix, const struct zangjulf_outcome *one) {
 
 static uint64_t arrive(struct asked *asked) {
     struct zangjulf_outcome outcomes[ZANGJULF_OUTCOMES];
-    size_t i = below(KEPT), size = below(16) ? kept_sizes[i] : below(60);
+    size_t i = below(FRAMES), size = below(16) ? frame_sizes[i] : below(60);
     struct zangjulf_arrival arrival = {0, 0, 0, 0};
-    if (!below(8)) kept[i][below(ZANGJULF_FRAME)] = (uint8_t)below(256);
-    copy_bytes(asked, kept[i], size);
-    unsigned number = zangjulf_arrive(&line, kept[i], size, outcomes, ZANGJULF_OUTCOMES, &arrival);
+    if (!below(8)) frames[i][below(ZANGJULF_FRAME)] = (uint8_t)below(256);
+    copy_bytes(asked, frames[i], size);
+    unsigned number = zangjulf_arrive(&line, frames[i], size, outcomes, ZANGJULF_OUTCOMES, &arrival);
     uint64_t mix = mixed(mixed(0, 15), arrival.datagrams);
     switch (number) {
     case ZANGJULF_DONE:
@@ -187,11 +187,11 @@ void compare(size_t count) {
     uint8_t task;
     const uint8_t *text = project(&size);
     if (count > MOST || zangjulf_open(&line, text, size, UINT32_MAX, &task)) give_up("nothing can be compared");
-    for (size_t i = 0; i < count; i++) told[i] = with_changes(serve(&events[i]));
+    for (size_t i = 0; i < count; i++) digest[i] = with_changes(serve(&events[i]));
     zangjulf_close(&line);
-    if (inside_told(text, size, events, count, bytes, used, inside, count) != count) give_up("not all events were played");
+    if (inside_digests(text, size, events, count, bytes, used, inside, count) != count) give_up("not all events were played");
     for (size_t i = 0; i < count; i++)
-        if (told[i] != inside[i]) {
+        if (digest[i] != inside[i]) {
             printf("event %zu of kind %u is told otherwise\n", i, events[i].kind);
             give_up("the library and the language differ");
         }

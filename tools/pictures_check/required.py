@@ -1,4 +1,4 @@
-"""What a picture of an input must tell, worked out of what `hotline` prints; nothing is shared with who draws it."""
+"""What a picture of an input must show, worked out of what `hotline` prints; nothing is shared with who draws it."""
 
 import re
 import subprocess
@@ -20,7 +20,7 @@ def run(program, text, commands):
 
 
 def opened(path):
-    """The text and the edits of an input; that of a declaration has the lines of its document."""
+    """The text and the edits of an input; a declaration has the lines of its document."""
     text, _, commands = path.read_text().partition("\n%%\n")
     edits = []
     for line in commands.splitlines():
@@ -65,10 +65,10 @@ class State:
         questions = ["layout", *(f"regs {station}\n{MARK}" for station in records.areas)]
         questions += [f"place {variable}" for variable in records.homes]
         lines = run(program, text, [*edits, *questions])[len(edits) :]
-        told = len(lines) - len(records.homes)
-        self.read_layout([line for line in lines[:told] if re.match("epoch|task|datagram", line)])
-        self.read_blocks(records, "\n".join(lines[:told]).split(MARKED))
-        self.read_places([line.split() for line in lines[told:] if line != "none"])
+        first_place = len(lines) - len(records.homes)
+        self.read_layout([line for line in lines[:first_place] if re.match("epoch|task|datagram", line)])
+        self.read_blocks(records, "\n".join(lines[:first_place]).split(MARKED))
+        self.read_places([line.split() for line in lines[first_place:] if line != "none"])
 
     def read_layout(self, lines):
         """Epoch, parts of the tasks, and datagrams."""
@@ -107,14 +107,14 @@ class State:
         for (task, number), (address, length, _) in self.datagrams.items():
             if address <= logical < address + length:
                 first = (logical - address) * 8 + data[6]
-                behind = (logical - address + int.from_bytes(data[4:6], "little") - 1) * 8 + data[7] + 1
+                end = (logical - address + int.from_bytes(data[4:6], "little") - 1) * 8 + data[7] + 1
                 direction = "out" if data[11] == 2 else "in"
-                self.areas[area] = (int(manager), direction, task, number, first, behind - first)
+                self.areas[area] = (int(manager), direction, task, number, first, end - first)
 
 
 @dataclass
 class Change:
-    """What must be said to lie between the two states: in words, behind them, and the numbers of a single answer."""
+    """What must be said to lie between the two states: in words, after them, and the numbers of a single answer."""
 
     words: str
     said: str
@@ -132,14 +132,14 @@ class Line:
         self.accepted = [row for row, line in enumerate(self.said) if line.startswith("epoch")]
 
     def state(self, count):
-        """The records and the state behind so many accepted edits."""
+        """The records and the state after so many accepted edits."""
         edits = self.edits[: self.accepted[count]] if count < len(self.accepted) else self.edits
         records = Records(self.text, [self.edits[row] for row in self.accepted[:count]])
         return records, State(self.program, self.text, records, edits)
 
 
-class Told:
-    """The state behind the last accepted edit; beside it the one before, that of an epoch, or that of another input."""
+class Required:
+    """The state after the last accepted edit; beside it the one before, or the state of an epoch or of another input."""
 
     def __init__(self, program, path, since=None, against=None):
         line = Line(program, path)
@@ -177,7 +177,7 @@ class Told:
         return {"after": self.after} if self.before is None else {"before": self.before, "after": self.after}
 
     def area_mark(self, area, state):
-        """The mark of an area that stands in a state: new, gone, moved where a block of it is written, or kept."""
+        """The mark of an area in a state: new, gone, moved where a block of it is written, or kept."""
         if self.before is None:
             return "kept"
         other = self.before if state == "after" else self.after
@@ -186,7 +186,7 @@ class Told:
         return "moved" if self.written.intersection(self.after.pairs[area]) else "kept"
 
     def variable_mark(self, variable, state):
-        """The mark of a variable that stands in a state: new, gone, moved where its place is another, or kept."""
+        """The mark of a variable in a state: new, gone, moved where its place is another, or kept."""
         if self.before is None:
             return "kept"
         places = [found.variables.get(variable) for found in (self.before, self.after)]
