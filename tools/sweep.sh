@@ -85,8 +85,8 @@ run_unrefused() {
     echo $? >"$scratch/$2.status"
 }
 
-# lines_of_commands INPUT: the first and the last line of each command after the project; a `declare` ends with its document.
-lines_of_commands() {
+# turns_of INPUT: the first and the last line of each command after the project; a `declare` ends with its document.
+turns_of() {
     awk '!begun { begun = $0 == "%%"; next }
         first && $0 != "%%" { next }
         first { print first, NR; first = 0; next }
@@ -112,7 +112,7 @@ goes_along_line() {
 # command's frames go along the line, `alone.I.chain` and `lasting.I.chain` have the line of a refused chain in its place.
 expect_refusals() {
     rm -f "$scratch"/alone.* "$scratch"/lasting.*
-    lines_of_commands "$1" >"$scratch/turns"
+    turns_of "$1" >"$scratch/turns"
     commands=$(wc -l <"$scratch/turns")
     count=0
     while read -r first last; do

@@ -1,4 +1,5 @@
-"""Checks the words of the repository: identifiers that went, words of specs with two meanings, long clauses, and the prose of comments.
+"""Checks the words of the repository: identifiers that went, words of specs with two meanings, long clauses, the prose of comments, and
+the names of the tests that the sweep runs.
 
     python3 tools/words/check.py
 
@@ -10,14 +11,15 @@ import sys
 from collections import defaultdict
 from pathlib import Path
 
-from texts import COMMENT, IDENTIFIER, Exceptions, Source, lines_of, pages_of, sources_of
+from outside import Script, lost_tests, scripts_of
+from texts import COMMENT, Exceptions, Source, lines_of, pages_of, sources_of
 
 MOST_TWINS = 20
 MOST_CHAINS = 2.5  # in 1,000 words
 MOST_EXCEPTIONS = 40
 MOST_CHARACTERS = 160
 CLAUSE = re.compile(r"^[ \t]*((?:ensures|requires)\*?(?: \w+)?) \{", re.M)
-UNWANTED = re.compile(r"\b(?:of which|that of|behind which|told|stands(?! for)|want of memory|is answered that)\b", re.I)
+UNWANTED = re.compile(r"\b(?:of which|that of|behind|told|stands(?! for)|want of memory|is answered that)\b", re.I)
 PREPOSITION = "in|by|to|for|at|from|with|on|under|over|after|before|of|behind|between|through|beside"
 CHAIN = re.compile(rf"\b(?:(?:{PREPOSITION}) (?:which|whose|whom)|that of|those of)\b", re.I)
 DEFINITION = re.compile(
@@ -33,7 +35,7 @@ def read_forbidden():
 def old_names(source, forbidden, exceptions):
     """The identifiers of a file that went."""
     for number, line in enumerate(source.code().split("\n"), 1):
-        for name in IDENTIFIER.findall(line):
+        for name in source.identifier.findall(line):
             if forbidden.get(name, set()) & {"*", source.crate} and not exceptions.has(source.place, name):
                 yield f"{source.place}:{number}: {name}"
 
@@ -76,9 +78,21 @@ def long_clauses(source):
             yield f"{source.place}:{line}: a clause of {len(clause)} characters: {match.group(1)} {clause}"
 
 
+def found_outside(top, forbidden, exceptions):
+    """What is found outside the crates: only names that went everywhere and are more than one word are old there."""
+    old = {name: crates for name, crates in forbidden.items() if "_" in name and "*" in crates}
+    scripts = list(scripts_of(top))
+    for folder in sorted({script.folder for script in scripts}):
+        own = [script for script in scripts if script.folder == folder]
+        yield [finding for script in own for finding in old_names(script, old, exceptions)]
+        yield [finding for script in own for finding in unwanted(script)]
+    yield list(lost_tests((top / "tools/sweep.sh").read_text(), top))
+
+
 def found_in(top):
     """What the checks find: a list for each, empty where it passes."""
     forbidden, exceptions, sources = read_forbidden(), Exceptions(), list(sources_of(top))
+    yield from found_outside(top, forbidden, exceptions)
     for crate in sorted({source.crate for source in sources}):
         own = [source for source in sources if source.crate == crate]
         yield [finding for source in own for finding in old_names(source, forbidden, exceptions)]
@@ -115,9 +129,28 @@ def planted():
     yield "many chains", chains_in_a_thousand(["the part of which " + "word " * 96]) == 10.0
 
 
+def planted_outside(top):
+    """The same of what is outside the crates."""
+    forbidden, exceptions = {"told_of": {"*"}, "is_told": {"*"}}, Exceptions()
+    script = lambda text, place="bench/a.rs": Script(Path(place), text)
+    names = lambda *own: len(list(old_names(script(*own), forbidden, exceptions)))
+    phrases = lambda *own: len(list(unwanted(script(*own))))
+    lost = lambda text: list(lost_tests(text, top))
+    yield "an identifier outside the crates", names("fn told_of() {}") == 1 and names("x = told_of-1", "tools/a.py") == 1
+    yield "one in a script's string", names('echo "$is_told"', "tools/a.sh") == 1 and not names('echo "$is_told_so"', "tools/a.sh")
+    yield "a phrase in a comment of C", phrases("/* one of\n * which it is told */\n", "tools/a.c") == 2 and not phrases('"told"', "tools/a.c")
+    yield "one in Rust", phrases("let told = 1; // behind it\n") == 1 and not phrases('let a = "// behind";\n')
+    yield "one in Python", phrases('"""What stands there."""\na = "told"  # that of\n', "tools/a.py") == 2
+    yield "one in a script", phrases("told=1 # for want of\n# memory\n/// The `told` of which\n", "tools/a.sh") == 2
+    yield "a test that no crate has", len(lost("sweep_test worked_lines lines::none\n")) == 1 and len(lost("sweep_test none a::b\n")) == 1
+    yield "one of two steady ones", len(lost("sweep_steady worked_threads views::steady::few_cycles views::steady::many\n")) == 1
+    yield "no test at all", len(lost("sweep_test() {\n")) == 1
+
+
 def main():
-    outcomes = list(found_in(Path(__file__).resolve().parents[2]))
-    outcomes += [[] if is_found else [f"planted and not judged rightly: {mistake}"] for mistake, is_found in planted()]
+    top = Path(__file__).resolve().parents[2]
+    outcomes = list(found_in(top))
+    outcomes += [[] if is_found else [f"planted and not judged rightly: {mistake}"] for mistake, is_found in [*planted(), *planted_outside(top)]]
     for findings in outcomes:
         for finding in findings:
             print(f"words: {finding}")

@@ -44,6 +44,7 @@ class Source:
 
     place: Path
     text: str
+    identifier = IDENTIFIER
 
     @property
     def crate(self):

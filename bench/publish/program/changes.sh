@@ -1,7 +1,7 @@
 #!/bin/sh
 # Writes the part of the program that makes changes and publishes them in rounds, into the folder that it is given.
 set -eu
-mkdir -p "$1/proofs" "$1/proofs/changes/add_answer" "$1/proofs/changes/add_changes" "$1/proofs/changes/add_edit" "$1/proofs/changes/changes_of" "$1/proofs/rounds/play" "$1/proofs/rounds/publish_all" "$1/proofs/rounds/tell_each" "$1/proofs/rounds/time_rounds" "$1/src"
+mkdir -p "$1/proofs" "$1/proofs/changes/add_answer" "$1/proofs/changes/add_changes" "$1/proofs/changes/add_edit" "$1/proofs/changes/changes_of" "$1/proofs/rounds/play" "$1/proofs/rounds/publish_all" "$1/proofs/rounds/print_each" "$1/proofs/rounds/time_rounds" "$1/src"
 cat > "$1/src/changes.rt" <<'END_OF_CODE'
 //! Changes of a line, made beforehand.
 ghost use Rattle.std.specs.Prelude.{◌≡◌, IfSome};
@@ -371,7 +371,7 @@ use Rattle.publish_bench.proofs.changes.changes_of.Given as goal
 abbrev pub invariant-loop : goal.invariant-loop
 invariant-loop l = Follows l.initial.plan l.changes.items l.plan
 END_OF_PROOF
-cat > "$1/proofs/rounds/tell_each/Invariants.antt" <<'END_OF_PROOF'
+cat > "$1/proofs/rounds/print_each/Invariants.antt" <<'END_OF_PROOF'
 use Rattle.publish_bench.specs.Lines.{LeadsTo}
 use Rattle.publish_bench.proofs.rounds.print_each.Given as goal
 

@@ -185,7 +185,7 @@ pub fn edit_of(alloc: Global, asked: &Asked) -> Result<Edit, AllocError> {
     })
 }
 END_OF_CODE
-cat > "$1/src/telling.rt" <<'END_OF_CODE'
+cat > "$1/src/view_digests.rt" <<'END_OF_CODE'
 //! What views show, as one number.
 
 use crate::digest::{digest_of, digest_of_bytes, digest_of_place};
