@@ -119,7 +119,7 @@ impl Core {
         self.frames.clear();
         self.write = None;
         self.writes.blocks.clear();
-        self.fresh.fill(false);
+        self.has_data.fill(false);
         let Report { epoch, recut, moved, edit, tasks, rows, .. } = report;
         self.changes.push(Change::Swapped { edit, tasks, rows });
         Answer::Edited { epoch, recut, moved }

@@ -98,7 +98,7 @@ pub struct Core {
     frames: Vec<Sending>,
     write: Option<Write>,
     writes: Writes,
-    fresh: [bool; SLOTS],
+    has_data: [bool; SLOTS],
     image: Vec<[u8; ROOM]>,
     sent: Vec<[u8; ROOM]>,
     masks: Vec<[u8; ROOM]>,
@@ -149,7 +149,7 @@ impl Core {
             frames: Vec::with_capacity(SLOTS),
             write: None,
             writes: Writes::default(),
-            fresh: [false; SLOTS],
+            has_data: [false; SLOTS],
             image: vec![[0; ROOM]; SLOTS],
             sent: vec![[0; ROOM]; SLOTS],
             masks: vec![[0; ROOM]; SLOTS],
@@ -262,7 +262,7 @@ impl Core {
         Answer::Sent(texts)
     }
 
-    /// Drops the frames that are the newest of no datagram; it is called so seldom that a sending pays for few of them.
+    /// Drops the frames that no datagram was sent in last; it is called so seldom that a sending pays for few of them.
     fn drop_answered(&mut self) {
         let last_sent = &self.last_sent;
         self.frames.retain(|frame| {
@@ -485,7 +485,7 @@ impl Core {
             if let Outcome::Inputs { task, datagram } = *outcome {
                 let data = &rest[10..10 + size];
                 self.image[slot][..size].copy_from_slice(data);
-                self.fresh[slot] = true;
+                self.has_data[slot] = true;
                 self.changes.push(Change::Good { task, datagram, bytes: data.to_vec() });
             }
             if self.last_sent[slot] == serial {
@@ -506,7 +506,7 @@ impl Core {
         let mut slots = Vec::with_capacity(datagrams.len());
         for (number, datagram) in datagrams.iter().enumerate() {
             let slot = first + number;
-            slots.push(self.fresh[slot].then(|| self.image[slot][..usize::from(datagram.length)].to_vec()));
+            slots.push(self.has_data[slot].then(|| self.image[slot][..usize::from(datagram.length)].to_vec()));
         }
         Answer::Image { epoch: self.plan.epoch(), slots }
     }

@@ -51,7 +51,7 @@ struct Maker<'a> {
 }
 
 /// A number from 1 to `most` that wasn't drawn before.
-fn fresh(draws: &mut Draws, drawn: &mut BTreeSet<usize>, most: usize) -> usize {
+fn unused(draws: &mut Draws, drawn: &mut BTreeSet<usize>, most: usize) -> usize {
     loop {
         let number = draws.between(1, most);
         if drawn.insert(number) {
@@ -67,7 +67,7 @@ impl Maker<'_> {
             return (0, bits as u8);
         }
         let most = if self.draws.is(50) { 0x000f_ffff } else { 0x7fff_ffff };
-        let number = fresh(self.draws, &mut self.variables, most);
+        let number = unused(self.draws, &mut self.variables, most);
         let variable = if number > 0x000f_ffff && number % 2 == 1 { number + 0x8000_0000 } else { number };
         (variable as u32, bits as u8)
     }
@@ -124,7 +124,7 @@ impl Maker<'_> {
     fn offered(&mut self) -> Vec<Pdo> {
         let mut indexes = BTreeSet::new();
         let entries = self.offered_entries();
-        let mut pdo = |entries| Pdo { index: (fresh(self.draws, &mut indexes, 0x1_0000) - 1) as u16, entries };
+        let mut pdo = |entries| Pdo { index: (unused(self.draws, &mut indexes, 0x1_0000) - 1) as u16, entries };
         entries.into_iter().map(&mut pdo).collect()
     }
 
@@ -163,12 +163,12 @@ impl Maker<'_> {
     }
 
     fn slave(&mut self) -> Slave {
-        let station = fresh(self.draws, &mut self.stations, 0xffff) as u16;
+        let station = unused(self.draws, &mut self.stations, 0xffff) as u16;
         Slave { station, areas: self.areas() }
     }
 
     fn group(&mut self, is_mandatory: bool, slaves: usize) -> Group {
-        let alias = if is_mandatory { 0 } else { fresh(self.draws, &mut self.aliases, 0xffff) as u16 };
+        let alias = if is_mandatory { 0 } else { unused(self.draws, &mut self.aliases, 0xffff) as u16 };
         Group { alias, slaves: (0..slaves).map(|_| self.slave()).collect() }
     }
 }

@@ -27,7 +27,7 @@ static struct zangjulf line;
 static uint8_t frames[ZANGJULF_FRAMES];
 static uint64_t first_serial; /* of the frames of the present cycle */
 static bool has_gripper;
-static unsigned cycles, lost, lost_writes, wrong, fresh, closed, given_up;
+static unsigned cycles, lost, lost_writes, wrong, answered, closed, given_up;
 
 /* Goes on where a call is done. The program doesn't know how to go on after another answer. */
 static void must(const char *call, uint8_t answer) {
@@ -177,7 +177,7 @@ static void turn(void) {
     uint64_t target = reached + 10, position, is_closed;
     if (has_gripper) post(SLOW, CLOSE, 1);
     if (!cycle(target, &position)) return;
-    fresh++;
+    answered++;
     if (position != reached) must("the position of axis X", ZANGJULF_MISUSED);
     reached = target;
     if (has_gripper && read_value(SLOW, CLOSED, &is_closed)) closed += is_closed != 0;
@@ -206,6 +206,6 @@ int main(int count, char **words) {
     }
     zangjulf_close(&line);
     printf("cycles %u, lost frames %u, lost writes %u, wrong counters %u, cycles with an answer %u, gripper closed %u, tools given up %u\n",
-           cycles, lost, lost_writes, wrong, fresh, closed, given_up);
+           cycles, lost, lost_writes, wrong, answered, closed, given_up);
     return 0;
 }

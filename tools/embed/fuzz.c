@@ -182,7 +182,7 @@ static void writing(struct line *line, bool was_open) {
     size_t room = below(3) ? 60 : below(70);
     struct zangjulf_write write = {0, {0, 0, 0}};
     uint64_t serial = 0;
-    uint8_t *out = fresh(room);
+    uint8_t *out = out_room(room);
     zangjulf_next_serial(&line->handle, &serial);
     unsigned number = zangjulf_next_write(&line->handle, out, room, &write);
     expect(number, was_open, "\0\x12\x13\x1d");
@@ -200,7 +200,7 @@ static void writing_all(struct line *line, bool was_open) {
     size_t room = below(3) ? ZANGJULF_FRAME : some_length(ZANGJULF_FRAME), size = 0, blocks = 0;
     struct zangjulf_writes writes = {0, 0};
     uint64_t serial = 0;
-    uint8_t *out = fresh(room);
+    uint8_t *out = out_room(room);
     zangjulf_next_serial(&line->handle, &serial);
     if (was_open) size = model_writes(&line->model, &line->handle, serial, wanted, &blocks);
     unsigned number = zangjulf_next_writes(&line->handle, out, room, &writes);
@@ -241,7 +241,7 @@ static void sending(struct line *line, bool was_open) {
     uint32_t owed = 0;
     for (size_t i = 0; i < count; i++) tasks[i + 9 - count] = below(6) ? (uint8_t)i : (uint8_t)below(10);
     tasks = last(&ins, count);
-    uint8_t *out = fresh(room);
+    uint8_t *out = out_room(room);
     zangjulf_next_serial(&line->handle, &serial);
     zangjulf_owed(&line->handle, &owed);
     unsigned number = zangjulf_send(&line->handle, tasks, count, out, room, &sent);
@@ -296,7 +296,7 @@ static void reading(struct line *line, bool was_open) {
     uint64_t *serials = (void *)last(&counts, many * sizeof *serials);
     struct zangjulf_image image = {0, 0, 0, 0};
     struct zangjulf_part part = {0, 0};
-    uint8_t *out = fresh(room), task = (uint8_t)below(9);
+    uint8_t *out = out_room(room), task = (uint8_t)below(9);
     unsigned number = zangjulf_read(&line->handle, task, out, room, serials, many, &image);
     expect(number, was_open, "\0\x08\x1d");
     zangjulf_part(&line->handle, task, &part);
@@ -312,7 +312,7 @@ static void reading(struct line *line, bool was_open) {
 static void changing(struct line *line, bool was_open) {
     size_t room = some_length(ZANGJULF_DATA);
     struct zangjulf_change change = {0, 0, 0, 0};
-    uint8_t *out = fresh(room);
+    uint8_t *out = out_room(room);
     unsigned number = zangjulf_next_change(&line->handle, out, room, &change);
     expect(number, was_open, "\0\x1d\x64");
     if (number) expect_untouched(out, room, number);
@@ -322,7 +322,7 @@ static void changing(struct line *line, bool was_open) {
 
 static void previewing(struct line *line, bool was_open) {
     size_t room = some_length(ZANGJULF_FRAME), size = 0;
-    uint8_t *out = fresh(room), task = (uint8_t)below(9), datagram = (uint8_t)below(3);
+    uint8_t *out = out_room(room), task = (uint8_t)below(9), datagram = (uint8_t)below(3);
     uint64_t serial = 0;
     zangjulf_next_serial(&line->handle, &serial);
     unsigned number = zangjulf_preview(&line->handle, task, datagram, out, room, &size);
@@ -342,7 +342,7 @@ static void looking(struct line *line, bool was_open) {
     uint16_t station = some_station();
     uint32_t position, variable = below(3) ? (uint32_t)below(130) : (uint32_t)draw();
     size_t room = some_length(16);
-    uint8_t *out = fresh(room);
+    uint8_t *out = out_room(room);
     unsigned number = zangjulf_place(handle, variable, &place);
     expect(number, was_open, "\0\x64");
     if (is_scripted(line, number)) {

@@ -22,7 +22,7 @@ void expect(unsigned number, bool was_open, const char *allowed) {
     if (!memchr(allowed, (int)number, strlen(allowed + 1) + 1)) fail("not an answer of this call", number);
 }
 
-uint8_t *fresh(size_t size) { return memset(last(&outs, size), 0xa5, size); }
+uint8_t *out_room(size_t size) { return memset(last(&outs, size), 0xa5, size); }
 
 void expect_untouched(const uint8_t *out, size_t size, unsigned number) {
     for (size_t i = 0; i < size; i++)

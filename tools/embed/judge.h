@@ -21,7 +21,7 @@ void fail(const char *what, unsigned number);
 void expect(unsigned number, bool was_open, const char *allowed);
 
 /* A slice to be written, filled so that a write of a refused call is seen; whether it is as it was filled. */
-uint8_t *fresh(size_t size);
+uint8_t *out_room(size_t size);
 void expect_untouched(const uint8_t *out, size_t size, unsigned number);
 
 #endif

@@ -26,7 +26,7 @@ struct waiting {
 /* What a seat and its line share: the image that was shown last, the one that the seat has, and the posts that wait. */
 struct mailbox {
     bool has_owner, has_seat;
-    struct shown newest, viewed;
+    struct shown last_shown, viewed;
     struct waiting posts[POSTS];
     size_t count;
 };
@@ -106,7 +106,7 @@ static void show_to(const struct zangjulf *line, uint8_t task, struct shown *sho
 
 static void showing(struct zangjulf *line, const struct owner *owner) {
     for (uint8_t task = 0; line->is_open && task < ZANGJULF_TASKS; task++)
-        if (owner->of[task]) show_to(line, task, &owner->of[task]->newest);
+        if (owner->of[task]) show_to(line, task, &owner->of[task]->last_shown);
     expect(zangjulf_show(line), line->is_open, "\0");
 }
 
@@ -114,7 +114,7 @@ static void viewing(struct drawn_seat *seat) {
     size_t room = some_length(ZANGJULF_IMAGE), many = below(ZANGJULF_DATAGRAMS + 1);
     struct zangjulf_view view = {77, 77, 77, 77};
     uint64_t serials[ZANGJULF_DATAGRAMS];
-    uint8_t *out = fresh(room);
+    uint8_t *out = out_room(room);
     memset(serials, 0x77, sizeof serials);
     unsigned number = zangjulf_seat_view(&seat->seat, out, room, serials, many, &view);
     expect(number, seat->box, "\0\x1d");
@@ -122,7 +122,7 @@ static void viewing(struct drawn_seat *seat) {
     if (number && (view.epoch != 77 || view.size != 77 || view.outputs != 77 || view.has != 77)) fail("a refused view", number);
     if (!seat->box) return;
     struct shown *shown = &seat->box->viewed;
-    *shown = seat->box->newest;
+    *shown = seat->box->last_shown;
     if ((number == ZANGJULF_ROOM) != (room < shown->size)) fail("a view's room", number);
     for (size_t i = 0; i < ZANGJULF_DATAGRAMS; i++) {
         bool is_written = !number && i < many && i < shown->datagrams;
@@ -137,7 +137,7 @@ static void viewing(struct drawn_seat *seat) {
 static void outputting(struct drawn_seat *seat) {
     size_t room = some_length(ZANGJULF_IMAGE), needed = seat->box ? seat->box->viewed.outputs : 0;
     if (below(2)) room = needed;
-    uint8_t *out = fresh(room);
+    uint8_t *out = out_room(room);
     unsigned number = zangjulf_seat_outputs(&seat->seat, out, room);
     expect(number, seat->box, "\0\x1d");
     if (number) expect_untouched(out, room, number);

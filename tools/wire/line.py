@@ -11,10 +11,10 @@ class Slaves:
 
     def __init__(self, groups: list[Group]) -> None:
         self.groups = list(groups)
-        self.machines = [self.fresh(group) if group.alias == 0 else [] for group in groups]
+        self.machines = [self.started(group) if group.alias == 0 else [] for group in groups]
 
     @staticmethod
-    def fresh(group: Group) -> list[Machine]:
+    def started(group: Group) -> list[Machine]:
         """Machines for a group's slaves; the first one has the group's alias."""
         return [Machine(group.alias if place == 0 else 0) for place in range(len(group.slaves))]
 
@@ -32,7 +32,7 @@ class Slaves:
         if words[0] not in ("connect", "disconnect"):
             return
         place = self.place(number_in(words[1]))
-        self.machines[place] = self.fresh(self.groups[place]) if words[0] == "connect" else []
+        self.machines[place] = self.started(self.groups[place]) if words[0] == "connect" else []
 
     def line(self) -> list[tuple[int, Machine]]:
         """The slaves of the line in order: the station address that each is to have, and its machine."""
