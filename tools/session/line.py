@@ -226,7 +226,7 @@ class Line:
             Path(words[0]).write_bytes(self.replay.script())
         except OSError as error:
             raise Refusal(f"{words[0]}: {error.strerror}") from error
-        return [f"{len(self.replay.kept)} commands are written to {words[0]}"]
+        return [f"{len(self.replay.recorded)} commands are written to {words[0]}"]
 
     def declare(self, words: list[str]) -> list[str]:
         """Declares the group of a file while the line runs."""
