@@ -1,4 +1,4 @@
-# What the benches share. A run.sh sets `here`, its own folder, and sources this: it makes the scratch folder in which the
+# What the benches share. A run.sh sets `here`, its own folder, and sources this: it makes the scratch folder, where the
 # bench is proved. KIT is the toolchain's folder, if it is not /opt/rattle; with KEPT=1 the work that earlier checks kept in
 # out/ is taken over.
 kit=${KIT:-/opt/rattle}

@@ -144,8 +144,8 @@ static inline const char *zangjulf_text(uint8_t answer) {
 #define ZANGJULF_DATAGRAMS 16       /* the most datagrams of a task */
 #define ZANGJULF_DATA 1486          /* the most bytes of data of a datagram */
 #define ZANGJULF_FRAME 1514         /* the most bytes of a frame; the fewest are 60 */
-#define ZANGJULF_FRAMES 193792      /* bytes in which any sending of tasks has room: 128 frames */
-#define ZANGJULF_IMAGE 23776        /* bytes in which any task's image has room, outputs and inputs */
+#define ZANGJULF_FRAMES 193792      /* bytes that hold any sending of tasks: 128 frames */
+#define ZANGJULF_IMAGE 23776        /* bytes that hold any task's image, outputs and inputs */
 #define ZANGJULF_OUTCOMES 115       /* the most datagrams of a frame */
 #define ZANGJULF_BLOCKS 74          /* the most register blocks of a frame */
 #define ZANGJULF_SLAVE_MEMORY 12288 /* the bytes of a simulated slave's memory */
@@ -221,7 +221,7 @@ struct zangjulf_spot {
 struct zangjulf_location {
     size_t line;                /* of 201 the line, counted from 1; else 0 */
     size_t column;              /* of 201 the column in characters, counted from 1; else 0 */
-    struct zangjulf_spot place; /* of every other fault the first place at which its condition holds */
+    struct zangjulf_spot place; /* of every other fault the first place where its condition holds */
     struct zangjulf_spot first; /* of two things that may not be together the earlier one; else as `place` */
 };
 
@@ -290,7 +290,7 @@ uint8_t zangjulf_share(const struct zangjulf *handle, uint8_t task, uint8_t numb
 
 /* A register block. */
 struct zangjulf_block {
-    uint16_t start; /* the register at which it begins */
+    uint16_t start; /* its first register */
     size_t size;    /* its bytes: 8 of a sync manager, 16 of an FMMU */
 };
 
@@ -345,11 +345,11 @@ uint8_t zangjulf_declare(struct zangjulf *handle, const uint8_t *text, size_t le
 /* An owed register block: its slave, where it begins, and how many bytes it has. */
 struct zangjulf_owed_block {
     uint16_t station; /* the slave's station address */
-    uint16_t start;   /* the register at which it begins */
+    uint16_t start;   /* its first register */
     uint8_t size;     /* its bytes: 8 of a sync manager, 16 of an FMMU */
 };
 
-/* The owed block with an index, from 0, in the order in which they are written. ZANGJULF_DONE; ZANGJULF_NOTHING where fewer are
+/* The owed block with an index, from 0, in the order of writing. ZANGJULF_DONE; ZANGJULF_NOTHING where fewer are
  * owed; or ZANGJULF_CLOSED. Takes no memory. */
 uint8_t zangjulf_owed_block(const struct zangjulf *handle, uint32_t index, struct zangjulf_owed_block *block);
 
@@ -370,7 +370,7 @@ struct zangjulf_writes {
     size_t blocks; /* how many register blocks it writes, 1 to 74 */
 };
 
-/* The first owed register blocks are sent in one frame, in the order in which they are owed: as many as the frame holds, whatever
+/* The first owed register blocks are sent in one frame, in their order: as many as the frame holds, whatever
  * `length` is. The frame is at the front of `out`. ZANGJULF_DONE; 18, 19, or 29 with the bytes needed in `writes->size`; or
  * ZANGJULF_CLOSED. Unless it is done nothing changed, `out` neither. What returns is handed to `zangjulf_arrive`; a frame that is
  * lost is sent again by the next call. One block has the frame of `zangjulf_next_write`, and is answered as that is. Takes no
@@ -386,7 +386,7 @@ uint8_t zangjulf_forget(struct zangjulf *handle, uint16_t station);
 
 /* Process data. */
 
-/* A task, 0 to 7, posts its outputs: as many bytes as it has output bytes in the epoch for which they were made.
+/* A task, 0 to 7, posts its outputs: as many bytes as it has output bytes in the epoch that they were made for.
  * ZANGJULF_DONE; 8, 15 or 16; or ZANGJULF_CLOSED, and nothing changed. Takes no memory. */
 uint8_t zangjulf_post(struct zangjulf *handle, uint8_t task, uint32_t epoch, const uint8_t *bytes, size_t length);
 
@@ -433,10 +433,10 @@ struct zangjulf_outcome {
     uint8_t datagram;  /* its number in the task, 0 to 15; of a register block 0 */
     uint16_t expected; /* the expected working counter; of a register block 1 */
     uint16_t got;      /* the one that it came back with */
-    uint16_t at;       /* the byte of the frame at which its data begin, so that data with a wrong count can be had */
+    uint16_t at;       /* where its data begin in the frame, so that data with a wrong count can be had */
     uint16_t length;   /* the bytes of its data */
     uint16_t station;  /* of a register block the slave's station address; else 0 */
-    uint16_t start;    /* of a register block the register at which it begins; else 0 */
+    uint16_t start;    /* of a register block its first register; else 0 */
 };
 
 /* What an arrival answers. */
@@ -444,7 +444,7 @@ struct zangjulf_arrival {
     uint64_t serial;  /* the serial that the frame bears: of the sending that it answers, unless it is stale */
     size_t datagrams; /* where it answers frames of tasks or several register writes, how many datagrams it has; else 0 */
     uint16_t station; /* where it answers a write of one block, the slave's station address; else 0 */
-    uint16_t start;   /* where it answers a write of one block, the register at which that begins; else 0 */
+    uint16_t start;   /* where it answers a write of one block, its first register; else 0 */
 };
 
 /* A frame arrives: any bytes, without the check sequence. ZANGJULF_DONE where they answer frames of tasks, whatever their
@@ -491,7 +491,7 @@ uint8_t zangjulf_counters(const struct zangjulf *handle, uint8_t task, uint8_t d
 
 /* A change of what tasks read. */
 enum {
-    ZANGJULF_SWAPPED = 1, /* an edit was accepted: an epoch began, in which no datagram has data yet */
+    ZANGJULF_SWAPPED = 1, /* an edit was accepted: an epoch began, and no datagram has data in it yet */
     ZANGJULF_GOOD = 2     /* a datagram has a good answer */
 };
 struct zangjulf_change {
@@ -501,7 +501,7 @@ struct zangjulf_change {
     uint16_t size;    /* of a good answer the bytes of its data, 1 to 1,486; else 0 */
 };
 
-/* The next change that wasn't handed out yet, in the order in which they came. ZANGJULF_DONE, and a good answer's data are
+/* The oldest change that wasn't handed out yet. ZANGJULF_DONE, and a good answer's data are
  * at the front of `out`; ZANGJULF_NOTHING where there is none, and always where the line was opened to keep none; 29 where
  * `out` is shorter than `change->size`, and the same change is handed out again; or ZANGJULF_CLOSED. Unless it is done `out`
  * is as it was. Takes no memory. */
@@ -571,10 +571,9 @@ struct zangjulf_taken {
     uint8_t refused;  /* bit t: a post of task t was refused, and left nothing */
 };
 
-/* The owner takes the posts that wait, at most four of each seat: task 0's first, and the posts of a task in the order in which
- * they were posted. Each is judged and done as by `zangjulf_post`; one that is refused was made for another epoch than the
- * present one. ZANGJULF_DONE, also where none waits; or ZANGJULF_CLOSED. What is posted meanwhile may be left for the next
- * call. Takes no memory. */
+/* The owner takes the posts that wait, at most four of each seat: task 0's first, and the posts of a task in their order. Each
+ * is judged and done as by `zangjulf_post`; one that is refused was made for another epoch than the present one. ZANGJULF_DONE,
+ * also where none waits; or ZANGJULF_CLOSED. What is posted meanwhile may be left for the next call. Takes no memory. */
 uint8_t zangjulf_take_posts(struct zangjulf *handle, struct zangjulf_taken *taken);
 
 /* Bits of bytes that the caller keeps, counted from the least significant bit of the first byte. None takes memory. */

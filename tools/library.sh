@@ -29,7 +29,7 @@ done
 kit=$(dirname "$(dirname "$(readlink -f "$(command -v rt)")")")
 . tools/package/version
 
-# are_below: whether the libraries are there over which hc_c is built
+# are_below: whether the libraries below hc_c are there
 are_below() {
     for library in $(sed -n 's/^hc_c staticlib: *//p' ../../crates.txt); do
         [ ! -d "../$library" ] || [ -e "../$library/out/rlib/$library.rlib" ] || return 1

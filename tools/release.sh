@@ -36,7 +36,7 @@ target() {
     esac
 }
 
-# verdict_of CRATE: the line with which its check ends, in the log where one is named, else of a check now
+# verdict_of CRATE: the last line of its check, in the log where one is named, else of a check now
 verdict_of() {
     if [ -n "$log" ]; then
         awk -v crate="$1" '/^== /{name = $2} /^logic=proved/ && name == crate' "$log" >"$scratch/printed"

@@ -1,7 +1,7 @@
 #!/bin/sh
 # Refuses growths of memory, in tests and in the program that `rt ci` has built: each growth in turn alone, and each with
 # every later one. Every such run must end by itself: with its own answer, or out of memory and with nothing else. A case
-# in which no growth was refused fails. The last line is 'N passed, M failed'.
+# without a refused growth fails. The last line is 'N passed, M failed'.
 set -u
 cd "$(dirname "$0")/.."
 scratch=$(mktemp -d)
@@ -231,7 +231,7 @@ begins_well() {
 }
 
 # A run whose frames go along the line prints the whole text, also where a thread isn't made and its segment is run by the
-# caller's; or the text of a run in which a publishing is refused; else a front of these and then the refusal. What a
+# caller's; or the text of a run with a refused publishing; else a front of these and then the refusal. What a
 # stopped command had done before stays, so that later lines may differ.
 line_ended_well() {
     said_all "$1" && return

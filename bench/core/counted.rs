@@ -30,7 +30,7 @@ fn row(name: &'static str, task: u8, frame: &[u8], kind: u8, step: Option<u8>, o
     Row { case: Case { name, timed, without, frame, bytes: 0, rounds: 2, turns: 0 }, step, own }
 }
 
-/// All that is counted of a line on which everything was played.
+/// All that is counted of a line after everything was played.
 fn rows(opened: &mut Opened) -> Vec<Row> {
     let (one, outputs) = (frames_of(opened, 0).0, frames_of(opened, 2).0);
     let five = frames_of(opened, 3).0;

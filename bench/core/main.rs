@@ -10,9 +10,9 @@
 //! Edits are timed one by one, on lines of their own: `edited.rs` says how. `counted.rs` counts the instructions of a
 //! call, and what `step` adds to it.
 //!
-//! Words after the program's name: `few` for a short run, `count` for one in which nothing is timed and each call and each
-//! edit is played for who counts instructions, `counts` for the table of these alone, any other one for the calls and
-//! edits whose names have it.
+//! Words after the program's name: `few` for a short run, `count` to time nothing and to play each call and each edit for
+//! who counts instructions, `counts` for the table of these alone, any other one for the calls and edits whose names have
+//! it.
 
 mod counted;
 #[allow(dead_code)]
@@ -23,7 +23,7 @@ mod edited;
 mod growths;
 mod line;
 mod plain;
-/// The plan in plain Rust, with the lines and the edits on which the library's plan is timed.
+/// The plan in plain Rust, with the lines and the edits that the library's plan is timed with.
 #[allow(dead_code)]
 #[path = "../edits"]
 mod plan {
@@ -293,7 +293,7 @@ fn memory(bytes: usize) -> f64 {
     median(&mut each)
 }
 
-/// The ratios of one turn, in which the plain core is timed before and after the proved one.
+/// The ratios of one turn: the plain core is timed before and after the proved one.
 struct Ratios {
     to_plain: f64,
     to_memory: f64,
@@ -361,7 +361,7 @@ fn frames_of(opened: &mut Opened, list: u8) -> (Vec<u8>, usize) {
     (frame, sent.iter().map(Vec::len).sum())
 }
 
-/// All that is timed of a line on which everything was played.
+/// All that is timed of a line after everything was played.
 fn cases(opened: &mut Opened, turns: usize) -> Vec<Case> {
     let (one, one_size) = frames_of(opened, 0);
     let (_, all_size) = frames_of(opened, 1);

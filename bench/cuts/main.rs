@@ -37,7 +37,7 @@ struct Case {
     slaves: u16,
     /// The areas in key order. Of a slave those with an even number are outputs.
     areas: Vec<Area>,
-    /// Areas from which a next boundary is asked.
+    /// Areas to ask for the next boundary from.
     asked: Vec<Area>,
     /// Widths to be set: half of them drawn anew, and then the old ones again.
     changed: Vec<Area>,

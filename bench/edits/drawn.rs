@@ -1,4 +1,4 @@
-//! Drawn lines and edits, on which both plans are compared.
+//! Drawn lines and edits, to compare both plans on.
 
 use super::asked::{Asked, CONNECT, DISCONNECT, MOVE, REMAP, WHOLE};
 use super::plain::Group;

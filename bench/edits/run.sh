@@ -156,7 +156,7 @@ pub extern "C" fn edits_digests(
     count
 }
 
-/// The nanoseconds in which the line is configured from nothing; the most where memory was refused.
+/// The nanoseconds to configure the line from nothing; the most where memory was refused.
 fn configured_in(alloc: Global, plan: &Plan) -> u64 {
     let begun = nanoseconds();
     let configured = open_line::<Brand>(alloc, plan.groups(), Blank::new(1));
@@ -238,7 +238,7 @@ fn group_of(alloc: Global, coming: &Coming) -> Result<Group, AllocError> {
     })
 }
 
-/// The nanoseconds in which a group is declared; the most where it was refused.
+/// The nanoseconds to declare a group; the most where it was refused.
 fn declared_in(alloc: Global, plan: &mut Plan, coming: &Coming) -> u64 {
     match group_of(alloc, coming) {
         Ok(group) => applied_in(alloc, plan, &Edit::Declare(group)),

@@ -34,7 +34,7 @@ fn put_number(bytes: &mut [u8], at: usize, bits: u8, number: u64) {
     }
 }
 
-/// The bit of its task's image at which a place begins.
+/// The first bit of a place in its task's image.
 fn image_bit(line: &Line, place: &Place) -> usize {
     let offset = line.layout.datagram(place.task, place.datagram).map_or(0, |datagram| datagram.offset);
     (8 * offset + place.bit) as usize
@@ -113,7 +113,7 @@ fn output(posts_and_edits: &[(&Line, &Entry)], variable: u32) -> u64 {
     0
 }
 
-/// The data in which a task's datagram is sent: the values of its output variables in their places, and zeros.
+/// The data of a task's datagram as it is sent: the values of its output variables in their places, and zeros.
 pub fn outputs(history: &[Entry], task: u8, number: usize) -> Vec<u8> {
     let (line, posts_and_edits) = (line(history), posts_and_edits(history));
     let length = line.layout.datagram(task, number).map_or(0, |datagram| datagram.length);

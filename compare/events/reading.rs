@@ -1,5 +1,5 @@
-//! A frame that arrives, read or refused: the rules of ETG.1000.4, 5.3 and 5.4, in the order in which this project's
-//! profile judges them.
+//! A frame that arrives, read or refused: the rules of ETG.1000.4, 5.3 and 5.4, in the order that this project's
+//! profile judges them in.
 
 use crate::shared::frames::{Datagram, FPWR, LRW};
 
@@ -10,7 +10,7 @@ pub struct Arrival {
     pub datagrams: Vec<Datagram>,
 }
 
-/// The commands by which positions are read and written.
+/// The commands that read and write by position.
 const APRD: u8 = 1;
 const APWR: u8 = 2;
 

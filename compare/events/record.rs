@@ -177,7 +177,7 @@ pub fn owed(history: &[Entry]) -> Vec<&(u16, Block)> {
     line(history).blocks.iter().filter(is_owed).collect()
 }
 
-/// The frames in which tasks are sent next: a datagram joins the frame before it where the 2 bytes of the EtherCAT header
+/// The next frames of tasks: a datagram joins the frame before it where the 2 bytes of the EtherCAT header
 /// and 12 bytes and the data of each datagram are at most the 1,500 bytes of an Ethernet frame.
 fn frames_of(history: &[Entry], tasks: &[u8]) -> Vec<Sending> {
     let layout = &line(history).layout;

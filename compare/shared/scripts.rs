@@ -91,14 +91,14 @@ impl Script {
         self.wanted.extend(answer.into_iter().map(|text| Wanted { line, text }));
     }
 
-    /// A declaration that no line closes, with which the run ends: its content isn't read.
+    /// A declaration that no line closes; it ends the run, and its content isn't read.
     pub fn add_unclosed(&mut self, document: &str) {
         let line = self.add_document(document);
         self.wanted.push(Wanted { line, text: format!("line {line}: bad command") });
         self.status = 2;
     }
 
-    /// A line that is no command, with which the run ends.
+    /// A line that is no command, and so ends the run.
     pub fn add_malformed(&mut self, words: &[String]) {
         let line = self.add_line(words);
         self.wanted.push(Wanted { line, text: format!("line {line}: bad command") });

@@ -24,7 +24,7 @@ static void fail(int line, const char *fact) {
 static uint8_t text[1 << 16];
 static size_t length;
 
-/* A slice of its exact size, at whose end a sanitizer watches. */
+/* A slice of its exact size; a sanitizer watches its end. */
 static uint8_t *slice(size_t size) {
     uint8_t *bytes = malloc(size ? size : 1);
     memset(bytes, 0xaa, size);

@@ -14,7 +14,7 @@ AT_PLACE = re.compile(r"at (\S+)(?: alias \d+)?(?: station \d+)?(?: first (\S+).
 
 
 def fault_of(document: Node, text: bytes, hotline: Program, check: Program | None) -> Finding | None:
-    """The fault for which the program doesn't open a text, or None."""
+    """The fault of a text that the program doesn't open, or None."""
     run = hotline.ran(text)
     if run.status == 0:
         return None

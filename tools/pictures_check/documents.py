@@ -17,7 +17,7 @@ class Node:
         self.tag, self.attributes, self.nodes, self.texts = tag, dict(attributes), [], []
 
     def all(self, test):
-        """Every element below for which a test holds, in the document's order."""
+        """Every element below that a test holds for, in the document's order."""
         found = []
         for node in self.nodes:
             if test(node):

@@ -23,7 +23,7 @@ class PictureReader:
             self.said.append(f"{what}: {wanted!r} is wanted, {found!r} is found")
 
     def differences(self):
-        """Everything in which the picture differs."""
+        """Everything that differs in the picture."""
         self.read_whole()
         for node in self.root.all(lambda node: "task-heading" in node.kinds()):
             self.read_parts(node)

@@ -13,7 +13,7 @@ class ReportReader:
             self.said.append(f"{what}: {wanted!r} is wanted, {found!r} is found")
 
     def differences(self):
-        """Everything in which the tables differ."""
+        """Everything that differs in the tables."""
         self.compare("datagrams", self.datagrams())
         self.compare("variables", self.variables())
         self.compare("blocks", self.blocks())

@@ -1,4 +1,4 @@
-"""What ends a tool's run, and the status with which it ends."""
+"""What ends a tool's run, and its exit status."""
 
 FINE, FINDINGS, NO_ANSWER = 0, 1, 2
 

@@ -23,7 +23,7 @@ class Layout:
     datagrams: dict[tuple[int, int], Datagram]
 
     def of_tasks(self, tasks: list[int]) -> list[Datagram]:
-        """The datagrams of some tasks in the order in which they are sent."""
+        """The datagrams of some tasks in the order of their sending."""
         found = [datagram for task in tasks for datagram in self.datagrams.values() if datagram.task == task]
         return sorted(found, key=lambda datagram: (tasks.index(datagram.task), datagram.number))
 

@@ -197,7 +197,7 @@ class Line:
         ]
 
     def owed(self, words: list[str]) -> list[str]:
-        """How many register blocks are owed, and which, in the order in which they are written."""
+        """How many register blocks are owed, and which, in the order of writing."""
         questions = Questions(self.replay)
         count = questions.owed()
         writes = questions.owed_writes(min(count, LISTED_WRITES))

@@ -98,12 +98,12 @@ class Terminal:
         return written.removesuffix(ending).decode().replace("\r\n", "\n")
 
     def give(self, command: str) -> str:
-        """What a command is answered, after the line in which the terminal shows the command itself."""
+        """What a command is answered, after the line that shows the command itself."""
         os.write(self.file, command.encode() + b"\n")
         return self.until(PROMPT).partition("\n")[2]
 
     def end(self) -> int:
-        """The status with which the session ends when its input does."""
+        """The session's exit status when its input ends."""
         os.write(self.file, b"\x04")
         status = os.waitstatus_to_exitcode(os.waitpid(self.process, 0)[1])
         os.close(self.file)

@@ -86,6 +86,8 @@ def found_outside(top, forbidden, exceptions):
         own = [script for script in scripts if script.folder == folder]
         yield [finding for script in own for finding in old_names(script, old, exceptions)]
         yield [finding for script in own for finding in unwanted(script)]
+    many = chains_in_a_thousand([text for script in scripts for text in script.prose()])
+    yield [f"{many:.2f} relative chains in 1,000 words outside the crates"] if many > MOST_CHAINS else []
     yield list(lost_tests((top / "tools/sweep.sh").read_text(), top))
 
 

@@ -37,14 +37,14 @@ class Place(NamedTuple):
 
 
 class Block(NamedTuple):
-    """A register block: the register at which it begins, and its bytes."""
+    """A register block: its first register, and its bytes."""
 
     start: int
     bytes: bytes
 
 
 class OwedBlock(NamedTuple):
-    """A register block that is owed: the slave's station address, the register at which it begins, and how many bytes it has."""
+    """A register block that is owed: the slave's station address, its first register, and how many bytes it has."""
 
     station: int
     start: int
@@ -103,8 +103,8 @@ class BlockOutcomeKind(Enum):
 
 
 class BlockOutcome(NamedTuple):
-    """A register block of a frame of several that arrived: what the arrival is for it, the slave's station address, the register at
-    which it begins, and the working counter that it came back with, 1 if a slave took it."""
+    """A register block of a frame of several that arrived: what the arrival is for it, the slave's station address, its first
+    register, and the working counter that it came back with, 1 if a slave took it."""
 
     kind: BlockOutcomeKind
     station: int
@@ -162,7 +162,7 @@ class Counters(NamedTuple):
 
 @dataclass(frozen=True)
 class Swapped:
-    """A change: an edit was accepted, and an epoch began, in which no datagram has data yet."""
+    """A change: an edit was accepted, an epoch began, and no datagram has data in it yet."""
 
 
 class Good(NamedTuple):
@@ -187,7 +187,7 @@ class Spot(NamedTuple):
 
 
 class Location(NamedTuple):
-    """Where a text is no project: line and column from 1 of a text that is no TOML; else the first place at which the fault's
+    """Where a text is no project: line and column from 1 of a text that is no TOML; else the first place where the fault's
     condition holds, and the earlier one of two things that exclude one another."""
 
     line: int | None

@@ -17,7 +17,7 @@ ABI = 0
 #: the most datagrams of a task
 DATAGRAMS = 16
 
-#: bytes in which any task's image has room
+#: bytes that hold any task's image
 IMAGE = DATAGRAMS * 1486
 
 

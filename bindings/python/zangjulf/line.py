@@ -90,7 +90,7 @@ class Line:
         return self._number("owed", c_uint32)
 
     def owed_block(self, index: int) -> OwedBlock | None:
-        """The owed block with an index, from 0, in the order in which they are written, or None."""
+        """The owed block with an index, from 0, in the order of writing, or None."""
         it = c.OwedBlock()
         return self._found(lambda: OwedBlock(it.station, it.start, it.size), "owed_block", index, byref(it))
 

@@ -54,7 +54,7 @@ pub struct Part {
 #[repr(C)]
 #[derive(Clone, Copy, Debug, Default, PartialEq, Eq)]
 pub struct Block {
-    /// The register at which it begins.
+    /// Its first register.
     pub start: u16,
     /// Its bytes: 8 of a sync manager, 16 of an FMMU.
     pub size: usize,
@@ -66,7 +66,7 @@ pub struct Block {
 pub struct OwedBlock {
     /// The slave's station address.
     pub station: u16,
-    /// The register at which it begins.
+    /// Its first register.
     pub start: u16,
     /// Its bytes: 8 of a sync manager, 16 of an FMMU.
     pub size: u8,
@@ -159,7 +159,7 @@ pub struct Outcome {
     pub expected: u16,
     /// The one that it came back with.
     pub got: u16,
-    /// The byte of the frame at which its data begin.
+    /// Where its data begin in the frame.
     pub at: u16,
     /// The bytes of its data.
     pub length: u16,
@@ -191,7 +191,7 @@ pub struct BlockOutcome {
     pub kind: BlockOutcomeKind,
     /// The slave's station address.
     pub station: u16,
-    /// The register at which it begins.
+    /// Its first register.
     pub start: u16,
     /// The working counter that it came back with; 1 is expected.
     pub got: u16,
@@ -280,7 +280,7 @@ pub struct Counters {
 /// A change of what tasks read.
 #[derive(Clone, Copy, Debug, PartialEq, Eq)]
 pub enum Change<'a> {
-    /// An edit was accepted: an epoch began, in which no datagram has data yet.
+    /// An edit was accepted: an epoch began, and no datagram has data in it yet.
     Swapped,
     /// A datagram has a good answer.
     Good {

@@ -47,7 +47,7 @@ impl Line {
         self.serve(edit, false)
     }
 
-    /// What an edit would do, or the fault for which it would be refused; nothing changes.
+    /// What an edit would do, or the fault that it would be refused with; nothing changes.
     ///
     /// ```
     /// # fn main() -> Result<(), Box<dyn std::error::Error>> {

@@ -40,7 +40,7 @@ pub struct Written {
     pub serial: u64,
     /// The slave's station address.
     pub station: u16,
-    /// The register at which its block begins.
+    /// Its block's first register.
     pub start: u16,
 }
 
@@ -145,7 +145,7 @@ impl Line {
         done(unsafe { ffi::zangjulf_post(&mut self.handle, task, epoch, bytes.as_ptr(), bytes.len()) }, 0)
     }
 
-    /// Sends the first owed register block: its frame is at the front of `out`, for which 60 bytes are enough. A write that is
+    /// Sends the first owed register block: its frame is at the front of `out`; 60 bytes are enough. A write that is
     /// lost is sent again by the next call. `NothingOwed`, `SerialsSpent`, `Room` with the bytes needed; then nothing changed,
     /// `out` neither.
     ///

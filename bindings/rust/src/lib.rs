@@ -33,10 +33,10 @@ pub use values::{alias_read, get_bits, is_mine, put_bits, station_write};
 /// The most bytes of a frame; the fewest are 60.
 pub const FRAME: usize = 1514;
 
-/// Bytes in which any sending of tasks has room.
+/// Bytes that hold any sending of tasks.
 pub const FRAMES: usize = 128 * FRAME;
 
-/// Bytes in which any task's image has room.
+/// Bytes that hold any task's image.
 pub const IMAGE: usize = 16 * 1486;
 
 /// The bytes of a simulated slave's memory.

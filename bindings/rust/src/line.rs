@@ -131,7 +131,7 @@ impl Line {
         count
     }
 
-    /// The owed block with an index, from 0, in the order in which they are written.
+    /// The owed block with an index, from 0, in the order of writing.
     ///
     /// ```
     /// # fn main() -> Result<(), Box<dyn std::error::Error>> {

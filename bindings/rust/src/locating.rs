@@ -131,10 +131,10 @@ pub enum Location {
         /// The column.
         column: usize,
     },
-    /// In the document: the first place at which the fault's condition holds, and, of two things that exclude one another,
+    /// In the document: the first place where the fault's condition holds, and, of two things that exclude one another,
     /// the earlier one.
     Places {
-        /// The first place at which it holds.
+        /// The first place where it holds.
         place: Spot,
         /// The earlier of two; else the same place.
         first: Spot,
