@@ -8,6 +8,7 @@ pub mod Numbered
 pub mod Opening
 pub mod Preparing
 pub mod Registers
+pub mod RowsMapped
 pub mod Sharing
 pub mod Saying
 pub mod WidthsApplied

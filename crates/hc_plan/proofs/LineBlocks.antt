@@ -96,7 +96,7 @@ owner-all : (P : Member → Type 0) (member : Member) (n : ℕ) (rest : Option (
     → (if here then Some (member, n) else rest) ≡ Some owner → P owner.0
 owner-all P member n rest owner here own after_it is = search rules
 
-owner-has : (P : Member → Type 0) (members : List Member) (n : ℕ) (owner : Member × ℕ) → All P members → owned_by members n ≡ Some owner → P owner.0
+pub owner-has : (P : Member → Type 0) (members : List Member) (n : ℕ) (owner : Member × ℕ) → All P members → owned_by members n ≡ Some owner → P owner.0
 owner-has P [] n owner all is = cc
 owner-has P (member ∷ members) n owner all is =
     owner-all P member n (owned_by members (n - own_blocks member)) owner (nat_lt n (own_blocks member)) (All-head P member members all)

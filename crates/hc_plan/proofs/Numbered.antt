@@ -59,6 +59,12 @@ block-by-parity layout member n false is =
     get-second (λ e. sync_manager_block e.1) (fmmu_block_in layout member.rank) (enumerate_from 0 member.slave.areas) (n / 2) n
     (let odd : n % 2 ≢ 0 = eqb-false (n % 2) 0 is in omega arith)
 
+-- the block with an odd number is an FMMU's
+pub odd-block : (layout : List (List Placed)) (rank n : ℕ) (e : ℕ × Area) (even : Bool) → (n % 2 == 0) ≡ even → (n % 2 ≡ 0 → ⊥)
+    → area_block_in layout rank n e ≡ fmmu_block_in layout rank e
+odd-block layout rank n e true is odd = absurd (odd (eqb-true (n % 2) 0 is))
+odd-block layout rank n e false is odd = ap (λ (b : Bool). if b then sync_manager_block e.1 else fmmu_block_in layout rank e) is
+
 pub get-slave_blocks : (layout : List (List Placed)) (member : Member) (n : ℕ)
     → slice_get (slave_blocks_in layout member) n ≡ option_map (λ area. area_block_in layout member.rank n (n / 2, area)) (slice_get member.slave.areas (n / 2))
 get-slave_blocks layout member n =
@@ -74,7 +80,7 @@ pub record AreaMet (member : Member) (areas : List Area) (n index rank : ℕ) (a
   pub is : area ≡ slice_index_or areas index area
   pub ranked : rank ≡ member.rank
 
-met-get : (member : Member) (areas : List Area) (n index rank : ℕ) (area : Area) → AreaMet member areas n index rank area
+pub met-get : (member : Member) (areas : List Area) (n index rank : ℕ) (area : Area) → AreaMet member areas n index rank area
     → slice_get member.slave.areas (n / 2) ≡ Some area
 met-get member areas n index rank area met = search (rules, slice_get-get_or)
 

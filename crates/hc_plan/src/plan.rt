@@ -175,7 +175,8 @@ impl Plan {
     pub fn block(&self, station: u16, number: u8) -> Option<Block>
         ensures { result ≡ block_at (line self.now) station number }
     {
-        block_at(&self.indexed(), &self.placed_line(), station, number)
+        let table = &self.places;
+        block_at(&self.indexed(), &self.placed_line(), table, station, number)
     }
 
     /// The block with a number, from 0, in the order of the slave with a rank, counted from 1 over all declared slaves,
@@ -184,7 +185,8 @@ impl Plan {
     pub fn block_of_rank(&self, rank: u16, number: u8) -> Option<LineBlock>
         ensures { result ≡ block_of_rank (line self.now) rank number }
     {
-        block_of_rank(&self.indexed(), &self.placed_line(), rank, number)
+        let table = &self.places;
+        block_of_rank(&self.indexed(), &self.placed_line(), table, rank, number)
     }
 
     /// The lowest fault that a remap with these indexes has by itself, as an edit of it is judged; a caller that has them in
@@ -207,7 +209,8 @@ impl Plan {
     pub fn nth_block(&self, n: u32) -> Option<(u16, Block)>
         ensures { result ≡ line_block_at (line self.now) n }
     {
-        nth_block(&self.indexed(), &self.placed_line(), n)
+        let table = &self.places;
+        nth_block(&self.indexed(), &self.placed_line(), table, n)
     }
 
     /// The keys where the datagrams of a task, 0 to 7, begin in the present line: `Key::START`, with which the

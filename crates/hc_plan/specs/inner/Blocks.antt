@@ -1,12 +1,13 @@
 -- The blocks of a slave, by the places that a layout has for its areas.
-use Rattle.std.specs.Prelude.{◌≡◌, ℕ, ◌<◌, ◌≤◌, ◌%◌, ◌==◌, if◌then◌else◌, List, [], ◌∷◌, length, option_map, slice_get, Option, Some, None}
+use Rattle.std.specs.Prelude.{◌≡◌, ℕ, ◌<◌, ◌≤◌, ◌%◌, ◌==◌, if◌then◌else◌, List, [], ◌∷◌, length, option_and_then, option_map, slice_get, Option, Some, None}
 use Rattle.std.specs.Option.{ForSome, option_map_or}
 use Rattle.std.specs.List.{enumerate_from, flat_map}
 use Rattle.hc_records.specs.declared.limits.TheConstants.{LAST_SYNC_MANAGER, MOST_AREA_BITS, MOST_AREAS, TASKS}
 use Rattle.hc_records.specs.declared.keys.Key.{Key}
 use Rattle.hc_records.specs.declared.records.Area.{Area}
 use Rattle.hc_records.specs.declared.records.Declared.{Declared}
-use Rattle.hc_records.specs.Area.{width}
+use Rattle.hc_records.specs.Area.{assigned_entries, width}
+use Rattle.hc_records.specs.Image.{VariablePlace, logical_address}
 use Rattle.hc_records.specs.Line.{Member, groups_of, line_from}
 use Rattle.hc_records.specs.Packing.{Placed}
 use Rattle.hc_records.specs.Edits.{over_limit_task}
@@ -14,11 +15,31 @@ use Rattle.hc_records.specs.Project.{lowest_fault}
 use Rattle.hc_registers.specs.declared.fmmu.Mapping.{Mapping}
 use Rattle.hc_registers.specs.Blocks.{IsMappable, RegisterBlock, fmmu_block, mapping_at, sync_manager_block}
 use Rattle.hc_places.specs.Layout.{layout_of, placed_in}
+use Rattle.hc_places.specs.Table.{Table, place_in}
 
 -- where a layout maps the area at an index of a slave with a rank
 abbrev pub mapping_in : List (List Placed) → ℕ → ℕ → Area → Option Mapping
 mapping_in layout rank index area =
     option_map (mapping_at area.task) (placed_in layout area.task (record { dir = area.dir; rank = rank; area = index }))
+
+-- the variable that an area's first entry carries, if it carries one
+abbrev pub first_variable : Area → Option ℕ
+first_variable area = option_and_then (λ entry. entry.0) (slice_get (assigned_entries area) 0)
+
+-- where an area of a task that begins with a variable is mapped, by the variable's place
+abbrev pub mapping_by : ℕ → VariablePlace → Mapping
+mapping_by task place = record { address = logical_address task place.datagram; bit = place.bit }
+
+-- where a table has an area's first variable, there a layout has the area
+abbrev pub RowMaps : Table → List (List Placed) → ℕ → ℕ → Area → Type 0
+RowMaps table layout rank index area =
+    (variable : ℕ) (place : VariablePlace) → first_variable area ≡ Some variable → place_in table variable ≡ Some place
+    → mapping_in layout rank index area ≡ Some (mapping_by area.task place)
+
+-- so it is with each area of a slave
+abbrev pub RowsMap : Table → List (List Placed) → Member → Type 0
+RowsMap table layout member =
+    (index : ℕ) (area : Area) → slice_get member.slave.areas index ≡ Some area → RowMaps table layout member.rank index area
 
 -- the width that a layout has beside the place of a key in a task; 0 where it has none
 abbrev pub bits_in : List (List Placed) → ℕ → Key → ℕ

@@ -1,6 +1,7 @@
 use Rattle.std.proofs.Common.{◌≡◌, refl, arith}
 use Rattle.hc_records.specs.Line.{Member}
 use Rattle.hc_plan.proofs.Numbered.{met-block, met-mapped, met-none}
+use Rattle.hc_plan.proofs.RowsMapped.{met-row}
 use Rattle.hc_plan.proofs.blocks.slave_block.Goals as goal
 
 pub returns-then-from-areas : goal.returns-then-from-areas
@@ -17,7 +18,18 @@ area_block-requires-clause-area c =
       inside = let same : c.from-2.result ≡ c.from.result = cc in omega (arith, same, c.if-from-areas.false);
       is = c.index-areas-from.is;
       ranked = refl;
-    }) c.requires
+    }) c.requires.mapped
+
+pub area_block-requires-clause-row : goal.area_block-requires-clause-row
+area_block-requires-clause-row c =
+    let member : Member = record { rank = c.args.rank; slave = c.args.slave.now } in
+    met-row c.args.table.now c.args.layout.now member c.as_slice-areas.result.now c.args.number c.from-2.result c.args.rank c.index-areas-from.result (record {
+      own = c.as_slice-areas.ensures;
+      half = c.from-2.ensures;
+      inside = let same : c.from-2.result ≡ c.from.result = cc in omega (arith, same, c.if-from-areas.false);
+      is = c.index-areas-from.is;
+      ranked = refl;
+    }) c.requires.rows
 
 pub returns : goal.returns
 returns c =
