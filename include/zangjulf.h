@@ -501,10 +501,10 @@ struct zangjulf_change {
     uint16_t size;    /* of a good answer the bytes of its data, 1 to 1,486; else 0 */
 };
 
-/* The oldest change that wasn't handed out yet. ZANGJULF_DONE, and a good answer's data are
- * at the front of `out`; ZANGJULF_NOTHING where there is none, and always where the line was opened to keep none; 29 where
- * `out` is shorter than `change->size`, and the same change is handed out again; or ZANGJULF_CLOSED. Unless it is done `out`
- * is as it was. Takes no memory. */
+/* The oldest change that wasn't handed out yet. ZANGJULF_DONE, and a good answer's data are at the front of `out`;
+ * ZANGJULF_NOTHING where there is none, and always where the line was opened to keep none; 29 where `out` is shorter than
+ * `change->size`, and the same change is handed out again; or ZANGJULF_CLOSED. Unless it is done `out` is as it was. Takes no
+ * memory. */
 uint8_t zangjulf_next_change(struct zangjulf *handle, uint8_t *out, size_t length, struct zangjulf_change *change);
 
 /* Seats: a task's thread reads and posts while another thread, the owner, has the line. Nobody waits, and only

@@ -231,8 +231,8 @@ begins_well() {
 }
 
 # A run whose frames go along the line prints the whole text, also where a thread isn't made and its segment is run by the
-# caller's; or the text of a run with a refused publishing; else a front of these and then the refusal. What a
-# stopped command had done before stays, so that later lines may differ.
+# caller's; or the text of a run with a refused publishing; else a front of these and then the refusal. What a stopped
+# command had done before stays, so that later lines may differ.
 line_ended_well() {
     said_all "$1" && return
     has_refused || return
