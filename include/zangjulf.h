@@ -386,8 +386,9 @@ uint8_t zangjulf_forget(struct zangjulf *handle, uint16_t station);
 
 /* Process data. */
 
-/* A task, 0 to 7, posts its outputs: as many bytes as it has output bytes in the epoch that they were made for.
- * ZANGJULF_DONE; 8, 15 or 16; or ZANGJULF_CLOSED, and nothing changed. Takes no memory. */
+/* A task, 0 to 7, posts its outputs: as many bytes as it has output bytes in the epoch that they were made for. They are sent
+ * until it posts again; before its first post zeros are. Over an edit each output variable keeps its value wherever it moves; one
+ * that comes into the line begins with 0. ZANGJULF_DONE; 8, 15 or 16; or ZANGJULF_CLOSED, and nothing changed. Takes no memory. */
 uint8_t zangjulf_post(struct zangjulf *handle, uint8_t task, uint32_t epoch, const uint8_t *bytes, size_t length);
 
 /* What was sent. */
@@ -398,7 +399,7 @@ struct zangjulf_sent {
 };
 
 /* Tasks are sent, 1 to 8 and none twice, in this order: their frames are at the front of `out` one after another, each of its
- * own size (`zangjulf_frame_size`). ZANGJULF_DONE; 8, 17, 19, or 29 with the bytes needed in `sent->size`; before these
+ * own size (`zangjulf_frame_size`); a task without an area has none. ZANGJULF_DONE; 8, 17, 19, or 29 with the bytes needed in `sent->size`; before these
  * ZANGJULF_CHANGES_FULL where the line keeps changes and has as many as it may, so that an answer could not be taken;
  * ZANGJULF_MISUSED where there is no task, more than 8 or one twice; or ZANGJULF_CLOSED. Unless it is done nothing is sent and
  * nothing changed, `out` neither. Takes no memory, and is never answered ZANGJULF_MEMORY: the list of its frames has had its
@@ -593,7 +594,8 @@ uint8_t zangjulf_put_bits(uint8_t *bytes, size_t length, size_t bit, uint8_t bit
  * done the slice is as it was. */
 uint8_t zangjulf_put_value(const struct zangjulf *handle, uint32_t variable, uint64_t value, uint8_t *outputs, size_t length);
 
-/* The value of a variable in its task's image, as `zangjulf_read` gives it, at the place that it has in the present line.
+/* The value of a variable in its task's image, as `zangjulf_read` gives it, at the place that it has in the present line. It is 0
+ * where the variable's datagram has no data: `has` of the image tells.
  * ZANGJULF_DONE; ZANGJULF_NOTHING where the line has no place for the variable; 29 where the slice ends before the place does;
  * or ZANGJULF_CLOSED. Unless it is done `*value` is as it was. */
 uint8_t zangjulf_get_value(const struct zangjulf *handle, uint32_t variable, const uint8_t *image, size_t length,

@@ -79,16 +79,16 @@ static bool is_passed_over(uint8_t answer) {
     return answer == ZANGJULF_STALE || (answer >= ZANGJULF_SHORT && answer <= ZANGJULF_INDEX_MISMATCH);
 }
 
-/* Writes the register blocks that are owed, each in a round trip of its own. False where three writes in a row come back untaken,
- * or not at all: the slave doesn't answer. */
-static bool write_blocks(void) {
+/* Writes the register blocks that are owed, each in a round trip of its own. 0 where none is left, or the station address of a
+ * slave that doesn't answer: three writes in a row come back untaken, or not at all. */
+static uint16_t write_blocks(void) {
     uint8_t frame[ZANGJULF_FRAME];
-    struct zangjulf_write write;
+    struct zangjulf_write write = {0};
     struct zangjulf_arrival arrival;
     struct zangjulf_outcome outcome; /* a register write has none */
     for (int misses = 0; misses < MOST_MISSES;) {
         uint8_t answer = zangjulf_next_write(&line, frame, sizeof frame, &write);
-        if (answer == ZANGJULF_NOTHING_OWED) return true;
+        if (answer == ZANGJULF_NOTHING_OWED) return 0;
         must("zangjulf_next_write", answer);
         misses++;
         if (!network(frame)) {
@@ -99,7 +99,7 @@ static bool write_blocks(void) {
         if (answer == ZANGJULF_WRITE_DONE) misses = 0;
         else if (answer != ZANGJULF_WRITE_MISSED && !is_passed_over(answer)) must("zangjulf_arrive", answer);
     }
-    return false;
+    return write.block.station;
 }
 
 /* The gripper's group joins the line or leaves it. What is owed then is written in the next cycle. */
@@ -111,12 +111,12 @@ static void connect_gripper(bool joins) {
     has_gripper = joins;
 }
 
-/* The gripper doesn't answer: its group leaves the line, so that the axes go on. */
-static void give_up_gripper(void) {
-    if (!has_gripper) must("zangjulf_next_write", ZANGJULF_WRITE_MISSED);
+/* A slave doesn't answer. If it is the gripper, its group leaves the line, so that the axes go on. The machine doesn't run without
+ * any other. */
+static void give_up(uint16_t station) {
+    if (station != SLAVE[GRIPPER_POSITION].station) must("a slave that doesn't answer", ZANGJULF_WRITE_MISSED);
     connect_gripper(false);
     given_up++;
-    if (!write_blocks()) must("zangjulf_next_write", ZANGJULF_WRITE_MISSED);
 }
 
 /* A task posts a value for one of its outputs, and zeros for all others. */
@@ -158,8 +158,8 @@ static bool read_value(uint8_t task, uint32_t variable, uint64_t *value) {
 /* One cycle: axis X is sent to a target. Where it was before comes back, or nothing where the frame is lost. */
 static bool cycle(uint64_t target, uint64_t *position) {
     struct zangjulf_sent sent;
-    if (!write_blocks()) give_up_gripper(); /* register blocks that the line lacks */
-    post(MOTION, TARGET_X, target);         /* zangjulf_put_value, zangjulf_post */
+    for (uint16_t slave; (slave = write_blocks());) give_up(slave); /* register blocks that the line lacks */
+    post(MOTION, TARGET_X, target);                                 /* zangjulf_put_value, zangjulf_post */
     must("zangjulf_next_serial", zangjulf_next_serial(&line, &first_serial));
     must("zangjulf_send", zangjulf_send(&line, TASKS, sizeof TASKS, frames, sizeof frames, &sent));
     for (uint8_t *frame = frames; frame < frames + sent.size; frame += zangjulf_frame_size(frame)) {
@@ -187,14 +187,20 @@ static void open_project(const char *name) {
     static uint8_t text[1 << 16];
     uint8_t task = 0;
     FILE *in = fopen(name, "rb");
-    if (!in) exit(2);
+    if (!in) {
+        perror(name);
+        exit(2);
+    }
     size_t size = fread(text, 1, sizeof text, in);
     fclose(in);
     must("zangjulf_open", zangjulf_open(&line, text, size, 0, &task));
 }
 
 int main(int count, char **words) {
-    if (count != 2 || zangjulf_abi() != ZANGJULF_ABI) return 2;
+    if (count != 2 || zangjulf_abi() != ZANGJULF_ABI) {
+        fprintf(stderr, "usage: cycle PROJECT, with a library of binary interface %d\n", ZANGJULF_ABI);
+        return 2;
+    }
     open_project(words[1]);
     for (int i = 0; i < SLAVES; i++) must("zangjulf_slave_start", zangjulf_slave_start(memory[i], sizeof memory[i], 0));
     for (uint16_t position = 0; position < GRIPPER_POSITION; position++) name_slave(position);

@@ -72,6 +72,8 @@ callers_of_seats() {
     report_run $? "a line and eight seats that are closed"
     seats_at_speed "$1" "tasks at full speed" -O2
     seats_at_speed 100000 "tasks at full speed, under the address sanitizer" -fsanitize=address,undefined
+    export TSAN_OPTIONS=suppressions=examples/master/thread_sanitizer.txt
+    seats_at_speed 100000 "tasks at full speed, under the thread sanitizer, but for calls of the library" -fsanitize=thread
 }
 
 # callers_in_c CALLS: players, callers that do wrong, the page's cycle, and so many drawn calls

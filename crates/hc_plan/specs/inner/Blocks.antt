@@ -36,6 +36,11 @@ RowMaps table layout rank index area =
     (variable : ℕ) (place : VariablePlace) → first_variable area ≡ Some variable → place_in table variable ≡ Some place
     → mapping_in layout rank index area ≡ Some (mapping_by area.task place)
 
+-- the mapping that a table's row gives an area: each layout that the row fits has it
+abbrev pub IsRowMapping : Table → Area → Mapping → Type 0
+IsRowMapping table area mapping =
+    (layout : List (List Placed)) (rank index : ℕ) → RowMaps table layout rank index area → mapping_in layout rank index area ≡ Some mapping
+
 -- so it is with each area of a slave
 abbrev pub RowsMap : Table → List (List Placed) → Member → Type 0
 RowsMap table layout member =
