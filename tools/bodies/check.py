@@ -15,12 +15,13 @@ import subprocess
 import sys
 import tempfile
 from dataclasses import dataclass, field
+from fnmatch import fnmatchcase
 from pathlib import Path
 
 TOP = Path(__file__).resolve().parents[2]
 REFUSED = Path(__file__).parent / "refused.txt"
 FUNCTION = re.compile(r"^\s*(?:pub(?:\([a-z]+\))? +)?(?:const +|unsafe +|ghost +)*(?:extern +\"C\" +)?fn +(\w+)")
-IMPL = re.compile(r"^impl(?:<[^>]*>)? +(?:[\w:<>, ']+ +for +)?&?(?:'\w+ +)?(\w+)")
+IMPL = re.compile(r"^impl(?:<[^>]*>)? +(?:(?P<trait>[\w:<>(), ']+) +for +)?&?(?:'\w+ +)?(?P<type>\w+)")
 VERDICT = re.compile(r"^fn (?P<name>[\w:+]+): (?P<verdict>.*)$")
 GOAL = re.compile(r"^\./proofs/(?P<place>[\w/+]+)/\w+\.antt:\d+:\d+: error: (?P<what>.*)$")
 NAMES = re.compile(r"has no field|is not in scope|has no `|was not admitted|that can be named from here")
@@ -51,6 +52,16 @@ def pairs_of(edit):
             yield file, body or old.strip(), old, rest
 
 
+def kind_of(impl):
+    """The name that a check gives an impl: its type, then the trait and the trait's arguments, of which the first alone is read."""
+    name = impl.group("type")
+    if not impl.group("trait"):
+        return name
+    words = re.findall(r"\w+", re.sub(r"\w+::", "", impl.group("trait")))
+    several = "*" if len(words) > 2 else ""
+    return "".join(word[0].upper() + word[1:] for word in [name, *words[:2]]) + several
+
+
 def function_at(text, place, file):
     """The function around a place of a file: its module, its type or nothing, and its name."""
     name = kind = None
@@ -61,7 +72,7 @@ def function_at(text, place, file):
             if not line.startswith((" ", "\t")):
                 break
         elif name and IMPL.match(line):
-            kind = IMPL.match(line).group(1)
+            kind = kind_of(IMPL.match(line))
             break
     module = "::".join(part for part in Path(file).with_suffix("").parts[1:] if part != "lib")
     return module, kind, name
@@ -85,7 +96,8 @@ def is_of(parts, function):
     """Whether the parts of a verdict's or a proof's place are of a function, or of a closure in it; a method's module is its type's."""
     module, kind, name = function
     if kind:
-        return kind in parts and name in parts[parts.index(kind) :]
+        own = next((place for place, part in enumerate(parts) if fnmatchcase(part, kind)), len(parts))
+        return name in parts[own:]
     head = module.split("::") if module else []
     return parts[: len(head)] == head and name in parts[len(head) :]
 

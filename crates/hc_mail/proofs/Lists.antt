@@ -37,10 +37,10 @@ value_in : List (ℕ × Option Image) → Option Image
 value_in [] = None
 value_in (first ∷ _) = first.1
 
--- what comes out of the slot in hand is the image that lies there
-pub comes_out : (hand xs ys : List (ℕ × Option Image)) (slot other : ℕ) (image : Image) (out : Option Image) → hand ≡ (slot, Some image) ∷ xs → hand ≡ (other, out) ∷ ys → out ≡ Some image
+-- what comes out of the slot in hand is what lies there
+pub comes_out : (hand xs ys : List (ℕ × Option Image)) (slot other : ℕ) (there out : Option Image) → hand ≡ (slot, there) ∷ xs → hand ≡ (other, out) ∷ ys → out ≡ there
 unfolding value_in
-comes_out hand xs ys slot other image out a b = sym (ap value_in b) ∙ ap value_in a
+comes_out hand xs ys slot other there out a b = sym (ap value_in b) ∙ ap value_in a
 
 -- an end has its image at hand
 pub is_held : (held : Option Image) → IsSome held → held ≡ Some (image_in held)

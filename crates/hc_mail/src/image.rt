@@ -1,5 +1,5 @@
 //! The image of a task, as a mailbox carries it.
-ghost use Rattle.std.specs.Prelude.{◌≡◌, ◌≤◌, ◌<◌, ◌+◌, IfOk, length};
+ghost use Rattle.std.specs.Prelude.{◌≡◌, ◌≤◌, ◌<◌, ◌+◌, ◌++◌, IfOk, length, replicate, take};
 ghost use Rattle.std.specs.Borrow.{sem};
 ghost use Rattle.hc_mail.specs.Images.{begun, blank, with_data, with_outputs, with_zeros};
 
@@ -11,23 +11,43 @@ use std::marker::Model;
 #[derive(Drop)]
 pub struct TaskImage {
     epoch: u32,
-    bytes: Vec<u8>,
+    // the bytes and the outputs, each at the front of memory for the most of them
+    memory: Vec<u8>,
+    size: usize,
+    output_memory: Vec<u8>,
+    output_size: usize,
     serials: Vec<Option<u64>>,
-    outputs: Vec<u8>,
-    // the room, in bytes and in datagrams
-    most_bytes: usize,
+    // the room in datagrams
     most_datagrams: usize,
 }
 
 impl Model for TaskImage {
-    ghost use Rattle.std.specs.Prelude.{◌≤◌, vec_capacity, vec_len};
+    ghost use Rattle.std.specs.Prelude.{◌≡◌, ◌≤◌, length, take, vec_capacity, vec_len};
     ghost use Rattle.hc_mail.specs.Images.{Image};
 
     ghost Value = { Image };
 
-    ghost view = { λ image. record { epoch = image.epoch; bytes = image.bytes.items; serials = image.serials.items; outputs = image.outputs.items; room = (image.most_bytes, image.most_datagrams) } };
+    ghost view = { λ image. record { epoch = image.epoch; bytes = take image.size image.memory.items; serials = image.serials.items; outputs = take image.output_size image.output_memory.items; room = (length image.memory.items, image.most_datagrams) } };
 
-    ghost invariant = { λ image. (vec_len image.bytes ≤ image.most_bytes) × (image.most_bytes ≤ vec_capacity image.bytes) × (vec_len image.serials ≤ image.most_datagrams) × (image.most_datagrams ≤ vec_capacity image.serials) × (vec_len image.outputs ≤ image.most_bytes) × (image.most_bytes ≤ vec_capacity image.outputs) };
+    ghost invariant = { λ image. (image.size ≤ length image.memory.items) × (image.output_size ≤ length image.output_memory.items) × (length image.output_memory.items ≡ length image.memory.items) × (vec_len image.serials ≤ image.most_datagrams) × (image.most_datagrams ≤ vec_capacity image.serials) };
+}
+
+/// Puts bytes at a place of a slice.
+fn put(out: &mut [u8], at: usize, bytes: &[u8])
+    requires { at + length bytes.now ≤ length out.old }
+    ensures put { take (at + length bytes.now) out.new ≡ take at out.old ++ bytes.now }
+    ensures len { length out.new ≡ length out.old }
+{
+    out[at..at + bytes.len()].copy_from_slice(bytes);
+}
+
+/// Puts so many zeros at a place of a slice.
+fn put_zeros(out: &mut [u8], at: usize, size: usize)
+    requires { at + size ≤ length out.old }
+    ensures put { take (at + size) out.new ≡ take at out.old ++ replicate size 0 }
+    ensures len { length out.new ≡ length out.old }
+{
+    out[at..at + size].fill(0);
 }
 
 impl TaskImage {
@@ -38,10 +58,11 @@ impl TaskImage {
     {
         Ok(TaskImage {
             epoch: 0,
-            bytes: Vec::with_capacity(alloc, bytes)?,
+            memory: vec![in alloc; 0; bytes]?,
+            size: 0,
+            output_memory: vec![in alloc; 0; bytes]?,
+            output_size: 0,
             serials: Vec::with_capacity(alloc, datagrams)?,
-            outputs: Vec::with_capacity(alloc, bytes)?,
-            most_bytes: bytes,
             most_datagrams: datagrams,
         })
     }
@@ -58,7 +79,7 @@ impl TaskImage {
         ensures bytes { result.now ≡ self.now.bytes }
         ensures most { length result.now ≤ self.now.room.0 }
     {
-        self.bytes.as_slice()
+        &self.memory[..self.size]
     }
 
     /// Of each datagram the serial of the sending that its data answer; none where it has no data.
@@ -74,7 +95,7 @@ impl TaskImage {
         ensures outputs { result.now ≡ self.now.outputs }
         ensures most { length result.now ≤ self.now.room.0 }
     {
-        self.outputs.as_slice()
+        &self.output_memory[..self.output_size]
     }
 
     /// The image becomes one of an epoch without a datagram.
@@ -82,9 +103,9 @@ impl TaskImage {
         ensures { self.new ≡ begun epoch self.old.room }
     {
         self.epoch = epoch;
-        self.bytes.clear();
+        self.size = 0;
+        self.output_size = 0;
         self.serials.clear();
-        self.outputs.clear();
     }
 
     /// The next datagram has these data, which answer the sending with this serial.
@@ -93,7 +114,8 @@ impl TaskImage {
         requires datagrams { length self.old.serials < self.old.room.1 }
         ensures { self.new ≡ with_data bytes.now serial self.old }
     {
-        self.bytes.extend_from_slice(bytes).unwrap();
+        put(&mut self.memory, self.size, bytes);
+        self.size += bytes.len();
         self.serials.push_reserved(Some(serial));
     }
 
@@ -103,8 +125,8 @@ impl TaskImage {
         requires datagrams { length self.old.serials < self.old.room.1 }
         ensures { self.new ≡ with_zeros size self.old }
     {
-        let bytes = self.bytes.len() + size;
-        self.bytes.resize(bytes, 0).unwrap();
+        put_zeros(&mut self.memory, self.size, size);
+        self.size += size;
         self.serials.push_reserved(None);
     }
 
@@ -113,7 +135,8 @@ impl TaskImage {
         requires { length self.old.outputs + length outputs.now ≤ self.old.room.0 }
         ensures { self.new ≡ with_outputs outputs.now self.old }
     {
-        self.outputs.extend_from_slice(outputs).unwrap();
+        put(&mut self.output_memory, self.output_size, outputs);
+        self.output_size += outputs.len();
     }
 }
 

@@ -10,6 +10,7 @@ use crate::image::{ImageBox, TaskImage};
 use crate::note::{Note, passed};
 use crate::steps::{Find, Learn, Note as MakeNote, Take};
 use crate::table::{MailTable, Place};
+use std::mem;
 use std::sync::Arc;
 
 /// It looks at the newest image of its task, and never waits.
@@ -39,10 +40,10 @@ impl ImageReceiver {
         if shared.load::<Find>(&mut self.place, 0) < 4 {
             return;
         }
-        shared.exchange(&mut self.place, self.slot, self.shown.take());
+        mem::swap(self.place.slot_mut(shared, self.slot), &mut self.shown);
         let word = shared.swap::<Take>(&mut self.place, 0, self.slot as u64);
         self.slot = (word % 4) as usize;
-        self.shown = shared.exchange(&mut self.place, self.slot, None);
+        mem::swap(self.place.slot_mut(shared, self.slot), &mut self.shown);
     }
 
     /// The newest image at the last look; a blank one where none had been sent.

@@ -12,6 +12,7 @@ use crate::image::ImageBox;
 use crate::note::{Note, passed};
 use crate::steps::{Confirm, Learn, Note as MakeNote, Send};
 use crate::table::{MailTable, Place};
+use std::mem;
 use std::sync::Arc;
 
 /// It sends the images of one task, and never waits. An image is begun, gets what the task's datagrams have and the task's
@@ -87,10 +88,10 @@ impl ImageSender {
         ensures same { StaysAtTable self.old.place self.old.own self.new.place self.new.own }
     {
         let shared = &self.mail.shared;
-        shared.exchange(&mut self.place, self.slot, self.own.take());
+        mem::swap(self.place.slot_mut(shared, self.slot), &mut self.own);
         let word = shared.swap::<Send>(&mut self.place, 0, self.slot as u64 + 4);
         self.slot = (word % 4) as usize;
-        self.own = shared.exchange(&mut self.place, self.slot, None);
+        mem::swap(self.place.slot_mut(shared, self.slot), &mut self.own);
     }
 
     /// A note of what was sent so far, for the task's end to learn.

@@ -1,6 +1,6 @@
 -- A group that is declared leaves the line as it was, so nothing is said of it.
 use Rattle.std.proofs.Common.{◌≡◌, ◌∙◌, ◌||◌, ℕ, ◌+◌, ◌≤◌, arith, length-append, Bool, true, false, Contains, List, [], ◌∷◌, None, Some, Option, length, map, refl, sym, ap, subst}
-use Rattle.std.specs.Prelude.{if◌then◌else◌, is_some, not, position}
+use Rattle.std.specs.Prelude.{filter, if◌then◌else◌, is_some, not, position}
 use Rattle.std.specs.List.{list_any, position_from}
 use Rattle.std.specs.Option.{option_map_or}
 use Rattle.std.proofs.lemmas.Bool.{ltb-false, not_from_true}
@@ -26,7 +26,7 @@ use Rattle.hc_records.specs.declared.records.Area.{Area}
 use Rattle.hc_records.specs.declared.records.Pdo.{Pdo}
 use Rattle.hc_records.specs.declared.records.Slave.{Slave}
 use Rattle.hc_records.proofs.lemmas.Declaring.{any-flat, same-recut, any-same}
-use Rattle.hc_registers.specs.Blocks.{line_blocks, moved_blocks, same_block}
+use Rattle.hc_registers.specs.Blocks.{LineBlock, line_blocks, moved_blocks, same_block}
 use Rattle.hc_records.specs.Image.{VariablePlace}
 use Rattle.hc_records.proofs.lemmas.Spans.{filter-drops}
 use Rattle.hc_registers.specs.Ranked.{RankedBlock, moved_ranked}
@@ -36,7 +36,7 @@ use Rattle.hc_places.specs.Table.{Table, place_in, table_of}
 use Rattle.hc_places.proofs.lemmas.Same.{found-same}
 use Rattle.hc_changes.proofs.lemmas.Moved.{had}
 use Rattle.hc_plan.specs.declared.report.Report.{Report}
-use Rattle.hc_plan.specs.inner.Declaring.{AreTrees, ShowsNothing}
+use Rattle.hc_plan.specs.inner.Declaring.{AreAlike, AreTrees, ShowsNothing}
 use Rattle.hc_plan.specs.Reports.{found_name}
 use Rattle.hc_plan.proofs.Saying.{is-table}
 
@@ -48,6 +48,15 @@ none-moved line =
     (All-weaker (Contains blocks) (λ block. not (list_any (same_block block) blocks) ≡ false) (λ block at. not_from_true (list_any (same_block block) blocks) (had blocks block at)) blocks
     (All-contains_itself blocks))
 
+-- so none moves between lines that are configured alike
+alike-moved : (old new : List Member) → AreAlike old new → moved_blocks old new ≡ []
+alike-moved old new same =
+    ap (filter (λ (block : LineBlock). not (list_any (same_block block) (line_blocks old)))) same.blocks ∙ none-moved old
+
+-- the same line is configured alike
+pub line-alike : (old new : List Member) → new ≡ old → AreAlike old new
+line-alike old new same = record { table = ap table_of same; recut = ap (recut old) same ∙ same-recut old; blocks = ap line_blocks same }
+
 -- nothing differs between a table and itself
 says-nothing : (table : Table) → SaysWhatDiffers table table (record { tasks = []; rows = [] })
 says-nothing table = record {
@@ -58,7 +67,7 @@ says-nothing table = record {
     nothing : (place : Option VariablePlace) → None ≡ new_place place place
     nothing place = rw (found-same place place refl) refl
 
--- what a report of the same line says
+-- what a report of a line that is configured alike says
 pub shows-nothing : (old : State) (edit : Edit) (report : Report) → lowest_fault (groups_of old.groups) ≡ None → report.epoch ≡ old.epoch + 1 → report.recut ≡ 0 → report.moved ≡ 0 → report.blocks ≡ []
     → report.swap.edit ≡ edit → LeadsAsSaid (record { tasks = []; rows = [] }) report.swap → ShowsNothing old edit report
 shows-nothing old edit report project epoch recut_none moved_none blocks_none named said new same later =
@@ -66,21 +75,21 @@ shows-nothing old edit report project epoch recut_none moved_none blocks_none na
     let leads = said table table (is-table old.groups project) (is-table old.groups project) (says-nothing table) in
     record {
       epoch = epoch ∙ sym later;
-      recut = recut_none ∙ sym (ap (recut (line old)) same ∙ same-recut (line old));
-      moved = moved_none ∙ sym (ap (λ (after_it : List Member). length (moved_blocks (line old) after_it)) same ∙ ap length (none-moved (line old)));
-      blocks = blocks_none ∙ sym (ap (λ (after_it : List Member). map found_name (moved_blocks (line old) after_it)) same ∙ ap (map found_name) (none-moved (line old)));
+      recut = recut_none ∙ sym same.recut;
+      moved = moved_none ∙ sym (ap length (alike-moved (line old) (line new) same));
+      blocks = blocks_none ∙ sym (ap (map found_name) (alike-moved (line old) (line new) same));
       named = named;
-      leads = leads.leads ∙ ap table_of (sym same);
-      says = subst (λ (after_it : List Member). SaysWhatDiffers table (table_of after_it) report.swap.change) (sym same) leads.says;
-      places = leads.count ∙ ap (λ (after_it : List Member). length (changed_variables table (table_of after_it))) (sym same);
+      leads = leads.leads ∙ sym same.table;
+      says = subst (λ (t : Table). SaysWhatDiffers table t report.swap.change) (sym same.table) leads.says;
+      places = leads.count ∙ ap (λ (t : Table). length (changed_variables table t)) (sym same.table);
     }
 
 unmapped : {X Y : Type 0} (f : X → Y) (xs : List X) → map f xs ≡ [] → xs ≡ []
 unmapped f [] none = refl
 unmapped f (x ∷ xs) none = cc
 
-pub none-ranked : (line : List Member) → moved_ranked line line ≡ []
-none-ranked line = unmapped (λ (block : RankedBlock). block.found) (moved_ranked line line) (ranked-are-moved line line ∙ none-moved line)
+pub none-ranked : (old new : List Member) → AreAlike old new → moved_ranked old new ≡ []
+none-ranked old new same = unmapped (λ (block : RankedBlock). block.found) (moved_ranked old new) (ranked-are-moved old new ∙ alike-moved old new same)
 
 -- the variables that slaves offer, one by one
 

@@ -1,4 +1,6 @@
+pub mod Alike
 pub mod Answering
+pub mod NoBits
 pub mod ByRank
 pub mod Declared
 pub mod Editing

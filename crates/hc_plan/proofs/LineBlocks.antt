@@ -26,7 +26,7 @@ use Rattle.hc_plan.proofs.Mapped.{slave-mapped}
 use Rattle.hc_plan.proofs.Numbered.{get-numbered-from-0, numbered-get}
 
 -- every slave of the line that a layout is of has its areas mapped
-layout-slaves : (groups : List Declared) (layout : List (List Placed)) → IsLayoutOf groups layout → All (IsMappedSlave layout) (line_from 1 groups)
+pub layout-slaves : (groups : List Declared) (layout : List (List Placed)) → IsLayoutOf groups layout → All (IsMappedSlave layout) (line_from 1 groups)
 layout-slaves groups layout known j d inside =
     let member = slice_index_or (line_from 1 groups) j d in
     subst (λ (l : List (List Placed)). IsMappedSlave l member) (sym known.is_placed)
@@ -37,7 +37,7 @@ pub found-mapped : (groups : List Declared) (layout : List (List Placed)) (test 
 found-mapped groups layout test member known found = (find-holds (IsMappedSlave layout) test (line_from 1 groups) member found (layout-slaves groups layout known)).0
 
 -- the blocks by a layout of the line are the blocks of the line
-slave_blocks-line : (groups : List Declared) (layout : List (List Placed)) (member : Member) → IsLayoutOf groups layout → IsMappedSlave layout member
+pub slave_blocks-line : (groups : List Declared) (layout : List (List Placed)) (member : Member) → IsLayoutOf groups layout → IsMappedSlave layout member
     → slave_blocks_in layout member ≡ slave_blocks (line_from 1 groups) member
 slave_blocks-line groups layout member known mapped =
     let members = line_from 1 groups in

@@ -3,7 +3,7 @@ use Rattle.std.proofs.Common.{◌≡◌, ◌∙◌, ◌+◌, false, List, [], �
 use Rattle.std.specs.Prelude.{◌==◌, Ok, Some}
 use Rattle.hc_records.specs.declared.edit.Edit.{Edit}
 use Rattle.hc_records.specs.declared.records.Declared.{Declared}
-use Rattle.hc_records.specs.declared.edit.Edit.TheVariants.{Declare}
+use Rattle.hc_records.specs.declared.edit.Edit.TheVariants.{Connect, Disconnect, Remap, Move, Declare}
 use Rattle.hc_records.specs.declared.limits.TheConstants.{LAST_EPOCH}
 use Rattle.hc_records.specs.Edits.{absent, changed, over_limit_task, declares, declaring_faults, edited, groups_after}
 use Rattle.hc_records.specs.Lists.{lowest}
@@ -28,12 +28,12 @@ use Rattle.hc_plan.specs.Gone.{gone_of}
 use Rattle.hc_plan.specs.inner.Applied.{Makes}
 use Rattle.hc_plan.specs.declared.declaring.Declaration.{Declaration}
 use Rattle.hc_plan.specs.declared.work.LineWork.{LineWork}
-use Rattle.hc_plan.specs.declared.work.Work.TheVariants.{NewGroup, NewLine}
+use Rattle.hc_plan.specs.declared.work.Work.TheVariants.{NewGroup, NewLine, NewTask}
 use Rattle.hc_plan.specs.inner.Declaring.{CanDeclare, ShowsNothing}
-use Rattle.hc_plan.specs.inner.Prepared.{IsWorkReady, prepared_of}
+use Rattle.hc_plan.specs.inner.Prepared.{AreConfiguredAlike, IsWorkReady, MovesNoBits, prepared_of}
 use Rattle.hc_plan.specs.Prepared.{IsPrepared}
-use Rattle.hc_plan.proofs.Declared.{none-ranked}
-use Rattle.hc_plan.proofs.Editing.{declared-accepted}
+use Rattle.hc_plan.proofs.Declared.{line-alike, none-ranked}
+use Rattle.hc_plan.proofs.Editing.{declared-accepted, made-accepted}
 use Rattle.hc_plan.specs.Reports.{ReportsEdit}
 use Rattle.hc_plan.proofs.lemmas.Differing.{edits-differ}
 
@@ -85,19 +85,47 @@ declared-prepared old edit declaration report project fits more is named free no
     let group = declaration.group in
     let new = changed old (Declare group) in
     let same = line-absent 1 old.groups group in
+    let alike = line-alike (line old) (line new) same in
     let asked = named ∙ is in
     record {
       project = project;
       accepted = ap (edited old) asked ∙ declared-accepted old group fits more free;
-      answer_given = subst (λ (e : Edit). ReportsEdit old e new report) (sym named) (nothing new same refl);
+      answer_given = subst (λ (e : Edit). ReportsEdit old e new report) (sym named) (nothing new alike refl);
       crowds = (fits, ap over_limit_task same ∙ fits);
-      blocks = sym (ap (moved_ranked (line old)) same ∙ none-ranked (line old));
+      blocks = sym (none-ranked (line old) (line new) alike);
       differ = declared-differ old group;
+    }
+
+pub moving-declares : (groups : List Declared) (edit : Edit) → MovesNoBits groups edit → declares edit ≡ false
+moving-declares groups (Connect alias) moves = refl
+moving-declares groups (Disconnect alias) moves = refl
+moving-declares groups (Remap station area pdos) moves = refl
+moving-declares groups (Move station area task) moves = refl
+moving-declares groups (Declare group) moves = absurd moves
+
+-- nor does an area without bits that is in another task
+pub task-prepared : (old : State) (edit : Edit) (change : Prepared) (report : Report) → lowest_fault (groups_of old.groups) ≡ None → over_limit_task (line old) ≡ None
+    → (old.epoch == LAST_EPOCH) ≡ false → declares edit ≡ false → own_fault old.groups edit ≡ None → change_by old.groups edit ≡ Some change
+    → changed_groups change old.groups ≡ groups_after old.groups edit → AreConfiguredAlike old.groups (changed_groups change old.groups)
+    → report.swap.edit ≡ edit → ShowsNothing old edit report → IsPrepared (prepared_of old (NewTask change) report [])
+task-prepared old edit change report project fits more changes own made leads same named nothing =
+    let groups = changed_groups change old.groups in
+    let new : State = record { groups = groups; epoch = old.epoch + 1 } in
+    let uncrowded = same.crowds ∙ fits in
+    let accepted = made-accepted old.groups groups old.epoch edit changes own leads uncrowded more in
+    let none = sym (none-ranked (line old) (line new) same.alike) in
+    record {
+      project = project;
+      accepted = subst (λ (e : Edit). edited old e ≡ Ok new) (sym named) accepted;
+      answer_given = subst (λ (e : Edit). ReportsEdit old e new report) (sym named) (nothing new same.alike refl);
+      crowds = (fits, uncrowded);
+      blocks = none;
+      differ = subst (Differ (places old) (places new) (gone_of change)) (sym none) (edits-differ old new edit change project accepted made);
     }
 
 -- what a report of the same line gives, it says of the edit
 pub nothing-named : (old : State) (edit : Edit) (report : Report) → ShowsNothing old edit report → report.swap.edit ≡ edit
-nothing-named old edit report nothing = (nothing (record { groups = old.groups; epoch = old.epoch + 1 }) refl refl).named
+nothing-named old edit report nothing = (nothing (record { groups = old.groups; epoch = old.epoch + 1 }) (line-alike (line old) (line old) refl) refl).named
 
 -- the groups with the declared one, and their line
 pub record IsDeclared (groups : List Declared) (table : Table) : Type 0 where

@@ -3,6 +3,7 @@
 #![tactic(auto)]
 
 mod applying;
+mod bitless;
 pub mod blocks;
 mod declaring;
 pub mod laws;

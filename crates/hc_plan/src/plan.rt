@@ -5,6 +5,7 @@ ghost use Rattle.hc_records.specs.Edits.{declares};
 ghost use Rattle.hc_records.specs.Line.{opened_group};
 
 use crate::applying::work_out;
+use crate::bitless::moves_no_bits;
 use crate::blocks::{LineBlock, block_at, block_of_rank, nth_block};
 use crate::declaring::{Declaration, declared_report};
 use crate::line_widths::apply_known_widths;
@@ -113,9 +114,9 @@ impl Plan {
     ghost use Rattle.hc_groups.specs.Edits.{own_fault};
     ghost use Rattle.hc_places.specs.Layout.{NamesOverLimit};
     ghost use Rattle.hc_groups.specs.Changes.{changed_groups};
-    ghost use Rattle.hc_plan.specs.declared.work.Work.TheVariants.{NewLine};
+    ghost use Rattle.hc_plan.specs.declared.work.Work.TheVariants.{NewLine, NewTask};
     ghost use Rattle.hc_plan.specs.inner.Blocks.{IsLayoutOf};
-    ghost use Rattle.hc_plan.specs.inner.Prepared.{CanCarry, groups_left_by};
+    ghost use Rattle.hc_plan.specs.inner.Prepared.{CanCarry, MovesNoBits, groups_left_by};
     ghost use Rattle.hc_plan.specs.Prepared.{IsPrepared};
     ghost use Rattle.hc_plan.specs.Configuration.{block_at, block_of_rank, config, line_block_at, position_of, station_at};
     ghost use Rattle.hc_plan.specs.Reports.{AreAnswers, ReportsEdit, carried_out};
@@ -293,8 +294,35 @@ impl Plan {
     {
         match declared_group(edit) {
             Some(group) => self.prepare_group(alloc, edit, group),
+            None if moves_no_bits(&self.indexed(), edit) => self.prepare_task(alloc, edit),
             None => self.prepare_change(alloc, edit),
         }
+    }
+
+    /// The same of an edit that moves an area without bits: the line stays configured as it is, so no edit is worked out
+    /// on it.
+    fn prepare_task(&self, alloc: Global, edit: &Edit) -> Result<PreparedEdit, EditFault>
+        requires { MovesNoBits self.now.groups edit.now }
+        ensures made { IfOk result (λ prepared. prepared.old ≡ self.now) }
+        ensures edit { IfOk result (λ prepared. prepared.report.swap.edit ≡ edit.now) }
+        ensures accepted { IfOk result (λ prepared. edited self.now edit.now ≡ Ok prepared.new) }
+        ensures prepared { IfOk result IsPrepared }
+        ensures refused { IfErr result (λ fault. fault ≢ Memory → edited self.now edit.now ≡ Err fault) }
+        ensures own { IfSome (own_fault self.now.groups edit.now) (λ fault. result ≡ Err fault) }
+    {
+        let groups = self.index.of(self.groups.as_slice());
+        let change = Prepared::of(alloc, &groups, edit)?;
+        if self.epoch == LAST_EPOCH {
+            return Err(EditFault::EpochsSpent);
+        }
+        let report = declared_report(alloc, edit, self.groups.as_slice(), self.epoch)?;
+        let was = Snapshot::of(self);
+        Ok(PreparedEdit {
+            was,
+            report,
+            blocks: Vec::new(alloc),
+            work: Work::NewTask(change),
+        })
     }
 
     /// The same of an edit that declares a group: the line stays as it is, so no edit is worked out on it.
@@ -388,6 +416,7 @@ impl Plan {
     {
         match work {
             Work::NewLine(line) => self.change_line(line, report),
+            Work::NewTask(change) => self.change_task(change, report),
             Work::NewGroup(declaration) => {
                 declaration.carry_out(&mut self.groups, &mut self.index, &mut self.cuts);
             }
@@ -412,6 +441,15 @@ impl Plan {
         self.index.follow(self.groups.as_slice(), &change);
         change.carry_out(&mut self.groups);
         self.places.carry_out(&report.swap, rows);
+    }
+
+    /// The same of an edit that leaves the line configured as it is.
+    fn change_task(&mut self, change: Prepared, report: &Report)
+        requires { CanCarry self.old report.now (NewTask change) }
+        ensures { self.new ≡ record self.old { groups = changed_groups change self.old.groups } }
+    {
+        self.index.follow(self.groups.as_slice(), &change);
+        change.carry_out(&mut self.groups);
     }
 
     /// Carries an edit out: the plan then has the new line, and the report says what became different.

@@ -78,6 +78,7 @@ impl PreparedEdit {
     {
         match &self.work {
             Work::NewLine(line) => gone_with(&line.change),
+            Work::NewTask(change) => gone_with(change),
             Work::NewGroup(_) => NONE_GONE,
         }
     }

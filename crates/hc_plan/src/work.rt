@@ -20,6 +20,8 @@ pub(crate) struct LineWork {
 pub(crate) enum Work {
     /// The line changes.
     NewLine(LineWork),
+    /// An area without bits is in another task, and the line stays configured as it is.
+    NewTask(Prepared),
     /// A group is declared, and the line stays.
     NewGroup(Declaration),
 }

@@ -127,6 +127,17 @@ fn make_room(frames: &mut Vec<StoredFrame>, last_sent: &LastSent, more: usize)
     }
 }
 
+/// What is kept of a frame comes after the others; there is room for it. It is made where it is kept.
+fn push_frame(frames: &mut Vec<StoredFrame>, frame: &Sending)
+    requires { vec_len frames.old < vec_capacity frames.old }
+    ensures frames { frames.new.items ≡ frames.old.items ++ stored_frame frame.now ∷ [] }
+    ensures room { vec_capacity frames.new ≡ vec_capacity frames.old }
+{
+    let place = frames.len();
+    frames.push_reserved(StoredFrame::new(frame.serial()));
+    frames[place].fill(frame.datagrams());
+}
+
 /// What is kept of a frame comes after the others where it is the newest of a datagram; then there is room for it.
 fn add_awaited(frames: &mut Vec<StoredFrame>, last_sent: &LastSent, frame: &Sending)
     requires { is_still_awaited (frame_by last_sent.now (stored_frame frame.now)) ≡ true → vec_len frames.old < vec_capacity frames.old }
@@ -134,7 +145,7 @@ fn add_awaited(frames: &mut Vec<StoredFrame>, last_sent: &LastSent, frame: &Send
     ensures room { vec_capacity frames.new ≡ vec_capacity frames.old }
 {
     if last_sent.is_any(frame.serial(), frame.datagrams()) {
-        frames.push_reserved(StoredFrame::of(frame));
+        push_frame(frames, frame);
     }
 }
 

@@ -1,6 +1,6 @@
 //! A frame of tasks as it is kept while it is awaited.
 use arrayvec::ArrayVec;
-use hc_events::sending::{Named, Sending};
+use hc_events::sending::Named;
 use std::marker::Model;
 
 /// The serial of a frame, and its datagrams in order: 115 at most, since the 1,498 bytes after the EtherCAT
@@ -22,19 +22,29 @@ impl Model for StoredFrame {
 impl StoredFrame {
     ghost use Rattle.std.specs.Prelude.{◌≡◌, ◌≤◌, [], length};
     ghost use Rattle.hc_sendings.specs.declared.awaited.TheConstants.{FRAME_DATAGRAMS};
-    ghost use Rattle.hc_sendings.specs.Stored.{stored_frame};
 
-    /// What is kept of a frame.
-    pub(crate) fn of(frame: &Sending) -> StoredFrame
-        ensures { result ≡ stored_frame frame.now }
+    /// One with this serial, and no datagrams yet.
+    pub(crate) fn new(serial: u64) -> StoredFrame
+        ensures { result ≡ record { serial = serial; datagrams = [] } }
     {
-        let mut datagrams = ArrayVec::new();
-        for datagram in frame.datagrams() {
-            datagrams.push(*datagram);
-        }
         StoredFrame {
-            serial: frame.serial(),
-            datagrams,
+            serial,
+            datagrams: ArrayVec::new(),
+        }
+    }
+
+    /// It has these datagrams, where it had none. One datagram needs no loop.
+    pub(crate) fn fill(&mut self, datagrams: &[Named])
+        requires empty { self.old.datagrams ≡ [] }
+        requires few { length datagrams.now ≤ FRAME_DATAGRAMS }
+        ensures { self.new ≡ record self.old { datagrams = datagrams.now } }
+    {
+        if let [only] = datagrams {
+            self.datagrams.push(*only);
+            return;
+        }
+        for datagram in datagrams {
+            self.datagrams.push(*datagram);
         }
     }
 

@@ -10,9 +10,12 @@ use Rattle.hc_records.specs.declared.records.Declared.{Declared}
 use Rattle.hc_records.specs.declared.records.Group.{Group}
 use Rattle.hc_records.specs.declared.records.Pdo.{Pdo}
 use Rattle.hc_records.specs.Area.{Entry}
+use Rattle.hc_records.specs.Boundaries.{recut}
+use Rattle.hc_registers.specs.Blocks.{line_blocks}
+use Rattle.hc_places.specs.Table.{table_of}
 use Rattle.hc_records.specs.Edits.{declaring_faults, has_station, is_declared_variable}
 use Rattle.hc_records.specs.declared.edit.Edit.{Edit}
-use Rattle.hc_records.specs.Line.{State, groups_of, line}
+use Rattle.hc_records.specs.Line.{Member, State, groups_of, line}
 use Rattle.hc_records.specs.Lists.{lowest}
 use Rattle.hc_records.specs.Project.{lowest_fault, slave_names}
 use Rattle.hc_bitsum.specs.Tree.{HasRoom}
@@ -65,6 +68,12 @@ pub record CanDeclare (groups : List Declared) (declaration : Declaration) : Typ
   pub index : IsIndexRoomFor groups declaration.group declaration.index
   pub trees : AreTrees (line_cuts (areas_by_rank groups)) declaration.slaves declaration.wider
 
--- a report of an edit that leaves the line as it was: it says of any state after it with the same line
+-- two lines are configured alike: nothing differs between them, and no block moves
+pub record AreAlike (old new : List Member) : Type 0 where
+  pub table : table_of new ≡ table_of old
+  pub recut : recut old new ≡ 0
+  pub blocks : line_blocks new ≡ line_blocks old
+
+-- a report of an edit that leaves the line configured as it was: it says of any state after it whose line is
 abbrev pub ShowsNothing : State → Edit → Report → Type 0
-ShowsNothing old edit report = (new : State) → line new ≡ line old → new.epoch ≡ old.epoch + 1 → ReportsEdit old edit new report
+ShowsNothing old edit report = (new : State) → AreAlike (line old) (line new) → new.epoch ≡ old.epoch + 1 → ReportsEdit old edit new report

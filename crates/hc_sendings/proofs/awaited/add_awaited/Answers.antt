@@ -7,8 +7,8 @@ use Rattle.hc_sendings.specs.Stored.{StoredFrame, is_last_sent, stored_frame, la
 use Rattle.hc_sendings.proofs.AwaitedStill.{any-answer_given}
 use Rattle.hc_sendings.proofs.awaited.add_awaited.Goals as goal
 
-pub push_reserved-requires : goal.push_reserved-requires
-push_reserved-requires c =
+pub push_frame-requires : goal.push_frame-requires
+push_frame-requires c =
     let answer_given = c.is_any.ensures
     ∙ ap (λ (serial : ℕ). list_any (is_last_sent c.args.last_sent.now serial) c.datagrams.result.now) c.serial.ensures
     ∙ ap (λ (datagrams : List Named). list_any (is_last_sent c.args.last_sent.now c.args.frame.now.serial) datagrams) c.datagrams.ensures.datagrams
@@ -23,8 +23,7 @@ returns-then-is_any-clause-frames c =
     ∙ ap (λ (serial : ℕ). list_any (is_last_sent c.args.last_sent.now serial) c.datagrams.result.now) c.serial.ensures
     ∙ ap (λ (datagrams : List Named). list_any (is_last_sent c.args.last_sent.now c.args.frame.now.serial) datagrams) c.datagrams.ensures.datagrams
     ∙ any-answer_given (last_sent_of c.args.last_sent.now) c.args.frame.now.serial c.args.frame.now.datagrams in
-    c.push_reserved.ensures.items
-    ∙ ap (λ (stored : StoredFrame). old ++ stored ∷ []) c.of.ensures
+    c.push_frame.ensures.frames
     ∙ sym (ap (λ (awaited_still : Bool). old ++ (if awaited_still then own ∷ [] else [])) (sym answer_given ∙ c.if-is_any.true))
 
 pub returns-else-is_any-clause-frames : goal.returns-else-is_any-clause-frames

@@ -3,7 +3,7 @@ use Rattle.std.specs.Prelude.{IsSome}
 use Rattle.atomic_table.specs.Table.{rest}
 use Rattle.hc_mail.specs.declared.table.Role.TheVariants.{Takes}
 use Rattle.hc_mail.specs.Images.{Image, image_in, newest}
-use Rattle.hc_mail.specs.Rule.{slot_in, in_hand}
+use Rattle.hc_mail.specs.Rule.{slot_in}
 use Rattle.hc_mail.specs.Ends.{Place}
 use Rattle.hc_mail.proofs.Lists.{comes_out, is_held}
 use Rattle.hc_mail.proofs.Moves.{finds, takes_newer, is_posed}
@@ -25,26 +25,29 @@ invariant_of-self c = let self = c.args.self.now in let same = (c.load.ensures.2
 
 pub swap-word-requires : goal.swap-word-requires
 swap-word-requires c =
-    let self = c.args.self.now in let was = self.looks in let newer = c.load.ensures.2.1 c.if-load-lt4.false in let now = c.exchange.ensures.3 in let held = c.take.ensures.value ∙ is_held self.shown self.held in (
+    let self = c.args.self.now in let was = self.looks in let newer = c.load.ensures.2.1 c.if-load-lt4.false in let held = c.swap.ensures.x_after ∙ is_held self.shown self.held in (
       search rules,
       search rules,
-      takes_newer _ _ _ _ _ (image_in self.shown) (ap (λ m. m.0.role) now ∙ (ap (λ m. m.0.role) newer ∙ ap (λ (s : Place). Takes (slot_in s.me.1)) was))
-          (ap (λ m. m.1) now ∙ (ap (λ m. (self.slot, c.take.result) ∷ rest m.1) newer ∙ (ap (λ (s : Place). (self.slot, c.take.result) ∷ rest s.me.1) was ∙ ap (λ (image : Option Image). (self.slot, image) ∷ []) held))) (search rules),
+      takes_newer _ _ _ _ _ (image_in self.shown) (ap (λ m. m.0.role) newer ∙ ap (λ (s : Place). Takes (slot_in s.me.1)) was)
+          (ap (λ m. (self.slot, c.swap.new.x) ∷ rest m.1) newer ∙ (ap (λ (s : Place). (self.slot, c.swap.new.x) ∷ rest s.me.1) was ∙ ap (λ (image : Option Image). (self.slot, image) ∷ []) held)) (search rules),
     )
 
-pub exchange-requires-2 : goal.exchange-requires-2
-exchange-requires-2 c = let got = c.swap-word.ensures.2 in
+pub slot_mut-requires-2 : goal.slot_mut-requires-2
+slot_mut-requires-2 c = let got = c.swap-word.ensures.2 in
     (search rules, (Some got.1, ap (λ m. m.1) got.6 ∙ ap (λ m. (c.swap-word.result % 4, Some got.1) ∷ rest m.1) (sym got.6)))
 
 pub invariant_of-self-2 : goal.invariant_of-self-2
 invariant_of-self-2 c =
-    let self = c.args.self.now in let got = c.swap-word.ensures.2 in let out = c.exchange-2.ensures.3 in let back = comes_out _ _ _ _ _ got.1 _ (ap (λ m. m.1) got.6) c.exchange-2.ensures.2 in
+    let self = c.args.self.now in let was = self.looks in let newer = c.load.ensures.2.1 c.if-load-lt4.false in let got = c.swap-word.ensures.2 in
+    let back = c.swap-2.ensures.y_after ∙ comes_out _ _ _ _ _ (Some got.1) _ (ap (λ m. m.1) got.6) c.slot_mut-2.ensures.value in
+    let empty = c.swap-2.ensures.x_after ∙ (c.swap.ensures.y_after ∙ comes_out _ _ _ _ _ None _ (ap (λ m. m.1) newer ∙ ap (λ s. s.me.1) was) c.slot_mut.ensures.value) in
     let same = ap image_in back in let room = ap (λ (image : Image). image.room) same ∙ got.5 in record {
       seated = search rules;
       sized = search rules;
       held = subst (λ (image : Option Image). IsSome image) (sym back) (search rules);
-      roomy = room ∙ (ap (λ m. (in_hand m.1).room) c.exchange.ensures.3 ∙ (ap (λ (image : Option Image). (image_in image).room) c.take.ensures.value ∙ self.roomy));
+      roomy = room ∙ (ap (λ (image : Option Image). (image_in image).room) c.swap.ensures.x_after ∙ self.roomy);
       small = omega arith;
-      looks = is_posed _ _ _ (ap (λ m. m.0.role) out ∙ ap (λ m. m.0.role) got.6) (ap (λ m. m.1) out ∙ ap (λ m. (c.swap-word.result % 4, None) ∷ rest m.1) got.6);
-      shows = same ∙ (got.4 ∙ (λ t. newest (sym room t) (sym (ap (λ m. m.0.seen) out ∙ ap (λ m. m.0.seen) got.6) t)));
+      looks = is_posed _ _ _ (ap (λ m. m.0.role) got.6)
+          (ap (λ m. (c.swap-word.result % 4, c.swap-2.new.x) ∷ rest m.1) got.6 ∙ ap (λ (image : Option Image). (c.swap-word.result % 4, image) ∷ []) empty);
+      shows = same ∙ (got.4 ∙ (λ t. newest (sym room t) (sym (ap (λ m. m.0.seen) got.6) t)));
     }

@@ -1,7 +1,6 @@
-use Rattle.std.proofs.Common.{◌≡◌, ◌∙◌, false, List, None, ap, sym, subst}
-use Rattle.hc_records.specs.declared.edit.Edit.{Edit}
+use Rattle.std.proofs.Common.{◌≡◌, ◌∙◌, List, None, ap, sym, subst}
 use Rattle.hc_records.specs.declared.records.Declared.{Declared}
-use Rattle.hc_records.specs.Edits.{over_limit_task, declares, groups_after}
+use Rattle.hc_records.specs.Edits.{over_limit_task, groups_after}
 use Rattle.hc_records.specs.Line.{State, groups_of, line, line_from}
 use Rattle.hc_records.specs.Project.{lowest_fault}
 use Rattle.hc_cuts.specs.Areas.{areas_by_rank}
