@@ -53,7 +53,7 @@ def pairs_of(edit):
 
 
 def kind_of(impl):
-    """The name that a check gives an impl: its type, then the trait and the trait's arguments, of which the first alone is read."""
+    """The name that a check gives an impl: its type, then the trait and the first of the trait's arguments."""
     name = impl.group("type")
     if not impl.group("trait"):
         return name
