@@ -48,7 +48,6 @@ impl LastWrites {
 
     /// A write of these blocks is sent: they aren't the newest of the writes before it any more. A write that is the newest of no
     /// block goes.
-    #[inline(always)]
     pub(crate) fn write_again(&mut self, again: &[PlacedBlock])
         ensures { self.new ≡ filter is_awaited (map (with_written (map awaited_block again.now)) self.old) }
     {

@@ -1,8 +1,8 @@
 //! A frame of register writes: the owed blocks that share it, and its bytes. The core fills it from the first owed block
 //! on, writes it, and hands its blocks to what is awaited.
 ghost use Rattle.std.specs.Prelude.{◌≡◌, ◌+◌, ◌≤◌, length, map};
-ghost use Rattle.hc_frames.specs.FrameText.{sent_datagram_text, sent_datagrams_text};
-ghost use Rattle.hc_frames.specs.declared.limits.TheConstants.{MAX_DATA, MAX_ETHERCAT};
+ghost use Rattle.hc_frames.specs.FrameText.{sent_datagrams_text};
+ghost use Rattle.hc_frames.specs.declared.limits.TheConstants.{MAX_ETHERCAT};
 ghost use Rattle.hc_sendings.specs.WriteFrames.{placed_bytes, placed_datagram};
 
 use crate::writes::AwaitedBlock;
@@ -50,48 +50,26 @@ impl PlacedBlock {
     }
 }
 
-/// Writes the datagram of a block into a slice of its exact size. `more` says that another one follows it.
-fn write_datagram(out: &mut [u8], serial: u64, placed: &PlacedBlock, more: bool)
-    requires exact { length out.old ≡ 12 + length placed.now.block.block.bytes }
-    requires size { length placed.now.block.block.bytes ≤ MAX_DATA }
-    ensures { out.new ≡ sent_datagram_text serial more (placed_datagram placed.now) }
-{
-    let register = placed.block.block.register();
-    build_write_datagram(
-        out,
-        serial,
-        placed.block.station,
-        register,
-        placed.bytes(),
-        more,
-    );
-}
-
 /// Writes the datagrams of blocks one after another into a slice of their exact size. A frame has 74 at most, so deep
 /// is this recursion.
-fn write_each_datagram(out: &mut [u8], serial: u64, blocks: &[PlacedBlock])
-    requires exact { length out.old ≡ placed_bytes blocks.now }
-    requires size { 2 + placed_bytes blocks.now ≤ MAX_ETHERCAT }
-    ensures { out.new ≡ sent_datagrams_text serial (map placed_datagram blocks.now) }
-{
-    if let [first, rest @ ..] = blocks {
-        let (text, others) = out.split_at_mut(BESIDE_DATA_BYTES + first.bytes().len());
-        write_datagram(text, serial, first, !rest.is_empty());
-        write_each_datagram(others, serial, rest);
-    }
-}
-
-/// The same. One block needs no loop.
-#[inline(always)]
 fn write_datagrams(out: &mut [u8], serial: u64, blocks: &[PlacedBlock])
     requires exact { length out.old ≡ placed_bytes blocks.now }
     requires size { 2 + placed_bytes blocks.now ≤ MAX_ETHERCAT }
     ensures { out.new ≡ sent_datagrams_text serial (map placed_datagram blocks.now) }
 {
-    if let [only] = blocks {
-        write_datagram(out, serial, only, false);
-    } else {
-        write_each_datagram(out, serial, blocks);
+    if let [first, rest @ ..] = blocks {
+        let bytes = first.bytes();
+        let (text, others) = out.split_at_mut(BESIDE_DATA_BYTES + bytes.len());
+        let register = first.block.block.register();
+        build_write_datagram(
+            text,
+            serial,
+            first.block.station,
+            register,
+            bytes,
+            !rest.is_empty(),
+        );
+        write_datagrams(others, serial, rest);
     }
 }
 

@@ -91,11 +91,6 @@ fn put_blocks(blocks: &mut Vec<AwaitedBlock>, placed: &[PlacedBlock])
     ensures room { vec_capacity blocks.new ≡ vec_capacity blocks.old }
 {
     blocks.clear();
-    // one block needs no loop
-    if let [only] = placed {
-        blocks.push_reserved(only.awaited());
-        return;
-    }
     for block in placed {
         blocks.push_reserved(block.awaited());
     }
@@ -176,7 +171,6 @@ impl Write {
     }
 
     /// A write of these blocks is sent.
-    #[inline(always)]
     pub(crate) fn write_again(&mut self, again: &[PlacedBlock])
         ensures { self.new ≡ filter is_awaited (map (with_written (map awaited_block again.now)) self.old) }
     {
