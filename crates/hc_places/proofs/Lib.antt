@@ -1,3 +1,4 @@
+mod Halves
 pub mod Changed
 pub mod Compared
 pub mod Configurable
