@@ -1,4 +1,3 @@
-mod Halves
 pub mod Changed
 pub mod Compared
 pub mod Configurable

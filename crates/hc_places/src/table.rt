@@ -1,5 +1,5 @@
 //! The table of a line, where tasks look up their datagrams and their variables.
-ghost use Rattle.std.specs.Prelude.{◌≡◌, ◌≤◌, ◌==◌, ◌↔◌, IsTrue, false, find, if◌then◌else◌, length, nat_lt, OnOk, option_map, true};
+ghost use Rattle.std.specs.Prelude.{◌≡◌, ◌≤◌, ◌==◌, ◌↔◌, IsTrue, false, find, length, nat_lt, OnOk, option_map, true};
 ghost use Rattle.std.specs.List.Sorted.{IsNonDecreasingBy, IsPartitionPoint};
 ghost use Rattle.hc_places.specs.Table.{by_number};
 
@@ -179,28 +179,13 @@ fn sort_rows(rows: &mut Vec<VariableRow>) -> Result<(), AllocError>
     rows.sort_by_key(|row| row.0.number())
 }
 
-/// So many, if a condition holds, and else 0. It takes no branch.
-fn count_if(holds: bool, count: usize) -> usize
-    ensures { result ≡ (if holds then count else 0) }
-{
-    count * usize::from(holds)
-}
-
-/// How many rows have a lower number than a variable. Half of those that are left goes in each step, without a branch on
-/// what was read.
+/// How many rows have a lower number than a variable.
 pub(crate) fn count_below(rows: &[VariableRow], variable: VarId) -> usize
     requires { IsNonDecreasingBy (λ row. row.0) rows.now }
     ensures bound { result ≤ length rows.now }
     ensures below { IsPartitionPoint (λ row. nat_lt row.0 variable ≡ true) (λ row. nat_lt row.0 variable ≡ false) rows.now result }
 {
-    let mut below = 0;
-    let mut left = rows.len();
-    while left > 0 {
-        let half = left - left / 2;
-        below += count_if(rows[below + half - 1].0.number() < variable.number(), half);
-        left /= 2;
-    }
-    below
+    rows.partition_point(|row| row.0.number() < variable.number())
 }
 
 /// The place of a variable among rows in the order of their numbers, where so many have a lower one.
