@@ -1,11 +1,10 @@
 //! The register blocks of the slaves of a line, by the places and widths that a layout has for their areas.
-ghost use Rattle.std.specs.Prelude.{◌≡◌, ◌<◌, ℕ, IfSome, List, Some, option_map, slice_get};
+ghost use Rattle.std.specs.Prelude.{◌≡◌, ◌<◌, IfSome, Some, option_map, slice_get};
 ghost use Rattle.hc_records.specs.declared.limits.TheConstants.{MOST_AREAS, TASKS};
 ghost use Rattle.hc_records.specs.Line.{line_from};
-ghost use Rattle.hc_records.specs.Packing.{Placed};
 ghost use Rattle.hc_places.specs.Table.{table_of};
 ghost use Rattle.hc_plan.specs.Configuration.{at_station, block_at, block_of_rank, line_block_at};
-ghost use Rattle.hc_plan.specs.inner.Blocks.{IsLayoutOf, IsMappedArea, IsMappedSlave, RowMaps, RowsMap, area_block_in, first_variable, mapping_in, slave_blocks_in};
+ghost use Rattle.hc_plan.specs.inner.Blocks.{IsLayoutOf, IsMappedArea, IsMappedByRow, IsMappedSlave, RowMaps, RowsMap, area_block_in, first_variable, slave_blocks_in};
 
 use crate::placed_line::PlacedLine;
 use hc_changes::moved::mapping;
@@ -32,7 +31,7 @@ fn first_variable(area: &Area) -> Option<VarId>
 /// entry carries no variable. A search among the rows takes fewer steps than a walk over the task's tree.
 fn row_mapping(table: &Places, area: &Area) -> Option<Mapping>
     requires { area.now.task < TASKS }
-    ensures { IfSome result (λ mapping. (layout : List (List Placed)) (rank index : ℕ) → RowMaps table.now layout rank index area.now → mapping_in layout rank index area.now ≡ Some mapping) }
+    ensures { IfSome result (IsMappedByRow table.now area.now) }
 {
     let variable = first_variable(area)?;
     let place = table.place(variable)?;

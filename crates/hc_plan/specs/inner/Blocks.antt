@@ -36,7 +36,12 @@ RowMaps table layout rank index area =
     (variable : ℕ) (place : VariablePlace) → first_variable area ≡ Some variable → place_in table variable ≡ Some place
     → mapping_in layout rank index area ≡ Some (mapping_by area.task place)
 
--- so it is with each area of a slave
+-- an area is mapped here, wherever in a line it is, if the table has its first variable where the layout has it
+abbrev pub IsMappedByRow : Table → Area → Mapping → Type 0
+IsMappedByRow table area mapping =
+    (layout : List (List Placed)) (rank index : ℕ) → RowMaps table layout rank index area → mapping_in layout rank index area ≡ Some mapping
+
+-- each area of a slave is where the table has its first variable
 abbrev pub RowsMap : Table → List (List Placed) → Member → Type 0
 RowsMap table layout member =
     (index : ℕ) (area : Area) → slice_get member.slave.areas index ≡ Some area → RowMaps table layout member.rank index area
