@@ -24,16 +24,26 @@ FUNCTION = re.compile(r"^\s*(?:pub(?:\([a-z]+\))? +)?(?:const +|unsafe +|ghost +
 IMPL = re.compile(r"^impl(?:<[^>]*>)? +(?:(?P<trait>[\w:<>(), ']+) +for +)?&?(?:'\w+ +)?(?P<type>\w+)")
 VERDICT = re.compile(r"^fn (?P<name>[\w:+]+): (?P<verdict>.*)$")
 GOAL = re.compile(r"^\./proofs/(?P<place>[\w/+]+)/\w+\.antt:\d+:\d+: error: (?P<what>.*)$")
-NAMES = re.compile(r"has no field|is not in scope|has no `|was not admitted|that can be named from here")
+TAKEN_AWAY = re.compile(r"has no field|is not in scope|has no `|was not admitted|that can be named from here")
+CONTRACT = "refused by its contract"
+NAMES = "refused only by names that the edit took away"
 UNREADABLE = re.compile(r"\berror\[[\w-]+\]|^\S+\.rt:\d+:\d+: error")
 
 
 @dataclass
 class Body:
-    """A wrong body: its name, and the functions that it changes, as module, type and name."""
+    """A wrong body: its file and name, and the functions that it changes, as module, type and name; no name outside functions."""
 
-    name: str
+    key: tuple
     functions: set = field(default_factory=set)
+
+    def is_outside(self):
+        """Whether it changes something outside functions, such as a constant."""
+        return all(name is None for _, _, name in self.functions)
+
+    def is_judged_by(self, parts):
+        """Whether a verdict or a goal with these parts of its place is on a function of this body."""
+        return any(is_of(parts, function) for function in self.functions)
 
 
 def pairs_of(edit):
@@ -78,17 +88,19 @@ def function_at(text, place, file):
     return module, kind, name
 
 
-def apply(edit, folder):
-    """Applies an edit to a crate's folder, and gives its bodies."""
+def apply(edit, folder, only=None):
+    """Applies an edit's bodies to a crate's folder, or one of them alone, and gives them."""
     bodies = {}
     for file, name, old, new in pairs_of(edit):
+        if only and only.key != (file, name):
+            continue
         path = folder / file
         text = path.read_text()
         if text.count(old) != 1:
             raise SystemExit(f"bodies: {edit}: found {text.count(old)} times: {old}")
         place = text.index(old)
         path.write_text(text.replace(old, new))
-        bodies.setdefault((file, name), Body(name)).functions.add(function_at(text, place, file))
+        bodies.setdefault((file, name), Body((file, name))).functions.add(function_at(text, place, file))
     return list(bodies.values())
 
 
@@ -103,21 +115,23 @@ def is_of(parts, function):
 
 
 def judged(bodies, printed):
-    """For each body what a check says of it: `contract`, `names`, or nothing where it isn't refused."""
-    goals, verdicts = [], []
+    """For each body what a check says of it: `CONTRACT`, `NAMES`, or nothing where it isn't refused."""
+    goals, searched = [], []
     for line in printed.splitlines():
         goal, verdict = GOAL.match(line), VERDICT.match(line)
         if goal:
             goals.append((re.split(r"[/+]", goal.group("place")), goal.group("what")))
         elif verdict and "did not prove" in verdict.group("verdict"):
-            verdicts.append(re.split(r"::|\+", verdict.group("name"))[1:])
+            searched.append(re.split(r"::|\+", verdict.group("name"))[1:])
     for body in bodies:
-        own = [what for parts, what in goals if any(is_of(parts, function) for function in body.functions)]
-        searched = any(is_of(parts, function) for parts in verdicts for function in body.functions)
-        if searched or any(not NAMES.search(what) for what in own):
-            yield body, "contract"
+        judges = body.is_judged_by
+        if len(bodies) == 1 and body.is_outside():
+            judges = bool  # all that isn't proved hangs on it
+        own = [what for parts, what in goals if judges(parts)]
+        if any(map(judges, searched)) or any(not TAKEN_AWAY.search(what) for what in own):
+            yield body, CONTRACT
         else:
-            yield body, "names" if own else ""
+            yield body, NAMES if own else ""
 
 
 def sum_of(crate, edit):
@@ -156,22 +170,31 @@ def checked(folder):
     return subprocess.run(["rt", "check", "--jobs", "1"], cwd=folder, stdout=subprocess.PIPE, stderr=subprocess.STDOUT, text=True).stdout
 
 
-def try_edit(crate, edit, clone):
-    """Tries an edit, and tells whether each body is refused by its contract."""
+def try_bodies(crate, edit, clone, only=None):
+    """The bodies of an edit, or one of them alone, each with what a check says of it; nothing where it gives no verdict."""
     folder = clone / "crates" / crate
-    bodies = apply(edit, folder)
+    bodies = apply(edit, folder, only)
     printed = checked(folder)
     subprocess.run(["git", "checkout", "-q", "."], cwd=clone, check=True)
     if UNREADABLE.search(printed) or "logic=not-proved" not in printed:
         print(f"{crate}/{edit.stem}: no verdict: {printed[-400:]}")
-        return False
-    outcomes = list(judged(bodies, printed))
-    for body, verdict in outcomes:
-        if verdict != "contract":
-            print(f"{crate}/{edit.stem}: {body.name}: {'refused only by names that the edit took away' if verdict else 'not refused'}")
-    refused = sum(verdict == "contract" for _, verdict in outcomes)
+        return []
+    return list(judged(bodies, printed))
+
+
+def try_edit(crate, edit, clone):
+    """Tries an edit, and tells whether each body is refused by its contract. One that isn't is tried once more, alone: a proof by
+    hand isn't looked at where it cites a function that another body spoils."""
+    outcomes = dict((body.key, (body, verdict)) for body, verdict in try_bodies(crate, edit, clone))
+    for body, verdict in list(outcomes.values()):
+        if verdict != CONTRACT and len(outcomes) > 1:
+            outcomes.update((alone.key, (alone, said)) for alone, said in try_bodies(crate, edit, clone, body))
+    for (_, name), (_, verdict) in outcomes.items():
+        if verdict != CONTRACT:
+            print(f"{crate}/{edit.stem}: {name}: {verdict or 'not refused'}")
+    refused = sum(verdict == CONTRACT for _, verdict in outcomes.values())
     print(f"{crate}/{edit.stem}: {refused} of {len(outcomes)} bodies are refused by their contracts", flush=True)
-    return refused == len(outcomes)
+    return outcomes and refused == len(outcomes)
 
 
 def try_crate(crate):
