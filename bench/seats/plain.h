@@ -1,5 +1,5 @@
 /* The same duties in plain C11: a line that has of each task the data of its last answer and the outputs, and for each task with a seat
- * a triple buffer, in which one word says which buffer is in the middle, and whether it is newer than the task's. */
+ * a triple buffer: one word says which buffer is in the middle, and whether it is newer than the task's. */
 #ifndef PLAIN_H
 #define PLAIN_H
 
