@@ -2,12 +2,13 @@
 # Refuses growths of memory, in tests and in the program that `rt ci` has built: each growth in turn alone, and each with
 # every later one. Every such run must end by itself: with its own answer, or out of memory and with nothing else. A case
 # without a refused growth fails. The last line is 'N passed, M failed'.
+#   tools/sweep.sh                every case, as many at a time as there are processors
+#   tools/sweep.sh CASE TOOLS     one case, a line of `cases`, with what the folder TOOLS has; its last line is the same
 set -u
 cd "$(dirname "$0")/.."
 scratch=$(mktemp -d)
 trap 'rm -rf "$scratch"' EXIT
-gcc -O2 -Wall -shared -fPIC -o "$scratch/refuse.so" tools/refuse_growth.c -ldl || exit 1
-rustc -O --edition 2021 -o "$scratch/model" compare/events/main.rs || exit 1
+tools=${2:-$scratch}
 program=crates/hotline/out/hotline
 passed=0
 failed=0
@@ -29,7 +30,7 @@ refuse_each() {
     : >"$scratch/errors"
     while [ "$number" -eq 0 ] || has_refused; do
         number=$((number + 1))
-        timeout 60 env REFUSE_GROWTH="$number$plus" LD_PRELOAD="$scratch/refuse.so" "$@" <"$input" >"$scratch/said" 2>"$scratch/errors"
+        timeout 60 env REFUSE_GROWTH="$number$plus" LD_PRELOAD="$tools/refuse.so" "$@" <"$input" >"$scratch/said" 2>"$scratch/errors"
         status=$?
         if [ "$number" -gt 5000 ] || ! "$judge" "$status"; then
             echo "sweep: $label with growth $number$plus refused: status $status"
@@ -210,7 +211,7 @@ expect_unpublished() {
     status=0
     while [ "$status" -ne 64 ]; do
         number=$((number + 1))
-        "$scratch/model" --answer "$number" <"$1" >"$scratch/unpublished.$number" 2>"$scratch/errors"
+        "$tools/model" --answer "$number" <"$1" >"$scratch/unpublished.$number" 2>"$scratch/errors"
         status=$?
         if [ "$status" -eq 101 ]; then
             echo "sweep: the model has no answer to $1"
@@ -277,6 +278,9 @@ sweep_check() {
     done
 }
 
+# The cases: calls of the functions above.
+cases() {
+    cat <<'END'
 sweep_test worked_lines pieces::project_texts::projects::project_or_memory
 sweep_test worked_lines lines::edits_say_what_they_change
 sweep_test worked_lines lines::a_list_of_edits_is_answered_in_its_order
@@ -301,9 +305,29 @@ sweep_program "alone lasting" "the tool changer with frames" examples/tool_chang
 sweep_program alone "two groups" examples/two_groups.in examples/two_groups.out 0
 sweep_line "alone lasting" "the day of the tool changer" examples/tool_changer_day.in examples/tool_changer_day.out 0
 sweep_line alone "a tool that is declared" examples/declared_tool.in examples/declared_tool.out 0
-for input in compare/played/*.in; do
-    sweep_line "alone lasting" "$input" "$input" "${input%.in}.out" 0
-done
 sweep_check
+END
+    for input in compare/played/*.in; do
+        echo "sweep_line 'alone lasting' $input $input ${input%.in}.out 0"
+    done
+}
+
+# sweep_all: runs each case by itself, and prints what they say. Each must end with its count.
+sweep_all() {
+    gcc -O2 -Wall -shared -fPIC -o "$tools/refuse.so" tools/refuse_growth.c -ldl || exit 1
+    rustc -O --edition 2021 -o "$tools/model" compare/events/main.rs || exit 1
+    cases | tr '\n' '\0' | xargs -0 -P "$(nproc)" -I '{}' sh -c 'said=$("$0" "$1" "$2"); echo "$said"' tools/sweep.sh '{}' "$tools" >"$tools/all"
+    count='^[0-9]+ passed, [0-9]+ failed$'
+    grep -vE "$count" "$tools/all"
+    grep -E "$count" "$tools/all" | awk '{ passed += $1; failed += $3 } END { print NR, passed + 0, failed + 0 }' >"$tools/counts"
+    read -r ended passed failed <"$tools/counts"
+    failed=$((failed + $(cases | wc -l) - ended)) # those that ended without their count
+}
+
+if [ $# -eq 2 ]; then
+    eval "$1"
+else
+    sweep_all
+fi
 echo "$passed passed, $failed failed"
 [ "$failed" -eq 0 ]
