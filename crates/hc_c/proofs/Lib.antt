@@ -5,6 +5,7 @@ mod BoxedEnd
 mod Crossing
 mod Images
 mod InFrame
+mod Masks
 mod Offset
 mod Refusals
 mod Returned

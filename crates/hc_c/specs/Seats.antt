@@ -1,5 +1,5 @@
 -- What calls say of a seat's two ends before and after.
-use Rattle.std.specs.Prelude.{◌≡◌, ℕ, List, [], ◌∷◌, ◌++◌, ◌==◌, if◌then◌else◌, not, Option, None, Some, drop, is_some, length, map, set, unwrap_or}
+use Rattle.std.specs.Prelude.{◌≡◌, ℕ, ◌+◌, ◌*◌, Bool, List, [], ◌∷◌, ◌++◌, ◌==◌, if◌then◌else◌, not, Option, None, Some, drop, is_some, length, map, set, unwrap_or}
 use Rattle.hc_events.specs.declared.faults.CoreFault.{CoreFault}
 use Rattle.hc_events.specs.declared.faults.CoreFault.TheVariants.{PostLength, StalePost}
 use Rattle.hc_mail.specs.Images.{Image, StartsWith, newest}
@@ -54,6 +54,11 @@ pub record LooksOn (old new : TaskEnd) : Type 0 where
 -- the serials of an image's datagrams, as C gets them: 0 where a datagram has no data
 abbrev pub serials_answered : List (Option ℕ) → List ℕ
 serials_answered serials = map (λ serial. unwrap_or serial 0) serials
+
+-- the number whose bits, from this one on, say so
+abbrev pub mask_from : ℕ → List Bool → ℕ
+mask_from bit [] = 0
+mask_from bit (is_set ∷ rest) = (if is_set then bit else 0) + mask_from (2 * bit) rest
 
 -- an image, as C gets it: its epoch, its bytes and its output bytes; those with data by their bits; its bytes before what the slice had after them; and the serials, as many as there is room for
 pub record GivesImage (image : Image) (view : SeatView) (before after : List ℕ) (serials serials' : List ℕ) : Type 0 where

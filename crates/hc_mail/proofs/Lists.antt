@@ -1,11 +1,11 @@
 -- Lists of images and of what seats know.
-use Rattle.std.proofs.Common.{rules, ◌≡◌, ◌≢◌, ℕ, zero, suc, List, [], ◌∷◌, ◌++◌, length, set, sym, refl, ap, ◌∙◌, subst, ⊎_elim, ◌⊎◌, inl, inr, arith, append_assoc, append-nil, Option, Some, None}
-use Rattle.std.specs.Prelude.{IsSome}
+use Rattle.std.proofs.Common.{◌≡◌, ◌≢◌, ℕ, zero, suc, List, [], ◌∷◌, ◌++◌, length, set, sym, refl, ap, ◌∙◌, subst, ⊎_elim, ◌⊎◌, inl, inr, arith, append_assoc, append-nil}
 use mathlib.Core.Option.{some, some-injective, some-ne-none}
 use lib.ListN.{get_elem?}
 use Rattle.atomic_table.proofs.Lists.{at_set}
 use Rattle.hc_mail.specs.declared.table.Insight.{Insight}
-use Rattle.hc_mail.specs.Images.{Image, image_in, last_after, StartsWith}
+use Rattle.hc_mail.specs.Images.{Image, last_after, StartsWith}
+use Rattle.hc_mail.specs.Rule.{in_hand}
 
 -- a fact of each seat holds after one of them learned something: of that seat, and of the others
 pub others_hold : (P : ℕ → Insight → Type 0) (views : List Insight) (seat : ℕ) (new : Insight) → P seat new
@@ -33,16 +33,6 @@ one_more_starts all seen image starts = (starts.0 ++ image ∷ [], ap (λ (l : L
 pub same_starts : (all seen : List Image) → seen ≡ all → StartsWith all seen
 same_starts all seen same = ([], sym same ∙ sym (append-nil seen))
 
-value_in : List (ℕ × Option Image) → Option Image
-value_in [] = None
-value_in (first ∷ _) = first.1
-
 -- what comes out of the slot in hand is what lies there
-pub comes_out : (hand xs ys : List (ℕ × Option Image)) (slot other : ℕ) (there out : Option Image) → hand ≡ (slot, there) ∷ xs → hand ≡ (other, out) ∷ ys → out ≡ there
-unfolding value_in
-comes_out hand xs ys slot other there out a b = sym (ap value_in b) ∙ ap value_in a
-
--- an end has its image at hand
-pub is_held : (held : Option Image) → IsSome held → held ≡ Some (image_in held)
-is_held None is = search rules
-is_held (Some image) is = refl
+pub comes_out : (hand xs ys : List (ℕ × Image)) (slot other : ℕ) (there out : Image) → hand ≡ (slot, there) ∷ xs → hand ≡ (other, out) ∷ ys → out ≡ there
+comes_out hand xs ys slot other there out a b = sym (ap in_hand b) ∙ ap in_hand a

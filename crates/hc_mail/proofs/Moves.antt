@@ -1,26 +1,26 @@
 -- Each step of the two ends keeps the rule of the table, and gives its end what it says.
-use Rattle.std.proofs.Common.{◌≡◌, ◌≢◌, ℕ, ◌+◌, ◌%◌, List, [], ◌∷◌, ◌++◌, get_or, set, sym, refl, ap, ◌∙◌, subst, arith, Option, Some, None, length-set, get_or-set_same}
+use Rattle.std.proofs.Common.{◌≡◌, ◌≢◌, ℕ, ◌+◌, ◌%◌, List, [], ◌∷◌, ◌++◌, get_or, set, sym, refl, ap, ◌∙◌, subst, arith, length-set, get_or-set_same}
 use mathlib.Core.Option.{none, some}
 use native.Mathlib.Decide.{dec_le}
 use mathlib.Core.Logic.{dite}
 use lib.ListN.{get_elem?}
 use lib.Seq.{set-get_or}
-use Rattle.atomic_table.specs.Table.{Me, step, keeps, takes, gives, chain, Allows}
+use Rattle.atomic_table.specs.Table.{Me, step, keeps, takes, gives, chain, rest, Allows}
 use Rattle.atomic_table.proofs.Lists.{set_here, set_else, set_again}
 use Rattle.hc_mail.specs.declared.table.Insight.{Insight}
 use Rattle.hc_mail.specs.declared.table.Role.{Role}
 use Rattle.hc_mail.specs.declared.table.Role.TheVariants.{Enters, Sends, Waits, Looks, Takes}
 use Rattle.hc_mail.specs.Images.{Image, Room, blank, newest, StartsWith}
 use Rattle.hc_mail.specs.Ends.{Place, seen, reported, posed}
-use Rattle.hc_mail.specs.Rule.{insight, HomeSlots, Layout, entered, waited, image_sent, found, image_taken, confirmed}
+use Rattle.hc_mail.specs.Rule.{insight, in_hand, HomeSlots, Layout, entered, waited, image_sent, found, image_taken, confirmed}
 use Rattle.hc_mail.proofs.Lists.{others_hold, last_of_one_more, one_more_starts, same_starts}
 use Rattle.hc_mail.proofs.Roles.{plays_on}
 use Rattle.hc_mail.proofs.Seats.{Table, Rule, Fine, known_anew}
 
 abbrev Seated : Type 0
-Seated = Me (Option Image) Insight
+Seated = Me Image Insight
 
-is_seated : (me : Seated) (role : Role) (hand : List (ℕ × Option Image)) → me.0.role ≡ role → me.1 ≡ hand → me ≡ (insight role me.0.seen me.0.reported, hand)
+is_seated : (me : Seated) (role : Role) (hand : List (ℕ × Image)) → me.0.role ≡ role → me.1 ≡ hand → me ≡ (insight role me.0.seen me.0.reported, hand)
 is_seated me role hand a b = λ t. (insight (a t) me.0.seen me.0.reported, b t)
 
 module _ (room : Room) where
@@ -29,7 +29,7 @@ module _ (room : Room) where
       → Rule room record { words = set s.words 0 (get_or s.words 0 0); homes = homes; views = views }
   with_words s homes views r = subst (λ (ws : List ℕ). Rule room record { words = ws; homes = homes; views = views }) (sym (set-get_or s.words 0 0)) r
 
-  -- the table after an end took its own slot, which was empty
+  -- the table after an end took its own slot
   slot_taken : (s : Table room) (r : Rule room s) (slot id : ℕ) (new : Insight) → r.layout.middle ≢ slot
       → ((j : ℕ) (i : Insight) → get_elem? (set s.views id new) j ≡ some i → Fine room r.layout (set s.homes slot none) j i)
       → Rule room record { words = s.words; homes = set s.homes slot none; views = set s.views id new }
@@ -52,8 +52,8 @@ module _ (room : Room) where
       let p : Layout = r.layout in let mine = r.each_seat id (insight Enters images named) at in let plays = mine.0 in let new : Insight = insight (Sends 0) images named in
       let homes' : HomeSlots = set s.homes 0 none in let own = plays.2 in let apart = r.apart in let apart₀ = apart.0 in let apart₁ = apart.1 in (
         new,
-        takes 0 None,
-        plays.1,
+        takes 0 plays.1.0,
+        plays.1.1,
         with_words s homes' (set s.views id new) (slot_taken s r 0 id new (λ e. apart₀ (own ∙ sym e))
             (others_hold (Fine room p homes') s.views id new ((plays.0, sym own), mine.1, mine.2)
             (λ j i other there. let h = r.each_seat j i there in (
@@ -62,7 +62,7 @@ module _ (room : Room) where
               h.1,
               h.2,
             )))),
-        refl,
+        (plays.1.0, refl),
       )
 
   waits_here : (slots id : ℕ) (images named : List Image) → let me : Seated = (insight Waits images named, []) in
@@ -71,8 +71,8 @@ module _ (room : Room) where
       let p : Layout = r.layout in let mine = r.each_seat id (insight Waits images named) at in let plays = mine.0 in let new : Insight = insight (Looks 2) images named in
       let homes' : HomeSlots = set s.homes 2 none in let shown = plays.2 in let apart = r.apart in let apart₁ = apart.1 in let apart₂ = apart.2 in (
         new,
-        takes 2 None,
-        plays.1,
+        takes 2 plays.1.0,
+        plays.1.1,
         with_words s homes' (set s.views id new) (slot_taken s r 2 id new (λ e. apart₂ (e ∙ sym shown))
             (others_hold (Fine room p homes') s.views id new ((plays.0, sym shown), mine.1, mine.2)
             (λ j i other there. let h = r.each_seat j i there in (
@@ -81,10 +81,10 @@ module _ (room : Room) where
               h.1,
               h.2,
             )))),
-        refl,
+        (plays.1.0, refl),
       )
 
-  sends_here : (slots id slot : ℕ) (images named : List Image) (image : Image) → image.room ≡ room → let me : Seated = (insight (Sends slot) images named, (slot, Some image) ∷ []) in
+  sends_here : (slots id slot : ℕ) (images named : List Image) (image : Image) → image.room ≡ room → let me : Seated = (insight (Sends slot) images named, (slot, image) ∷ []) in
       Allows (Rule room) slots id me 0 (λ _. slot + 4) (image_sent (step slots 0 (slot + 4) 0 none) me)
   sends_here slots id slot images named image roomy s r _ at _ =
       let p : Layout = r.layout in let mine = r.each_seat id (insight (Sends slot) images named) at in let plays = mine.0 in let own = plays.1 in
@@ -92,18 +92,18 @@ module _ (room : Room) where
       let small = r.small in let three = r.three_slots in let one = r.one_word in let word = r.word_is in let small₀ = small.0 in let small₁ = small.1 in let small₃ = small.3 in
       let n : ℕ = get_or s.words 0 0 in let m : ℕ = n % 4 in let middle : m ≡ p.middle = omega arith in
       let p' : Layout = record p { all = p.all ++ image ∷ []; own = m; middle = slot; newer = 1; image = image } in
-      let given : HomeSlots = set s.homes slot (some (Some image)) in let homes' : HomeSlots = set given m none in let new : Insight = insight (Sends m) (images ++ image ∷ []) named in (
+      let given : HomeSlots = set s.homes slot (some image) in let homes' : HomeSlots = set given m none in let new : Insight = insight (Sends m) (images ++ image ∷ []) named in (
         new,
-        chain gives (takes m (Some p.image)),
-        (tt, ap (get_elem? given) middle ∙ (set_else s.homes slot p.middle (some (Some image)) (λ e. apart₀ (sym (e ∙ own))) ∙ r.at_middle)),
+        chain gives (takes m p.image),
+        (tt, ap (get_elem? given) middle ∙ (set_else s.homes slot p.middle (some image) (λ e. apart₀ (sym (e ∙ own))) ∙ r.at_middle)),
         record {
           layout = p';
           one_word = length-set s.words 0 (slot + 4) ∙ one;
-          three_slots = length-set given m none ∙ (length-set s.homes slot (some (Some image)) ∙ three);
+          three_slots = length-set given m none ∙ (length-set s.homes slot (some image) ∙ three);
           small = (omega arith, omega arith, small.2, omega arith);
           apart = ((λ e. apart₀ (sym own ∙ (sym e ∙ middle))), (λ e. apart₂ (sym middle ∙ e)), (λ e. apart₁ (sym own ∙ e)));
           word_is = get_or-set_same s.words 0 (slot + 4) 0 (omega arith);
-          at_middle = set_else given m slot none (λ e. apart₀ (sym own ∙ (e ∙ middle))) ∙ set_here s.homes slot (some (Some image)) (omega arith);
+          at_middle = set_else given m slot none (λ e. apart₀ (sym own ∙ (e ∙ middle))) ∙ set_here s.homes slot (some image) (omega arith);
           as_roomy = roomy;
           is_newest = λ _. sym (last_of_one_more (blank room) p.all image);
           each_seat = others_hold (Fine room p' homes') s.views id new
@@ -115,7 +115,7 @@ module _ (room : Room) where
                       (λ z. absurd (omega arith)),
                       (λ _. refl),
                       refl,
-                      set_else given m p.shown none (λ e. apart₂ (sym (e ∙ middle))) ∙ set_else s.homes slot p.shown (some (Some image)) (λ e. apart₁ (sym (e ∙ own))),
+                      set_else given m p.shown none (λ e. apart₂ (sym (e ∙ middle))) ∙ set_else s.homes slot p.shown (some image) (λ e. apart₁ (sym (e ∙ own))),
                     )) h.0,
                 one_more_starts p.all i.seen image h.1,
                 one_more_starts p.all i.reported image h.2,
@@ -124,9 +124,9 @@ module _ (room : Room) where
         (p.image, r.as_roomy ∙ sym roomy, refl),
       )
 
-  finds_here : (slots id slot : ℕ) (images named : List Image) → let me : Seated = (insight (Looks slot) images named, (slot, None) ∷ []) in
+  finds_here : (slots id slot : ℕ) (images named : List Image) (idle : Image) → let me : Seated = (insight (Looks slot) images named, (slot, idle) ∷ []) in
       Allows (Rule room) slots id me 0 (λ n. n) (found (step slots 0 0 0 none) me)
-  finds_here slots id slot images named s r _ at _ =
+  finds_here slots id slot images named idle s r _ at _ =
       let p : Layout = r.layout in let old : Insight = insight (Looks slot) images named in let mine = r.each_seat id old at in let plays = mine.0 in let word = r.word_is in
       let small = r.small in let small₁ = small.1 in let small₃ = small.3 in let n : ℕ = get_or s.words 0 0 in dite (dec_le 4 n)
       (λ newer. let new : Insight = insight (Takes slot) images named in (
@@ -145,7 +145,7 @@ module _ (room : Room) where
         ((λ _. (refl, subst (λ (l : List Image). StartsWith l named) (sym all) mine.2)), λ more. absurd (older more)),
       ))
 
-  confirms_here : (slots id slot : ℕ) (images named : List Image) (hand : List (ℕ × Option Image)) → let me : Seated = (insight (Sends slot) images named, hand) in
+  confirms_here : (slots id slot : ℕ) (images named : List Image) (hand : List (ℕ × Image)) → let me : Seated = (insight (Sends slot) images named, hand) in
       Allows (Rule room) slots id me 0 (λ n. n) (confirmed (step slots 0 0 0 none) me)
   confirms_here slots id slot images named hand s r _ at _ = let old : Insight = insight (Sends slot) images named in let mine = r.each_seat id old at in let plays = mine.0 in (
     old,
@@ -155,7 +155,7 @@ module _ (room : Room) where
     (refl, subst (λ (l : List Image). StartsWith l named) (sym plays.0.1) mine.2),
   )
 
-  takes_here : (slots id slot : ℕ) (images named : List Image) (image : Image) → image.room ≡ room → let me : Seated = (insight (Takes slot) images named, (slot, Some image) ∷ []) in
+  takes_here : (slots id slot : ℕ) (images named : List Image) (image : Image) → image.room ≡ room → let me : Seated = (insight (Takes slot) images named, (slot, image) ∷ []) in
       Allows (Rule room) slots id me 0 (λ _. slot) (image_taken (step slots 0 slot 0 none) me)
   takes_here slots id slot images named image roomy s r _ at _ =
       let p : Layout = r.layout in let mine = r.each_seat id (insight (Takes slot) images named) at in let plays = mine.0 in let shown = plays.1 in let newer = plays.2 in
@@ -163,24 +163,24 @@ module _ (room : Room) where
       let small = r.small in let three = r.three_slots in let one = r.one_word in let word = r.word_is in let small₁ = small.1 in let small₂ = small.2 in
       let n : ℕ = get_or s.words 0 0 in let m : ℕ = n % 4 in let middle : m ≡ p.middle = omega arith in
       let p' : Layout = record p { middle = slot; shown = m; newer = 0; image = image } in
-      let given : HomeSlots = set s.homes slot (some (Some image)) in let homes' : HomeSlots = set given m none in let new : Insight = insight (Looks m) p.all named in (
+      let given : HomeSlots = set s.homes slot (some image) in let homes' : HomeSlots = set given m none in let new : Insight = insight (Looks m) p.all named in (
         new,
-        chain gives (takes m (Some p.image)),
-        (tt, ap (get_elem? given) middle ∙ (set_else s.homes slot p.middle (some (Some image)) (λ e. apart₂ (e ∙ shown)) ∙ r.at_middle)),
+        chain gives (takes m p.image),
+        (tt, ap (get_elem? given) middle ∙ (set_else s.homes slot p.middle (some image) (λ e. apart₂ (e ∙ shown)) ∙ r.at_middle)),
         record {
           layout = p';
           one_word = length-set s.words 0 slot ∙ one;
-          three_slots = length-set given m none ∙ (length-set s.homes slot (some (Some image)) ∙ three);
+          three_slots = length-set given m none ∙ (length-set s.homes slot (some image) ∙ three);
           small = (small.0, omega arith, omega arith, omega arith);
           apart = ((λ e. apart₁ (e ∙ shown)), (λ e. apart₀ (e ∙ middle)), (λ e. apart₂ (sym middle ∙ (sym e ∙ shown))));
           word_is = get_or-set_same s.words 0 slot 0 (omega arith) ∙ omega arith;
-          at_middle = set_else given m slot none (λ e. apart₂ (sym middle ∙ (sym e ∙ shown))) ∙ set_here s.homes slot (some (Some image)) (omega arith);
+          at_middle = set_else given m slot none (λ e. apart₂ (sym middle ∙ (sym e ∙ shown))) ∙ set_here s.homes slot (some image) (omega arith);
           as_roomy = roomy;
           is_newest = λ z. absurd (omega arith);
           each_seat = others_hold (Fine room p' homes') s.views id new (((plays.0.0, λ _. refl), refl), same_starts p.all p.all refl, mine.2)
               (λ j i other there. let h = r.each_seat j i there in (
                 plays_on p p' s.homes homes' j i.role i.seen
-                    (λ _. (refl, refl, refl, set_else given m p.own none (λ e. apart₀ (e ∙ middle)) ∙ set_else s.homes slot p.own (some (Some image)) (λ e. apart₁ (e ∙ shown))))
+                    (λ _. (refl, refl, refl, set_else given m p.own none (λ e. apart₀ (e ∙ middle)) ∙ set_else s.homes slot p.own (some image) (λ e. apart₁ (e ∙ shown))))
                     (λ e. absurd (other (e ∙ sym plays.0.0))) h.0,
                 h.1,
                 h.2,
@@ -196,23 +196,28 @@ module _ (room : Room) where
   pub waits : (slots id : ℕ) (me : Seated) → me.0.role ≡ Waits → me.1 ≡ [] → Allows (Rule room) slots id me 0 (λ n. n) (waited (step slots 0 0 0 none) me)
   waits slots id me a b = subst (λ (m : Seated). Allows (Rule room) slots id m 0 (λ n. n) (waited (step slots 0 0 0 none) m)) (sym (is_seated me Waits [] a b)) (waits_here slots id me.0.seen me.0.reported)
 
-  pub sends : (slots id : ℕ) (me : Seated) (slot : ℕ) (image : Image) → me.0.role ≡ Sends slot → me.1 ≡ (slot, Some image) ∷ [] → image.room ≡ room
+  pub sends : (slots id : ℕ) (me : Seated) (slot : ℕ) (image : Image) → me.0.role ≡ Sends slot → me.1 ≡ (slot, image) ∷ [] → image.room ≡ room
       → Allows (Rule room) slots id me 0 (λ _. slot + 4) (image_sent (step slots 0 (slot + 4) 0 none) me)
   sends slots id me slot image a b roomy = subst (λ (m : Seated). Allows (Rule room) slots id m 0 (λ _. slot + 4) (image_sent (step slots 0 (slot + 4) 0 none) m))
-      (sym (is_seated me (Sends slot) ((slot, Some image) ∷ []) a b)) (sends_here slots id slot me.0.seen me.0.reported image roomy)
+      (sym (is_seated me (Sends slot) ((slot, image) ∷ []) a b)) (sends_here slots id slot me.0.seen me.0.reported image roomy)
 
-  pub finds : (slots id : ℕ) (me : Seated) (slot : ℕ) → me.0.role ≡ Looks slot → me.1 ≡ (slot, None) ∷ [] → Allows (Rule room) slots id me 0 (λ n. n) (found (step slots 0 0 0 none) me)
-  finds slots id me slot a b = subst (λ (m : Seated). Allows (Rule room) slots id m 0 (λ n. n) (found (step slots 0 0 0 none) m)) (sym (is_seated me (Looks slot) ((slot, None) ∷ []) a b))
-      (finds_here slots id slot me.0.seen me.0.reported)
+  pub finds : (slots id : ℕ) (me : Seated) (slot : ℕ) (idle : Image) → me.0.role ≡ Looks slot → me.1 ≡ (slot, idle) ∷ [] → Allows (Rule room) slots id me 0 (λ n. n) (found (step slots 0 0 0 none) me)
+  finds slots id me slot idle a b = subst (λ (m : Seated). Allows (Rule room) slots id m 0 (λ n. n) (found (step slots 0 0 0 none) m)) (sym (is_seated me (Looks slot) ((slot, idle) ∷ []) a b))
+      (finds_here slots id slot me.0.seen me.0.reported idle)
 
   pub confirms : (slots id : ℕ) (me : Seated) (slot : ℕ) → me.0.role ≡ Sends slot → Allows (Rule room) slots id me 0 (λ n. n) (confirmed (step slots 0 0 0 none) me)
   confirms slots id me slot a = subst (λ (m : Seated). Allows (Rule room) slots id m 0 (λ n. n) (confirmed (step slots 0 0 0 none) m)) (sym (is_seated me (Sends slot) me.1 a refl))
       (confirms_here slots id slot me.0.seen me.0.reported me.1)
 
-  pub takes_newer : (slots id : ℕ) (me : Seated) (slot : ℕ) (image : Image) → me.0.role ≡ Takes slot → me.1 ≡ (slot, Some image) ∷ [] → image.room ≡ room
+  pub takes_newer : (slots id : ℕ) (me : Seated) (slot : ℕ) (image : Image) → me.0.role ≡ Takes slot → me.1 ≡ (slot, image) ∷ [] → image.room ≡ room
       → Allows (Rule room) slots id me 0 (λ _. slot) (image_taken (step slots 0 slot 0 none) me)
   takes_newer slots id me slot image a b roomy = subst (λ (m : Seated). Allows (Rule room) slots id m 0 (λ _. slot) (image_taken (step slots 0 slot 0 none) m))
-      (sym (is_seated me (Takes slot) ((slot, Some image) ∷ []) a b)) (takes_here slots id slot me.0.seen me.0.reported image roomy)
+      (sym (is_seated me (Takes slot) ((slot, image) ∷ []) a b)) (takes_here slots id slot me.0.seen me.0.reported image roomy)
 
-pub is_posed : (place : Place) (role : Role) (slot : ℕ) → place.me.0.role ≡ role → place.me.1 ≡ (slot, None) ∷ [] → place ≡ posed place role slot
-is_posed place role slot a b = λ t. record place { me = (insight (a t) (seen place) (reported place), b t) }
+pub is_posed : (place : Place) (role : Role) (slot : ℕ) (image : Image) → place.me.0.role ≡ role → place.me.1 ≡ (slot, image) ∷ [] → place ≡ posed place role slot
+is_posed place role slot image a b =
+    let hand : place.me.1 ≡ (slot, in_hand place.me.1) ∷ [] = b ∙ ap (λ (it : Image). (slot, it) ∷ []) (sym (ap in_hand b)) in λ t. record place { me = (insight (a t) (seen place) (reported place), hand t) }
+
+-- it has one slot in hand, and what lies there
+pub has_slot : (place : Place) (role : Role) (slot : ℕ) → place ≡ posed place role slot → place.me.1 ≡ (slot, in_hand place.me.1) ∷ rest place.me.1
+has_slot place role slot was = ap (λ (it : Place). it.me.1) was ∙ ap (λ (it : Place). (slot, in_hand place.me.1) ∷ rest it.me.1) (sym was)

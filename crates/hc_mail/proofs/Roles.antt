@@ -21,15 +21,15 @@ module _ (p p' : Layout) (slots slots' : HomeSlots) (seat : ℕ) where
   plays_on Opens seen owner task plays = let o = owner plays.0.0 in let t = task plays.1.0 in (
     (plays.0.0 ∙ sym o.0, plays.0.1 ∙ sym o.1),
     (plays.1.0 ∙ sym t.0, λ none. let u = t.1 none in plays.1.1 u.0 ∙ u.1),
-    subst (λ (i : ℕ). get_elem? slots' i ≡ get_elem? slots i) plays.4 o.3 ∙ plays.2,
-    subst (λ (i : ℕ). get_elem? slots' i ≡ get_elem? slots i) plays.5 t.4 ∙ plays.3,
+    (plays.2.0, subst (λ (i : ℕ). get_elem? slots' i ≡ get_elem? slots i) plays.4 o.3 ∙ plays.2.1),
+    (plays.3.0, subst (λ (i : ℕ). get_elem? slots' i ≡ get_elem? slots i) plays.5 t.4 ∙ plays.3.1),
     o.2 ∙ plays.4,
     t.3 ∙ plays.5,
   )
   plays_on Enters seen owner task plays = let o = owner plays.0.0 in
-      ((plays.0.0 ∙ sym o.0, plays.0.1 ∙ sym o.1), subst (λ (i : ℕ). get_elem? slots' i ≡ get_elem? slots i) plays.2 o.3 ∙ plays.1, o.2 ∙ plays.2)
+      ((plays.0.0 ∙ sym o.0, plays.0.1 ∙ sym o.1), (plays.1.0, subst (λ (i : ℕ). get_elem? slots' i ≡ get_elem? slots i) plays.2 o.3 ∙ plays.1.1), o.2 ∙ plays.2)
   plays_on (Sends slot) seen owner task plays = let o = owner plays.0.0 in ((plays.0.0 ∙ sym o.0, plays.0.1 ∙ sym o.1), plays.1 ∙ sym o.2)
   plays_on Waits seen owner task plays = let t = task plays.0.0 in
-      ((plays.0.0 ∙ sym t.0, λ none. let u = t.1 none in plays.0.1 u.0 ∙ u.1), subst (λ (i : ℕ). get_elem? slots' i ≡ get_elem? slots i) plays.2 t.4 ∙ plays.1, t.3 ∙ plays.2)
+      ((plays.0.0 ∙ sym t.0, λ none. let u = t.1 none in plays.0.1 u.0 ∙ u.1), (plays.1.0, subst (λ (i : ℕ). get_elem? slots' i ≡ get_elem? slots i) plays.2 t.4 ∙ plays.1.1), t.3 ∙ plays.2)
   plays_on (Looks slot) seen owner task plays = let t = task plays.0.0 in ((plays.0.0 ∙ sym t.0, λ none. let u = t.1 none in plays.0.1 u.0 ∙ u.1), plays.1 ∙ sym t.3)
   plays_on (Takes slot) seen owner task plays = let t = task plays.0.0 in ((plays.0.0 ∙ sym t.0, λ none. let u = t.1 none in plays.0.1 u.0 ∙ u.1), plays.1 ∙ sym t.3, t.2 plays.2)

@@ -1,5 +1,5 @@
 -- The table begins by its rule, and the rule holds after seats are parted, make notes and learn.
-use Rattle.std.proofs.Common.{◌≡◌, ℕ, zero, suc, List, [], ◌∷◌, ◌++◌, length, set, sym, refl, ◌∙◌, subst, ⊎_elim, arith, Option, Some, None, length-set}
+use Rattle.std.proofs.Common.{◌≡◌, ℕ, zero, suc, List, [], ◌∷◌, ◌++◌, length, set, sym, refl, ◌∙◌, subst, ⊎_elim, arith, length-set}
 use mathlib.Core.Option.{some, some-injective, some-ne-none}
 use lib.ListN.{get_elem?}
 use Rattle.atomic_table.specs.Table.{State, Splits, Joins, opening}
@@ -14,7 +14,7 @@ use Rattle.hc_mail.proofs.Roles.{plays_on}
 
 module _ (room : Room) where
   abbrev pub Table : Type 0
-  Table = State (Option Image) Insight
+  Table = State Image Insight
 
   abbrev pub Rule : Table → Type 0
   Rule = IsMail room
@@ -42,26 +42,28 @@ module _ (room : Room) where
   abbrev first_layout : Layout
   first_layout = record { all = []; sender = 0; receiver = 0; own = 0; middle = 1; shown = 2; newer = 0; image = blank room }
 
-  abbrev first_slots : HomeSlots
-  first_slots = some None ∷ some (Some (blank room)) ∷ some None ∷ []
+  module _ (one other : Image) where
+    abbrev first_slots : HomeSlots
+    first_slots = some one ∷ some (blank room) ∷ some other ∷ []
 
-  first_seat : (j : ℕ) (i : Insight) → get_elem? (opener ∷ []) j ≡ some i → Fine first_layout first_slots j i
-  first_seat zero i there = subst (Fine first_layout first_slots 0) (some-injective opener i there) (((refl, refl), (refl, λ _. refl), refl, refl, refl, refl), ([], refl), ([], refl))
-  first_seat (suc j) i there = absurd (some-ne-none i (sym there))
+    first_seat : (j : ℕ) (i : Insight) → get_elem? (opener ∷ []) j ≡ some i → Fine first_layout first_slots j i
+    first_seat zero i there = subst (Fine first_layout first_slots 0) (some-injective opener i there) (((refl, refl), (refl, λ _. refl), (one, refl), (other, refl), refl, refl), ([], refl), ([], refl))
+    first_seat (suc j) i there = absurd (some-ne-none i (sym there))
 
-  pub begins : Rule (opening (1 ∷ []) (None ∷ Some (blank room) ∷ None ∷ []) opener)
-  begins = record {
-    layout = first_layout;
-    one_word = refl;
-    three_slots = refl;
-    small = (omega arith, omega arith, omega arith, omega arith);
-    apart = ((λ e. omega arith), (λ e. omega arith), (λ e. omega arith));
-    word_is = refl;
-    at_middle = refl;
-    as_roomy = refl;
-    is_newest = λ e. absurd (omega arith);
-    each_seat = first_seat;
-  }
+    -- a blank image lies in the middle, and any in the slots of the two ends
+    pub begins : Rule (opening (1 ∷ []) (one ∷ blank room ∷ other ∷ []) opener)
+    begins = record {
+      layout = first_layout;
+      one_word = refl;
+      three_slots = refl;
+      small = (omega arith, omega arith, omega arith, omega arith);
+      apart = ((λ e. omega arith), (λ e. omega arith), (λ e. omega arith));
+      word_is = refl;
+      at_middle = refl;
+      as_roomy = refl;
+      is_newest = λ e. absurd (omega arith);
+      each_seat = first_seat;
+    }
 
   -- the two ends are parted
   pub parts : (id : ℕ) (i : Insight) → i.role ≡ Opens → Splits Rule id i (insight Enters i.seen i.reported) (insight Waits i.seen i.reported)

@@ -1,5 +1,5 @@
 -- What a mailbox carries.
-use Rattle.std.specs.Prelude.{ℕ, ◌≡◌, List, [], ◌∷◌, ◌++◌, Option, None, Some, unwrap_or, replicate}
+use Rattle.std.specs.Prelude.{ℕ, ◌≡◌, List, [], ◌∷◌, ◌++◌, Option, None, Some, replicate}
 
 -- the most bytes and the most datagrams that an image has room for
 abbrev pub Room : Type 0
@@ -33,9 +33,9 @@ with_zeros size image = record image { bytes = image.bytes ++ replicate size 0; 
 abbrev pub with_outputs : List ℕ → Image → Image
 with_outputs outputs image = record image { outputs = image.outputs ++ outputs }
 
--- the image that an end has at hand; a blank one without room while it has none
-abbrev pub image_in : Option Image → Image
-image_in held = unwrap_or held (blank (0, 0))
+-- the image that an end has at hand
+abbrev pub image_in : Image → Image
+image_in held = held
 
 -- the last of some images after one
 abbrev pub last_after : Image → List Image → Image

@@ -1,7 +1,5 @@
 -- What a lender ends as, once the loan of an image is over.
-use Rattle.std.specs.Prelude.{Option, Some}
 use Rattle.std.specs.Borrow.{Fml, Lends, MutBor}
-use Rattle.std.specs.contracts.option.Option as option
 use Rattle.hc_mail.specs.Images.{Image}
 use Rattle.hc_mail.specs.contracts.image.ImageBox as boxed
 use Rattle.hc_mail.specs.contracts.image.TaskImage as image
@@ -9,7 +7,3 @@ use Rattle.hc_mail.specs.contracts.image.TaskImage as image
 -- the box with the image as it was left
 abbrev pub LendsBoxed : MutBor Image → MutBor Image → Fml
 LendsBoxed own lent = Lends boxed.the_row image.the_row own lent (λ left. left)
-
--- the box that is there, with the image as it was left
-abbrev pub LendsHeld : MutBor (Option Image) → MutBor Image → Fml
-LendsHeld held lent = Lends (option.the_row boxed.the_row) boxed.the_row held lent (λ left. Some left)

@@ -1,4 +1,5 @@
 pub mod Images
 pub mod Rule
 pub mod Ends
+pub mod Sender
 pub mod Lending

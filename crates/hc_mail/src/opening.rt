@@ -14,15 +14,17 @@ use atomic_table::Table;
 use std::alloc::{AllocError, Global};
 use std::sync::Arc;
 
-/// The table with a blank image in the middle, and its first seat.
+/// The table with a blank image in the middle, and ones without room in the slots of the ends; and its first seat.
 fn lay(alloc: Global, bytes: usize, datagrams: usize) -> Result<(Arc<MailTable>, Place), AllocError>
     ensures table { IfOk result (λ made. made.1.table_id ≡ (arc_value made.0).shared.table_id) }
     ensures sized { IfOk result (λ made. IsSized made.1.table_id) }
     ensures key { IfOk result (λ made. (arc_value made.0).shared.key ≡ (bytes, datagrams)) }
     ensures me { IfOk result (λ made. made.1.me ≡ (opener, [])) }
 {
+    let first = ImageBox::blank(alloc, 0, 0)?;
     let middle = ImageBox::blank(alloc, bytes, datagrams)?;
-    let slots = vec![in alloc; None, Some(middle), None]?;
+    let last = ImageBox::blank(alloc, 0, 0)?;
+    let slots = vec![in alloc; first, middle, last]?;
     match Table::new(alloc, &[1], slots, &(bytes, datagrams)) {
         Ok((table, place)) => Ok((Arc::new(alloc, table)?, place)),
         Err(_refused) => Err(AllocError),
@@ -48,17 +50,17 @@ pub fn open(
     let mut second = shared.split_seat::<Part>(&mut place);
     shared.load::<Enter>(&mut place, 0);
     shared.load::<Wait>(&mut second, 0);
+    *place.slot_mut(shared, 0) = own;
     let sender = ImageSender {
         mail,
-        place,
+        seat: place,
         slot: 0,
-        own: Some(own),
     };
     let receiver = ImageReceiver {
         mail: other,
         place: second,
         slot: 2,
-        shown: Some(shown),
+        shown,
     };
     Ok((sender, receiver))
 }

@@ -1,5 +1,5 @@
 //! The task's end, which looks at the newest image.
-ghost use Rattle.std.specs.Prelude.{◌≡◌, ◌<◌, IsSome};
+ghost use Rattle.std.specs.Prelude.{◌≡◌, ◌<◌};
 ghost use Rattle.std.specs.Arc.{arc_value};
 ghost use Rattle.hc_mail.specs.declared.table.Role.TheVariants.{Looks};
 ghost use Rattle.hc_mail.specs.Images.{StartsWith, image_in, newest};
@@ -19,10 +19,9 @@ pub struct ImageReceiver {
     pub(crate) mail: Arc<MailTable>,
     pub place: Place,
     pub(crate) slot: usize,
-    pub shown: Option<ImageBox>,
+    pub shown: ImageBox,
     ghost seated: { place.table_id ≡ (arc_value mail).shared.table_id },
     ghost sized: { IsSized (arc_value mail).shared.table_id },
-    ghost held: { IsSome shown },
     ghost roomy: { (image_in shown).room ≡ (arc_value mail).shared.key },
     ghost small: { slot < 4 },
     ghost looks: { place ≡ posed place (Looks slot) slot },
@@ -51,10 +50,7 @@ impl ImageReceiver {
         ensures image { result.now ≡ image_in self.now.shown }
         ensures newest { result.now ≡ newest (image_in self.now.shown).room (seen self.now.place) }
     {
-        match &self.shown {
-            Some(shown) => shown.image(),
-            None => unreachable!(),
-        }
+        self.shown.image()
     }
 
     /// Learns from a note of the owner's end: no later look shows an older image than the newest that the note names.

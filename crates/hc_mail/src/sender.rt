@@ -1,46 +1,34 @@
 //! The owner's end, which sends images.
-ghost use Rattle.std.specs.Prelude.{◌≡◌, ◌≤◌, ◌<◌, ◌+◌, ◌++◌, ◌∷◌, [], IsSome, Some, length};
-ghost use Rattle.std.specs.Arc.{arc_value};
-ghost use Rattle.hc_mail.specs.declared.table.Role.TheVariants.{Sends};
+ghost use Rattle.std.specs.Prelude.{◌≡◌, ◌≤◌, ◌<◌, ◌+◌, ◌++◌, ◌∷◌, [], length};
 ghost use Rattle.hc_mail.specs.Images.{StartsWith, begun, image_in, with_data, with_outputs, with_zeros};
-ghost use Rattle.hc_mail.specs.Rule.{IsSized};
-ghost use Rattle.hc_mail.specs.Ends.{posed, seen, StaysAtTable};
-ghost use Rattle.hc_mail.specs.Lending.{LendsHeld};
-ghost use Rattle.std.specs.Borrow.{sem};
+ghost use Rattle.hc_mail.specs.Ends.{seen, StaysAtTable};
 
-use crate::image::ImageBox;
 use crate::note::{Note, passed};
 use crate::steps::{Confirm, Learn, Note as MakeNote, Send};
 use crate::table::{MailTable, Place};
-use std::mem;
+use std::marker::Model;
 use std::sync::Arc;
 
 /// It sends the images of one task, and never waits. An image is begun, gets what the task's datagrams have and the task's
-/// outputs, and is sent.
+/// outputs, and is sent. It lies in the slot that the end has, so that sending it moves nothing but the slot's number.
 #[derive(Drop)]
 pub struct ImageSender {
     pub(crate) mail: Arc<MailTable>,
-    pub place: Place,
+    pub(crate) seat: Place,
     pub(crate) slot: usize,
-    pub own: Option<ImageBox>,
-    ghost seated: { place.table_id ≡ (arc_value mail).shared.table_id },
-    ghost sized: { IsSized (arc_value mail).shared.table_id },
-    ghost held: { IsSome own },
-    ghost roomy: { (image_in own).room ≡ (arc_value mail).shared.key },
-    ghost small: { slot < 4 },
-    ghost sends: { place ≡ posed place (Sends slot) slot },
 }
 
-/// The image at hand.
-fn held(own: &mut Option<ImageBox>) -> &mut ImageBox
-    requires { IsSome own.old }
-    ensures* lent { sem 𝓛 (LendsHeld own.entry result) }
-    ensures image { own.old ≡ Some result.now }
-{
-    match own {
-        Some(image) => image,
-        None => unreachable!(),
-    }
+impl Model for ImageSender {
+    ghost use Rattle.std.specs.Arc.{arc_value};
+    ghost use Rattle.hc_mail.specs.Ends.{with_nothing};
+    ghost use Rattle.hc_mail.specs.Rule.{in_hand};
+    ghost use Rattle.hc_mail.specs.Sender.{IsSender, SenderEnd};
+
+    ghost Value = { SenderEnd };
+
+    ghost view = { λ end. record { place = with_nothing end.seat; own = in_hand end.seat.me.1 } };
+
+    ghost invariant = { λ end. IsSender end.seat end.slot (arc_value end.mail).shared.table_id (arc_value end.mail).shared.key };
 }
 
 impl ImageSender {
@@ -49,7 +37,9 @@ impl ImageSender {
         ensures own { image_in self.new.own ≡ begun epoch (image_in self.old.own).room }
         ensures same { self.new.place ≡ self.old.place }
     {
-        held(&mut self.own).image_mut().begin(epoch);
+        let table = &self.mail.shared;
+        let image = self.seat.slot_mut(table, self.slot).image_mut();
+        image.begin(epoch);
     }
 
     /// The image's next datagram has these data, which answer the sending with this serial. The image has room for them.
@@ -59,7 +49,9 @@ impl ImageSender {
         ensures own { image_in self.new.own ≡ with_data bytes.now serial (image_in self.old.own) }
         ensures same { self.new.place ≡ self.old.place }
     {
-        held(&mut self.own).image_mut().add(bytes, serial);
+        let table = &self.mail.shared;
+        let image = self.seat.slot_mut(table, self.slot).image_mut();
+        image.add(bytes, serial);
     }
 
     /// The image's next datagram, of so many bytes, has no data: they are zeros. The image has room for them.
@@ -69,7 +61,9 @@ impl ImageSender {
         ensures own { image_in self.new.own ≡ with_zeros size (image_in self.old.own) }
         ensures same { self.new.place ≡ self.old.place }
     {
-        held(&mut self.own).image_mut().add_zeros(size);
+        let table = &self.mail.shared;
+        let image = self.seat.slot_mut(table, self.slot).image_mut();
+        image.add_zeros(size);
     }
 
     /// The task has these outputs after those that the image has. The image has room for them.
@@ -78,7 +72,9 @@ impl ImageSender {
         ensures own { image_in self.new.own ≡ with_outputs outputs.now (image_in self.old.own) }
         ensures same { self.new.place ≡ self.old.place }
     {
-        held(&mut self.own).image_mut().add_outputs(outputs);
+        let table = &self.mail.shared;
+        let image = self.seat.slot_mut(table, self.slot).image_mut();
+        image.add_outputs(outputs);
     }
 
     /// The image is sent. The task's next look shows it, unless a newer one is sent before. The image that comes back is an
@@ -88,10 +84,8 @@ impl ImageSender {
         ensures same { StaysAtTable self.old.place self.old.own self.new.place self.new.own }
     {
         let shared = &self.mail.shared;
-        mem::swap(self.place.slot_mut(shared, self.slot), &mut self.own);
-        let word = shared.swap::<Send>(&mut self.place, 0, self.slot as u64 + 4);
+        let word = shared.swap::<Send>(&mut self.seat, 0, self.slot as u64 + 4);
         self.slot = (word % 4) as usize;
-        mem::swap(self.place.slot_mut(shared, self.slot), &mut self.own);
     }
 
     /// A note of what was sent so far, for the task's end to learn.
@@ -100,7 +94,7 @@ impl ImageSender {
         ensures same { (self.new.place ≡ self.old.place) × (self.new.own ≡ self.old.own) }
     {
         let shared = &self.mail.shared;
-        let place = shared.split_seat::<MakeNote>(&mut self.place);
+        let place = shared.split_seat::<MakeNote>(&mut self.seat);
         Note { place }
     }
 
@@ -112,8 +106,8 @@ impl ImageSender {
     {
         let Note { place } = note;
         let shared = &self.mail.shared;
-        shared.join_seat::<Learn>(&mut self.place, place);
-        shared.load::<Confirm>(&mut self.place, 0);
+        shared.join_seat::<Learn>(&mut self.seat, place);
+        shared.load::<Confirm>(&mut self.seat, 0);
     }
 
     /// The end may go to another thread.

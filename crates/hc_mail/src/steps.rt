@@ -10,42 +10,42 @@ use atomic_table::{Join, Play, Split};
 /// The owner's end takes its slot.
 pub(crate) struct Enter;
 
-impl Play<Option<ImageBox>, Insight> for Enter {
+impl Play<ImageBox, Insight> for Enter {
     ghost then = { entered };
 }
 
 /// The task's end takes its slot.
 pub(crate) struct Wait;
 
-impl Play<Option<ImageBox>, Insight> for Wait {
+impl Play<ImageBox, Insight> for Wait {
     ghost then = { waited };
 }
 
 /// An image is sent.
 pub(crate) struct Send;
 
-impl Play<Option<ImageBox>, Insight> for Send {
+impl Play<ImageBox, Insight> for Send {
     ghost then = { image_sent };
 }
 
 /// The task's end finds out whether the middle image is newer than its own.
 pub(crate) struct Find;
 
-impl Play<Option<ImageBox>, Insight> for Find {
+impl Play<ImageBox, Insight> for Find {
     ghost then = { found };
 }
 
 /// The newer image is taken.
 pub(crate) struct Take;
 
-impl Play<Option<ImageBox>, Insight> for Take {
+impl Play<ImageBox, Insight> for Take {
     ghost then = { image_taken };
 }
 
 /// The owner's end sees that what a note named was sent here.
 pub(crate) struct Confirm;
 
-impl Play<Option<ImageBox>, Insight> for Confirm {
+impl Play<ImageBox, Insight> for Confirm {
     ghost then = { confirmed };
 }
 

@@ -1,6 +1,7 @@
 //! The table that both ends share, and what each of them knows. The table has one word and three slots. The word is the number
-//! of the slot in the middle, and 4 more where an image was sent since the last look. The middle slot holds its image; the
-//! slots of the ends are empty, since each end keeps its image beside it.
+//! of the slot in the middle, and 4 more where an image was sent since the last look. The owner's image and the middle one lie
+//! in their slots. The task's end has its image beside it, so that a task may read without changing the end; in its slot lies
+//! one without room.
 use crate::image::{ImageBox, TaskImage};
 use atomic_table::{Seat, Shared, Table, TableRule};
 use std::alloc::Global;
@@ -35,7 +36,7 @@ pub struct Insight {
 /// The rule of the table, whose key is the mailbox's room.
 pub struct MailRule;
 
-impl TableRule<Option<ImageBox>, Insight, (usize, usize)> for MailRule {
+impl TableRule<ImageBox, Insight, (usize, usize)> for MailRule {
     ghost use Rattle.hc_mail.specs.Rule.{IsMail, opener};
 
     ghost holds = { IsMail };
@@ -43,6 +44,6 @@ impl TableRule<Option<ImageBox>, Insight, (usize, usize)> for MailRule {
     ghost first = { λ _. opener };
 }
 
-pub(crate) type MailTable = Table<Option<ImageBox>, Insight, (usize, usize), MailRule, Global>;
+pub(crate) type MailTable = Table<ImageBox, Insight, (usize, usize), MailRule, Global>;
 
-pub(crate) type Place = Seat<Option<ImageBox>, Insight>;
+pub(crate) type Place = Seat<ImageBox, Insight>;

@@ -1,11 +1,11 @@
 //! A task's thread looks at the newest image of its seat.
-ghost use Rattle.std.specs.Prelude.{◌≡◌, ◌≢◌, ◌+◌, ◌*◌, ◌^◌, ◌<◌, ◌≤◌, ◌++◌, IfSome, None, Option, drop, is_some, length, map};
+ghost use Rattle.std.specs.Prelude.{◌≡◌, ◌≢◌, ◌+◌, ◌*◌, ◌^◌, ◌<◌, ◌≤◌, ◌++◌, if◌then◌else◌, IfSome, None, Option, drop, is_some, length, map};
 ghost use Rattle.hc_records.specs.declared.limits.TheConstants.{MOST_DATAGRAMS};
 ghost use Rattle.hc_mail.specs.Images.{image_in};
 ghost use Rattle.hc_c.specs.Lists.{put_first};
 ghost use Rattle.hc_c.specs.Reads.{fit_number, mask_of};
 ghost use Rattle.hc_c.specs.SeatRoom.{image_room};
-ghost use Rattle.hc_c.specs.Seats.{LooksOn, GivesImage, at_hand, serials_answered};
+ghost use Rattle.hc_c.specs.Seats.{LooksOn, GivesImage, at_hand, mask_from, serials_answered};
 ghost use Rattle.hc_c.specs.declared.numbers.TheConstants.{CLOSED};
 
 use crate::numbers::{CLOSED, DONE, ROOM};
@@ -34,31 +34,44 @@ fn put_front(bytes: &[u8], out: &mut [u8])
     out[..bytes.len()].copy_from_slice(bytes);
 }
 
-/// Gives the serial of each datagram, 0 where it has no data, as many as there is room for. A task has 16 datagrams at most, so
-/// deep is this recursion.
-fn put_serials(serials: &[Option<u64>], out: &mut [u64])
-    ensures { out.new ≡ put_first (serials_answered serials.now) out.old }
+/// The bits of some datagrams, with that of one more where it is set.
+fn with_bit(has: u32, bit: u32, is_set: bool) -> u32
+    requires { has + bit ≤ 65536 }
+    ensures { result ≡ has + (if is_set then bit else 0) }
 {
-    let Some((serial, rest)) = serials.split_first() else {
-        return;
-    };
-    let Some((first, others)) = out.split_first_mut() else {
-        return;
-    };
-    *first = serial.unwrap_or(0);
-    put_serials(rest, others);
+    if is_set { has + bit } else { has }
 }
 
-/// The bits of the datagrams that have data, the first one's the least significant. So deep is this recursion too.
-fn mask(serials: &[Option<u64>]) -> u16
-    requires few { length serials.now ≤ MOST_DATAGRAMS }
-    ensures mask { result ≡ mask_of (map is_some serials.now) }
-    ensures below { result < 2 ^ length serials.now }
+/// Gives the serial of each datagram, 0 where it has no data, as many as there is room for, and adds the bits of those that have
+/// data to those of the datagrams before; `bit` is the first one's. A task has 16 datagrams at most, so deep is this recursion.
+fn put_serials(serials: &[Option<u64>], out: &mut [u64], bit: u32, has: u32) -> u32
+    requires few { bit * 2 ^ length serials.now ≤ 65536 }
+    requires before { has < bit }
+    ensures serials { out.new ≡ put_first (serials_answered serials.now) out.old }
+    ensures has { result ≡ has + mask_from bit (map is_some serials.now) }
+    ensures below { result < 65536 }
 {
-    match serials {
-        [] => 0,
-        [serial, rest @ ..] => u16::from(serial.is_some()) + 2 * mask(rest),
+    let Some((serial, rest)) = serials.split_first() else {
+        return has;
+    };
+    let more = with_bit(has, bit, serial.is_some());
+    match out.split_first_mut() {
+        Some((first, others)) => {
+            *first = serial.unwrap_or(0);
+            put_serials(rest, others, 2 * bit, more)
+        }
+        None => put_serials(rest, &mut [], 2 * bit, more),
     }
+}
+
+/// Gives the serial of each datagram, as many as there is room for, and answers which have data: the first one's bit is the least
+/// significant.
+fn give_serials(serials: &[Option<u64>], out: &mut [u64]) -> u16
+    requires { length serials.now ≤ MOST_DATAGRAMS }
+    ensures serials { out.new ≡ put_first (serials_answered serials.now) out.old }
+    ensures mask { result ≡ mask_of (map is_some serials.now) }
+{
+    put_serials(serials, out, 1, 0) as u16
 }
 
 /// Gives an image: `DONE`, or `ROOM` where `out` is too short.
@@ -74,12 +87,12 @@ fn give_image(image: &TaskImage, out: &mut [u8], serials: &mut [u64], view: &mut
         return ROOM;
     }
     put_front(bytes, out);
-    put_serials(image.serials(), serials);
+    let has = give_serials(image.serials(), serials);
     *view = SeatView {
         epoch: image.epoch(),
         size: bytes.len(),
         outputs: image.outputs().len(),
-        has: mask(image.serials()),
+        has,
     };
     DONE
 }

@@ -11,9 +11,8 @@ pub invariant_of-self : goal.invariant_of-self
 invariant_of-self c = let now = c.join_seat.ensures.2 in let was = c.args.self.now.looks in record {
   seated = search rules;
   sized = search rules;
-  held = search rules;
   roomy = search rules;
   small = search rules;
-  looks = is_posed _ _ _ (ap (λ m. m.0.role) now ∙ ap (λ s. s.me.0.role) was) (ap (λ m. m.1) now ∙ ap (λ s. s.me.1) was);
+  looks = is_posed _ _ _ _ (ap (λ m. m.0.role) now ∙ ap (λ s. s.me.0.role) was) (ap (λ m. m.1) now ∙ ap (λ s. s.me.1) was);
   shows = c.args.self.now.shows ∙ ap (λ m. newest (image_in c.args.self.now.shown).room m.0.seen) (sym now);
 }
