@@ -5,10 +5,10 @@ use Rattle.std.specs.Prelude.{slice_get}
 use Rattle.std.proofs.lemmas.Bool.{cases_lt}
 use Rattle.std.proofs.lemmas.List.{get_or_append_left, get_or_push, length_push}
 use Rattle.std.proofs.lemmas.Option.{same_Some}
-use Rattle.hc_records.specs.declared.limits.TheConstants.{MOST_DATAGRAMS, TASKS}
+use Rattle.hc_records.specs.declared.limits.TheConstants.{MOST_DATAGRAMS}
 use Rattle.hc_places.specs.Swap.{ChangedTask, ChangesAscend}
 use Rattle.hc_places.specs.Table.{Table, TaskTable}
-use Rattle.hc_images.specs.Packed.{Bytes, HasSizes, length_in, slot_bytes}
+use Rattle.hc_images.specs.Packed.{Bytes, HasSizes, length_in}
 use Rattle.hc_images.specs.Pieces.{AddsRoom, HasRoomToGrow, HasTaskRoom, ResizesEach, byte_count, table_data_length}
 use Rattle.hc_images.proofs.Numbered.{ascend-differ}
 

@@ -1,6 +1,5 @@
 use Rattle.std.proofs.Common.{◌<◌, ◌∙◌, ℕ, ap, replicate, subst, sym}
 use Rattle.hc_images.specs.Packed.{length_in}
-use Rattle.hc_images.specs.Pieces.{table_data_length}
 use Rattle.hc_images.proofs.Growing.{next-added}
 use Rattle.hc_images.proofs.rows.push_room.Goals as goal
 

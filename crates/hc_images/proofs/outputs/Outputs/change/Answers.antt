@@ -1,8 +1,8 @@
 use Rattle.std.proofs.Common.{◌≡◌, subst, sym, true}
 use Rattle.hc_images.specs.Moves.{Moves, moved_table}
-use Rattle.hc_images.specs.Packed.{Carries, HasSizes, HoldsOutputValues, IsLaidOut, Packed}
+use Rattle.hc_images.specs.Packed.{Carries, HasSizes, HoldsOutputValues, Packed}
 use Rattle.hc_images.specs.Pieces.{carried_bit}
-use Rattle.hc_images.specs.Values.{KeepEntries, unchanged}
+use Rattle.hc_images.specs.Values.{unchanged}
 use Rattle.hc_images.proofs.Carrying.{carried-ones}
 use Rattle.hc_images.proofs.Outcomes.{are-whole}
 use Rattle.hc_images.proofs.outputs.Outputs.change.Goals as goal
