@@ -1,5 +1,6 @@
 pub mod lemmas
 pub mod Carrying
+pub mod Growing
 pub mod Masks
 pub mod Numbered
 pub mod Outcomes

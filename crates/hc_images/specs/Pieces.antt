@@ -109,6 +109,31 @@ resized size bytes = take size bytes ++ replicate (size - length bytes) 0
 abbrev pub table_data_length : TaskTable → ℕ → ℕ
 table_data_length table d = option_map_or (λ datagram. datagram.length) (slice_get table.datagrams d) 0
 
+-- how many bytes there are for a datagram
+abbrev pub byte_count : Bytes → ℕ → ℕ → ℕ
+byte_count bytes task d = length (slot_bytes bytes task d)
+
+-- zeros were added for each of the first n datagrams of a task that gets longer than `size`, as many as it gets
+pub record AddsRoom (n : ℕ) (size : ℕ → ℕ → ℕ) (task : ℕ) (table : TaskTable) (old new : Bytes) : Type 0 where
+  pub all : length new ≡ length old + n
+  pub zeros :
+      (d : ℕ) → d < n → size task d < table_data_length table d
+      → slice_index_or new (length old + d) [] ≡ replicate (table_data_length table d) 0
+  pub rest : (m : ℕ) → m < length old → slice_index_or new m [] ≡ slice_index_or old m []
+
+-- from `at` on there are such zeros for each datagram of a task
+abbrev pub HasTaskRoom : (ℕ → ℕ → ℕ) → ℕ → TaskTable → ℕ → Bytes → Type 0
+HasTaskRoom size task table at room =
+    (d : ℕ) → task < TASKS → d < MOST_DATAGRAMS → size task d < table_data_length table d
+    → slice_index_or room (at + d) [] ≡ replicate (table_data_length table d) 0
+
+-- there are such zeros for the first n of changed tasks: those for datagrams of the i-th one are at `slot_bytes room i`
+pub record HasRoomToGrow (n : ℕ) (size : ℕ → ℕ → ℕ) (changed : List ChangedTask) (room : Bytes) : Type 0 where
+  pub all : length room ≡ MOST_DATAGRAMS * n
+  pub zeros :
+      (i d : ℕ) (own : ChangedTask) → i < n → slice_get changed i ≡ Some own → own.0 < TASKS → d < MOST_DATAGRAMS
+      → size own.0 d < table_data_length own.1 d → slot_bytes room i d ≡ replicate (table_data_length own.1 d) 0
+
 -- the bytes of a task's datagrams get the lengths of its table, and those of every other task stay
 pub record Resizes (task : ℕ) (table : TaskTable) (old new : Bytes) : Type 0 where
   pub own : (d : ℕ) → d < MOST_DATAGRAMS → slot_bytes new task d ≡ resized (table_data_length table d) (slot_bytes old task d)

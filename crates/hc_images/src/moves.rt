@@ -3,29 +3,29 @@
 ghost use Rattle.std.specs.Prelude.{◌≡◌, ◌*◌, length};
 ghost use Rattle.hc_records.specs.declared.limits.TheConstants.{MOST_DATAGRAMS, TASKS};
 ghost use Rattle.hc_places.specs.Swap.{swapped};
-ghost use Rattle.hc_images.specs.Packed.{HasSizes, IsLaidOut};
-ghost use Rattle.hc_images.specs.Pieces.{HoldsMoves, word_of, CarriesOver};
+ghost use Rattle.hc_images.specs.Packed.{HasSizes, IsLaidOut, length_in};
+ghost use Rattle.hc_images.specs.Pieces.{HasRoomToGrow, HoldsMoves, word_of, CarriesOver};
 ghost use Rattle.hc_images.specs.Values.{KeepEntries};
 
 use crate::row::DatagramBytes;
-use crate::rows::{output, put_down, resize, take_up};
+use crate::rows::{output, put_down, resize, room_for, take_up};
 use hc_places::swap::Swap;
 use hc_places::table::{Place, Places};
 use std::alloc::{AllocError, Global};
 use std::marker::Model;
 use std::snapshot::Snapshot;
 
-/// Where the variables that an edit moves, or that appear or go, was as outputs, with the memory for their
+/// Where the variables that an edit moves, or that appear or go, were as outputs, with the memory for their
 /// values. Contracts see the table where they were, and what the edit changes in it.
 #[derive(Drop)]
-pub struct Moves {
+pub(crate) struct MovedPlaces {
     before: Snapshot<Places>,
     swap: Snapshot<Swap>,
     places: Vec<Option<Place>>,
     values: Vec<u64>,
 }
 
-impl Model for Moves {
+impl Model for MovedPlaces {
     ghost use Rattle.hc_images.specs.Moves.{Moves};
     ghost use Rattle.hc_images.specs.Pieces.{HoldsMoves};
 
@@ -36,6 +36,30 @@ impl Model for Moves {
     ghost invariant = { λ moves. HoldsMoves (record { before = moves.before.value; change = moves.swap.value.change }) moves.places.items moves.values.items };
 }
 
+/// The moves of output values, with all memory that they take: for the values, and for the datagrams that get longer.
+/// Contracts see the table where the variables were, and what the edit changes in it.
+#[derive(Drop)]
+pub struct Moves {
+    pub(crate) moved: MovedPlaces,
+    // for the bytes as they are sent
+    pub(crate) sent: Vec<DatagramBytes>,
+    // for the masks
+    pub(crate) masks: Vec<DatagramBytes>,
+}
+
+impl Model for Moves {
+    ghost use Rattle.std.specs.Prelude.{length};
+    ghost use Rattle.hc_images.specs.Moves.{Moves};
+    ghost use Rattle.hc_images.specs.Packed.{length_in};
+    ghost use Rattle.hc_images.specs.Pieces.{HasRoomToGrow};
+
+    ghost Value = { Moves };
+
+    ghost view = { λ moves. moves.moved };
+
+    ghost invariant = { λ moves. HasRoomToGrow (length moves.moved.change.tasks) (length_in moves.moved.before) moves.moved.change.tasks moves.sent.items × HasRoomToGrow (length moves.moved.change.tasks) (length_in moves.moved.before) moves.moved.change.tasks moves.masks.items };
+}
+
 /// A word of ones, or of zeros.
 fn word_of(ones: bool) -> u64
     ensures { result ≡ word_of ones }
@@ -44,11 +68,13 @@ fn word_of(ones: bool) -> u64
 }
 
 /// Carries bits over from the places in the one table to those in the other: all are taken up before any is
-/// put down. The bits of a variable that had no place are all ones or all zeros.
+/// put down. The bits of a variable that had no place are all ones or all zeros. Datagrams that get longer take the memory of
+/// `room`.
 fn carry_over(
     rows: &mut [DatagramBytes],
     places: &[Option<Place>],
     values: &mut [u64],
+    room: &mut [DatagramBytes],
     before: &Snapshot<Places>,
     swap: &Swap,
     ones: bool,
@@ -59,29 +85,29 @@ fn carry_over(
     requires laid_out { IsLaidOut (swapped swap.now.change before.now.value) }
     requires entries { KeepEntries before.now.value (swapped swap.now.change before.now.value) }
     requires sizes { HasSizes before.now.value rows.old }
+    requires room { HasRoomToGrow (length swap.now.change.tasks) (length_in before.now.value) swap.now.change.tasks room.old }
     ensures carried { CarriesOver before.now.value (swapped swap.now.change before.now.value) ones rows.old rows.new }
     ensures sizes { HasSizes (swapped swap.now.change before.now.value) rows.new }
     ensures all { length rows.new ≡ MOST_DATAGRAMS * TASKS }
-    ensures room { length values.new ≡ length values.old }
+    ensures values { length values.new ≡ length values.old }
 {
     let changed = swap.changes();
     let tasks = swap.tasks();
     take_up(rows, places, word_of(ones), values);
-    resize(rows, tasks);
+    resize(rows, tasks, room);
     put_down(rows, changed, values);
 }
 
-impl Moves {
+impl MovedPlaces {
     ghost use Rattle.std.specs.Prelude.{◌≡◌, ◌*◌, IfOk, length};
     ghost use Rattle.hc_records.specs.declared.limits.TheConstants.{MOST_DATAGRAMS, TASKS};
     ghost use Rattle.hc_images.specs.Moves.{moved_table};
-    ghost use Rattle.hc_images.specs.Packed.{HasSizes, IsLaidOut};
-    ghost use Rattle.hc_images.specs.Pieces.{CarriesOver};
+    ghost use Rattle.hc_images.specs.Packed.{HasSizes, IsLaidOut, length_in};
+    ghost use Rattle.hc_images.specs.Pieces.{CarriesOver, HasRoomToGrow};
     ghost use Rattle.hc_images.specs.Values.{KeepEntries};
 
-    /// The moves of output values over what a swap changes in a table. The swap says where the changed variables are
-    /// there, and no others are looked at. `AllocError` where a growth was refused.
-    pub fn of(alloc: Global, old: &Places, swap: &Swap) -> Result<Moves, AllocError>
+    /// Where the variables that a swap changes are as outputs in a table. `AllocError` where a growth was refused.
+    fn of(alloc: Global, old: &Places, swap: &Swap) -> Result<MovedPlaces, AllocError>
         ensures { IfOk result (λ moves. moves ≡ record { before = old.now; change = swap.now.change }) }
     {
         old.is_table();
@@ -92,7 +118,7 @@ impl Moves {
             places.push(output(old.old_place(row)))?;
             values.push(0)?;
         }
-        Ok(Moves {
+        Ok(MovedPlaces {
             before: Snapshot::of(old),
             swap: Snapshot::of(swap),
             places,
@@ -101,25 +127,50 @@ impl Moves {
     }
 
     /// Carries bits over to their new places, as `carry_over` does.
-    pub(crate) fn carry(&mut self, rows: &mut Vec<DatagramBytes>, swap: &Swap, ones: bool)
+    pub(crate) fn carry(
+        &mut self,
+        rows: &mut Vec<DatagramBytes>,
+        room: Vec<DatagramBytes>,
+        swap: &Swap,
+        ones: bool,
+    )
         requires all { length rows.old.items ≡ MOST_DATAGRAMS * TASKS }
         requires swap { swap.now.change ≡ self.old.change }
         requires laid { IsLaidOut self.old.before }
         requires laid_out { IsLaidOut (moved_table self.old) }
         requires entries { KeepEntries self.old.before (moved_table self.old) }
         requires sizes { HasSizes self.old.before rows.old.items }
+        requires room { HasRoomToGrow (length self.old.change.tasks) (length_in self.old.before) self.old.change.tasks room.items }
         ensures carried { CarriesOver self.old.before (moved_table self.old) ones rows.old.items rows.new.items }
         ensures sizes { HasSizes (moved_table self.old) rows.new.items }
         ensures all { length rows.new.items ≡ MOST_DATAGRAMS * TASKS }
         ensures same { self.new ≡ self.old }
     {
+        let mut room = room;
         carry_over(
             rows.as_mut_slice(),
             self.places.as_slice(),
             self.values.as_mut_slice(),
+            room.as_mut_slice(),
             &self.before,
             swap,
             ones,
         );
+    }
+}
+
+impl Moves {
+    ghost use Rattle.std.specs.Prelude.{◌≡◌, IfOk};
+
+    /// The moves of output values over what a swap changes in a table. The swap says where the changed variables are
+    /// there, and no others are looked at. `AllocError` where a growth was refused.
+    pub fn of(alloc: Global, old: &Places, swap: &Swap) -> Result<Moves, AllocError>
+        ensures { IfOk result (λ moves. moves ≡ record { before = old.now; change = swap.now.change }) }
+    {
+        let moved = MovedPlaces::of(alloc, old, swap)?;
+        let tasks = swap.tasks();
+        let sent = room_for(alloc, old, tasks)?;
+        let masks = room_for(alloc, old, tasks)?;
+        Ok(Moves { moved, sent, masks })
     }
 }

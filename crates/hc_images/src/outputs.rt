@@ -14,9 +14,9 @@ use hc_records::task::Task;
 use std::alloc::{AllocError, Global};
 use std::marker::Model;
 
-/// The bytes of each datagram as they are sent, and masks of the bits of output variables. It has room for
-/// the longest data of every datagram that a line can have, twice about 190,000 bytes, from the start: so no
-/// post takes memory, and an edit for the moved values alone.
+/// The bytes of each datagram as they are sent, and masks of the bits of output variables. Each has memory of its own for the
+/// bytes of its datagram: so no post takes memory, and an edit, whose `Moves` bring it, for the moved values and for the
+/// datagrams that get longer. Memory of a datagram that gets shorter, or goes, stays until it gets longer again.
 #[derive(Debug)]
 pub struct Outputs {
     sent: Vec<DatagramBytes>,
@@ -87,8 +87,7 @@ impl Outputs {
     ghost use Rattle.hc_images.specs.Packed.{HasSizes, HoldsOutputValues, IsLaidOut, sent_bytes};
     ghost use Rattle.hc_images.specs.Values.{KeepEntries, unchanged, posted_values};
 
-    /// The outputs of a table whose values are all 0. `AllocError` where a growth was refused; no other call
-    /// takes memory.
+    /// The outputs of a table whose values are all 0. `AllocError` where a growth was refused; no other call takes memory.
     pub fn new(alloc: Global, places: &Places) -> Result<Outputs, AllocError>
         requires { IsLaidOut places.now }
         ensures { IfOk result (λ outputs. HoldsOutputValues places.now (λ variable k. 0) outputs) }
@@ -123,7 +122,7 @@ impl Outputs {
 
     /// The line changed from one table to another, by a swap: a variable with a place in the old one keeps
     /// its value, and the value of any other is 0. Only the bytes of changed variables and of changed tasks
-    /// are touched. It takes no memory.
+    /// are touched. It takes no memory; the moves bring all that it needs.
     pub fn change(&mut self, moves: Moves, swap: &Swap)
         requires swap { swap.now.change ≡ moves.change }
         requires laid { IsLaidOut moves.before }
@@ -132,8 +131,12 @@ impl Outputs {
         requires sizes { HasSizes moves.before self.old.sent }
         ensures { (value : ℕ → ℕ → ℕ) → HoldsOutputValues moves.before value self.old → HoldsOutputValues (moved_table moves) (unchanged moves.before value) self.new }
     {
-        let mut moves = moves;
-        moves.carry(&mut self.sent, swap, false);
-        moves.carry(&mut self.masks, swap, true);
+        let Moves {
+            mut moved,
+            sent,
+            masks,
+        } = moves;
+        moved.carry(&mut self.sent, sent, swap, false);
+        moved.carry(&mut self.masks, masks, swap, true);
     }
 }

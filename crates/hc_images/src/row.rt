@@ -1,16 +1,17 @@
 //! The bytes of one datagram.
-ghost use Rattle.std.specs.Prelude.{◌≡◌, ◌+◌, ◌*◌, ◌^◌, ◌<◌, ◌≤◌, ℕ, length, min};
+ghost use Rattle.std.specs.Prelude.{◌≡◌, ◌+◌, ◌++◌, ◌*◌, ◌^◌, ◌<◌, ◌≤◌, ℕ, drop, length, min};
 ghost use Rattle.std.specs.Int.{bit_at};
 ghost use Rattle.hc_bits.specs.Bits.{AreBytes, bit_of, ReplacesRun};
 
-use arrayvec::ArrayVec;
 use hc_bits::{get_bits, put_bits};
+use std::alloc::{AllocError, Global};
 use std::marker::Model;
+use std::mem;
 
-/// The bytes of a datagram, at most 1,486, with room for so many.
+/// The bytes of a datagram, in memory of their own.
 #[derive(Debug, Drop)]
 pub(crate) struct DatagramBytes {
-    bytes: ArrayVec<u8, 1486>,
+    bytes: Vec<u8>,
 }
 
 impl Model for DatagramBytes {
@@ -19,6 +20,14 @@ impl Model for DatagramBytes {
     ghost Value = { List ℕ };
 
     ghost view = { λ row. row.bytes.items };
+}
+
+/// The first bytes become these, and the others stay.
+fn put_front(own: &mut [u8], bytes: &[u8])
+    requires { length bytes.now ≤ length own.old }
+    ensures { own.new ≡ bytes.now ++ drop (length bytes.now) own.old }
+{
+    own[..bytes.len()].copy_from_slice(bytes);
 }
 
 /// Each byte becomes the one of `bytes` at its index with the bits of the mask alone, or 0 after their
@@ -68,22 +77,19 @@ fn put_run(bytes: &mut [u8], at: usize, bits: u8, value: u64)
 }
 
 impl DatagramBytes {
-    ghost use Rattle.std.specs.Prelude.{◌≡◌, ◌+◌, ◌*◌, ◌<◌, ◌≤◌, ℕ, length, min, replicate};
+    ghost use Rattle.std.specs.Prelude.{◌≡◌, ◌+◌, ◌++◌, ◌*◌, ◌<◌, ◌≤◌, ℕ, IfOk, drop, length, min, replicate};
     ghost use Rattle.std.specs.Int.{bit_at};
     ghost use Rattle.hc_bits.specs.Bits.{AreBytes, bit_of, ReplacesRun};
-    ghost use Rattle.hc_records.specs.declared.limits.TheConstants.{MOST_DATAGRAM_BYTES, MOST_ENTRY_BITS};
+    ghost use Rattle.hc_records.specs.declared.limits.TheConstants.{MOST_ENTRY_BITS};
     ghost use Rattle.hc_images.specs.Pieces.{resized};
 
-    /// So many zeros.
-    pub(crate) fn zeros(length: u16) -> DatagramBytes
-        requires { length ≤ MOST_DATAGRAM_BYTES }
-        ensures { result ≡ replicate length 0 }
+    /// So many zeros. `AllocError` where the growth was refused; none takes no memory.
+    pub(crate) fn zeros(alloc: Global, size: u16) -> Result<DatagramBytes, AllocError>
+        ensures { IfOk result (λ row. row ≡ replicate size 0) }
     {
-        let mut bytes = ArrayVec::new();
-        for _ in 0..length {
-            bytes.push(0);
-        }
-        DatagramBytes { bytes }
+        Ok(DatagramBytes {
+            bytes: vec![in alloc; 0; usize::from(size)]?,
+        })
     }
 
     /// The bytes.
@@ -93,16 +99,26 @@ impl DatagramBytes {
         self.bytes.as_slice()
     }
 
-    /// Gets another length: bytes after it go, and those that come are zeros.
-    pub(crate) fn resize(&mut self, length: u16)
-        requires { length ≤ MOST_DATAGRAM_BYTES }
-        ensures { self.new ≡ resized length self.old }
+    /// Its bytes lie at the front of more zeros from now on, which give their memory for its own.
+    fn grow(&mut self, zeros: &mut DatagramBytes)
+        requires { length self.old ≤ length zeros.old }
+        ensures { self.new ≡ self.old ++ drop (length self.old) zeros.old }
     {
-        let length = usize::from(length);
-        let missing = length.saturating_sub(self.bytes.len());
-        self.bytes.truncate(length);
-        for _ in 0..missing {
-            self.bytes.push(0);
+        put_front(&mut zeros.bytes, &self.bytes);
+        mem::swap(&mut self.bytes, &mut zeros.bytes);
+    }
+
+    /// Gets another length: bytes after it go, and those that come are zeros. Where it gets longer, `zeros` are as many as it
+    /// gets, and it takes their memory.
+    pub(crate) fn resize(&mut self, size: u16, zeros: &mut DatagramBytes)
+        requires { length self.old < size → zeros.old ≡ replicate size 0 }
+        ensures { self.new ≡ resized size self.old }
+    {
+        let size = usize::from(size);
+        if size <= self.bytes.len() {
+            self.bytes.truncate(size);
+        } else {
+            self.grow(zeros);
         }
     }
 

@@ -1,11 +1,11 @@
 //! The bytes of all datagrams that a line can have: made for a table, and what an edit does to them.
-ghost use Rattle.std.specs.Prelude.{◌≡◌, ◌+◌, ◌*◌, ◌<◌, ◌≤◌, IfOk, IfSome, Some, length, option_and_then, slice_index_or};
+ghost use Rattle.std.specs.Prelude.{◌≡◌, ◌+◌, ◌*◌, ◌<◌, ◌≤◌, ℕ, [], IfOk, IfSome, OnOk, Some, length, option_and_then, slice_index_or};
 ghost use Rattle.std.specs.Int.{bit_at};
 ghost use Rattle.std.specs.Option.{MatchOption};
 ghost use Rattle.hc_records.specs.declared.limits.TheConstants.{MOST_DATAGRAMS, TASKS};
 ghost use Rattle.hc_places.specs.Swap.{ChangesAscend};
 ghost use Rattle.hc_images.specs.Packed.{Carries, IsLaidOut, length_in, slot_bytes};
-ghost use Rattle.hc_images.specs.Pieces.{PlacesAreApart, AreBlank, Fit, ReadsEach, Resizes, ResizesEach, WritesAt, WritesEach, table_data_length, of_changed, of_list, output_of, ReadsAt};
+ghost use Rattle.hc_images.specs.Pieces.{PlacesAreApart, AddsRoom, AreBlank, Fit, HasRoomToGrow, HasTaskRoom, ReadsEach, Resizes, ResizesEach, WritesAt, WritesEach, byte_count, table_data_length, of_changed, of_list, output_of, ReadsAt};
 
 use crate::row::DatagramBytes;
 use hc_places::swap::{ChangedRow, ChangedTask};
@@ -38,7 +38,8 @@ pub(crate) fn blank_rows(alloc: Global, places: &Places) -> Result<Vec<DatagramB
             (slot / MOST_DATAGRAMS) as u8,
             (slot % MOST_DATAGRAMS) as u8,
         );
-        rows.push(DatagramBytes::zeros(length))?;
+        let row = DatagramBytes::zeros(alloc, length)?;
+        rows.push(row)?;
     }
     Ok(rows)
 }
@@ -165,24 +166,87 @@ fn length_of(table: &TaskTable, number: usize) -> u16
     }
 }
 
-/// Gives the datagrams of a task the lengths of its table.
-fn resize_task(rows: &mut [DatagramBytes], task: Task, table: &TaskTable)
-    requires { length rows.old ≡ MOST_DATAGRAMS * TASKS }
-    ensures { Resizes task table.now rows.old rows.new }
+/// A number of bytes where a datagram has fewer in a table; else 0.
+fn growth(places: &Places, task: Task, number: u8, size: u16) -> u16
+    ensures { length_in places.now task number < size → result ≡ size }
 {
-    for number in 0..MOST_DATAGRAMS {
-        let length = length_of(table, number);
-        rows[slot_number(task.number(), number as u8)].resize(length);
+    if length_in(places, task.number(), number) < size {
+        size
+    } else {
+        0
     }
 }
 
-/// Gives the datagrams of changed tasks the lengths of their new tables.
-pub(crate) fn resize(rows: &mut [DatagramBytes], changed: &[ChangedTask])
+/// Adds zeros for each datagram of a task that gets longer than in a table, as many as it gets, and none for any other.
+/// `AllocError` where a growth was refused.
+fn push_room(
+    alloc: Global,
+    room: &mut Vec<DatagramBytes>,
+    places: &Places,
+    task: Task,
+    table: &TaskTable,
+) -> Result<(), AllocError>
+    ensures { OnOk result (AddsRoom MOST_DATAGRAMS (length_in places.now) task table.now room.old.items room.new.items) }
+{
+    for number in 0..MOST_DATAGRAMS {
+        let size = growth(places, task, number as u8, length_of(table, number));
+        let zeros = DatagramBytes::zeros(alloc, size)?;
+        room.push(zeros)?;
+    }
+    Ok(())
+}
+
+/// Zeros for the datagrams of changed tasks that get longer than in a table, changed task by changed task. `AllocError` where
+/// a growth was refused.
+pub(crate) fn room_for(
+    alloc: Global,
+    places: &Places,
+    changed: &[ChangedTask],
+) -> Result<Vec<DatagramBytes>, AllocError>
+    ensures { IfOk result (λ room. HasRoomToGrow (length changed.now) (length_in places.now) changed.now room.items) }
+{
+    let mut room = Vec::with_capacity(alloc, MOST_DATAGRAMS)?;
+    for (task, table) in changed {
+        push_room(alloc, &mut room, places, *task, table)?;
+    }
+    Ok(room)
+}
+
+/// Gives the datagrams of a task the lengths of its table. Those that get longer take the memory of zeros, which are in `room`
+/// from `at` on.
+fn resize_task(
+    rows: &mut [DatagramBytes],
+    task: Task,
+    table: &TaskTable,
+    room: &mut [DatagramBytes],
+    at: usize,
+)
+    requires all { length rows.old ≡ MOST_DATAGRAMS * TASKS }
+    requires room { at + MOST_DATAGRAMS ≤ length room.old }
+    requires zeros { HasTaskRoom (byte_count rows.old) task table.now at room.old }
+    ensures resizes { Resizes task table.now rows.old rows.new }
+    ensures rest { (n : ℕ) → at + MOST_DATAGRAMS ≤ n → slice_index_or room.new n [] ≡ slice_index_or room.old n [] }
+    ensures size { length room.new ≡ length room.old }
+{
+    for number in 0..MOST_DATAGRAMS {
+        let size = length_of(table, number);
+        rows[slot_number(task.number(), number as u8)].resize(size, &mut room[at + number]);
+    }
+}
+
+/// Gives the datagrams of changed tasks the lengths of their new tables, in memory of `room` where they get longer.
+pub(crate) fn resize(
+    rows: &mut [DatagramBytes],
+    changed: &[ChangedTask],
+    room: &mut [DatagramBytes],
+)
     requires all { length rows.old ≡ MOST_DATAGRAMS * TASKS }
     requires ascends { ChangesAscend changed.now }
+    requires room { HasRoomToGrow (length changed.now) (byte_count rows.old) changed.now room.old }
     ensures { ResizesEach (length changed.now) changed.now rows.old rows.new }
 {
-    for (task, table) in changed {
-        resize_task(rows, *task, table);
+    for i in 0..changed.len() {
+        let own = &changed[i];
+        resize_task(rows, own.0, &own.1, room, MOST_DATAGRAMS * i);
     }
 }

@@ -6,6 +6,7 @@ use Rattle.hc_places.specs.Swap.{ChangedRow, ChangedTask, swapped}
 use Rattle.hc_images.specs.Packed.{HasSizes}
 use Rattle.hc_images.specs.Pieces.{PlacesAreApart, Fit, ReadsEach, ResizesEach, WritesEach, of_changed, of_list}
 use Rattle.hc_images.proofs.Carrying.{AreMoved, Course, cut-sizes, moved-carries}
+use Rattle.hc_images.proofs.Growing.{room-for}
 use Rattle.hc_images.proofs.Placing.{new-are, old-are, outputs-apart, outputs-fit}
 use Rattle.hc_images.proofs.moves.carry_over.Goals as goal
 
@@ -24,6 +25,13 @@ take_up-requires-clause-apart c =
     let stays = c.requires.stays in
     subst (λ n. PlacesAreApart n (of_list places)) (sym stays.are_placed.count)
     (outputs-apart old c.args.swap.now.change.rows (of_list places) c.requires.laid c.changes-changed.ensures.ascends (old-are c.args.swap.now.change old places stays.are_placed))
+
+pub resize-requires-clause-room : goal.resize-requires-clause-room
+resize-requires-clause-room c =
+    let old = c.args.before.now.value in
+    let taken = c.take_up.new.rows in
+    let sizes : HasSizes old taken = λ task d low few. c.take_up.ensures.writes.sizes (MOST_DATAGRAMS * task + d) ∙ c.requires.sizes task d low few in
+    room-for old c.args.swap.now.change.tasks c.tasks-tasks.result.now taken c.args.room.now c.tasks-tasks.ensures.tasks sizes c.requires.room
 
 pub put_down-requires-clause-fit : goal.put_down-requires-clause-fit
 put_down-requires-clause-fit c =

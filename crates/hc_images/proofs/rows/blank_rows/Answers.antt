@@ -10,9 +10,9 @@ loop-slot-preserved c =
     let slot = c.loop-slot.slot in
     let is = c.loop-slot.invariant in
     let more = c.in_ok-push.ensures.items in
-    let row = c.zeros.result in
+    let row = c.in_ok-row.row in
     let zeros : ℕ → List ℕ = λ n. replicate (length_in c.args.places.now (n / 16) (n % 16)) 0 in
-    let here = get_or_push rows row [] slot is.count ∙ c.zeros.ensures ∙ ap (λ (n : ℕ). replicate n 0) c.length_in-length.ensures.length in
+    let here = get_or_push rows row [] slot is.count ∙ c.in_ok-row.ensures ∙ ap (λ (n : ℕ). replicate n 0) c.length_in-length.ensures.length in
     record {
       count = ap length more ∙ length_push rows row ∙ ap (λ (n : ℕ). n + 1) is.count;
       zeros =

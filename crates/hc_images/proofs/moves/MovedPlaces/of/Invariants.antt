@@ -2,7 +2,7 @@ use Rattle.std.proofs.Common.{◌≡◌, ◌<◌, ℕ, length}
 use Rattle.std.specs.Prelude.{Some, slice_get}
 use Rattle.hc_places.specs.Swap.{ChangedRow}
 use Rattle.hc_images.specs.Pieces.{of_list, output_in}
-use Rattle.hc_images.proofs.moves.Moves.of.Given as goal
+use Rattle.hc_images.proofs.moves.MovedPlaces.of.Given as goal
 
 abbrev pub invariant-loop-row : goal.invariant-loop-row
 invariant-loop-row l = record {

@@ -8,7 +8,7 @@ use Rattle.hc_places.specs.Table.{Table}
 use Rattle.hc_images.specs.Moves.{Moves}
 use Rattle.hc_images.specs.Pieces.{HoldsMoves, of_list, output_in, output_of}
 use Rattle.hc_images.proofs.Placing.{next-is_placed}
-use Rattle.hc_images.proofs.moves.Moves.of.Goals as goal
+use Rattle.hc_images.proofs.moves.MovedPlaces.of.Goals as goal
 
 pub loop-row-preserved : goal.loop-row-preserved
 loop-row-preserved c =

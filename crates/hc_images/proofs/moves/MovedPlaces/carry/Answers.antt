@@ -2,10 +2,19 @@ use Rattle.std.proofs.Common.{◌≡◌, ap, arith, drop, length, subst, sym, �
 use Rattle.hc_places.specs.Swap.{Change, swapped}
 use Rattle.hc_places.specs.Table.{Table}
 use Rattle.hc_images.specs.Moves.{Moves, moved_table}
-use Rattle.hc_images.specs.Packed.{Bytes, Carries, HasSizes}
-use Rattle.hc_images.specs.Pieces.{carried_bit}
+use Rattle.hc_images.specs.Packed.{Bytes, Carries, HasSizes, length_in}
+use Rattle.hc_images.specs.Pieces.{HasRoomToGrow, carried_bit}
 use Rattle.hc_images.proofs.Carrying.{all-lent}
-use Rattle.hc_images.proofs.moves.Moves.carry.Goals as goal
+use Rattle.hc_images.proofs.moves.MovedPlaces.carry.Goals as goal
+
+pub carry_over-requires-clause-room : goal.carry_over-requires-clause-room
+carry_over-requires-clause-room c =
+    let moves = c.args.self.now in
+    let shown = c.as_mut_slice-3.result.now in
+    let table : c.self.inside.before.value ≡ moves.before = ap (λ (m : Moves). m.before) c.self.view_is in
+    subst (λ (t : Table). HasRoomToGrow (length c.args.swap.now.change.tasks) (length_in t) c.args.swap.now.change.tasks shown) (sym table)
+    (subst (λ (change : Change). HasRoomToGrow (length change.tasks) (length_in moves.before) change.tasks shown) (sym c.requires.swap)
+    (subst (λ (r : Bytes). HasRoomToGrow (length moves.change.tasks) (length_in moves.before) moves.change.tasks r) (sym c.as_mut_slice-3.ensures.value) c.requires.room))
 
 pub returns-clause-carried : goal.returns-clause-carried
 returns-clause-carried c = λ value before.
