@@ -1,15 +1,16 @@
 -- A frame is answered: it has no datagrams any more, and is awaited no longer.
-use Rattle.std.proofs.Common.{◌≡◌, ◌≢◌, ℕ, ◌<◌, ◌==◌, Bool, true, false, cond, not, List, [], ◌∷◌, length, map, filter, get_or, set, refl, sym, ap, subst, arith, ◌∙◌, ltb-true}
+use Rattle.std.proofs.Common.{◌≡◌, ◌≢◌, ℕ, ◌+◌, ◌-◌, ◌<◌, ◌==◌, ◌⊎◌, inl, inr, Bool, true, false, cond, not, List, [], ◌∷◌, ◌++◌, append-nil, get_or-take, take, take_all, length, map, filter, get_or, set, refl, sym, ap, subst, arith, ◌∙◌, ltb-true}
 use Rattle.std.specs.Prelude.{All, AllPairs, nat_lt}
 use Rattle.std.specs.List.Sorted.{IsPartitionPoint}
 use Rattle.std.proofs.lemmas.Bool.Decides.{nat_tests}
 use Rattle.std.proofs.lemmas.Grind.{get_or-set_at}
-use Rattle.std.proofs.lemmas.List.{ext_get_or, get_or-map, get_or-set_other, length-map, length-set}
-use Rattle.std.proofs.lemmas.List.Elements.{All-cons, All-head, All-nil, All-tail}
+use Rattle.std.proofs.lemmas.List.{ext_get_or, get_or-map, get_or-set_other, length-map, length-set, length-take, take_more}
+use Rattle.std.proofs.lemmas.List.Elements.{All-cons, All-filter, All-head, All-nil, All-tail, filter-append}
+use Rattle.std.proofs.lemmas.List.Kept.{AllPairs-filter}
 use Rattle.std.proofs.lemmas.Bool.{eq-eqb, ne_eqb, eqb-false, eqb-true}
-use Rattle.hc_records.proofs.lemmas.Choices.{below, by_bool}
+use Rattle.hc_records.proofs.lemmas.Choices.{below, by_bool, lower-other}
 use Rattle.hc_sendings.specs.Waiting.{AwaitedFrame, AwaitedWrite, IsTaskDatagram, ended, is_still_awaited}
-use Rattle.hc_sendings.specs.Stored.{AreStored, StoredFrame, LastSent, frame_emptied, last_sent_of}
+use Rattle.hc_sendings.specs.Stored.{AreStored, IsLast, StoredFrame, LastSent, frame_emptied, frames_without, last_sent_of}
 use Rattle.hc_sendings.proofs.AwaitedStill.{Table, awaited_at, answered_at}
 use Rattle.hc_sendings.proofs.Found.{above}
 
@@ -51,12 +52,30 @@ frames-ended at serial (stored ∷ frames) =
     (λ t. ap (λ (one : StoredFrame). cond (is_still_awaited (answered_at at one)) (answered_at at one ∷ awaited_at at (map (frame_emptied serial) frames)) (awaited_at at (map (frame_emptied serial) frames))) (emptied-not serial stored t)
     ∙ stays serial (answered_at at stored) (awaited_at at frames) (awaited_at at (map (frame_emptied serial) frames)) (is_still_awaited (answered_at at stored)) t (frames-ended at serial frames))
 
-pub all-ended : (last_sent : LastSent) (serial : ℕ) (frames next : List StoredFrame) (writes left : List AwaitedWrite) (forgotten : Bool) → next ≡ map (frame_emptied serial) frames
+frames-gone : (at : Table) (serial : ℕ) (frames : List StoredFrame)
+    → awaited_at at (frames_without serial frames) ≡ filter (λ (frame : AwaitedFrame). not (frame.serial == serial)) (awaited_at at frames)
+frames-gone at serial [] = refl
+frames-gone at serial (stored ∷ frames) =
+    by_bool (stored.serial == serial)
+    (λ t. ap (λ (b : Bool). awaited_at at (cond (not b) (stored ∷ frames_without serial frames) (frames_without serial frames))) t
+    ∙ frames-gone at serial frames
+    ∙ sym (dropped serial (answered_at at stored) (awaited_at at frames) (is_still_awaited (answered_at at stored)) t))
+    (λ t. ap (λ (b : Bool). awaited_at at (cond (not b) (stored ∷ frames_without serial frames) (frames_without serial frames))) t
+    ∙ stays serial (answered_at at stored) (awaited_at at frames) (awaited_at at (frames_without serial frames)) (is_still_awaited (answered_at at stored)) t (frames-gone at serial frames))
+
+abbrev AreEnded : ℕ → List StoredFrame → List StoredFrame → Type 0
+AreEnded serial frames next = (next ≡ map (frame_emptied serial) frames) ⊎ (next ≡ frames_without serial frames)
+
+ended-either : (at : Table) (serial : ℕ) (frames next : List StoredFrame) → AreEnded serial frames next
+    → awaited_at at next ≡ filter (λ (frame : AwaitedFrame). not (frame.serial == serial)) (awaited_at at frames)
+ended-either at serial frames next (inl e) = ap (awaited_at at) e ∙ frames-ended at serial frames
+ended-either at serial frames next (inr e) = ap (awaited_at at) e ∙ frames-gone at serial frames
+
+pub all-ended : (last_sent : LastSent) (serial : ℕ) (frames next : List StoredFrame) (writes left : List AwaitedWrite) (forgotten : Bool) → AreEnded serial frames next
     → left ≡ filter (λ (one : AwaitedWrite). not (one.serial == serial)) writes
     → record { frames = awaited_at (last_sent_of last_sent) next; writes = left; forgotten = forgotten } ≡ ended serial (record { frames = awaited_at (last_sent_of last_sent) frames; writes = writes; forgotten = forgotten })
 all-ended last_sent serial frames next writes left forgotten are is =
-    ap (λ (stored : List StoredFrame). record { frames = awaited_at (last_sent_of last_sent) stored; writes = left; forgotten = forgotten }) are
-    ∙ ap (λ (all : List AwaitedFrame). record { frames = all; writes = left; forgotten = forgotten }) (frames-ended (last_sent_of last_sent) serial frames)
+    ap (λ (all : List AwaitedFrame). record { frames = all; writes = left; forgotten = forgotten }) (ended-either (last_sent_of last_sent) serial frames next are)
     ∙ ap (λ (some : List AwaitedWrite). record { frames = filter (λ (frame : AwaitedFrame). not (frame.serial == serial)) (awaited_at (last_sent_of last_sent) frames); writes = some; forgotten = forgotten }) is
 
 -- the frames are kept as before
@@ -89,10 +108,18 @@ ascend-all serial frames ascend i j d low within =
     let held = ascend i j d low inside in
     omega (arith, first, second, held)
 
-pub stored-ended : (last_sent : LastSent) (serial : ℕ) (frames next : List StoredFrame) → next ≡ map (frame_emptied serial) frames → AreStored last_sent frames → AreStored last_sent next
-stored-ended last_sent serial frames next is are =
+pub stored-ended : (last_sent : LastSent) (serial : ℕ) (frames next : List StoredFrame) → AreEnded serial frames next → AreStored last_sent frames → AreStored last_sent next
+stored-ended last_sent serial frames next (inl is) are =
     subst (AreStored last_sent) (sym is)
     (record { places = are.places; ascend = ascend-all serial frames are.ascend; named = named-all serial frames are.named })
+stored-ended last_sent serial frames next (inr is) are =
+    let other : StoredFrame → Bool = λ (frame : StoredFrame). not (frame.serial == serial) in
+    subst (AreStored last_sent) (sym is)
+    (record {
+      places = are.places;
+      ascend = AllPairs-filter (λ (a b : StoredFrame). a.serial < b.serial) other frames are.ascend;
+      named = All-filter other HasNames frames are.named;
+    })
 
 -- the one frame with the serial is where the serials reach it
 
@@ -145,3 +172,37 @@ none-emptied frames serial place ascend parts none =
     ap (λ n. (get_or frames n d).serial == serial) here ∙ ne_eqb (get_or frames place d).serial serial (none d (omega (arith, here, within))))
     (λ t. others frames serial place i d ascend parts within (eqb-false i place t))))
     ∙ sym (get_or-map (frame_emptied serial) frames i d d within))
+
+-- the last one has it: the others stay
+
+keeps-lower : (serial : ℕ) (frames : List StoredFrame) → All (λ (frame : StoredFrame). frame.serial < serial) frames → frames_without serial frames ≡ frames
+keeps-lower serial [] all = refl
+keeps-lower serial (frame ∷ frames) all =
+    ap (λ (b : Bool). cond (not b) (frame ∷ frames_without serial frames) (frames_without serial frames)) (lower-other frame.serial serial (All-head (λ (one : StoredFrame). one.serial < serial) frame frames all))
+    ∙ ap (λ (rest : List StoredFrame). frame ∷ rest) (keeps-lower serial frames (All-tail (λ (one : StoredFrame). one.serial < serial) frame frames all))
+
+front-lower : (serial : ℕ) (frames : List StoredFrame) (n : ℕ) → Ascend frames → n < length frames → ((d : StoredFrame) → (get_or frames n d).serial ≡ serial)
+    → All (λ (frame : StoredFrame). frame.serial < serial) (take n frames)
+front-lower serial frames n ascend inside is k d within =
+    let size = length-take n frames in
+    let low : k < n = omega (arith, size, within) in
+    let under : (get_or frames k d).serial < (get_or frames n d).serial = ascend k n d low inside in
+    let there = is d in
+    let same = ap (λ (one : StoredFrame). one.serial) (get_or-take n frames k d low) in
+    omega (arith, under, there, same)
+
+pub last-gone : (serial : ℕ) (frames : List StoredFrame) → Ascend frames → IsLast serial frames → take (length frames - 1) frames ≡ frames_without serial frames
+last-gone serial frames ascend last =
+    let some = last.some in
+    let d : StoredFrame = record { serial = 0; datagrams = [] } in
+    let final : StoredFrame = get_or frames (length frames - 1) d in
+    let front : List StoredFrame = take (length frames - 1) frames in
+    let inside : length frames - 1 < length frames = omega (arith, some) in
+    let count : length frames ≡ length frames - 1 + 1 = omega (arith, some) in
+    let whole : frames ≡ front ++ final ∷ [] =
+    sym (take_all (length frames) frames (omega arith)) ∙ ap (λ (n : ℕ). take n frames) count ∙ take_more frames (length frames - 1) d inside in
+    sym (ap (frames_without serial) whole
+    ∙ filter-append (λ (frame : StoredFrame). not (frame.serial == serial)) front (final ∷ [])
+    ∙ ap (λ (rest : List StoredFrame). rest ++ frames_without serial (final ∷ [])) (keeps-lower serial front (front-lower serial frames (length frames - 1) ascend inside last.has_it))
+    ∙ ap (λ (b : Bool). front ++ cond (not b) (final ∷ []) []) (eq-eqb final.serial serial (last.has_it d))
+    ∙ append-nil front)

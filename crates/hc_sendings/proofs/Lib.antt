@@ -16,3 +16,4 @@ pub mod Room
 pub mod Rows
 pub mod Walked
 pub mod AnswerGiven
+pub mod ClearedRest

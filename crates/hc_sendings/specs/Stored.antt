@@ -1,5 +1,5 @@
 -- How awaited frames are kept: with a table that has, for each datagram, the serial of the newest frame that it was sent in. Contracts inside the crate cite it.
-use Rattle.std.specs.Prelude.{◌≡◌, ◌<◌, ℕ, ◌*◌, ◌==◌, Bool, false, if◌then◌else◌, List, [], All, AllPairs, filter, fold, length, map, slice_index_or, Option, Some, None}
+use Rattle.std.specs.Prelude.{◌≡◌, ◌<◌, ℕ, ◌-◌, ◌*◌, ◌==◌, Bool, false, not, if◌then◌else◌, List, [], All, AllPairs, filter, fold, length, map, slice_index_or, Option, Some, None}
 use Rattle.std.specs.List.{list_any}
 use Rattle.std.specs.Option.{option_map_or}
 use Rattle.hc_records.specs.declared.limits.TheConstants.{MOST_DATAGRAMS, TASKS}
@@ -40,6 +40,15 @@ stored_frame frame = record { serial = frame.serial; datagrams = frame.datagrams
 -- a frame with this serial, which was answered, has no datagrams any more
 abbrev pub frame_emptied : ℕ → StoredFrame → StoredFrame
 frame_emptied serial frame = if frame.serial == serial then record { serial = frame.serial; datagrams = [] } else frame
+
+-- or it goes
+abbrev pub frames_without : ℕ → List StoredFrame → List StoredFrame
+frames_without serial frames = filter (λ frame. not (frame.serial == serial)) frames
+
+-- the last frame has this serial
+pub record IsLast (serial : ℕ) (frames : List StoredFrame) : Type 0 where
+  pub some : 0 < length frames
+  pub has_it : (d : StoredFrame) → (slice_index_or frames (length frames - 1) d).serial ≡ serial
 
 -- what the table says of it
 abbrev pub awaited_datagram : LastSent → ℕ → Named → AwaitedDatagram

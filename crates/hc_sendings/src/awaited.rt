@@ -2,7 +2,7 @@
 ghost use Rattle.std.specs.Prelude.{◌≡◌, ◌==◌, ◌<◌, ◌≤◌, [], ◌∷◌, ◌++◌, ◌+◌, ◌⊎◌, false, true, All, AllPairs, Contains, IfSome, IsTrue, filter, find, if◌then◌else◌, length, map, nat_lt, option_map, vec_capacity, vec_len};
 ghost use Rattle.std.specs.List.Sorted.{IsPartitionPoint};
 ghost use Rattle.hc_events.specs.Sendings.{Named};
-ghost use Rattle.hc_sendings.specs.Stored.{SerialsAreBelow, awaited_of, awaited_frames, frame_emptied, stored_frame, last_sent_after, last_sent_of, frame_by};
+ghost use Rattle.hc_sendings.specs.Stored.{IsLast, SerialsAreBelow, awaited_of, awaited_frames, frame_emptied, frames_without, stored_frame, last_sent_after, last_sent_of, frame_by};
 ghost use Rattle.hc_sendings.specs.Waiting.{IsTaskDatagram, is_still_awaited};
 
 use crate::last_sent::LastSent;
@@ -199,6 +199,29 @@ fn empty(frames: &mut Vec<StoredFrame>, serial: u64)
     }
 }
 
+/// Whether the last frame has a serial.
+fn is_last(frames: &[StoredFrame], serial: u64) -> bool
+    ensures { IsTrue result → IsLast serial frames.now }
+{
+    if frames.is_empty() {
+        return false;
+    }
+    frames[frames.len() - 1].serial() == serial
+}
+
+/// The frame with a serial, if it is kept, goes where it is the last one, else it has no datagrams any more.
+fn end_frame(frames: &mut Vec<StoredFrame>, serial: u64)
+    requires { AllPairs (λ a b. a.serial < b.serial) frames.old.items }
+    ensures frames { (frames.new.items ≡ map (frame_emptied serial) frames.old.items) ⊎ (frames.new.items ≡ frames_without serial frames.old.items) }
+    ensures room { vec_capacity frames.new ≡ vec_capacity frames.old }
+{
+    if is_last(frames.as_slice(), serial) {
+        frames.truncate(frames.len() - 1);
+    } else {
+        empty(frames, serial);
+    }
+}
+
 impl Awaited {
     ghost use Rattle.std.specs.Prelude.{◌≡◌, ◌<◌, ◌≤◌, ◌*◌, All, IfOk, length, map};
     ghost use Rattle.hc_records.specs.declared.limits.TheConstants.{MOST_DATAGRAMS, TASKS};
@@ -284,7 +307,7 @@ impl Awaited {
     pub fn end(&mut self, serial: u64)
         ensures { self.new ≡ ended serial self.old }
     {
-        empty(&mut self.frames, serial);
+        end_frame(&mut self.frames, serial);
         self.writes.end(serial);
     }
 

@@ -87,6 +87,7 @@ fn judge_one(block: &AwaitedBlock, arrival: &Returned<'_>) -> Arrived
 
 /// Puts into an empty list what the blocks of a write are that came back as this arrival, in one walk over both. Whether
 /// all are there: not where a datagram is missing or left over, or came back with another command, address or length.
+#[inline(never)]
 fn judge_blocks(
     blocks: &[AwaitedBlock],
     arrival: &Returned<'_>,
@@ -114,6 +115,7 @@ fn judge_blocks(
 }
 
 /// What an arrival with the serial of a write of these blocks is for it, as `Awaited::judge` says.
+#[inline(always)]
 fn judge_write(
     blocks: &[AwaitedBlock],
     arrival: &Returned<'_>,
@@ -177,6 +179,7 @@ fn sent_datagram(plan: &Plan, datagram: Named, part: &Part<'_>) -> Option<Datagr
 /// Puts into an empty list what the datagrams of a frame are that came back as this arrival, in one walk over both.
 /// Whether all are there: not where a datagram is missing or left over, or came back with another command, address or
 /// length.
+#[inline(always)]
 fn judge_parts(
     plan: &Plan,
     last_sent: &LastSent,

@@ -48,6 +48,7 @@ impl LastWrites {
 
     /// A write of these blocks is sent: they aren't the newest of the writes before it any more. A write that is the newest of no
     /// block goes.
+    #[inline(always)]
     pub(crate) fn write_again(&mut self, again: &[PlacedBlock])
         ensures { self.new ≡ filter is_awaited (map (with_written (map awaited_block again.now)) self.old) }
     {
@@ -56,6 +57,7 @@ impl LastWrites {
     }
 
     /// A write of these blocks comes after the one that is awaited, if one is.
+    #[inline(always)]
     pub(crate) fn push(&mut self, serial: u64, placed: &[PlacedBlock])
         requires few { length placed.now ≤ FRAME_BLOCKS }
         requires room { length self.old < AWAITED_WRITES }

@@ -1,6 +1,6 @@
 //! A frame of register writes: the owed blocks that share it, and its bytes. The core fills it from the first owed block
 //! on, writes it, and hands its blocks to what is awaited.
-ghost use Rattle.std.specs.Prelude.{◌≡◌, ◌+◌, ◌≤◌, length, map};
+ghost use Rattle.std.specs.Prelude.{◌≡◌, ◌+◌, ◌≤◌, length, map, replicate};
 ghost use Rattle.hc_frames.specs.FrameText.{sent_datagrams_text};
 ghost use Rattle.hc_frames.specs.declared.limits.TheConstants.{MAX_ETHERCAT};
 ghost use Rattle.hc_sendings.specs.WriteFrames.{placed_bytes, placed_datagram};
@@ -70,6 +70,18 @@ fn write_datagrams(out: &mut [u8], serial: u64, blocks: &[PlacedBlock])
             !rest.is_empty(),
         );
         write_datagrams(others, serial, rest);
+    }
+}
+
+/// Zeros after the head of a frame of the least size, before its datagrams are written: so many are written without a call,
+/// and its padding isn't filled by one.
+#[inline(always)]
+fn clear_least(rest: &mut [u8])
+    ensures size { length rest.new ≡ length rest.old }
+    ensures zeros { length rest.old ≡ 44 → rest.new ≡ replicate 44 0 }
+{
+    if rest.len() == usize::from(LEAST_FRAME) - HEAD_BYTES {
+        rest.fill(0);
     }
 }
 
@@ -156,16 +168,17 @@ impl WriteFrame {
     }
 
     /// Writes the frame into a slice of its exact size.
+    #[inline(always)]
     fn write(&self, out: &mut [u8], serial: u64)
         requires exact { length out.old ≡ frame_bytes self.now.bytes }
         requires serial { serial < 2 ^ 40 }
         ensures { out.new ≡ placed_text serial self.now.blocks }
     {
         let (head, rest) = out.split_at_mut(HEAD_BYTES);
-        let (texts, padding) = rest.split_at_mut(usize::from(self.bytes));
+        clear_least(rest);
+        let (texts, _) = rest.split_at_mut(usize::from(self.bytes));
         build_head(head, serial, self.bytes);
         write_datagrams(texts, serial, self.blocks.as_slice());
-        padding.fill(0);
     }
 
     /// Writes the frame to the front of `out`, and answers its size in bytes. `serial` is below 2^40. `Room` with the size

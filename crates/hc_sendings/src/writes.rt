@@ -59,7 +59,9 @@ fn forgotten(block: &AwaitedBlock, station: u16) -> AwaitedBlock
     }
 }
 
-/// A write of these blocks is sent: blocks that are among them aren't the newest any more.
+/// A write of these blocks is sent: blocks that are among them aren't the newest any more. It is a function of its own in the
+/// built code too, since mostly no older write is awaited.
+#[inline(never)]
 fn write_again(blocks: &mut [AwaitedBlock], again: &[PlacedBlock])
     ensures { blocks.new ≡ map (written_again (map awaited_block again.now)) blocks.old }
 {
@@ -91,6 +93,11 @@ fn put_blocks(blocks: &mut Vec<AwaitedBlock>, placed: &[PlacedBlock])
     ensures room { vec_capacity blocks.new ≡ vec_capacity blocks.old }
 {
     blocks.clear();
+    // one block needs no loop
+    if let [only] = placed {
+        blocks.push_reserved(only.awaited());
+        return;
+    }
     for block in placed {
         blocks.push_reserved(block.awaited());
     }
@@ -171,6 +178,7 @@ impl Write {
     }
 
     /// A write of these blocks is sent.
+    #[inline(always)]
     pub(crate) fn write_again(&mut self, again: &[PlacedBlock])
         ensures { self.new ≡ filter is_awaited (map (with_written (map awaited_block again.now)) self.old) }
     {

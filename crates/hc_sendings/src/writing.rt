@@ -55,9 +55,24 @@ fn write_datagrams<D: SentData>(out: &mut [u8], serial: u64, datagrams: &[Named]
     }
 }
 
+/// The bytes of a frame's datagrams. Those of a frame over the least size are all after its head, so they aren't counted.
+#[inline(always)]
+fn datagrams_bytes<D: SentData>(whole: usize, datagrams: &[Named], sent: &D) -> usize
+    requires size { 2 + carried_bytes (D.bytes sent.now) datagrams.now ≤ MAX_ETHERCAT }
+    requires exact { whole ≡ frame_bytes (carried_bytes (D.bytes sent.now) datagrams.now) }
+    ensures { result ≡ carried_bytes (D.bytes sent.now) datagrams.now }
+{
+    if whole > usize::from(LEAST_FRAME) {
+        whole - HEAD_BYTES
+    } else {
+        carried_bytes(datagrams, sent)
+    }
+}
+
 /// Writes a frame of tasks into a slice of its exact size: at least 60 bytes, and 16 more than its
 /// datagrams have with their headers and counters, which are 1,498 at most. Each datagram carries the data
 /// that `sent` has of it, and more follow each but the last. The serial is below 2^40. It takes no memory.
+#[inline(always)]
 pub fn write_frame<D: SentData>(out: &mut [u8], frame: &Sending, sent: &D)
     requires serial { frame.now.serial < 2 ^ 40 }
     requires known { All (λ named. named.0 < TASKS) frame.now.datagrams }
@@ -66,12 +81,14 @@ pub fn write_frame<D: SentData>(out: &mut [u8], frame: &Sending, sent: &D)
     ensures { out.new ≡ frame_text_of (D.bytes sent.now) frame.now }
 {
     let datagrams = frame.datagrams();
-    let size = carried_bytes(datagrams, sent);
+    let size = datagrams_bytes(out.len(), datagrams, sent);
     let (head, rest) = out.split_at_mut(HEAD_BYTES);
     let (texts, padding) = rest.split_at_mut(size);
     build_head(head, frame.serial(), size as u16);
     write_datagrams(texts, frame.serial(), datagrams, sent);
-    padding.fill(0);
+    if !padding.is_empty() {
+        padding.fill(0);
+    }
 }
 
 /// Adds datagrams one after another to a text. A frame has 115 at most, so deep is this recursion.
