@@ -172,28 +172,27 @@ fn put_outcomes(
     counts: &mut Counts,
     places: &Places,
     outcomes: &[CoreOutcome],
-    parts: Parts<'_>,
+    parts: &mut Parts<'_>,
     out: &mut [Outcome],
 )
-    requires { All IsInFrame parts }
-    ensures put { out.new ≡ put_first (parts_out places.now outcomes.now parts.entry) out.old }
-    ensures counted { counts.new ≡ all_judged counts.old (parts_out places.now outcomes.now parts.entry) }
+    requires { All IsInFrame parts.old }
+    ensures put { out.new ≡ put_first (parts_out places.now outcomes.now parts.old) out.old }
+    ensures counted { counts.new ≡ all_judged counts.old (parts_out places.now outcomes.now parts.old) }
 {
     let Some((outcome, rest)) = outcomes.split_first() else {
         return;
     };
-    let mut left = parts;
-    let Some(part) = left.next() else {
+    let Some(part) = parts.next() else {
         return;
     };
     let answer_given = part_out(places, outcome, &part);
     counts.count_arrival(answer_given.kind, answer_given.task, answer_given.datagram);
     let Some((first, others)) = out.split_first_mut() else {
-        put_outcomes(counts, places, rest, left, &mut []);
+        put_outcomes(counts, places, rest, parts, &mut []);
         return;
     };
     *first = answer_given;
-    put_outcomes(counts, places, rest, left, others);
+    put_outcomes(counts, places, rest, parts, others);
 }
 
 /// Answers what an arrival is for each datagram, of as many as there is room for, and counts it of datagrams of tasks.
@@ -210,7 +209,10 @@ fn put_arrived(
     ensures counted { counts.new ≡ all_judged counts.old (counted_as arrived places.now outcomes.now parts.entry) }
 {
     match arrived {
-        Arrived::Answered => put_outcomes(counts, places, outcomes, parts, out),
+        Arrived::Answered => {
+            let mut left = parts;
+            put_outcomes(counts, places, outcomes, &mut left, out);
+        }
         Arrived::Written => put_blocks(outcomes, parts, out),
         Arrived::WriteDone => {}
         Arrived::WriteMissed => {}

@@ -130,8 +130,10 @@ impl Counts {
     pub fn count_arrival(&mut self, kind: u8, task: u8, number: u8)
         ensures { self.new ≡ with_counters self.old task number (judged_as kind (counters_of self.old task number)) }
     {
-        let counters = judged_as(kind, self.of(task, number));
-        self.put(task, number, counters);
+        let slot = slot_number(task, number);
+        if slot < self.counts.len() {
+            self.counts[slot] = judged_as(kind, self.counts[slot]);
+        }
     }
 
     /// A datagram is sent.
