@@ -69,13 +69,27 @@ pub(crate) fn choose_first(frame: &mut WriteFrame, owed: &Owed, most: usize)
 
 /// Blocks are sent: until their answer nothing is known of them, and they are owed as before. They are 74 at most, so deep
 /// is this recursion.
-pub(crate) fn mark_sent(owed: &mut Owed, blocks: &[PlacedBlock])
+fn mark_each(owed: &mut Owed, blocks: &[PlacedBlock])
     requires { CanMark owed.old blocks.now }
     ensures { (can : CanMark owed.old blocks.now) → owed.new ≡ register_state_of (known_sent blocks.now can.known) can.state }
 {
     if let Some((first, rest)) = blocks.split_first() {
         owed.sent(first.place);
-        mark_sent(owed, rest);
+        mark_each(owed, rest);
+    }
+}
+
+/// The same. One block needs no loop.
+#[inline(always)]
+pub(crate) fn mark_sent(owed: &mut Owed, blocks: &[PlacedBlock])
+    requires { CanMark owed.old blocks.now }
+    ensures { (can : CanMark owed.old blocks.now) → owed.new ≡ register_state_of (known_sent blocks.now can.known) can.state }
+{
+    if let Some((block, later)) = blocks.split_first() {
+        owed.sent(block.place);
+        if !later.is_empty() {
+            mark_each(owed, later);
+        }
     }
 }
 

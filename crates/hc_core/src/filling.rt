@@ -33,6 +33,7 @@ impl<'a> SentData for Values<'a> {
 }
 
 /// Writes a frame into a slice of its exact size, with the data that outputs have of its datagrams.
+#[inline(always)]
 fn write_values(out: &mut [u8], frame: &Sending, outputs: &Outputs)
     requires serial { frame.now.serial < 2 ^ 40 }
     requires known { All (λ named. named.0 < TASKS) frame.now.datagrams }
@@ -57,6 +58,7 @@ impl Core {
     /// Writes a frame of datagrams of the present line into a slice of its exact size: each datagram carries
     /// the values of its output variables, and zeros at every other bit. Such are the frames that `propose`
     /// gives, as long as they are the present proposal, and a present `preview`. It takes no memory.
+    #[inline(always)]
     pub fn fill(&self, frame: &Sending, out: &mut [u8])
         requires frame { CanBeFilled self.now.history frame.now }
         requires exact { length out.old ≡ sent_frame_size frame.now }

@@ -135,6 +135,7 @@ impl Core {
     /// answered. `NothingOwed` where no block is owed; `SerialsSpent` where no serial is left; `Room` with the
     /// size needed where `out` is shorter; and of several the first of these. Then nothing changed, and the
     /// write counts as not given. It takes no memory.
+    #[inline(always)]
     pub fn write_into(&mut self, out: &mut [u8]) -> Result<usize, CoreFault>
         ensures written { IfOk result (HoldsWrite self.old.history out.old out.new) }
         ensures accepted { OnOk result (lowest (write_into_faults self.old.history (length out.old)) ≡ None) }
