@@ -34,7 +34,7 @@ fn put_front(bytes: &[u8], out: &mut [u8])
     out[..bytes.len()].copy_from_slice(bytes);
 }
 
-/// The bits of some datagrams, with that of one more where it is set.
+/// The bits of some datagrams, and one more bit where it is set.
 fn with_bit(has: u32, bit: u32, is_set: bool) -> u32
     requires { has + bit ≤ 65536 }
     ensures { result ≡ has + (if is_set then bit else 0) }
