@@ -1,12 +1,12 @@
 -- What C gets for an arrival, by what the core's call and the reader say.
 use Rattle.std.proofs.Common.{◌≡◌, ◌≢◌, ℕ, List, [], ◌∷◌, length, refl, sym, ap, ◌∙◌, subst, inl, inr, Option, Some, None}
-use Rattle.std.specs.Prelude.{IfSome, Ok, Err, Result, option_map}
+use Rattle.std.specs.Prelude.{IfSome, Ok, Result, option_map}
 use Rattle.hc_records.specs.Edits.{over_limit_task}
 use Rattle.hc_records.specs.Line.{State, groups_of, line}
 use Rattle.hc_records.specs.Project.{lowest_fault}
 use Rattle.hc_frames.specs.declared.reading.faults.FrameFault.{FrameFault}
 use Rattle.hc_frames.specs.Arrived.{fault_in, placed_from, reading_of}
-use Rattle.hc_places.specs.Table.{Table, table_of}
+use Rattle.hc_places.specs.Table.{table_of}
 use Rattle.hc_events.specs.declared.answer.Answer.{Answer}
 use Rattle.hc_events.specs.declared.answer.Answer.TheVariants as answer
 use Rattle.hc_events.specs.declared.answer.Arrived.{Arrived}
@@ -23,9 +23,8 @@ use Rattle.hc_events.specs.Faults.{core_fault_number, frame_refusal}
 use Rattle.hc_events.specs.Outcomes.{arrived_answer}
 use Rattle.hc_events.specs.Points.{state_of}
 use Rattle.hc_events.specs.Steps.{Arrives, answer_to, entries_after, judged_answer, arrival_answer, with_arrival}
-use Rattle.hc_core.specs.Early.{ShowsEarly}
 use Rattle.hc_core.proofs.lemmas.Arriving.{stale-leaves}
-use Rattle.hc_c.specs.Arrivals.{AnswersArrival, arrival_of, bytes_judged, answer_number, outcomes_from, counted_in, outcomes_out, serial_borne, written_in}
+use Rattle.hc_c.specs.Arrivals.{AnswersArrival, arrival_of, bytes_judged, answer_number, counted_in, outcomes_out, serial_borne, written_in}
 use Rattle.hc_c.specs.declared.arriving.Arrival.{Arrival}
 use Rattle.hc_c.specs.declared.arriving.Outcome.{Outcome}
 use Rattle.hc_c.specs.Counts.{Counts, all_judged}

@@ -1,15 +1,14 @@
 -- The datagrams of a frame that can be read lie within its first 2,064 bytes.
-use Rattle.std.proofs.Common.{◌≡◌, ℕ, zero, suc, ◌+◌, ◌*◌, ◌%◌, ◌<◌, ◌≤◌, Bool, true, false, ◌||◌, cond, not, List, [], ◌∷◌, length, take, drop, map, refl, sym, ap, ◌∙◌, subst, arith, length-drop, Option, Some, None, inl, inr}
-use Rattle.std.specs.Prelude.{All, nat_lt, nat_le}
-use Rattle.std.specs.List.{list_all, list_any}
+use Rattle.std.proofs.Common.{◌≡◌, ℕ, zero, suc, ◌+◌, ◌*◌, ◌%◌, ◌<◌, ◌≤◌, Bool, true, false, ◌||◌, cond, not, List, [], ◌∷◌, length, take, drop, map, refl, sym, ◌∙◌, subst, arith, length-drop, Option, Some, None}
+use Rattle.std.specs.Prelude.{All, nat_lt}
+use Rattle.std.specs.List.{list_all}
 use Rattle.std.proofs.lemmas.Grind.{common_steps}
-use Rattle.std.proofs.lemmas.Bool.{and_parts, cases_lt, not-true, or_parts}
-use Rattle.std.proofs.lemmas.List.Elements.{All-nil, All-cons, All-weaker}
+use Rattle.std.proofs.lemmas.Bool.{and_parts}
+use Rattle.std.proofs.lemmas.List.Elements.{All-nil, All-cons}
 use Rattle.hc_frames.specs.declared.limits.TheConstants.{MAX_DATAGRAMS}
 use Rattle.hc_frames.specs.declared.reading.faults.FrameFault.{FrameFault}
-use Rattle.hc_frames.specs.declared.reading.faults.FrameFault.TheVariants.{Short, NotEtherCat, BadType, BadLength, Circulating, MoreFollows, UnknownCommand, IndexMismatch}
-use Rattle.hc_frames.specs.FrameText.{WireDatagram}
-use Rattle.hc_frames.specs.Arrived.{ArrivedDatagram, datagram_carried, data_size, datagram_bytes, datagram_tails, fault_in, fill_region, has_bad_length, has_bad_type, has_unknown_command, is_circulating, is_not_ethercat, is_short, is_whole, mismatches, more_between, placed_from, promises_more, reading_of, region, word_at}
+use Rattle.hc_frames.specs.declared.reading.faults.FrameFault.TheVariants.{Short, NotEtherCat, BadType, BadLength}
+use Rattle.hc_frames.specs.Arrived.{ArrivedDatagram, datagram_carried, data_size, datagram_bytes, datagram_tails, fault_in, fill_region, has_bad_length, has_bad_type, is_not_ethercat, is_short, is_whole, more_between, placed_from, reading_of, region, word_at}
 use Rattle.hc_frames.proofs.lemmas.Datagrams.{carried-length, datagrams-none, first-whole, placed-some, whole-long}
 use Rattle.hc_c.specs.Returned.{IsInFrame}
 

@@ -1,13 +1,13 @@
 -- What is said of a frame that is answered, outcome beside part, is what was sent and what came back of it.
-use Rattle.std.proofs.Common.{◌≡◌, ◌≢◌, ℕ, zero, suc, ◌+◌, ◌<◌, ◌≤◌, ◌==◌, Bool, true, false, cond, ◌&&◌, ◌||◌, not, List, [], ◌∷◌, length, take, drop, map, refl, sym, ap, ◌∙◌, subst, arith, Option, Some, None}
-use Rattle.std.specs.Prelude.{All, Ok, nat_lt, slice_get}
+use Rattle.std.proofs.Common.{◌≡◌, ◌≢◌, ℕ, zero, suc, ◌+◌, ◌<◌, ◌≤◌, ◌==◌, Bool, true, false, cond, ◌&&◌, ◌||◌, List, [], ◌∷◌, length, map, refl, sym, ap, ◌∙◌, subst, arith, Option, Some, None}
+use Rattle.std.specs.Prelude.{All, slice_get}
 use Rattle.std.specs.Option.{option_map_or}
-use Rattle.std.specs.List.{list_all, list_any, range_with_len, zip}
-use Rattle.std.proofs.lemmas.Bool.{and_parts, eqb-true, not-true, or_parts}
-use Rattle.std.proofs.lemmas.List.Elements.{All-nil, All-cons, All-head, All-tail}
+use Rattle.std.specs.List.{list_any, range_with_len, zip}
+use Rattle.std.proofs.lemmas.Bool.{and_parts, eqb-true}
+use Rattle.std.proofs.lemmas.List.Elements.{All-head, All-tail}
 use Rattle.std.proofs.lemmas.List.FromFn.{get_or-map-range_with_len, length-map-range_with_len}
 use Rattle.std.proofs.lemmas.Option.{slice_get-get_or}
-use Rattle.hc_records.specs.declared.limits.TheConstants.{MOST_DATAGRAMS, TASKS}
+use Rattle.hc_records.specs.declared.limits.TheConstants.{TASKS}
 use Rattle.hc_records.specs.Edits.{over_limit_task}
 use Rattle.hc_records.specs.Image.{datagram_count, task_places}
 use Rattle.hc_records.specs.Line.{Member, State, groups_of, line}
@@ -17,12 +17,11 @@ use Rattle.hc_records.proofs.lemmas.Choices.{by_bool}
 use Rattle.hc_registers.specs.Blocks.{LineBlock}
 use Rattle.hc_registers.specs.declared.counters.TheConstants.{WRITE_COUNT}
 use Rattle.hc_frames.specs.Commands.{code_of}
-use Rattle.hc_frames.specs.Arrived.{ArrivedDatagram, placed_from}
+use Rattle.hc_frames.specs.Arrived.{placed_from}
 use Rattle.hc_places.specs.declared.table.Datagram.{Datagram}
-use Rattle.hc_places.specs.Table.{Table, datagram_in, datagram_of, table_of}
+use Rattle.hc_places.specs.Table.{datagram_in, datagram_of, table_of}
 use Rattle.hc_events.specs.declared.answer.Answer.{Answer}
 use Rattle.hc_events.specs.declared.answer.Answer.TheVariants as answer
-use Rattle.hc_events.specs.declared.answer.Arrived.{Arrived}
 use Rattle.hc_events.specs.declared.answer.Arrived.TheVariants as arrived
 use Rattle.hc_events.specs.declared.answer.Outcome as core
 use Rattle.hc_events.specs.Accepted.{IsReachable, IsInLine}
@@ -32,7 +31,6 @@ use Rattle.hc_events.specs.Arrivals.{Part}
 use Rattle.hc_events.specs.Entries.{HistoryEntry, History}
 use Rattle.hc_events.specs.Heads.{Head, data_head, is_block, write_head, write_heads}
 use Rattle.hc_events.specs.Names.{HasFewDatagrams, IsNamedByAddress, named_at, written_at}
-use Rattle.hc_events.specs.Outcomes.{arrived_answer}
 use Rattle.hc_events.specs.Points.{line_of, state_of}
 use Rattle.hc_events.specs.Sendings.{Named}
 use Rattle.hc_events.specs.Steps.{outcome_for, outcome_of, judged_answer, write_answer, judged_blocks_answer}
@@ -45,7 +43,7 @@ use Rattle.hc_c.specs.Arrivals as answer_given
 use Rattle.hc_c.specs.Arrivals.{block_kind, kind_in, outcomes_from, register_place, written_in}
 use Rattle.hc_c.specs.declared.arriving.Arrival.{Arrival}
 use Rattle.hc_c.specs.declared.arriving.Outcome.{Outcome}
-use Rattle.hc_c.specs.Returned.{expected_in, first_written, kind_by, arrival_out, block_outcome_out, answered_blocks, part_outcome_out, parts_out}
+use Rattle.hc_c.specs.Returned.{expected_in, first_written, kind_by, block_outcome_out, answered_blocks, part_outcome_out, parts_out}
 
 -- the row of a datagram in the table of its line
 

@@ -1,5 +1,5 @@
 -- What a line holds after an arrival, taken or refused.
-use Rattle.std.proofs.Common.{◌≡◌, ◌≢◌, ◌∙◌, ℕ, ◌+◌, ◌-◌, ◌≤◌, ◌∷◌, Bool, true, false, cond, List, length, refl, sym, ap, arith, nat_lt, Option, Some, None}
+use Rattle.std.proofs.Common.{◌≡◌, ◌≢◌, ◌∙◌, ℕ, ◌+◌, ◌-◌, ◌≤◌, ◌∷◌, Bool, true, false, cond, List, length, refl, sym, ap, arith, Option, Some, None}
 use Rattle.std.specs.Prelude.{Ok, Result, is_some}
 use Rattle.std.proofs.lemmas.Bool.Decides.{nat_tests}
 use Rattle.hc_frames.specs.declared.reading.faults.FrameFault.{FrameFault}

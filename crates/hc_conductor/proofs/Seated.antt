@@ -1,5 +1,5 @@
 -- Seats by their places.
-use Rattle.std.proofs.Common.{◌≡◌, ℕ, zero, suc, ◌<◌, List, [], ◌∷◌, ◌++◌, length, map, get_or, set, replicate, refl, sym, ap, ◌∙◌, arith, drop, take, None}
+use Rattle.std.proofs.Common.{◌≡◌, ℕ, zero, suc, ◌<◌, List, [], ◌∷◌, ◌++◌, length, map, get_or, set, replicate, refl, sym, ap, ◌∙◌, arith, drop, None}
 use Rattle.std.specs.Prelude.{All}
 use Rattle.std.specs.List.{range_with_len}
 use Rattle.std.proofs.lemmas.List.{get_or-map, get_or-replicate, get_or-set_same, length-map, length-replicate, length-set}
@@ -16,7 +16,6 @@ use Rattle.hc_conductor.specs.Openings.{IsUnused}
 use Rattle.hc_conductor.specs.Seats as seats
 use Rattle.hc_conductor.specs.Seats.{seat_known, seat_of, task_seat_origin, sender}
 use Rattle.hc_conductor.specs.Together.{EachRing, LostNoBuffer, posts_waiting, waiting_between}
-use Rattle.hc_conductor.proofs.Takings.{whole-list}
 
 -- what is the same of each, is so of one
 pub each-at : {A B : Type 0} (f : A → B) (xs : List A) (n : ℕ) (b : B) (i : ℕ) (d : A) → map f xs ≡ replicate n b → i < n → f (get_or xs i d) ≡ b

@@ -1,5 +1,5 @@
 //! How it all begins.
-ghost use Rattle.std.specs.Prelude.{◌≡◌, ◌≤◌, ℕ, [], All, IfErr, IfOk, None, OnOk, length, map, vec_len, vec_capacity};
+ghost use Rattle.std.specs.Prelude.{◌≡◌, ◌≤◌, ℕ, [], All, IfErr, IfOk, OnOk, length, map, vec_len, vec_capacity};
 ghost use Rattle.std.specs.List.{range_with_len};
 ghost use Rattle.hc_records.specs.declared.limits.TheConstants.{TASKS};
 ghost use Rattle.hc_records.specs.Line.{line, opened};

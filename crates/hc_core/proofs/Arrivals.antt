@@ -12,7 +12,7 @@ use Rattle.hc_records.specs.TaskList.{task_list}
 use Rattle.hc_records.proofs.lemmas.Addresses.{uncrowded-few}
 use Rattle.hc_records.proofs.lemmas.Lengths.{length-sendable}
 use Rattle.hc_records.proofs.lemmas.Packable.{project-packable}
-use Rattle.hc_records.specs.Line.{Member, State, groups_of, line}
+use Rattle.hc_records.specs.Line.{Member, groups_of, line}
 use Rattle.hc_records.proofs.lemmas.Choices.{by_bool}
 use Rattle.hc_records.specs.Project.{lowest_fault}
 use Rattle.hc_events.specs.Arrivals.{Arrival}

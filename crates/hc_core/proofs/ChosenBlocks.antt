@@ -27,8 +27,7 @@ use Rattle.hc_events.specs.Heads.{Head, Item, Datagram, Block}
 use Rattle.hc_events.specs.Sendings.{has_room}
 use Rattle.hc_events.specs.WriteFrames.{block_bytes, blocks_beside, blocks_bytes}
 use Rattle.hc_owed.specs.RegisterState.{RegisterState, Knowledge, register_state_of, lacks}
-use Rattle.hc_owed.specs.Laws.{IsRightAt, IsNextOwed, known_with, owed_from, same_name}
-use Rattle.hc_owed.specs.declared.owed.OwedBlock.{OwedBlock}
+use Rattle.hc_owed.specs.Laws.{IsRightAt, known_with, owed_from, same_name}
 use Rattle.hc_sendings.specs.declared.write_frames.PlacedBlock.{PlacedBlock}
 use Rattle.hc_sendings.specs.declared.writes.AwaitedBlock.{AwaitedBlock}
 use Rattle.hc_sendings.specs.WriteFrames.{WriteFrame, block_of, block_joined}

@@ -2,7 +2,7 @@
 use Rattle.std.proofs.Common.{◌≡◌, ℕ, ◌+◌, ◌<◌, nat_lt, true, false, cond, List, [], ◌∷◌, filter, map, take, refl, sym, ap, ◌∙◌, subst, arith, Some, None}
 use Rattle.std.specs.Prelude.{All}
 use Rattle.std.proofs.lemmas.List.Elements.{All-cons, All-head, All-nil, All-tail, filter_passes}
-use Rattle.hc_records.specs.Line.{State, groups_of}
+use Rattle.hc_records.specs.Line.{groups_of}
 use Rattle.hc_records.specs.Lists.{lowest}
 use Rattle.hc_records.specs.Project.{lowest_fault}
 use Rattle.hc_registers.specs.Blocks.{LineBlock, line_blocks}
@@ -17,7 +17,7 @@ use Rattle.hc_events.specs.Owed.{is_owed, known_bytes, owed_blocks}
 use Rattle.hc_events.specs.Points.{line_of, state_of}
 use Rattle.hc_events.specs.WriteFrames.{block_datagram, blocks_beside, blocks_bytes, writes_text}
 use Rattle.hc_events.proofs.lemmas.Fronts.{front-all, write-front}
-use Rattle.hc_owed.specs.RegisterState.{register_state_of, lacks}
+use Rattle.hc_owed.specs.RegisterState.{lacks}
 use Rattle.hc_owed.specs.Laws.{owed_from}
 use Rattle.hc_sendings.specs.declared.write_frames.PlacedBlock.{PlacedBlock}
 use Rattle.hc_sendings.specs.WriteFrames.{WriteFrame, block_of, no_blocks, placed_datagram, placed_text}

@@ -6,7 +6,7 @@ ghost use Rattle.hc_events.specs.Entries.{Wrote};
 ghost use Rattle.hc_events.specs.Owed.{owed_blocks};
 ghost use Rattle.hc_events.specs.Points.{next_serial};
 ghost use Rattle.hc_events.specs.Steps.{SendsWrite, SendsWrites, answer_to, entries_after, write_faults};
-ghost use Rattle.hc_events.specs.WriteFrames.{writes_size, writes_text};
+ghost use Rattle.hc_events.specs.WriteFrames.{writes_text};
 ghost use Rattle.hc_events.specs.declared.faults.CoreFault.TheVariants.{Memory};
 ghost use Rattle.hc_core.specs.Written.{HoldsBlocks, HoldsWrite, HoldsWrites, IsMost, first_blocks, first_into_faults, sent_answer};
 

@@ -3,7 +3,7 @@ use Rattle.std.proofs.Common.{◌≡◌, inl, inr, ℕ, ◌+◌, ◌-◌, ◌/�
 use Rattle.std.proofs.lemmas.Bool.{cases_lt}
 use Rattle.std.proofs.lemmas.List.{get_or_append_left, get_or_past, get_or-replicate, length-replicate}
 use Rattle.std.proofs.Math.Seq.{get_or-append_right}
-use Rattle.std.proofs.lemmas.Nat.Bits.{bit_at-lt, bit_at_and, bit_at_ones, ones_shr}
+use Rattle.std.proofs.lemmas.Nat.Bits.{bit_at_and, bit_at_ones, ones_shr}
 use Rattle.std.specs.Int.{bit_at}
 use Rattle.hc_bits.specs.Bits.{AreBytes, bit_of, ReplacesRun}
 

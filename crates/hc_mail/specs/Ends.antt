@@ -3,7 +3,7 @@ use Rattle.std.specs.Prelude.{ℕ, List, [], ◌∷◌, ◌≡◌}
 use Rattle.atomic_table.specs.declared.shared.Seat.{Seat}
 use Rattle.hc_mail.specs.declared.table.Insight.{Insight}
 use Rattle.hc_mail.specs.declared.table.Role.{Role}
-use Rattle.hc_mail.specs.Images.{Image, image_in}
+use Rattle.hc_mail.specs.Images.{Image}
 use Rattle.hc_mail.specs.Rule.{in_hand, insight}
 
 -- an end's place at the table
@@ -21,7 +21,7 @@ reported place = place.me.0.reported
 -- an end stays at its table, with what was reported to it, and the image at hand has the same room
 abbrev pub StaysAtTable : Place → Image → Place → Image → Type 0
 StaysAtTable place held place' held' =
-    (place'.table_id ≡ place.table_id) × ((image_in held').room ≡ (image_in held).room) × (reported place' ≡ reported place)
+    (place'.table_id ≡ place.table_id) × (held'.room ≡ held.room) × (reported place' ≡ reported place)
 
 -- the place in a role, with one slot in hand, and what lies there
 abbrev pub posed : Place → Role → ℕ → Place

@@ -33,10 +33,6 @@ with_zeros size image = record image { bytes = image.bytes ++ replicate size 0; 
 abbrev pub with_outputs : List ℕ → Image → Image
 with_outputs outputs image = record image { outputs = image.outputs ++ outputs }
 
--- the image that an end has at hand
-abbrev pub image_in : Image → Image
-image_in held = held
-
 -- the last of some images after one
 abbrev pub last_after : Image → List Image → Image
 last_after image [] = image

@@ -1,7 +1,7 @@
 //! How a mailbox is opened.
 ghost use Rattle.std.specs.Prelude.{◌≡◌, [], IfOk};
 ghost use Rattle.std.specs.Arc.{arc_value};
-ghost use Rattle.hc_mail.specs.Images.{blank, image_in};
+ghost use Rattle.hc_mail.specs.Images.{blank};
 ghost use Rattle.hc_mail.specs.Rule.{IsSized, opener};
 ghost use Rattle.hc_mail.specs.Ends.{reported, seen};
 
@@ -39,8 +39,8 @@ pub fn open(
     datagrams: usize,
 ) -> Result<(ImageSender, ImageReceiver), AllocError>
     ensures one { IfOk result (λ ends. ends.0.place.table_id ≡ ends.1.place.table_id) }
-    ensures sender { IfOk result (λ ends. (seen ends.0.place ≡ []) × (reported ends.0.place ≡ []) × (image_in ends.0.own ≡ blank (bytes, datagrams))) }
-    ensures receiver { IfOk result (λ ends. (seen ends.1.place ≡ []) × (reported ends.1.place ≡ []) × (image_in ends.1.shown ≡ blank (bytes, datagrams))) }
+    ensures sender { IfOk result (λ ends. (seen ends.0.place ≡ []) × (reported ends.0.place ≡ []) × (ends.0.own ≡ blank (bytes, datagrams))) }
+    ensures receiver { IfOk result (λ ends. (seen ends.1.place ≡ []) × (reported ends.1.place ≡ []) × (ends.1.shown ≡ blank (bytes, datagrams))) }
 {
     let (mail, mut place) = lay(alloc, bytes, datagrams)?;
     let own = ImageBox::blank(alloc, bytes, datagrams)?;

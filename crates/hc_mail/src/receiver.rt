@@ -2,7 +2,7 @@
 ghost use Rattle.std.specs.Prelude.{◌≡◌, ◌<◌};
 ghost use Rattle.std.specs.Arc.{arc_value};
 ghost use Rattle.hc_mail.specs.declared.table.Role.TheVariants.{Looks};
-ghost use Rattle.hc_mail.specs.Images.{StartsWith, image_in, newest};
+ghost use Rattle.hc_mail.specs.Images.{StartsWith, newest};
 ghost use Rattle.hc_mail.specs.Rule.{IsSized};
 ghost use Rattle.hc_mail.specs.Ends.{posed, reported, seen, StaysAtTable};
 
@@ -22,10 +22,10 @@ pub struct ImageReceiver {
     pub shown: ImageBox,
     ghost seated: { place.table_id ≡ (arc_value mail).shared.table_id },
     ghost sized: { IsSized (arc_value mail).shared.table_id },
-    ghost roomy: { (image_in shown).room ≡ (arc_value mail).shared.key },
+    ghost roomy: { shown.room ≡ (arc_value mail).shared.key },
     ghost small: { slot < 4 },
     ghost looks: { place ≡ posed place (Looks slot) slot },
-    ghost shows: { image_in shown ≡ newest (image_in shown).room (seen place) },
+    ghost shows: { shown ≡ newest shown.room (seen place) },
 }
 
 impl ImageReceiver {
@@ -47,8 +47,8 @@ impl ImageReceiver {
 
     /// The newest image at the last look; a blank one where none had been sent.
     pub fn image(&self) -> &TaskImage
-        ensures image { result.now ≡ image_in self.now.shown }
-        ensures newest { result.now ≡ newest (image_in self.now.shown).room (seen self.now.place) }
+        ensures image { result.now ≡ self.now.shown }
+        ensures newest { result.now ≡ newest self.now.shown.room (seen self.now.place) }
     {
         self.shown.image()
     }

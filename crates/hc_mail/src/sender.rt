@@ -1,6 +1,6 @@
 //! The owner's end, which sends images.
 ghost use Rattle.std.specs.Prelude.{◌≡◌, ◌≤◌, ◌<◌, ◌+◌, ◌++◌, ◌∷◌, [], length};
-ghost use Rattle.hc_mail.specs.Images.{StartsWith, begun, image_in, with_data, with_outputs, with_zeros};
+ghost use Rattle.hc_mail.specs.Images.{StartsWith, begun, with_data, with_outputs, with_zeros};
 ghost use Rattle.hc_mail.specs.Ends.{seen, StaysAtTable};
 
 use crate::note::{Note, passed};
@@ -34,7 +34,7 @@ impl Model for ImageSender {
 impl ImageSender {
     /// An image of an epoch is begun, without a datagram.
     pub fn begin(&mut self, epoch: u32)
-        ensures own { image_in self.new.own ≡ begun epoch (image_in self.old.own).room }
+        ensures own { self.new.own ≡ begun epoch self.old.own.room }
         ensures same { self.new.place ≡ self.old.place }
     {
         let table = &self.mail.shared;
@@ -44,9 +44,9 @@ impl ImageSender {
 
     /// The image's next datagram has these data, which answer the sending with this serial. The image has room for them.
     pub fn add(&mut self, bytes: &[u8], serial: u64)
-        requires bytes { length (image_in self.old.own).bytes + length bytes.now ≤ (image_in self.old.own).room.0 }
-        requires datagrams { length (image_in self.old.own).serials < (image_in self.old.own).room.1 }
-        ensures own { image_in self.new.own ≡ with_data bytes.now serial (image_in self.old.own) }
+        requires bytes { length self.old.own.bytes + length bytes.now ≤ self.old.own.room.0 }
+        requires datagrams { length self.old.own.serials < self.old.own.room.1 }
+        ensures own { self.new.own ≡ with_data bytes.now serial self.old.own }
         ensures same { self.new.place ≡ self.old.place }
     {
         let table = &self.mail.shared;
@@ -56,9 +56,9 @@ impl ImageSender {
 
     /// The image's next datagram, of so many bytes, has no data: they are zeros. The image has room for them.
     pub fn add_zeros(&mut self, size: usize)
-        requires bytes { length (image_in self.old.own).bytes + size ≤ (image_in self.old.own).room.0 }
-        requires datagrams { length (image_in self.old.own).serials < (image_in self.old.own).room.1 }
-        ensures own { image_in self.new.own ≡ with_zeros size (image_in self.old.own) }
+        requires bytes { length self.old.own.bytes + size ≤ self.old.own.room.0 }
+        requires datagrams { length self.old.own.serials < self.old.own.room.1 }
+        ensures own { self.new.own ≡ with_zeros size self.old.own }
         ensures same { self.new.place ≡ self.old.place }
     {
         let table = &self.mail.shared;
@@ -68,8 +68,8 @@ impl ImageSender {
 
     /// The task has these outputs after those that the image has. The image has room for them.
     pub fn add_outputs(&mut self, outputs: &[u8])
-        requires { length (image_in self.old.own).outputs + length outputs.now ≤ (image_in self.old.own).room.0 }
-        ensures own { image_in self.new.own ≡ with_outputs outputs.now (image_in self.old.own) }
+        requires { length self.old.own.outputs + length outputs.now ≤ self.old.own.room.0 }
+        ensures own { self.new.own ≡ with_outputs outputs.now self.old.own }
         ensures same { self.new.place ≡ self.old.place }
     {
         let table = &self.mail.shared;
@@ -80,7 +80,7 @@ impl ImageSender {
     /// The image is sent. The task's next look shows it, unless a newer one is sent before. The image that comes back is an
     /// older one, or blank: `begin` makes the next one.
     pub fn send(&mut self)
-        ensures sent { seen self.new.place ≡ seen self.old.place ++ image_in self.old.own ∷ [] }
+        ensures sent { seen self.new.place ≡ seen self.old.place ++ self.old.own ∷ [] }
         ensures same { StaysAtTable self.old.place self.old.own self.new.place self.new.own }
     {
         let shared = &self.mail.shared;

@@ -4,7 +4,6 @@ use Rattle.hc_events.specs.Entries.{History}
 use Rattle.hc_events.specs.Points.{opened_with}
 use Rattle.hc_publish.specs.Laws.{ShowsHistory, ShowsWhatIsRead}
 use Rattle.hc_publish.specs.ChangesSince.{ChangesSince}
-use Rattle.hc_conductor.specs.Mastering.{master_shown}
 use Rattle.hc_conductor.proofs.lemmas.AnswerGiven.{answer_given-same}
 use Rattle.hc_program.specs.Sessions.{IsShown}
 

@@ -1,6 +1,5 @@
 //! Opening the project of an input, or saying why it can't be opened.
-ghost use Rattle.std.specs.Prelude.{◌≡◌, ◌++◌, IfErr, IfOk, IsOk, OnOk, false, string_bytes, true};
-ghost use Rattle.hc_project.specs.Text.{project_in};
+ghost use Rattle.std.specs.Prelude.{◌≡◌, ◌++◌, IfErr, IfOk, OnOk, false, string_bytes, true};
 ghost use Rattle.hc_conductor.specs.Mastering.{master_history};
 ghost use Rattle.hc_program.specs.Sessions.{MasterIsAtOpening};
 ghost use Rattle.hc_program.specs.Standings.{opened_session_state};

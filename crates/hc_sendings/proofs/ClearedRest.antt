@@ -1,5 +1,5 @@
 -- After the head of a frame of the least size all is zero before its datagrams are written; a longer frame ends with them.
-use Rattle.std.proofs.Common.{◌≡◌, ◌∙◌, ◌+◌, ◌-◌, ◌≤◌, ◌<◌, nat_lt, ℕ, List, [], drop, length, replicate, ap, arith, ltb-true, ltb-false}
+use Rattle.std.proofs.Common.{◌≡◌, ◌∙◌, ◌+◌, ◌-◌, ◌≤◌, ◌<◌, nat_lt, ℕ, List, drop, length, replicate, ap, arith, ltb-true, ltb-false}
 use Rattle.std.proofs.lemmas.List.{drop-replicate, drop_all}
 use Rattle.hc_records.proofs.lemmas.Choices.{by_bool}
 use Rattle.hc_frames.specs.FrameText.{padding}

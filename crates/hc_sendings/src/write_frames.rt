@@ -106,7 +106,7 @@ impl Model for WriteFrame {
 }
 
 impl WriteFrame {
-    ghost use Rattle.std.specs.Prelude.{◌≡◌, ◌+◌, ◌^◌, ◌<◌, ◌≤◌, [], IfOk, length, true};
+    ghost use Rattle.std.specs.Prelude.{◌≡◌, ◌+◌, ◌^◌, ◌<◌, ◌≤◌, IfOk, length, true};
     ghost use Rattle.hc_frames.specs.declared.limits.TheConstants.{MAX_DATA};
     ghost use Rattle.hc_frames.specs.Builds.{Builds};
     ghost use Rattle.hc_frames.specs.Sizes.{frame_bytes};

@@ -1,6 +1,5 @@
 //! The newest image goes from one thread to another through a mailbox.
 ghost use Rattle.std.specs.Prelude.{◌≡◌};
-ghost use Rattle.hc_mail.specs.Images.{image_in};
 
 use hc_mail::image::TaskImage;
 use hc_mail::opening::open;
@@ -18,8 +17,8 @@ const TURNS: u32 = 100_000_000;
 /// Sends an image of an epoch with two datagrams of two bytes. The second has data, the epoch modulo 251, twice: they answer the
 /// sending whose serial is the epoch. The same byte is the only output.
 fn send_epoch(sender: &mut ImageSender, epoch: u32)
-    requires { (image_in sender.old.own).room ≡ (4, 2) }
-    ensures room { (image_in sender.new.own).room ≡ (4, 2) }
+    requires { sender.old.own.room ≡ (4, 2) }
+    ensures room { sender.new.own.room ≡ (4, 2) }
     ensures one { sender.new.place.table_id ≡ sender.old.place.table_id }
 {
     let byte = (epoch % 251) as u8;
@@ -43,7 +42,7 @@ fn is_whole(image: &TaskImage) -> bool {
 
 /// Sends the images of all epochs, one after another.
 fn send_all(mut sender: ImageSender)
-    requires { (image_in sender.own).room ≡ (4, 2) }
+    requires { sender.own.room ≡ (4, 2) }
 {
     for epoch in 1..=SENDINGS {
         send_epoch(&mut sender, epoch);

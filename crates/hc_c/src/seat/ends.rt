@@ -1,6 +1,5 @@
 //! The two ends of a task's seat.
 ghost use Rattle.std.specs.Prelude.{◌≡◌, false};
-ghost use Rattle.hc_mail.specs.Images.{image_in};
 ghost use Rattle.hc_rings.specs.Ring.{PostsEach};
 ghost use Rattle.hc_c.specs.SeatEnds.{has_seat_from};
 ghost use Rattle.hc_c.specs.SeatRoom.{image_room};
@@ -14,7 +13,7 @@ use hc_rings::{PostReceiver, PostSender};
 pub struct OwnerEnd {
     pub images: ImageSender,
     pub posts: PostReceiver,
-    ghost roomy: { (image_in images.own).room ≡ image_room },
+    ghost roomy: { images.own.room ≡ image_room },
 }
 
 /// The task's end: it looks at images and posts.
@@ -22,7 +21,7 @@ pub struct OwnerEnd {
 pub struct TaskEnd {
     pub images: ImageReceiver,
     pub posts: PostSender,
-    ghost roomy: { (image_in images.shown).room ≡ image_room },
+    ghost roomy: { images.shown.room ≡ image_room },
     ghost posts_each: { PostsEach posts },
 }
 

@@ -4,12 +4,11 @@ ghost use Rattle.std.specs.Option.{option_copied};
 ghost use Rattle.hc_records.specs.declared.limits.TheConstants.{MOST_DATAGRAMS, TASKS};
 ghost use Rattle.hc_records.specs.Image.{datagram_count, task_places};
 ghost use Rattle.hc_events.specs.Points.{line_of};
-ghost use Rattle.hc_mail.specs.Images.{image_in, with_outputs};
-ghost use Rattle.hc_c.specs.Embedded.{embedded_history};
+ghost use Rattle.hc_mail.specs.Images.{with_outputs};
 ghost use Rattle.hc_c.specs.Pieces.{HaveLengths};
 ghost use Rattle.hc_c.specs.Reads.{image_size};
 ghost use Rattle.hc_c.specs.SeatEnds.{has_seat_from};
-ghost use Rattle.hc_c.specs.SeatImages.{ShowsAll, ShowsEnd, Shows, sent_from, with_slot, with_slots};
+ghost use Rattle.hc_c.specs.SeatImages.{ShowsAll, Shows, sent_from, with_slot, with_slots};
 ghost use Rattle.hc_c.specs.Seats.{ShowsLine};
 ghost use Rattle.hc_c.specs.declared.numbers.TheConstants.{BUSY, CLOSED};
 
@@ -25,9 +24,9 @@ use hc_records::limits::TASKS;
 /// The image's next datagram is one of so many bytes, with its data, if it has some, and the serial that they answer.
 fn add_slot(images: &mut ImageSender, slot: Option<&[u8]>, serial: Option<u64>, size: usize)
     requires fits { IfSome (option_copied slot) (λ bytes. length bytes ≡ size) }
-    requires bytes { length (image_in images.old.own).bytes + size ≤ (image_in images.old.own).room.0 }
-    requires datagrams { length (image_in images.old.own).serials < (image_in images.old.own).room.1 }
-    ensures own { image_in images.new.own ≡ with_slot size (option_copied slot.entry) serial (image_in images.old.own) }
+    requires bytes { length images.old.own.bytes + size ≤ images.old.own.room.0 }
+    requires datagrams { length images.old.own.serials < images.old.own.room.1 }
+    ensures own { images.new.own ≡ with_slot size (option_copied slot.entry) serial images.old.own }
     ensures same { images.new.place ≡ images.old.place }
 {
     match slot {
@@ -42,9 +41,9 @@ fn add_slots(core: &Core, task: u8, number: u8, datagrams: &[Datagram], images: 
     requires task { task < TASKS }
     requires few { number + length datagrams.now ≤ MOST_DATAGRAMS }
     requires lengths { HaveLengths (line_of core.now.history) task number datagrams.now }
-    requires bytes { length (image_in images.old.own).bytes + image_size datagrams.now ≤ (image_in images.old.own).room.0 }
-    requires room { length (image_in images.old.own).serials + length datagrams.now ≤ (image_in images.old.own).room.1 }
-    ensures own { image_in images.new.own ≡ with_slots core.now.history task number datagrams.now (image_in images.old.own) }
+    requires bytes { length images.old.own.bytes + image_size datagrams.now ≤ images.old.own.room.0 }
+    requires room { length images.old.own.serials + length datagrams.now ≤ images.old.own.room.1 }
+    ensures own { images.new.own ≡ with_slots core.now.history task number datagrams.now images.old.own }
     ensures same { images.new.place ≡ images.old.place }
 {
     let Some((first, rest)) = datagrams.split_first() else {
@@ -79,8 +78,8 @@ fn add_outputs(
     requires count { number + length datagrams.now ≡ datagram_count (task_places task (line_of core.now.history)) }
     requires few { number + length datagrams.now ≤ MOST_DATAGRAMS }
     requires lengths { HaveLengths (line_of core.now.history) task number datagrams.now }
-    requires room { length (image_in images.old.own).outputs + image_size datagrams.now ≤ (image_in images.old.own).room.0 }
-    ensures own { image_in images.new.own ≡ with_outputs (take size (sent_from core.now.history task number datagrams.now)) (image_in images.old.own) }
+    requires room { length images.old.own.outputs + image_size datagrams.now ≤ images.old.own.room.0 }
+    ensures own { images.new.own ≡ with_outputs (take size (sent_from core.now.history task number datagrams.now)) images.old.own }
     ensures same { images.new.place ≡ images.old.place }
 {
     let Some((_, rest)) = datagrams.split_first() else {

@@ -1,7 +1,6 @@
 //! A task's thread looks at the newest image of its seat.
 ghost use Rattle.std.specs.Prelude.{◌≡◌, ◌≢◌, ◌+◌, ◌*◌, ◌^◌, ◌<◌, ◌≤◌, ◌++◌, if◌then◌else◌, IfSome, None, Option, drop, is_some, length, map};
 ghost use Rattle.hc_records.specs.declared.limits.TheConstants.{MOST_DATAGRAMS};
-ghost use Rattle.hc_mail.specs.Images.{image_in};
 ghost use Rattle.hc_c.specs.Lists.{put_first};
 ghost use Rattle.hc_c.specs.Reads.{fit_number, mask_of};
 ghost use Rattle.hc_c.specs.SeatRoom.{image_room};

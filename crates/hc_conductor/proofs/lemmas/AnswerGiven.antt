@@ -1,7 +1,6 @@
 -- What is shown, by its parts; and what the record says of it.
 use Rattle.std.proofs.Common.{◌≡◌, ℕ, List, refl, sym, ap, ap₂, ◌∙◌, Option, Some, None, Ok, Err}
 use Rattle.std.specs.Prelude.{IfErr, Result, option_and_then}
-use Rattle.std.proofs.lemmas.Result.{IfOk-weaker}
 use Rattle.hc_records.specs.declared.records.Group.{Group}
 use Rattle.hc_records.specs.Image.{VariablePlace}
 use Rattle.hc_records.specs.Variables.{variable_of}

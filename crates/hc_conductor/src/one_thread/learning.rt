@@ -1,7 +1,7 @@
 //! The seats learn what is published.
 ghost use Rattle.std.specs.Prelude.{◌≡◌, length, map, replicate};
 ghost use mathlib.Core.List.{IsPrefix};
-ghost use Rattle.hc_conductor.specs.Conducting.{conductor_origin, conductor_published};
+ghost use Rattle.hc_conductor.specs.Conducting.{conductor_published};
 ghost use Rattle.hc_conductor.specs.Seats.{seat_known, task_seat_origin, sender, seat_task};
 ghost use Rattle.hc_conductor.specs.Learning.{CanLearn};
 

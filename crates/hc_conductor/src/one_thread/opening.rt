@@ -4,7 +4,7 @@ ghost use Rattle.hc_records.specs.declared.limits.TheConstants.{TASKS};
 ghost use Rattle.hc_events.specs.Accepted.{just_opened};
 ghost use Rattle.hc_publish.specs.ChangesSince.{just_answered};
 ghost use Rattle.hc_conductor.specs.Openings.{IsOpenFault, IsOpenable};
-ghost use Rattle.hc_conductor.specs.Mastering.{master_history, master_shown, waiting};
+ghost use Rattle.hc_conductor.specs.Mastering.{master_shown, waiting};
 
 use crate::one_thread::master::Master;
 use hc_publish::faults::OpenFault;

@@ -1,10 +1,9 @@
 //! What tasks view.
 ghost use Rattle.std.specs.Prelude.{◌≡◌, ◌<◌, IfOk};
 ghost use Rattle.hc_records.specs.declared.limits.TheConstants.{TASKS};
-ghost use Rattle.hc_publish.specs.ChangesSince.{IsLegal, ChangesSince};
 ghost use Rattle.hc_publish.specs.Seats.{noted_changes, note_origin};
 ghost use Rattle.hc_conductor.specs.Conducting.{PublishesAll};
-ghost use Rattle.hc_conductor.specs.Seats.{seat_held, seat_known, task_seat_origin, sender, seat_task};
+ghost use Rattle.hc_conductor.specs.Seats.{seat_known, task_seat_origin, sender, seat_task};
 ghost use Rattle.hc_conductor.specs.Views as views;
 ghost use Rattle.hc_conductor.specs.Mastering.{master_history, master_shown, waiting};
 ghost use Rattle.hc_conductor.specs.Viewing.{IsViewAfter, IsViewOf, value_answered};

@@ -1,6 +1,5 @@
 //! The loops of docs/use/CONDUCTOR.md, as they are there.
 ghost use Rattle.std.specs.Prelude.{◌≡◌};
-ghost use Rattle.hc_conductor.specs.Conducting.{conductor_origin};
 ghost use Rattle.hc_conductor.specs.Seats.{task_seat_origin};
 
 use hc_conductor::conductor::Conductor;

@@ -1,5 +1,5 @@
 use Rattle.std.proofs.Common.{◌≡◌, ℕ, suc, ◌-◌, ◌+◌, subst, arith}
-use Rattle.hc_conductor.specs.Taking.{TakesFrom, TakesKnown}
+use Rattle.hc_conductor.specs.Taking.{TakesKnown}
 use Rattle.hc_conductor.proofs.Waiting.{one-known}
 use Rattle.hc_conductor.proofs.taking.+take_some.Goals as goal
 

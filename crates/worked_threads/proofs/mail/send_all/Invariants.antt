@@ -1,6 +1,5 @@
 use Rattle.std.proofs.Common.{◌≡◌}
-use Rattle.hc_mail.specs.Images.{image_in}
 use Rattle.worked_threads.proofs.mail.send_all.Given as goal
 
 abbrev pub invariant-loop-epoch : goal.invariant-loop-epoch
-invariant-loop-epoch l = (image_in l.sender.own).room ≡ (4, 2)
+invariant-loop-epoch l = l.sender.own.room ≡ (4, 2)

@@ -2,7 +2,7 @@ use Rattle.std.proofs.Common.{rules, ◌∙◌, ◌++◌, List, ℕ, ◌+◌, ap
 use Rattle.std.proofs.lemmas.List.{length-append}
 use Rattle.hc_events.specs.Points.{line_of}
 use Rattle.hc_events.proofs.lemmas.SentBits.{sent-data}
-use Rattle.hc_mail.specs.Images.{Image, image_in, with_outputs}
+use Rattle.hc_mail.specs.Images.{Image, with_outputs}
 use Rattle.hc_c.specs.Pieces.{HaveLengths}
 use Rattle.hc_c.specs.SeatImages.{sent_from}
 use Rattle.hc_c.proofs.Showing.{outputs_joined, sizes-cons, take_short}
@@ -32,7 +32,7 @@ add_outputs-requires-2 t c =
     let sizes = sizes-cons args.datagrams.now c.in-Some.rest.now c.in-Some.field-0-0.now cut in
     let short = take_short args.size c.outputs-sent.result.now in
     let front = ap length c.front.ensures in
-    let old = image_in args.images.now.own in
+    let old = args.images.now.own in
     let added = ap (λ (image : Image). length image.outputs) c.add_outputs.ensures.own ∙ length-append old.outputs c.front.result.now in
     let room = ap (λ (image : Image). image.room.0) c.add_outputs.ensures.own in (
       search rules,
@@ -49,4 +49,4 @@ returns-clause-own t c =
     let all = ap (sent_from history args.task args.number) c.in-Some.ensures.cases.0 ∙ ap (λ (l : List ℕ). l ++ others) (sym c.outputs-sent.ensures) in
     c.add_outputs-2.ensures.own
     ∙ (ap (with_outputs (take left others)) c.add_outputs.ensures.own
-    ∙ outputs_joined args.size left sent c.front.result.now others (sent_from history args.task args.number args.datagrams.now) (image_in args.images.now.own) c.front.ensures c.saturating_sub-left.ensures all)
+    ∙ outputs_joined args.size left sent c.front.result.now others (sent_from history args.task args.number args.datagrams.now) args.images.now.own c.front.ensures c.saturating_sub-left.ensures all)

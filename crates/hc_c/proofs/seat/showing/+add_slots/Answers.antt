@@ -1,7 +1,7 @@
 use Rattle.std.proofs.Common.{rules, ◌∙◌, ap, arith, length, subst}
 use Rattle.std.specs.Option.{option_copied}
 use Rattle.hc_events.specs.Points.{line_of}
-use Rattle.hc_mail.specs.Images.{Room, image_in}
+use Rattle.hc_mail.specs.Images.{Room}
 use Rattle.hc_c.specs.Pieces.{HaveLengths}
 use Rattle.hc_c.proofs.Images.{slot-fits}
 use Rattle.hc_c.proofs.Showing.{sizes-cons, slot_added}
@@ -24,7 +24,7 @@ add_slots-requires t c =
     let slot = option_copied c.data-slot.result in
     let fits = slot-fits history c.args.task c.args.number c.from.result slot (c.data-slot.ensures.slot c.requires.task (omega (arith, few, c.requires.few))) (c.from.ensures ∙ lengths.0) in
     let sizes = sizes-cons c.args.datagrams.now c.in-Some.rest.now c.in-Some.first.now cut in
-    let added = slot_added c.from.result slot c.data_serial-serial.result (image_in c.args.images.now.own) (image_in c.add_slot.new.images.own) fits c.add_slot.ensures.own in
+    let added = slot_added c.from.result slot c.data_serial-serial.result c.args.images.now.own c.add_slot.new.images.own fits c.add_slot.ensures.own in
     let long = added.0 in let more = added.1 in let bytes = ap (λ (room : Room). room.0) added.2 in let datagrams = ap (λ (room : Room). room.1) added.2 in (
       search rules,
       (c.requires.task, (omega (arith, few, c.requires.few), (lengths.1, (omega (arith, long, bytes, sizes, c.from.ensures, c.requires.bytes), omega (arith, more, datagrams, few, c.requires.room))))),

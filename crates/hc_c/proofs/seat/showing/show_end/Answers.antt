@@ -4,7 +4,7 @@ use Rattle.hc_records.specs.Line.{State, line}
 use Rattle.hc_places.specs.Table.{Table, datagrams_in}
 use Rattle.hc_sendings.proofs.lemmas.Listed.{listed-count}
 use Rattle.hc_mail.specs.Ends.{Place, reported, seen}
-use Rattle.hc_mail.specs.Images.{Image, Room, image_in}
+use Rattle.hc_mail.specs.Images.{Image, Room}
 use Rattle.hc_c.proofs.Images.{listed-here, listed-lengths}
 use Rattle.hc_c.proofs.Showing.{shown_image, sizes-most}
 use Rattle.hc_c.proofs.seat.showing.show_end.Goals as goal
@@ -50,12 +50,12 @@ returns c =
     let old = c.args.end.now.images in
     let here = listed-here history c.plan-plan.result.now c.places-places.result.now c.args.task c.datagrams-datagrams.result.now c.plan-plan.ensures.state c.places-places.ensures.table c.datagrams-datagrams.ensures.datagrams in
     let epoch = c.epoch.ensures ∙ ap (λ (state : State). state.epoch) c.plan-plan.ensures.state ∙ c.plan-plan.ensures.epoch in
-    let image = shown_image history c.args.task c.epoch.result c.from.result c.datagrams-datagrams.result.now (image_in old.own).room (image_in c.begin.new.self.own) (image_in c.add_slots.new.images.own) (image_in c.add_outputs.new.images.own)
+    let image = shown_image history c.args.task c.epoch.result c.from.result c.datagrams-datagrams.result.now old.own.room c.begin.new.self.own c.add_slots.new.images.own c.add_outputs.new.images.own
     c.begin.ensures.own c.add_slots.ensures.own c.add_outputs.ensures.own epoch here (c.from.ensures ∙ ap (λ part. part.0) c.part_at-outputs.ensures) c.args.end.now.roomy in
     let place = c.add_outputs.ensures.same ∙ c.add_slots.ensures.same ∙ c.begin.ensures.same in
     let sent = c.send.ensures.sent in
     let same = c.send.ensures.same in record {
-      shown = sent ∙ ap (λ (l : List Image). l ++ image_in c.add_outputs.new.images.own ∷ []) (ap seen place) ∙ ap (λ (it : Image). seen old.place ++ it ∷ []) image;
+      shown = sent ∙ ap (λ (l : List Image). l ++ c.add_outputs.new.images.own ∷ []) (ap seen place) ∙ ap (λ (it : Image). seen old.place ++ it ∷ []) image;
       reported = same.2 ∙ ap reported place;
       one_mail = same.0 ∙ ap (λ (it : Place). it.table_id) place;
       posts = λ _. c.args.end.now.posts;

@@ -1,7 +1,6 @@
-use Rattle.std.proofs.Common.{List, length, sym, ◌∙◌, ap, subst}
+use Rattle.std.proofs.Common.{length, sym, ◌∙◌, ap, subst}
 use Rattle.hc_events.specs.Changes.{updates_of}
 use Rattle.hc_events.specs.Points.{opened_with, state_of}
-use Rattle.hc_rings.specs.declared.posts.PostReceiver.{PostReceiver}
 use Rattle.hc_conductor.specs.Conducting.{Conducting}
 use Rattle.hc_conductor.specs.Taking.{events_of_all}
 use Rattle.hc_conductor.specs.Together.{AreJoined, EachRing}

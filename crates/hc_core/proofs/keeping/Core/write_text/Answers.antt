@@ -1,24 +1,19 @@
-use Rattle.std.proofs.Common.{◌≡◌, ◌∷◌, ◌++◌, ◌∙◌, ◌+◌, ◌<◌, ℕ, List, false, true, Some, None, ap, drop, length, map, refl, sym, subst}
-use Rattle.std.proofs.lemmas.Result.{err_from_is_err_and}
+use Rattle.std.proofs.Common.{◌≡◌, ◌∷◌, ◌++◌, ◌∙◌, ◌+◌, ◌<◌, ℕ, List, None, ap, length, map, sym, subst}
 use Rattle.hc_records.specs.Lists.{lowest}
 use Rattle.hc_registers.specs.Blocks.{LineBlock}
 use Rattle.hc_frames.specs.declared.limits.TheConstants.{SETUP_SERIAL}
-use Rattle.hc_frames.specs.Sizes.{frame_bytes}
-use Rattle.hc_events.specs.declared.faults.CoreFault.TheVariants.{Room}
 use Rattle.hc_events.specs.Accepted.{IsWrite}
-use Rattle.hc_events.specs.Calls.{room_faults}
 use Rattle.hc_events.specs.Entries.{History, Wrote}
 use Rattle.hc_events.specs.Owed.{known_bytes, owed_blocks}
 use Rattle.hc_events.specs.Points.{next_serial, state_of}
 use Rattle.hc_events.specs.Steps.{write_faults}
-use Rattle.hc_events.specs.WriteFrames.{writes_size, writes_text}
+use Rattle.hc_events.specs.WriteFrames.{writes_text}
 use Rattle.hc_owed.specs.RegisterState.{register_state_of}
 use Rattle.hc_sendings.specs.declared.awaited.TheConstants.{AWAITED_WRITES}
 use Rattle.hc_sendings.specs.declared.write_frames.PlacedBlock.{PlacedBlock}
 use Rattle.hc_sendings.specs.Waiting.{Waiting, awaited_block, older_writes, wrote}
 use Rattle.hc_sendings.specs.WriteFrames.{block_of}
-use Rattle.hc_core.proofs.FirstBlocks.{are-first, can-mark, stays-blocks, placed-text, room-enough, room-short}
-use Rattle.hc_core.proofs.Lowest.{lowest-after_it}
+use Rattle.hc_core.proofs.FirstBlocks.{are-first, can-mark, stays-blocks, placed-text}
 use Rattle.hc_core.proofs.Rooms.{older-few, same-length}
 use Rattle.hc_core.proofs.Sendings.{agree-wrote}
 use Rattle.hc_core.proofs.Writes.{first-write, serial-left}
@@ -26,7 +21,7 @@ use Rattle.hc_core.specs.Agreement.{Agree, core_parts}
 use Rattle.hc_core.specs.Chosen.{known_sent}
 use Rattle.hc_core.specs.Records.{history_read}
 use Rattle.hc_core.specs.State.{CoreState}
-use Rattle.hc_core.specs.Written.{HoldsBlocks, first_blocks, first_into_faults}
+use Rattle.hc_core.specs.Written.{first_blocks}
 use Rattle.hc_core.proofs.keeping.Core.write_text.Goals as goal
 
 pub write-requires-clause-room : goal.write-requires-clause-room

@@ -1,5 +1,5 @@
 use Rattle.std.proofs.Common.{rules, ap, sym, ◌∙◌}
-use Rattle.hc_mail.specs.Images.{image_in, newest}
+use Rattle.hc_mail.specs.Images.{newest}
 use Rattle.hc_mail.proofs.Seats.{learns}
 use Rattle.hc_mail.proofs.Moves.{is_posed}
 use Rattle.hc_mail.proofs.receiver.ImageReceiver.learn.Goals as goal
@@ -14,5 +14,5 @@ invariant_of-self c = let now = c.join_seat.ensures.2 in let was = c.args.self.n
   roomy = search rules;
   small = search rules;
   looks = is_posed _ _ _ _ (ap (λ m. m.0.role) now ∙ ap (λ s. s.me.0.role) was) (ap (λ m. m.1) now ∙ ap (λ s. s.me.1) was);
-  shows = c.args.self.now.shows ∙ ap (λ m. newest (image_in c.args.self.now.shown).room m.0.seen) (sym now);
+  shows = c.args.self.now.shows ∙ ap (λ m. newest c.args.self.now.shown.room m.0.seen) (sym now);
 }

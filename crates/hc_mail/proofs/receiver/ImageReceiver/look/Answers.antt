@@ -1,7 +1,7 @@
 use Rattle.std.proofs.Common.{rules, ℕ, List, [], ◌∷◌, ◌%◌, arith, ap, sym, ◌∙◌}
 use Rattle.atomic_table.specs.Table.{rest}
 use Rattle.hc_mail.specs.declared.table.Role.TheVariants.{Takes}
-use Rattle.hc_mail.specs.Images.{Image, image_in, newest}
+use Rattle.hc_mail.specs.Images.{Image, newest}
 use Rattle.hc_mail.specs.Rule.{in_hand, slot_in}
 use Rattle.hc_mail.specs.Ends.{Place}
 use Rattle.hc_mail.proofs.Lists.{comes_out}
@@ -18,7 +18,7 @@ invariant_of-self c = let self = c.args.self.now in let same = (c.load.ensures.2
   roomy = search rules;
   small = search rules;
   looks = is_posed _ _ _ _ (ap (λ m. m.0.role) same ∙ ap (λ s. s.me.0.role) was) (ap (λ m. m.1) same ∙ ap (λ s. s.me.1) was);
-  shows = self.shows ∙ ap (λ m. newest (image_in self.shown).room m.0.seen) (sym same);
+  shows = self.shows ∙ ap (λ m. newest self.shown.room m.0.seen) (sym same);
 }
 
 pub slot_mut-requires : goal.slot_mut-requires
@@ -32,7 +32,7 @@ swap-word-requires c =
     let self = c.args.self.now in let was = self.looks in let newer = c.load.ensures.2.1 c.if-load-lt4.false in (
       search rules,
       search rules,
-      takes_newer _ _ _ _ _ (image_in self.shown) (ap (λ m. m.0.role) newer ∙ ap (λ (s : Place). Takes (slot_in s.me.1)) was)
+      takes_newer _ _ _ _ _ self.shown (ap (λ m. m.0.role) newer ∙ ap (λ (s : Place). Takes (slot_in s.me.1)) was)
           (ap (λ m. (self.slot, c.swap.new.x) ∷ rest m.1) newer
           ∙ (ap (λ (s : Place). (self.slot, c.swap.new.x) ∷ rest s.me.1) was ∙ ap (λ (image : Image). (self.slot, image) ∷ []) c.swap.ensures.x_after)) (search rules),
     )

@@ -1,5 +1,4 @@
 use Rattle.std.proofs.Common.{rules, [], ◌∷◌, ◌++◌, arith, ap, ◌∙◌}
-use Rattle.hc_mail.specs.Images.{image_in}
 use Rattle.hc_mail.specs.Ends.{Place, reported, seen}
 use Rattle.hc_mail.specs.Rule.{in_hand}
 use Rattle.hc_mail.specs.Sender.{SenderEnd}
@@ -20,7 +19,7 @@ invariant_of-self c = let it = c.self.invariant in let got = c.swap-word.ensures
 }
 
 pub returns-clause-sent : goal.returns-clause-sent
-returns-clause-sent c = ap (λ m. m.0.seen) c.swap-word.ensures.2.2 ∙ ap (λ (end : SenderEnd). seen end.place ++ image_in end.own ∷ []) c.self.view_is
+returns-clause-sent c = ap (λ m. m.0.seen) c.swap-word.ensures.2.2 ∙ ap (λ (end : SenderEnd). seen end.place ++ end.own ∷ []) c.self.view_is
 
 pub returns-clause-same : goal.returns-clause-same
 returns-clause-same c = let got = c.swap-word.ensures.2 in let was = c.self.view_is in (

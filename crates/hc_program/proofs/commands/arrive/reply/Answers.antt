@@ -1,4 +1,4 @@
-use Rattle.std.proofs.Common.{arith, rules, ◌≡◌, [], ◌++◌, ◌∙◌, Ok, ap, sym, string_bytes}
+use Rattle.std.proofs.Common.{arith, rules, ◌≡◌, [], ◌++◌, ◌∙◌, Ok, ap, sym}
 use Rattle.std.specs.Prelude.{codes}
 use Rattle.std.specs.List.{flat_map}
 use Rattle.hc_program.specs.Answers.{outcome_text, answer_given}

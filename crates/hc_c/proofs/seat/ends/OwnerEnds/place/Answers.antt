@@ -1,5 +1,4 @@
-use Rattle.std.proofs.Common.{◌≡◌, ◌∙◌, ℕ, ◌+◌, ◌≤◌, max, false, arith, ap}
-use Rattle.hc_c.specs.SeatEnds.{has_seat_from}
+use Rattle.std.proofs.Common.{◌≡◌, ◌∙◌, ◌+◌, ◌≤◌, arith}
 use Rattle.hc_c.proofs.SeatEnds.{none-later}
 use Rattle.hc_c.proofs.seat.ends.OwnerEnds.place.Goals as goal
 
