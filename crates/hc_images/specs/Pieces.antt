@@ -1,5 +1,5 @@
 -- What the code does to the bytes of datagrams, piece by piece; no public contract names it.
-use Rattle.std.specs.Prelude.{◌≡◌, ◌≢◌, ℕ, ◌+◌, ◌-◌, ◌*◌, ◌^◌, ◌<◌, ◌≤◌, ◌⊎◌, Bool, if◌then◌else◌, List, [], ◌++◌, MatchOption, None, Option, Some, drop, is_some, length, min, option_and_then, replicate, slice_get, slice_index_or, take}
+use Rattle.std.specs.Prelude.{◌≡◌, ◌≢◌, ℕ, ◌+◌, ◌-◌, ◌*◌, ◌^◌, ◌<◌, ◌≤◌, ◌⊎◌, Bool, if◌then◌else◌, List, [], ◌++◌, MatchOption, None, Option, Some, drop, is_some, length, min, option_and_then, replicate, slice_get, slice_index_or, sum_by, take}
 use Rattle.std.specs.Int.{bit_at}
 use Rattle.std.specs.Option.{option_map_or}
 use Rattle.hc_bits.specs.Bits.{AreBytes, ReplacesRun, bit_of}
@@ -127,12 +127,17 @@ HasTaskRoom size task table at room =
     (d : ℕ) → task < TASKS → d < MOST_DATAGRAMS → size task d < table_data_length table d
     → slice_index_or room (at + d) [] ≡ replicate (table_data_length table d) 0
 
--- there are such zeros for the first n of changed tasks: those for datagrams of the i-th one are at `slot_bytes room i`
+-- how many datagrams are in the tables of the first i of changed tasks: the zeros for the next one begin there
+abbrev pub room_start : List ChangedTask → ℕ → ℕ
+room_start changed i = sum_by (λ own. length own.1.datagrams) (take i changed)
+
+-- there are such zeros for the first n of changed tasks, one after another
 pub record HasRoomToGrow (n : ℕ) (size : ℕ → ℕ → ℕ) (changed : List ChangedTask) (room : Bytes) : Type 0 where
-  pub all : length room ≡ MOST_DATAGRAMS * n
+  pub all : length room ≡ room_start changed n
   pub zeros :
       (i d : ℕ) (own : ChangedTask) → i < n → slice_get changed i ≡ Some own → own.0 < TASKS → d < MOST_DATAGRAMS
-      → size own.0 d < table_data_length own.1 d → slot_bytes room i d ≡ replicate (table_data_length own.1 d) 0
+      → size own.0 d < table_data_length own.1 d
+      → slice_index_or room (room_start changed i + d) [] ≡ replicate (table_data_length own.1 d) 0
 
 -- the bytes of a task's datagrams get the lengths of its table, and those of every other task stay
 pub record Resizes (task : ℕ) (table : TaskTable) (old new : Bytes) : Type 0 where

@@ -77,7 +77,7 @@ fn put_run(bytes: &mut [u8], at: usize, bits: u8, value: u64)
 }
 
 impl DatagramBytes {
-    ghost use Rattle.std.specs.Prelude.{◌≡◌, ◌+◌, ◌++◌, ◌*◌, ◌<◌, ◌≤◌, ℕ, IfOk, drop, length, min, replicate};
+    ghost use Rattle.std.specs.Prelude.{◌≡◌, ◌+◌, ◌++◌, ◌*◌, ◌<◌, ◌≤◌, ℕ, [], IfOk, drop, length, min, replicate};
     ghost use Rattle.std.specs.Int.{bit_at};
     ghost use Rattle.hc_bits.specs.Bits.{AreBytes, bit_of, ReplacesRun};
     ghost use Rattle.hc_records.specs.declared.limits.TheConstants.{MOST_ENTRY_BITS};
@@ -120,6 +120,13 @@ impl DatagramBytes {
         } else {
             self.grow(zeros);
         }
+    }
+
+    /// Loses its bytes; their memory stays.
+    pub(crate) fn clear(&mut self)
+        ensures { self.new ≡ [] }
+    {
+        self.bytes.clear();
     }
 
     /// The 1 to 64 bits from one on, as a number.

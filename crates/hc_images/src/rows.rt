@@ -177,8 +177,8 @@ fn growth(places: &Places, task: Task, number: u8, size: u16) -> u16
     }
 }
 
-/// Adds zeros for each datagram of a task that gets longer than in a table, as many as it gets, and none for any other.
-/// `AllocError` where a growth was refused.
+/// Adds zeros for each datagram of a task's table that gets longer than it is in `places`, as many as it gets, and none for any
+/// other. `AllocError` where a growth was refused.
 fn push_room(
     alloc: Global,
     room: &mut Vec<DatagramBytes>,
@@ -186,9 +186,9 @@ fn push_room(
     task: Task,
     table: &TaskTable,
 ) -> Result<(), AllocError>
-    ensures { OnOk result (AddsRoom MOST_DATAGRAMS (length_in places.now) task table.now room.old.items room.new.items) }
+    ensures { OnOk result (AddsRoom (length table.now.datagrams) (length_in places.now) task table.now room.old.items room.new.items) }
 {
-    for number in 0..MOST_DATAGRAMS {
+    for number in 0..table.datagrams().len() {
         let size = growth(places, task, number as u8, length_of(table, number));
         let zeros = DatagramBytes::zeros(alloc, size)?;
         room.push(zeros)?;
@@ -205,7 +205,7 @@ pub(crate) fn room_for(
 ) -> Result<Vec<DatagramBytes>, AllocError>
     ensures { IfOk result (λ room. HasRoomToGrow (length changed.now) (length_in places.now) changed.now room.items) }
 {
-    let mut room = Vec::with_capacity(alloc, MOST_DATAGRAMS)?;
+    let mut room = Vec::with_capacity(alloc, SLOTS)?;
     for (task, table) in changed {
         push_room(alloc, &mut room, places, *task, table)?;
     }
@@ -222,15 +222,19 @@ fn resize_task(
     at: usize,
 )
     requires all { length rows.old ≡ MOST_DATAGRAMS * TASKS }
-    requires room { at + MOST_DATAGRAMS ≤ length room.old }
+    requires room { at + length table.now.datagrams ≤ length room.old }
     requires zeros { HasTaskRoom (byte_count rows.old) task table.now at room.old }
     ensures resizes { Resizes task table.now rows.old rows.new }
-    ensures rest { (n : ℕ) → at + MOST_DATAGRAMS ≤ n → slice_index_or room.new n [] ≡ slice_index_or room.old n [] }
+    ensures rest { (n : ℕ) → at + length table.now.datagrams ≤ n → slice_index_or room.new n [] ≡ slice_index_or room.old n [] }
     ensures size { length room.new ≡ length room.old }
 {
+    let datagrams = table.datagrams();
     for number in 0..MOST_DATAGRAMS {
-        let size = length_of(table, number);
-        rows[slot_number(task.number(), number as u8)].resize(size, &mut room[at + number]);
+        let row = slot_number(task.number(), number as u8);
+        match datagrams.get(number) {
+            Some(datagram) => rows[row].resize(datagram.length, &mut room[at + number]),
+            None => rows[row].clear(),
+        }
     }
 }
 
@@ -245,8 +249,9 @@ pub(crate) fn resize(
     requires room { HasRoomToGrow (length changed.now) (byte_count rows.old) changed.now room.old }
     ensures { ResizesEach (length changed.now) changed.now rows.old rows.new }
 {
-    for i in 0..changed.len() {
-        let own = &changed[i];
-        resize_task(rows, own.0, &own.1, room, MOST_DATAGRAMS * i);
+    let mut at = 0;
+    for (task, table) in changed {
+        resize_task(rows, *task, table, room, at);
+        at += table.datagrams().len();
     }
 }
