@@ -1,4 +1,4 @@
-//! Writes the frames that were planned, each byte once.
+//! Writes the frames that were planned.
 ghost use Rattle.std.specs.Prelude.{◌≡◌, ◌+◌, ◌^◌, ◌<◌, ◌≤◌, ◌++◌, ℕ, All, IfOk, List, OnOk, length, map, replicate};
 ghost use Rattle.hc_records.specs.declared.limits.TheConstants.{TASKS};
 ghost use Rattle.hc_frames.specs.FrameText.{sent_datagrams_text};
@@ -14,6 +14,9 @@ use hc_records::items::Items;
 use hc_records::task::Task;
 use hc_registers::fmmu::logical_address;
 use std::alloc::{AllocError, Global};
+
+/// The most bytes of a frame that is written over zeros. A longer one is added part by part.
+const SHORT_FRAME: usize = 256;
 
 /// Where the data are with which datagrams are sent.
 pub trait SentData {
@@ -123,9 +126,25 @@ fn add_padding(text: &mut Vec<u8>, size: usize) -> Result<(), AllocError>
     text.extend_from_slice(&[0; 44][..zeros])
 }
 
-/// The text of a frame of tasks, as `write_frame` writes it into a slice: no byte of it is written twice. It takes the
-/// text's memory alone: `AllocError` where that was refused.
-pub fn frame_text<D: SentData>(
+/// The text of a frame, written over zeros: takes the fewest steps where the frame is short.
+fn text_over_zeros<D: SentData>(
+    alloc: Global,
+    frame: &Sending,
+    sent: &D,
+) -> Result<Items<u8>, AllocError>
+    requires serial { frame.now.serial < 2 ^ 40 }
+    requires known { All (λ named. named.0 < TASKS) frame.now.datagrams }
+    requires size { 2 + carried_bytes (D.bytes sent.now) frame.now.datagrams ≤ MAX_ETHERCAT }
+    ensures { IfOk result (λ text. text ≡ frame_text_of (D.bytes sent.now) frame.now) }
+{
+    let size = HEAD_BYTES + carried_bytes(frame.datagrams(), sent);
+    let mut text = Vec::from_elem(alloc, 0, size.max(usize::from(LEAST_FRAME)))?;
+    write_frame(&mut text, frame, sent);
+    Ok(Items::of(text))
+}
+
+/// The text of a frame, added part by part: no byte of it is written twice.
+fn text_by_parts<D: SentData>(
     alloc: Global,
     frame: &Sending,
     sent: &D,
@@ -142,4 +161,23 @@ pub fn frame_text<D: SentData>(
     add_datagrams(&mut text, frame.serial(), datagrams, sent)?;
     add_padding(&mut text, size)?;
     Ok(Items::of(text))
+}
+
+/// The text of a frame of tasks, as `write_frame` writes it into a slice. It takes the text's memory alone: `AllocError`
+/// where that was refused.
+pub fn frame_text<D: SentData>(
+    alloc: Global,
+    frame: &Sending,
+    sent: &D,
+) -> Result<Items<u8>, AllocError>
+    requires serial { frame.now.serial < 2 ^ 40 }
+    requires known { All (λ named. named.0 < TASKS) frame.now.datagrams }
+    requires size { 2 + carried_bytes (D.bytes sent.now) frame.now.datagrams ≤ MAX_ETHERCAT }
+    ensures { IfOk result (λ text. text ≡ frame_text_of (D.bytes sent.now) frame.now) }
+{
+    if frame.size() <= SHORT_FRAME {
+        text_over_zeros(alloc, frame, sent)
+    } else {
+        text_by_parts(alloc, frame, sent)
+    }
 }

@@ -3,7 +3,7 @@ use Rattle.hc_frames.specs.FrameText.{sent_datagrams_text, frame_head}
 use Rattle.hc_events.specs.Sendings.{Named}
 use Rattle.hc_sendings.specs.Texts.{Data, datagram_with_data, carried_bytes}
 use Rattle.hc_sendings.proofs.Pieces.{added-up}
-use Rattle.hc_sendings.proofs.writing.frame_text.Goals as goal
+use Rattle.hc_sendings.proofs.writing.text_by_parts.Goals as goal
 
 pub returns : goal.returns
 returns g c =
