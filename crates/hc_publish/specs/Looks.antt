@@ -5,7 +5,7 @@ use Rattle.hc_publish.specs.ChangesSince.{ChangesSince}
 use Rattle.hc_publish.specs.PublicationLog.{TheSeen}
 use Rattle.hc_publish.specs.Stories.{Origin}
 
--- the seat's task, what the copy that it looks at got, and what was seen of the book at that copy's last seal
+-- the seat's task, what the copy that it looks at got, and what was seen of the publication log at that copy's last seal
 pub record Look : Type 0 where
   pub task : ℕ
   pub changes_since : ChangesSince

@@ -1,4 +1,4 @@
--- The book of publishings: its entries are what was about to be shown, and each goes on from the ones before.
+-- The publication log: its entries are what was about to be shown, and each goes on from the ones before.
 use Rattle.std.specs.Prelude.{ℕ, ◌≡◌, ◌<◌, ◌==◌, true, List, [], ◌∷◌, ◌++◌, length, MatchBool}
 use mathlib.Core.List.{IsPrefix}
 use Rattle.logbook.specs.Pages.{Cell, Step, View, Book, Named}
@@ -6,7 +6,7 @@ use Rattle.logbook.specs.declared.tokens.Seen.{Seen}
 use Rattle.hc_publish.specs.declared.publication_log.Law.{Law}
 use Rattle.hc_publish.specs.ChangesSince.{ChangesSince}
 
--- what a thread has seen of the book
+-- what a thread has seen of the publication log
 abbrev pub TheSeen : Type 0
 TheSeen = Seen ChangesSince ℕ Law
 
@@ -34,7 +34,7 @@ pub record IsUnchanged (cells : List Cell) (log : List ChangesSince) : Type 0 wh
   pub words : cells ≡ (length log, true) ∷ (0, true) ∷ []
   pub rises : Rises log
 
--- the word that counts the entries of a book
+-- the word that counts the entries of a publication log
 abbrev pub log_end_of : Book → Named
 log_end_of b = record { tracked = true; key = 0; book = b }
 

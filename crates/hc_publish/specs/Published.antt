@@ -19,7 +19,7 @@ pub record IsReadyToShow (p : PublishedState) : Type 0 where
   pub ends : p.steps ≡ before ++ Sealed p.front ∷ []
   pub last : top p.front.log ≡ all_shown p
 
--- what is shown is legal with all that is pending, and sealed; refused publishings pile no seals up; the front is of one book with it, and what it saw last is a beginning of all
+-- what is shown is legal with all that is pending, and sealed; refused publishings pile no seals up; the prefix is of one publication log with it, and what it saw last is a beginning of all
 pub record IsSoundPublisher (p : Inside) : Type 0 where
   pub legal : AreLegal p.writer.desk.shown.value.shown.groups (published (published_state_in p) ++ pending (published_state_in p))
   pub knows : view p.writer.desk.place ≡ p.writer.desk.shown.value.token ∷ []

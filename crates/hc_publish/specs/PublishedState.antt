@@ -1,4 +1,4 @@
--- What contracts see of a publisher: the copy that views show, the steps that they do not see yet, and the front of the book.
+-- What contracts see of a publisher: the copy that views show, the steps that they do not see yet, and the prefix of the publication log.
 use Rattle.std.specs.Prelude.{List}
 use Rattle.hc_events.specs.declared.change.Change.{Change}
 use Rattle.hc_publish.specs.ChangesSince.{ChangesSince}
@@ -7,7 +7,7 @@ use Rattle.hc_publish.specs.PublicationLog.{TheSeen}
 use Rattle.hc_publish.specs.Rule.{changes_in, after_steps}
 use Rattle.hc_publish.specs.Stories.{Origin, Story, origin}
 
--- the copy that views show, the steps after it, and what was seen of the whole book
+-- the copy that views show, the steps after it, and what was seen of the whole publication log
 pub record PublishedState : Type 0 where
   pub shown : Story
   pub steps : List Step

@@ -36,11 +36,11 @@ AreFew false steps = seals_in steps ≤ length (changes_in steps)
 abbrev pub after_steps : ChangesSince → List Step → ChangesSince
 after_steps s steps = record { groups = s.groups; changes = s.changes ++ changes_in steps }
 
--- the books of some tokens
+-- the publication logs of some tokens
 abbrev pub publication_logs : List TheSeen → List Book
 publication_logs v = map (λ t. t.book) v
 
--- each token is of the book of the copy
+-- each token is of the publication log of the copy
 abbrev pub Bound : List TheSeen → Story → Type 0
 Bound [] x = Unit {0}
 Bound (t ∷ v) x = (t.book ≡ x.token.book) × Bound v x
@@ -49,10 +49,10 @@ Bound (t ∷ v) x = (t.book ≡ x.token.book) × Bound v x
 abbrev pub IsSealed : Story → Type 0
 IsSealed x = (top x.token.log ≡ x.shown) × IsLegal x.shown
 
--- the published copy is sealed, and each thread knows its book
+-- the published copy is sealed, and each thread knows its publication log
 abbrev pub CopyIsSealed : Story → List (List TheSeen) → Type 0
 CopyIsSealed x views = IsSealed x × ((seat : ℕ) (v : List TheSeen) → get_elem? views seat ≡ some v → Bound v x)
 
--- what a step gives: a sealed copy, of the book that was known
+-- what a step gives: a sealed copy, of the publication log that was known
 abbrev pub Sees : List TheSeen → Story → Story → List TheSeen → Type 0
 Sees v x y w = (w ≡ y.token ∷ []) × Bound v y × IsSealed y

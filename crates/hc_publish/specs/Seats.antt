@@ -6,7 +6,7 @@ use Rattle.hc_publish.specs.declared.seat.Seat.{Seat}
 use Rattle.hc_publish.specs.PublicationLog.{TheSeen, top}
 use Rattle.hc_publish.specs.Stories.{Origin}
 
--- which publisher a front is of
+-- which publisher a prefix is of
 abbrev pub front_origin : TheSeen → Origin
 front_origin f = record { publication_log = f.book; groups = (top f.log).groups }
 

@@ -5,12 +5,12 @@ use Rattle.hc_records.specs.declared.records.Group.{Group}
 use Rattle.hc_publish.specs.ChangesSince.{ChangesSince}
 use Rattle.hc_publish.specs.PublicationLog.{TheSeen}
 
--- what it shows, and what was seen of the book at its last seal
+-- what it shows, and what was seen of the publication log at its last seal
 pub record Story : Type 0 where
   pub shown : ChangesSince
   pub token : TheSeen
 
--- where a publisher, a seat, a view or a note comes from: a publisher's book, and the groups that were opened
+-- where a publisher, a seat, a view or a note comes from: a publisher's publication log, and the groups that were opened
 pub record Origin : Type 0 where
   pub publication_log : Book
   pub groups : List Group

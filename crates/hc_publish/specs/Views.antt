@@ -9,7 +9,7 @@ use Rattle.hc_publish.specs.Looks.{Look}
 abbrev pub look_of : Inside → Look
 look_of v = record { task = v.task; changes_since = v.reading.part.value.shown; token = v.reading.part.value.token }
 
--- the copy is sealed, and the seat knows its book
+-- the copy is sealed, and the seat knows its publication log
 pub record IsSoundView (v : Inside) : Type 0 where
   pub is_sealed : IsSealed v.reading.part.value
   pub knows : view v.reading.place ≡ v.reading.part.value.token ∷ []

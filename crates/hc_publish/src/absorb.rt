@@ -13,7 +13,7 @@ use std::alloc::AllocError;
 #[derive(Drop)]
 pub enum Step {
     Changed(Change),
-    /// The front whose last entry is what a copy shows with all the changes before.
+    /// The prefix whose last entry is what a copy shows with all the changes before.
     Sealed(LogPrefix),
 }
 

@@ -5,7 +5,7 @@ use hc_events::change::GoodAnswer;
 use std::marker::Model;
 use std::sync::Mutex;
 
-/// What tasks see, and the front of the book at its last seal.
+/// What tasks see, and the prefix of the publication log at its last seal.
 #[derive(Drop)]
 pub struct Copy {
     pub(crate) shown: Shown,

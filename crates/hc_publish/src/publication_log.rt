@@ -1,4 +1,4 @@
-//! The book of publishings: an entry for each, what was about to be shown. It exists in the proofs alone, beside a
+//! The publication log: an entry for each publishing, what was about to be shown. It exists in the proofs alone, beside a
 //! word that counts its entries. By it two threads know that one of their lists begins the other.
 ghost use Rattle.std.specs.Prelude.{◌≡◌, ◌<◌, [], ◌∷◌, ◌++◌, length, None, IfSome, MatchBool};
 ghost use Rattle.hc_publish.specs.PublicationLog.{Extends, log_end_of, top};
@@ -7,7 +7,7 @@ use crate::shown::Shown;
 use logbook::{Gain, Offer, Plain, Play, Rule, Seen, Start, Word};
 use std::marker::Model;
 
-/// The rule of the book. An entry is what a copy shows; no value of it is made.
+/// The rule of the log. An entry is what a copy shows; no value of it is made.
 pub struct Law;
 
 impl Rule<Shown, u64> for Law {
@@ -54,13 +54,13 @@ impl Plain<Shown, Shown, u64> for Add {
     ghost state = { λ shown. None };
 }
 
-/// A beginning of the book that was seen.
+/// A beginning of the log that was seen.
 pub type Token = Seen<Shown, u64, Law>;
 
 /// The word that counts the entries.
 pub type Head = Word<Shown, u64, Law>;
 
-/// A beginning of the book, with at least one entry. Contracts see it as what was seen of the book.
+/// A beginning of the log, with at least one entry. Contracts see it as what was seen of the log.
 #[derive(Drop)]
 pub struct LogPrefix {
     count: u64,
@@ -78,7 +78,7 @@ impl Model for LogPrefix {
     ghost invariant = { λ front. (front.count ≡ length front.seen.log) × (0 < length front.seen.log) };
 }
 
-/// Adds an entry to all that was seen. `None` where the book has gone on without this token.
+/// Adds an entry to all that was seen. `None` where the log has gone on without this token.
 fn entered<X, M: Plain<X, Shown, u64>>(
     head: &Head,
     seen: &Token,
@@ -107,7 +107,7 @@ fn entered<X, M: Plain<X, Shown, u64>>(
 }
 
 impl LogPrefix {
-    /// A new book, with one entry: what is shown at the opening. `None` where the entry was refused, which no run
+    /// A new log, with one entry: what is shown at the opening. `None` where the entry was refused, which no run
     /// meets.
     pub fn opened(shown: &Shown) -> Option<(Head, LogPrefix)>
         ensures { IfSome result (λ opened. (opened.0 ≡ log_end_of opened.1.book) × (opened.1.log ≡ shown.now ∷ [])) }
@@ -118,7 +118,7 @@ impl LogPrefix {
         Some((head, front))
     }
 
-    /// The same front again.
+    /// The same prefix again.
     pub fn again(&self) -> LogPrefix
         ensures { result ≡ self.now }
     {
@@ -128,7 +128,7 @@ impl LogPrefix {
         }
     }
 
-    /// Whether all that this one saw is in the other, which is a front of the same book; otherwise all that the
+    /// Whether all that this one saw is in the other, which is a prefix of the same log; otherwise all that the
     /// other saw is in this one.
     pub fn is_within(&self, other: &LogPrefix) -> bool
         requires { other.now.book ≡ self.now.book }
@@ -139,7 +139,7 @@ impl LogPrefix {
         self.count <= other.count
     }
 
-    /// The front with an entry more. `None` where the book has gone on without this front, which no run meets.
+    /// The prefix with an entry more. `None` where the log has gone on without this prefix, which no run meets.
     pub fn with<X, M: Plain<X, Shown, u64>>(&self, head: &Head, about: &X) -> Option<LogPrefix>
         requires head { head.now ≡ log_end_of self.now.book }
         requires plain { M.state about.now ≡ None }

@@ -16,7 +16,7 @@ pub(crate) type Copies = Writer<Copy, Step, Known, Image>;
 pub struct Publisher {
     pub(crate) writer: Copies,
     pub(crate) head: Head,
-    // of the whole book: all that was ever about to be shown
+    // of the whole publication log: all that was ever about to be shown
     pub(crate) front: LogPrefix,
     // the last pending step is a seal of all the changes, left by a publishing that was refused
     pub(crate) is_sealed: bool,

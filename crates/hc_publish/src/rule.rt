@@ -1,5 +1,5 @@
 //! The rule of the published copy, and the steps that keep it: `Looks` is a publish or an entry, `Binds` gives a new
-//! seat which book it is. What a seat saw, and what a note carries, is a front of that publication log. So of two
+//! seat which publication log it is. What a seat saw, and what a note carries, is a prefix of that log. So of two
 //! such lists one begins the other.
 ghost use Rattle.std.specs.Prelude.{[], ◌++◌};
 ghost use Rattle.hc_publish.specs.Rule.{CopyIsSealed, Sees};

@@ -55,7 +55,7 @@ impl Publisher {
         let Some(next) = self.front.with::<Copies, Add>(&self.head, &self.writer) else {
             return Err(AllocError);
         };
-        // the book has the entry from now on, also where the seal is refused
+        // the log has the entry from now on, also where the seal is refused
         let seal = next.again();
         self.front = next;
         self.is_sealed = false;
