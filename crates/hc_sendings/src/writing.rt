@@ -16,7 +16,7 @@ use hc_registers::fmmu::logical_address;
 use std::alloc::{AllocError, Global};
 
 /// The most bytes of a frame that is written over zeros. A longer one is added part by part.
-const SHORT_FRAME: usize = 256;
+const SHORT_FRAME: usize = 512;
 
 /// Where the data are with which datagrams are sent.
 pub trait SentData {
