@@ -53,8 +53,8 @@ impl Conductor {
         Ok(frames)
     }
 
-    /// The same, and the frames are in a list that is used again: what it held is dropped, and it is empty where they are
-    /// refused. A list with room for 128 frames, 16 of each of the eight tasks, takes no memory, and is never refused for
+    /// Sends tasks as `send` does, and puts the frames into a list that is used again: what it held is dropped, and it is empty
+    /// where they are refused. A list with room for 128 frames, 16 of each of the eight tasks, takes no memory, and is never refused for
     /// `Memory` (this project's profile).
     pub fn send_into(
         &mut self,

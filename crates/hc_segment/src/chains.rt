@@ -39,12 +39,12 @@ fn take_all<R: Wait>(rt: &R, from: &mut FrameReceiver, count: usize, answer: &mu
     }
 }
 
-/// Passes the frames through all segments, each in a thread of its own; the first in this one. Of no segment the frames come back
-/// at once. Each thread calls the gate once, with its segment's number, counted from 0, before it waits for its first frame. It
-/// returns once all frames came out, in their order. `ChainFault` where a growth was refused; the machines are then as they were,
-/// and the frames are dropped. Rings and the room for the answer are made before a thread is started.
+/// Passes the frames through all segments, each in a thread of its own; the first in this one. With no segments the frames come
+/// back as they are. Each thread calls the gate once, with its segment's number, counted from 0, before it waits for its first
+/// frame. It returns once all frames came out, in their order. `ChainFault` where a growth was refused; the machines are then as
+/// they were, and the frames are dropped. Rings and the room for the answer are made before a thread is started.
 ///
-/// Of more than 4,294,967,295 frames it would wait for ever: its rings have room for so many.
+/// With more than 4,294,967,295 frames it would wait for ever, since its rings have room for no more than that.
 ///
 /// A segment is served in this thread where the system makes none for it. No clause says that the threads run at once.
 pub fn chain<R: Threads + Wait + Sync, G: Gate + Sync>(
