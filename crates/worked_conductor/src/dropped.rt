@@ -1,6 +1,6 @@
 //! Seats that are dropped before, between and after posts, and one that holds outputs as it is dropped.
 use crate::lines::opened;
-use crate::posting::is_posted;
+use crate::posting::{accepted, is_posted};
 use hc_conductor::conductor::Conductor;
 use hc_conductor::seat::TaskSeat;
 use hc_conductor::taking::Taken;
@@ -42,14 +42,6 @@ fn left_on_axis<R: Wait>(rt: &R, alloc: Global) -> Option<Left> {
     let left = left_by(rt, alloc, &mut conductor, &mut seats);
     conductor.finish(rt);
     left
-}
-
-/// So many are accepted, and none is refused.
-fn accepted(posts: u32) -> Taken {
-    Taken {
-        accepted: posts,
-        refused: 0,
-    }
 }
 
 /// What a seat posted is taken, also after its end, and what it only held isn't; publishing goes on.

@@ -194,14 +194,18 @@ fn play<R: Wait>(
         edited(alloc, conductor)?;
     }
     let late = master.late.take();
-    if let Some(late) = late.filter(|late| !late.too_late) {
-        let wanted = if begins { None } else { Some(late.task) };
-        come(alloc, conductor, &late.frame, wanted)?;
+    if let Some(late) = late {
+        if !late.too_late {
+            let wanted = if begins { None } else { Some(late.task) };
+            come(alloc, conductor, &late.frame, wanted)?;
+        }
     }
     master.take_posts(conductor);
     exchange_all(alloc, conductor, master, (number / 4) as u8)?;
-    if let Some(late) = late.filter(|late| late.too_late) {
-        come(alloc, conductor, &late.frame, None)?;
+    if let Some(late) = late {
+        if late.too_late {
+            come(alloc, conductor, &late.frame, None)?;
+        }
     }
     conductor.publish(rt, alloc).ok()
 }

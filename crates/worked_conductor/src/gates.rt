@@ -23,25 +23,22 @@ impl WaitsForNext {
     pub fn has_seen(&self) -> bool {
         self.seen.load(Ordering::SeqCst)
     }
+}
 
-    /// Waits until worker 1 has begun, and remembers that it has; gives up after 1,000,000 turns.
-    fn waits(&self) {
+impl Gate for WaitsForNext {
+    fn begun(&self, worker: usize) {
+        if worker == 1 {
+            self.begun.store(true, Ordering::SeqCst);
+        }
+        if worker != 0 {
+            return;
+        }
         for _ in 0..1_000_000 {
             if self.begun.load(Ordering::SeqCst) {
                 self.seen.store(true, Ordering::SeqCst);
                 return;
             }
             thread::yield_now();
-        }
-    }
-}
-
-impl Gate for WaitsForNext {
-    fn begun(&self, worker: usize) {
-        match worker {
-            0 => self.waits(),
-            1 => self.begun.store(true, Ordering::SeqCst),
-            _ => {}
         }
     }
 }

@@ -101,7 +101,12 @@ fn ask<R: Threads + Wait + Sync>(
         Call::Write => return Some(is_written(conductor, arena)),
         Call::Move => return is_answered(conductor.edit(alloc, &MOVE)),
         Call::Arrive => return is_answered(conductor.arrive(alloc, arena)),
-        Call::Publish => return conductor.publish(rt, alloc).ok().map(|()| true),
+        Call::Publish => {
+            return match conductor.publish(rt, alloc) {
+                Ok(()) => Some(true),
+                Err(_) => None,
+            };
+        }
         Call::Send => conductor.send(alloc, &[0, 1], arena),
         Call::SendAtOnce => {
             conductor.send_at_once(rt, alloc, &[0, 1], arena, &WaitsForNext::shut())

@@ -5,7 +5,7 @@ ghost use Rattle.hc_conductor.specs.Seats.{sender};
 ghost use Rattle.hc_conductor.specs.Together.{AreJoined, EachRing};
 
 use crate::lines::opening;
-use crate::posting::is_posted;
+use crate::posting::{accepted, is_posted};
 use hc_conductor::conductor::Conductor;
 use hc_conductor::seat::TaskSeat;
 use hc_conductor::taking::Taken;
@@ -47,14 +47,6 @@ fn all_taken_on_axis<R: Wait>(rt: &R, alloc: Global) -> Result<Joined, OpenFault
     let joined = all_taken(&mut conductor, &mut seats);
     conductor.finish(rt);
     Ok(joined)
-}
-
-/// So many are accepted, and none is refused.
-fn accepted(posts: u32) -> Taken {
-    Taken {
-        accepted: posts,
-        refused: 0,
-    }
 }
 
 /// All posts that wait are taken once one thread has the conductor and all seats, whatever was taken before.

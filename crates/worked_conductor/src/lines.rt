@@ -91,16 +91,23 @@ pub fn is_programmed(alloc: Global, conductor: &mut Conductor) -> bool
     are_written(alloc, conductor, 4)
 }
 
-/// Whether the axis answers the frame of task 0 well: a byte of outputs and two of inputs, 0xa34, and the counter 3, 2
+/// Whether task 0 is sent, and the axis answers its frame well: a byte of outputs and two of inputs, 0xa34, and the counter 3, 2
 /// for the outputs and 1 for the inputs.
-fn is_good(alloc: Global, conductor: &mut Conductor, frame: &mut [u8; FRAME]) -> bool
+pub fn is_answered(alloc: Global, conductor: &mut Conductor) -> bool
     ensures { conductor_origin conductor.new ≡ conductor_origin conductor.old }
 {
+    let mut frame = [0; FRAME];
+    let Ok(frames) = conductor.send(alloc, &[0], &mut frame) else {
+        return false;
+    };
+    if frames.len() != 1 {
+        return false;
+    }
     frame[26] = 2;
     frame[27] = 0x34;
     frame[28] = 0x0a;
     frame[29] = 3;
-    let Answer::Answered(outcomes) = conductor.arrive(alloc, frame) else {
+    let Answer::Answered(outcomes) = conductor.arrive(alloc, &frame) else {
         return false;
     };
     matches!(
@@ -110,15 +117,4 @@ fn is_good(alloc: Global, conductor: &mut Conductor, frame: &mut [u8; FRAME]) ->
             datagram: 0,
         }]
     )
-}
-
-/// Whether task 0 is sent, and answered well.
-pub fn is_answered(alloc: Global, conductor: &mut Conductor) -> bool
-    ensures { conductor_origin conductor.new ≡ conductor_origin conductor.old }
-{
-    let mut frame = [0; FRAME];
-    match conductor.send(alloc, &[0], &mut frame) {
-        Ok(frames) => frames.len() == 1 && is_good(alloc, conductor, &mut frame),
-        Err(_) => false,
-    }
 }

@@ -2,7 +2,7 @@
 
 use crate::fates::{Master, play_all, play_last};
 use crate::lines::{are_written, opened_line};
-use crate::working::{eight_of, work_eight};
+use crate::working::work_eight;
 use hc_conductor::conductor::Conductor;
 use hc_conductor::seat::TaskSeat;
 use std::alloc::Global;
@@ -28,16 +28,13 @@ fn played<R: Wait>(
 }
 
 /// Whether the tasks beside it saw what was sent, the last of it in the end, and all that they posted was taken.
-fn are_shown<R: Threads + Wait>(
+fn are_shown<R: Threads + Wait + Sync>(
     rt: &R,
     alloc: Global,
     conductor: &mut Conductor,
     seats: Vec<TaskSeat>,
     cycles: u32,
 ) -> bool {
-    let Some(seats) = eight_of(seats) else {
-        return false;
-    };
     let mut master = Master::of(0x5eed);
     let is_done = AtomicBool::new(false);
     let (worked, last) = work_eight(rt, seats, &is_done, || -> Option<u64> {
@@ -52,19 +49,15 @@ fn are_shown<R: Threads + Wait>(
     }
 }
 
-/// The same from the line's opening on.
-fn is_played<R: Threads + Wait>(rt: &R, alloc: Global, cycles: u32) -> bool {
-    let Some((mut conductor, seats)) = opened_line(rt, alloc, EIGHT) else {
-        return false;
-    };
-    let shown = are_shown(rt, alloc, &mut conductor, seats, cycles);
-    conductor.finish(rt);
-    shown
-}
-
 /// Eight tasks in threads of their own see what was sent over 2,000 cycles, never an older cycle, and all their posts are
 /// taken.
 #[test]
 fn eight_tasks_beside_two_thousand_cycles(rt: HostRuntime) {
-    assert!(rt; is_played(&rt, rt.alloc(), 2000));
+    let alloc = rt.alloc();
+    let Some((mut conductor, seats)) = opened_line(&rt, alloc, EIGHT) else {
+        panic!(rt; "the line isn't opened");
+    };
+    let shown = are_shown(&rt, alloc, &mut conductor, seats, 2000);
+    conductor.finish(&rt);
+    assert!(rt; shown);
 }

@@ -4,6 +4,7 @@ ghost use Rattle.hc_rings.specs.Ring.{SameSender};
 ghost use Rattle.hc_conductor.specs.Seats.{SeatPostsEach, task_seat_origin, sender};
 
 use hc_conductor::seat::TaskSeat;
+use hc_conductor::taking::Taken;
 use hc_rings::{NoSpare, PostFault};
 
 /// Why a byte isn't posted.
@@ -50,4 +51,12 @@ pub fn is_posted(seat: &mut TaskSeat, byte: u8) -> bool
     }
     seat.held_mut().fill(byte);
     seat.post().is_ok()
+}
+
+/// So many are accepted, and none is refused.
+pub fn accepted(posts: u32) -> Taken {
+    Taken {
+        accepted: posts,
+        refused: 0,
+    }
 }

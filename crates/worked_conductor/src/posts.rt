@@ -1,11 +1,9 @@
 //! What comes of a task's posts, sendings and answers with its seat beside them: rows worked out by hand.
 use crate::lines::{first_two, opened};
-use crate::posting::{Unposted, post};
+use crate::posting::{Unposted, accepted, post};
 use crate::rows::Moment;
 use crate::steps::Step::{Come, Lend, Move, Post, Publish, Read, Remap, See, Send, Take, Write};
 use crate::steps::{Came, Step, first_wrong};
-use hc_conductor::conductor::Conductor;
-use hc_conductor::seat::TaskSeat;
 use hc_conductor::taking::Taken;
 use hc_rings::PostFault;
 use std::alloc::Global;
@@ -149,36 +147,23 @@ type Five = (
     Taken,
 );
 
-/// Posts five times, takes what waits, posts again and takes again; the result of each step.
-fn five_posts(conductor: &mut Conductor, seat: &mut TaskSeat) -> Five {
-    let first = post(seat, 2);
-    let second = post(seat, 2);
-    let third = post(seat, 2);
-    let fourth = post(seat, 2);
-    let fifth = post(seat, 2);
-    let taken = conductor.take_posts();
-    let again = post(seat, 3);
-    let last = conductor.take_posts();
-    ([first, second, third, fourth, fifth], taken, again, last)
-}
-
-/// The same from the axis' opening on.
-fn five_of<R: Wait>(rt: &R, alloc: Global) -> Option<Five> {
+/// Posts five times, takes what waits, posts again and takes again; the result of each step from the axis' opening on.
+fn five_posts<R: Wait>(rt: &R, alloc: Global) -> Option<Five> {
     let (mut conductor, seats) = opened(rt, alloc)?;
-    let five = match first_two(seats) {
-        Some((mut seat, _other)) => Some(five_posts(&mut conductor, &mut seat)),
-        None => None,
+    let Some((mut seat, _other)) = first_two(seats) else {
+        conductor.finish(rt);
+        return None;
     };
+    let first = post(&mut seat, 2);
+    let second = post(&mut seat, 2);
+    let third = post(&mut seat, 2);
+    let fourth = post(&mut seat, 2);
+    let fifth = post(&mut seat, 2);
+    let taken = conductor.take_posts();
+    let again = post(&mut seat, 3);
+    let last = conductor.take_posts();
     conductor.finish(rt);
-    five
-}
-
-/// So many are accepted, and none is refused.
-fn accepted(posts: u32) -> Taken {
-    Taken {
-        accepted: posts,
-        refused: 0,
-    }
+    Some(([first, second, third, fourth, fifth], taken, again, last))
 }
 
 /// Of five posts the last one finds no buffer; once they are taken another one does.
@@ -186,7 +171,7 @@ fn accepted(posts: u32) -> Taken {
 fn four_posts_wait(rt: HostRuntime) {
     let five = [Ok(()), Ok(()), Ok(()), Ok(()), Err(Unposted::NoSpare)];
     assert_eq!(rt;
-        five_of(&rt, rt.alloc()),
+        five_posts(&rt, rt.alloc()),
         Some((five, accepted(4), Ok(()), accepted(1)))
     );
 }

@@ -42,18 +42,17 @@ pub const ELSEWHERE: Moment = Moment {
     answer_given: &[(9, Err(1)), (1, Err(2)), (2, Err(3))],
 };
 
-/// Whether a view gives this of a variable.
-fn says(view: &TaskView, row: &AnswerGiven) -> bool {
-    match VarId::new(row.0) {
-        Some(variable) => view.value(variable).map_err(|fault| fault.number()) == row.1,
-        None => false,
-    }
-}
-
-/// Whether it says all of this.
+/// Whether a view says all of this of variables.
 fn says_all(view: &TaskView, rows: &[AnswerGiven]) -> bool {
-    for row in rows {
-        if !says(view, row) {
+    for (number, value) in rows {
+        let Some(variable) = VarId::new(*number) else {
+            return false;
+        };
+        let is_valued = match view.value(variable) {
+            Ok(own) => *value == Ok(own),
+            Err(fault) => *value == Err(fault.number()),
+        };
+        if !is_valued {
             return false;
         }
     }

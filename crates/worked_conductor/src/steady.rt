@@ -22,21 +22,11 @@ const MOST_FRAMES: usize = 128;
 /// As many outcomes as any answer has.
 const MOST_OUTCOMES: usize = 115;
 
-/// What a cycle uses again.
+/// What a cycle uses again, with room for the frames of any sending and the outcomes of any answer.
 #[derive(Drop)]
 struct Lists {
     frames: Vec<Sending>,
     outcomes: Vec<Outcome>,
-}
-
-impl Lists {
-    /// Lists with room for the frames of any sending and the outcomes of any answer. `AllocError` if a growth is refused.
-    fn new(alloc: Global) -> Result<Lists, AllocError> {
-        Ok(Lists {
-            frames: Vec::with_capacity(alloc, MOST_FRAMES)?,
-            outcomes: Vec::with_capacity(alloc, MOST_OUTCOMES)?,
-        })
-    }
 }
 
 /// Whether the core reads what the slaves sent as this task's inputs, after its outputs.
@@ -119,7 +109,10 @@ fn are_played<R: Wait>(
     seats: &mut Vec<TaskSeat>,
     cycles: u8,
 ) -> Result<bool, CoreFault> {
-    let mut lists = Lists::new(alloc)?;
+    let mut lists = Lists {
+        frames: Vec::with_capacity(alloc, MOST_FRAMES)?,
+        outcomes: Vec::with_capacity(alloc, MOST_OUTCOMES)?,
+    };
     let owed = conductor.core().owed();
     let mut right = are_written(alloc, conductor, owed);
     for step in 0..cycles {

@@ -92,7 +92,10 @@ fn is_sent(alloc: Global, conductor: &mut Conductor, task: u8, text: &[u8]) -> b
     let Ok(frames) = conductor.send(alloc, &[task], &mut frame) else {
         return false;
     };
-    frames.len() == 1 && frame.starts_with(text) && frame.iter().skip(text.len()).all(|b| *b == 0)
+    let Some(rest) = frame.get(text.len()..) else {
+        return false;
+    };
+    frames.len() == 1 && frame.starts_with(text) && [0; FRAME].starts_with(rest)
 }
 
 /// What a frame is that arrives; none where it is anything else.
@@ -117,7 +120,8 @@ fn judged(alloc: Global, conductor: &mut Conductor, bytes: &[u8]) -> Option<Came
 fn is_read(alloc: Global, conductor: &Conductor, epoch: u32, data: Option<&[u8]>) -> bool {
     match conductor.core().read(alloc, 0) {
         Ok(Answer::Image { epoch: now, slots }) => match slots.as_slice() {
-            [slot] => now == epoch && has(slot.as_ref().map(|bytes| bytes.as_slice()), data),
+            [Some(bytes)] => now == epoch && has(Some(bytes.as_slice()), data),
+            [None] => now == epoch && has(None, data),
             _ => false,
         },
         _ => false,
@@ -146,24 +150,6 @@ fn is_driven(alloc: Global, conductor: &mut Conductor, step: &Step) -> bool {
     }
 }
 
-/// A step is done, and whether that comes of it.
-fn done<R: Wait>(
-    rt: &R,
-    alloc: Global,
-    conductor: &mut Conductor,
-    mut seat: TaskSeat,
-    step: &Step,
-) -> (TaskSeat, bool) {
-    let comes = match step {
-        Step::Lend(byte) => lends(&mut seat, *byte).is_ok(),
-        Step::Post(wanted) => seat.post() == *wanted,
-        Step::Publish => conductor.publish(rt, alloc).is_ok(),
-        Step::See(moment) => return sees(seat, moment),
-        _ => is_driven(alloc, conductor, step),
-    };
-    (seat, comes)
-}
-
 /// The number of the first step that doesn't come so; their number where all do.
 pub fn first_wrong<R: Wait>(
     rt: &R,
@@ -175,11 +161,20 @@ pub fn first_wrong<R: Wait>(
     let mut seat = seat;
     let mut number: usize = 0;
     for step in steps {
-        let (back, comes) = done(rt, alloc, conductor, seat, step);
+        let comes = match step {
+            Step::Lend(byte) => lends(&mut seat, *byte).is_ok(),
+            Step::Post(wanted) => seat.post() == *wanted,
+            Step::Publish => conductor.publish(rt, alloc).is_ok(),
+            Step::See(moment) => {
+                let (back, is_seen) = sees(seat, moment);
+                seat = back;
+                is_seen
+            }
+            _ => is_driven(alloc, conductor, step),
+        };
         if !comes {
             return number;
         }
-        seat = back;
         number = number.saturating_add(1);
     }
     number

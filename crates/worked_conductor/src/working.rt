@@ -5,7 +5,7 @@ use hc_conductor::seat::TaskSeat;
 use hc_conductor::view::TaskView;
 use std::sync::atomic::{AtomicBool, Ordering};
 use std::thread;
-use std::thread::{Threads, join};
+use std::thread::{Threads, join, map_vec};
 
 /// The steps of an epoch.
 pub const STEPS: u8 = 25;
@@ -25,22 +25,6 @@ pub fn moment_of(epoch: u32, step: Option<u8>) -> u64 {
     match step {
         Some(step) => opened + 1 + u64::from(step % STEPS),
         None => opened,
-    }
-}
-
-/// Two seats.
-type Two = (TaskSeat, TaskSeat);
-
-/// Four seats.
-type Four = (Two, Two);
-
-/// What two come to, where they are equally far.
-fn both(one: Option<Worked>, other: Option<Worked>) -> Option<Worked> {
-    let ((moment, posts), (also, more)) = (one?, other?);
-    if moment == also {
-        Some((moment, posts.wrapping_add(more)))
-    } else {
-        None
     }
 }
 
@@ -106,10 +90,34 @@ fn worked_until(seat: TaskSeat, is_done: &AtomicBool) -> Option<Worked> {
     None
 }
 
-/// One works in a thread of its own, until all is done, while something goes on.
-fn work_one<R: Threads, A, F: FnOnce() -> A>(
+/// Eight work, each in a thread of its own, until all is done: how far all came, where they came equally far, and all their
+/// posts. None where there are more or fewer.
+fn worked<R: Threads + Sync>(rt: &R, seats: Vec<TaskSeat>, is_done: &AtomicBool) -> Option<Worked> {
+    if seats.len() != 8 {
+        return None;
+    }
+    let done = map_vec(
+        rt,
+        seats,
+        &|seat: TaskSeat| -> Option<Worked> { worked_until(seat, is_done) },
+    )
+    .ok()?;
+    let (first, _) = (*done.first()?)?;
+    let mut all = 0_u64;
+    for one in &done {
+        let (moment, posts) = (*one)?;
+        if moment != first {
+            return None;
+        }
+        all = all.wrapping_add(posts);
+    }
+    Some((first, all))
+}
+
+/// Eight tasks work so while something goes on, which says when all is done: what all come to.
+pub fn work_eight<R: Threads + Sync, A, F: FnOnce() -> A>(
     rt: &R,
-    seat: TaskSeat,
+    seats: Vec<TaskSeat>,
     is_done: &AtomicBool,
     work: F,
 ) -> (Option<Worked>, A)
@@ -118,92 +126,7 @@ fn work_one<R: Threads, A, F: FnOnce() -> A>(
 {
     join(
         rt,
-        || -> Option<Worked> { worked_until(seat, is_done) },
+        || -> Option<Worked> { worked(rt, seats, is_done) },
         work,
     )
-}
-
-/// The same of two: what both come to.
-fn work_two<R: Threads, A, F: FnOnce() -> A>(
-    rt: &R,
-    seats: Two,
-    is_done: &AtomicBool,
-    work: F,
-) -> (Option<Worked>, A)
-    requires { F.pre work }
-    ensures { F.post work result.1 }
-{
-    let (one, two) = seats;
-    let (first, (second, done)) = work_one(
-        rt,
-        one,
-        is_done,
-        || -> (Option<Worked>, A)
-            requires { F.pre work }
-            ensures { F.post work result.1 }
-        { work_one(rt, two, is_done, work) },
-    );
-    (both(first, second), done)
-}
-
-/// The same of four.
-fn work_four<R: Threads, A, F: FnOnce() -> A>(
-    rt: &R,
-    seats: Four,
-    is_done: &AtomicBool,
-    work: F,
-) -> (Option<Worked>, A)
-    requires { F.pre work }
-    ensures { F.post work result.1 }
-{
-    let (front, back) = seats;
-    let (first, (second, done)) = work_two(
-        rt,
-        front,
-        is_done,
-        || -> (Option<Worked>, A)
-            requires { F.pre work }
-            ensures { F.post work result.1 }
-        { work_two(rt, back, is_done, work) },
-    );
-    (both(first, second), done)
-}
-
-/// Eight tasks work, each in a thread of its own, while something goes on, which says when all is done: how far all came,
-/// where they came equally far, and all their posts.
-pub fn work_eight<R: Threads, A, F: FnOnce() -> A>(
-    rt: &R,
-    seats: (Four, Four),
-    is_done: &AtomicBool,
-    work: F,
-) -> (Option<Worked>, A)
-    requires { F.pre work }
-    ensures { F.post work result.1 }
-{
-    let (front, back) = seats;
-    let (first, (second, done)) = work_four(
-        rt,
-        front,
-        is_done,
-        || -> (Option<Worked>, A)
-            requires { F.pre work }
-            ensures { F.post work result.1 }
-        { work_four(rt, back, is_done, work) },
-    );
-    (both(first, second), done)
-}
-
-/// The last two seats of a list; none if it has fewer.
-fn two_of(seats: &mut Vec<TaskSeat>) -> Option<Two> {
-    Some((seats.pop()?, seats.pop()?))
-}
-
-/// The last four seats of a list; none if it has fewer.
-fn four_of(seats: &mut Vec<TaskSeat>) -> Option<Four> {
-    Some((two_of(seats)?, two_of(seats)?))
-}
-
-/// Eight seats.
-pub fn eight_of(mut seats: Vec<TaskSeat>) -> Option<(Four, Four)> {
-    Some((four_of(&mut seats)?, four_of(&mut seats)?))
 }

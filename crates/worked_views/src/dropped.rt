@@ -29,18 +29,14 @@ fn published_beside<R: Wait>(
     Some(epoch)
 }
 
-/// Opens the line, and whether all was published and the seat between showed it.
-fn is_published<R: Wait>(rt: &R, alloc: Global) -> bool {
-    let Some((mut plan, mut publisher, mut seats)) = opened(rt, alloc) else {
-        return false;
-    };
-    let epoch = published_beside(rt, alloc, &mut plan, &mut publisher, &mut seats);
-    publisher.finish(rt);
-    epoch == Some(2)
-}
-
 /// Three edits are published while seats are dropped, and a seat that is left sees the second one.
 #[test]
 fn a_dropped_seat_holds_nobody_up(rt: HostRuntime) {
-    assert!(rt; is_published(&rt, rt.alloc()));
+    let alloc = rt.alloc();
+    let Some((mut plan, mut publisher, mut seats)) = opened(&rt, alloc) else {
+        panic!(rt; "the line isn't opened");
+    };
+    let epoch = published_beside(&rt, alloc, &mut plan, &mut publisher, &mut seats);
+    publisher.finish(&rt);
+    assert_eq!(rt; epoch, Some(2));
 }

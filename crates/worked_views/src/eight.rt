@@ -1,112 +1,40 @@
-//! Eight watchers in threads of their own.
+//! Seats that view in threads of their own.
 
-use crate::watched::{Watcher, both, looked_until};
+use crate::watched::looked_until;
+use hc_publish::seat::Seat;
 use std::sync::atomic::AtomicBool;
-use std::thread::{Threads, join};
+use std::thread::{Threads, join, map_vec};
 
-/// Two watchers.
-type Two = (Watcher, Watcher);
-
-/// Four watchers.
-type Four = (Two, Two);
-
-/// One watches in a thread of its own, until all is done, while something goes on.
-fn watch_one<R: Threads, A, F: FnOnce() -> A>(
-    rt: &R,
-    watcher: Watcher,
-    is_done: &AtomicBool,
-    work: F,
-) -> (Option<u64>, A)
-    requires { F.pre work }
-    ensures { F.post work result.1 }
-{
-    join(
+/// Eight seats view, each in a thread of its own, until all is done: how far all are, where they are equally far. None where
+/// there are more or fewer.
+fn watch<R: Threads + Sync>(rt: &R, seats: Vec<Seat>, is_done: &AtomicBool) -> Option<u64> {
+    if seats.len() != 8 {
+        return None;
+    }
+    let moments = map_vec(
         rt,
-        || -> Option<u64> { looked_until(watcher, is_done) },
-        work,
+        seats,
+        &|seat: Seat| -> Option<u64> { looked_until(seat, is_done) },
     )
+    .ok()?;
+    let first = *moments.first()?;
+    for moment in &moments {
+        if *moment != first {
+            return None;
+        }
+    }
+    first
 }
 
-/// The same of two: what both come to.
-fn watch_two<R: Threads, A, F: FnOnce() -> A>(
+/// Eight seats view so while something goes on, which says when all is done: what all come to.
+pub fn watch_eight<R: Threads + Sync, A, F: FnOnce() -> A>(
     rt: &R,
-    watchers: Two,
+    seats: Vec<Seat>,
     is_done: &AtomicBool,
     work: F,
 ) -> (Option<u64>, A)
     requires { F.pre work }
     ensures { F.post work result.1 }
 {
-    let (one, two) = watchers;
-    let (first, (second, done)) = watch_one(
-        rt,
-        one,
-        is_done,
-        || -> (Option<u64>, A)
-            requires { F.pre work }
-            ensures { F.post work result.1 }
-        { watch_one(rt, two, is_done, work) },
-    );
-    (both(first, second), done)
-}
-
-/// The same of four.
-fn watch_four<R: Threads, A, F: FnOnce() -> A>(
-    rt: &R,
-    watchers: Four,
-    is_done: &AtomicBool,
-    work: F,
-) -> (Option<u64>, A)
-    requires { F.pre work }
-    ensures { F.post work result.1 }
-{
-    let (front, back) = watchers;
-    let (first, (second, done)) = watch_two(
-        rt,
-        front,
-        is_done,
-        || -> (Option<u64>, A)
-            requires { F.pre work }
-            ensures { F.post work result.1 }
-        { watch_two(rt, back, is_done, work) },
-    );
-    (both(first, second), done)
-}
-
-/// Eight watch, each in a thread of its own, while something goes on, which says when all is done: what all come to.
-pub fn watch_eight<R: Threads, A, F: FnOnce() -> A>(
-    rt: &R,
-    watchers: (Four, Four),
-    is_done: &AtomicBool,
-    work: F,
-) -> (Option<u64>, A)
-    requires { F.pre work }
-    ensures { F.post work result.1 }
-{
-    let (front, back) = watchers;
-    let (first, (second, done)) = watch_four(
-        rt,
-        front,
-        is_done,
-        || -> (Option<u64>, A)
-            requires { F.pre work }
-            ensures { F.post work result.1 }
-        { watch_four(rt, back, is_done, work) },
-    );
-    (both(first, second), done)
-}
-
-/// The last two watchers of a list; none if it has fewer.
-fn two_of(watchers: &mut Vec<Watcher>) -> Option<Two> {
-    Some((watchers.pop()?, watchers.pop()?))
-}
-
-/// The last four watchers of a list; none if it has fewer.
-fn four_of(watchers: &mut Vec<Watcher>) -> Option<Four> {
-    Some((two_of(watchers)?, two_of(watchers)?))
-}
-
-/// Eight watchers.
-pub fn eight_of(mut watchers: Vec<Watcher>) -> Option<(Four, Four)> {
-    Some((four_of(&mut watchers)?, four_of(&mut watchers)?))
+    join(rt, || -> Option<u64> { watch(rt, seats, is_done) }, work)
 }

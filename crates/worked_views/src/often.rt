@@ -1,7 +1,7 @@
 //! Two thousand publishings beside eight seats that view in threads of their own.
 ghost use Rattle.worked_views.specs.Lines.{LeadsTo};
 
-use crate::eight::{eight_of, watch_eight};
+use crate::eight::watch_eight;
 use crate::lines::opened_line;
 use crate::projects::EIGHT;
 use crate::turns::publish_turns;
@@ -17,7 +17,7 @@ use std::thread::Threads;
 const TURNS: u32 = 500;
 
 /// Whether each view was of one epoch, none after an earlier one, and the last ones show all.
-fn are_views_whole<R: Threads + Wait>(
+fn are_views_whole<R: Threads + Wait + Sync>(
     rt: &R,
     alloc: Global,
     plan: &mut Plan,
@@ -26,9 +26,6 @@ fn are_views_whole<R: Threads + Wait>(
 ) -> bool
     requires { LeadsTo publisher.old plan.old }
 {
-    let Some(seats) = eight_of(seats) else {
-        return false;
-    };
     let is_done = AtomicBool::new(false);
     let (moment, done) = watch_eight(
         rt,
@@ -45,19 +42,15 @@ fn are_views_whole<R: Threads + Wait>(
     done.is_some() && moment == Some(4 * u64::from(TURNS) + 1)
 }
 
-/// Opens the line, and whether all was published and seen.
-fn is_watched<R: Threads + Wait>(rt: &R, alloc: Global) -> bool {
-    let Some((mut plan, mut publisher, seats)) = opened_line(rt, alloc, &[EIGHT]) else {
-        return false;
-    };
-    let seen = are_views_whole(rt, alloc, &mut plan, &mut publisher, seats);
-    publisher.finish(rt);
-    seen
-}
-
 /// Eight seats view while 2,000 publishings are made: each view is of one epoch, none is older than the one before, and the
 /// last ones show all.
 #[test]
 fn eight_seats_beside_two_thousand_publishings(rt: HostRuntime) {
-    assert!(rt; is_watched(&rt, rt.alloc()));
+    let alloc = rt.alloc();
+    let Some((mut plan, mut publisher, seats)) = opened_line(&rt, alloc, &[EIGHT]) else {
+        panic!(rt; "the line isn't opened");
+    };
+    let seen = are_views_whole(&rt, alloc, &mut plan, &mut publisher, seats);
+    publisher.finish(&rt);
+    assert!(rt; seen);
 }

@@ -126,21 +126,21 @@ const ROWS: &[Row] = &[
     ),
 ];
 
-/// Whether a view gives this of a variable.
-fn says(view: &View, row: &AnswerGiven) -> bool {
-    match VarId::new(row.0) {
-        Some(variable) => {
-            view.place(variable).map(|place| place.bit) == row.1
-                && view.value(variable).map_err(|fault| fault.number()) == row.2
-        }
-        None => false,
-    }
-}
-
-/// Whether it says all of this.
+/// Whether a view says all of this of variables.
 fn says_all(view: &View, rows: &[AnswerGiven]) -> bool {
-    for row in rows {
-        if !says(view, row) {
+    for (number, bit, value) in rows {
+        let Some(variable) = VarId::new(*number) else {
+            return false;
+        };
+        let is_placed = match view.place(variable) {
+            Some(place) => *bit == Some(place.bit),
+            None => bit.is_none(),
+        };
+        let is_valued = match view.value(variable) {
+            Ok(own) => *value == Ok(own),
+            Err(fault) => *value == Err(fault.number()),
+        };
+        if !is_placed || !is_valued {
             return false;
         }
     }
@@ -170,15 +170,6 @@ fn sees(seat: Seat, moment: &Moment) -> (Seat, bool) {
     }
 }
 
-/// The axis loses its outputs.
-fn without_outputs(alloc: Global) -> Edit {
-    Edit::Remap {
-        station: 1001,
-        area: 0,
-        pdos: Items::new(alloc),
-    }
-}
-
 /// Appends a change that is given.
 fn append(
     alloc: Global,
@@ -193,7 +184,14 @@ fn append(
         Given::Answer(bytes) => append_answer(Vec::new(alloc), plan, publisher, 0, bytes),
         Given::Docking => append_edit(alloc, plan, publisher, &DOCK),
         Given::Undocking => append_edit(alloc, plan, publisher, &UNDOCK),
-        Given::LosingOutputs => append_edit(alloc, plan, publisher, &without_outputs(alloc)),
+        Given::LosingOutputs => {
+            let without_outputs = Edit::Remap {
+                station: 1001,
+                area: 0,
+                pdos: Items::new(alloc),
+            };
+            append_edit(alloc, plan, publisher, &without_outputs)
+        }
     }
 }
 

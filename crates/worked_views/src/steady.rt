@@ -44,7 +44,10 @@ fn value_seen(seat: Seat) -> (Seat, Option<u64>)
 {
     match seat.view() {
         Ok(view) => {
-            let value = VarId::new(2).and_then(|variable| view.value(variable).ok());
+            let value = match VarId::new(2) {
+                Some(variable) => view.value(variable).ok(),
+                None => None,
+            };
             (view.leave(), value)
         }
         Err(seat) => (seat, None),

@@ -1,12 +1,8 @@
 //! Seats that view again and again while changes are published in turn, and how far each view is.
 
 use hc_publish::seat::Seat;
-use hc_publish::view::View;
 use std::sync::atomic::{AtomicBool, Ordering};
 use std::thread;
-
-/// What watches in a thread of its own.
-pub type Watcher = Seat;
 
 /// Whether all these bytes are this one.
 fn are_all(bytes: &[u8], byte: u8) -> bool {
@@ -18,23 +14,17 @@ fn are_all(bytes: &[u8], byte: u8) -> bool {
     true
 }
 
-/// How many changes in turn a view shows: twice its epoch, and one more where its datagram has an answer. None where
-/// the answer's bytes are of another epoch.
-fn moment_of(view: &View) -> Option<u64> {
-    let epoch = view.epoch();
-    let [byte, _, _, _] = epoch.to_le_bytes();
-    let swapped = 2 * u64::from(epoch);
-    match view.inputs(0) {
-        Some(bytes) => are_all(bytes, byte).then_some(swapped + 1),
-        None => Some(swapped),
-    }
-}
-
-/// A view is taken and left.
+/// A view is taken and left: how many changes in turn it shows. That is twice its epoch, and one more where its datagram has an
+/// answer. None where the answer's bytes are of another epoch.
 fn looked(seat: Seat) -> (Seat, Option<u64>) {
     match seat.view() {
         Ok(view) => {
-            let moment = moment_of(&view);
+            let [byte, _, _, _] = view.epoch().to_le_bytes();
+            let swapped = 2 * u64::from(view.epoch());
+            let moment = match view.inputs(0) {
+                Some(bytes) => are_all(bytes, byte).then_some(swapped + 1),
+                None => Some(swapped),
+            };
             (view.leave(), moment)
         }
         Err(seat) => (seat, None),
@@ -60,9 +50,4 @@ pub fn looked_until(mut seat: Seat, is_done: &AtomicBool) -> Option<u64> {
         thread::yield_now();
     }
     None
-}
-
-/// How far two are, where they are equally far.
-pub fn both(one: Option<u64>, other: Option<u64>) -> Option<u64> {
-    if one == other { one } else { None }
 }

@@ -25,15 +25,6 @@ const CALLS: [Call; 11] = [
     Write, Arrive, Write, Arrive, Write, Arrive, Write, Arrive, Send, Arrive, Publish,
 ];
 
-/// Whether an answer is as it is to be; none where memory was wanted.
-fn is_answered(answer: &Answer) -> Option<bool> {
-    match answer {
-        Answer::Refused(CoreFault::Memory) => None,
-        Answer::WriteDone => Some(true),
-        answer => Some(are_inputs(answer)),
-    }
-}
-
 /// Whether it goes as it is to; none where memory was wanted.
 fn ask<R: Wait>(
     rt: &R,
@@ -44,9 +35,16 @@ fn ask<R: Wait>(
 ) -> Option<bool> {
     match call {
         Call::Write => Some(is_written(master, frame)),
-        Call::Arrive => is_answered(&master.arrive(alloc, frame)),
+        Call::Arrive => match master.arrive(alloc, frame) {
+            Answer::Refused(CoreFault::Memory) => None,
+            Answer::WriteDone => Some(true),
+            answer => Some(are_inputs(&answer)),
+        },
         Call::Send => is_sent(alloc, master, 0, frame).then_some(true),
-        Call::Publish => master.publish(rt, alloc).ok().map(|()| true),
+        Call::Publish => match master.publish(rt, alloc) {
+            Ok(()) => Some(true),
+            Err(_) => None,
+        },
     }
 }
 

@@ -78,12 +78,14 @@ fn is_viewed(
     epoch: u32,
     value: Result<u64, u8>,
 ) -> bool {
-    match master.view(task % 8, variable) {
-        Ok(viewed) => {
-            viewed.epoch == epoch && viewed.value.map_err(|fault| fault.number()) == value
-        }
-        Err(_) => false,
-    }
+    let Ok(viewed) = master.view(task % 8, variable) else {
+        return false;
+    };
+    let is_valued = match viewed.value {
+        Ok(own) => value == Ok(own),
+        Err(fault) => value == Err(fault.number()),
+    };
+    viewed.epoch == epoch && is_valued
 }
 
 /// Whether a step comes so.
@@ -109,22 +111,16 @@ fn comes<R: Wait>(rt: &R, alloc: Global, master: &mut Master, step: &Step) -> bo
     }
 }
 
-/// The number of the first step that doesn't come so; their number where all do.
-fn first_wrong<R: Wait>(rt: &R, alloc: Global, master: &mut Master, steps: &[Step]) -> usize {
+/// The number of the first step that doesn't come so, from the axis' opening on; their number where all do.
+pub fn wrong_step<R: Wait>(rt: &R, alloc: Global, steps: &[Step]) -> Option<usize> {
+    let mut master = opened(rt, alloc)?;
     let mut number: usize = 0;
     for step in steps {
-        if !comes(rt, alloc, master, step) {
-            return number;
+        if !comes(rt, alloc, &mut master, step) {
+            break;
         }
         number = number.saturating_add(1);
     }
-    number
-}
-
-/// The same from the axis' opening on.
-pub fn wrong_step<R: Wait>(rt: &R, alloc: Global, steps: &[Step]) -> Option<usize> {
-    let mut master = opened(rt, alloc)?;
-    let wrong = first_wrong(rt, alloc, &mut master, steps);
     master.finish(rt);
-    Some(wrong)
+    Some(number)
 }
