@@ -1,5 +1,5 @@
 -- What is kept stays right after an accepted edit.
-use Rattle.std.proofs.Common.{◌≡◌, ℕ, ◌+◌, List, [], ◌∷◌, ◌++◌, length, refl, sym, ap, ◌∙◌, subst, append_assoc, length-append, None, Option, rules}
+use Rattle.std.proofs.Common.{◌≡◌, ℕ, ◌+◌, ◌<◌, List, [], ◌∷◌, ◌++◌, length, refl, sym, ap, ◌∙◌, subst, append_assoc, length-append, None, Option, rules}
 use Rattle.std.specs.Prelude.{Err, IfSome, Ok, Result}
 use Rattle.std.specs.Result.{result_unwrap_or}
 use Rattle.std.proofs.lemmas.List.{length-map, map-append}
@@ -11,6 +11,7 @@ use Rattle.hc_records.specs.Lists.{lowest}
 use Rattle.hc_records.specs.Project.{lowest_fault}
 use Rattle.hc_groups.specs.Edits.{own_fault}
 use Rattle.hc_groups.proofs.lemmas.Accepted.{accepted-project}
+use Rattle.hc_registers.specs.RankPlaces.{stations}
 use Rattle.hc_places.specs.declared.swap.Swap.{Swap}
 use Rattle.hc_places.specs.Swap.{Leads, swapped}
 use Rattle.hc_places.specs.Table.{Table, table_of}
@@ -43,8 +44,9 @@ use Rattle.hc_core.proofs.Known.{unchanged-alike, known-edited}
 use Rattle.hc_core.specs.Agreement.{Agree, CoreParts}
 use Rattle.hc_core.specs.Serials.{HaveNone, Serials}
 use Rattle.hc_core.specs.Update.{ShowUpdates}
-use Rattle.hc_core.specs.Prepared.{CanFollow, CoreEdit, CanBeCarriedOut}
+use Rattle.hc_core.specs.Prepared.{CanFollow, CoreEdit, CanBeCarriedOut, HasSlaveRoom}
 use Rattle.hc_core.specs.State.{CoreState}
+use Rattle.hc_core.proofs.Followed.{room-answer_given}
 use Rattle.hc_core.proofs.Serves.{accepted_edit}
 
 -- the state that an accepted edit leads to is that after it
@@ -130,6 +132,24 @@ agree-edited unchanged history taken new report inputs serials outputs owed acce
 pub core_edit-here : (made own now : CoreState) (core_edit : CoreEdit) (edit : PreparedEdit) (moves : Moves) (slaves : Option OwedRoom) (room : List Change) (capacity : ℕ) → CanBeCarriedOut made edit moves slaves room capacity
     → (let seen : CoreEdit = record { core = made; edit = edit } in seen) ≡ core_edit → core_edit.core ≡ now → own ≡ now → CanBeCarriedOut own edit moves slaves room capacity
 core_edit-here made own now core_edit edit moves slaves room capacity is view asked sees = search rules
+
+pub still-here : (own now : CoreState) (edit : PreparedEdit) (moves : Moves) (slaves : Option OwedRoom) (room : List Change) (capacity : ℕ) → own ≡ now → CanBeCarriedOut now edit moves slaves room capacity
+    → CanBeCarriedOut own edit moves slaves room capacity
+still-here own now edit moves slaves room capacity same = subst (λ (core : CoreState). CanBeCarriedOut core edit moves slaves room capacity) (sym same)
+
+-- an edit of the core's line, with the memory that was taken for it
+pub with-memory : (core : CoreState) (edit : PreparedEdit) (asked : Edit) (table : Table) (swap : Swap) (moves : Moves) (count : ℕ) (slaves : Option OwedRoom) (room : List Change) (capacity : ℕ) → edit.old ≡ state_of core.history
+    → IsPrepared edit → edit.report.swap.edit ≡ asked → table ≡ table_of (line_of core.history) → swap ≡ edit.report.swap → moves ≡ record { before = table; change = swap.change } → count ≡ length (stations edit.old)
+    → HasSlaveRoom count asked slaves → room ≡ [] → length (updates_of core.history) < length (updates_of core.taken) + capacity → CanBeCarriedOut core edit moves slaves room capacity
+with-memory core edit asked table swap moves count slaves room capacity made prepared same placed shown moved known has empty fits = record {
+  made = made;
+  prepared = prepared;
+  table = ap (λ (m : Moves). m.before) moved ∙ placed;
+  change = ap (λ (m : Moves). m.change) moved ∙ ap (λ (s : Swap). s.change) shown;
+  slaves = room-answer_given count (length (stations edit.old)) asked edit.report.swap.edit slaves has known (sym same);
+  empty = empty;
+  fits = fits;
+}
 
 pub table-leads : (core : CoreState) (edit : PreparedEdit) (moves : Moves) (slaves : Option OwedRoom) (room : List Change) (capacity : ℕ) → CanBeCarriedOut core edit moves slaves room capacity → IsPrepared edit → moved_table moves ≡ table_of (line edit.new)
 table-leads core edit moves slaves room capacity core_edit prepared = search rules

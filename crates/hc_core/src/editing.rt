@@ -1,5 +1,5 @@
 //! An edit: what it would make of the core, and its carrying out.
-ghost use Rattle.std.specs.Prelude.{◌≡◌, ◌≢◌, ◌∷◌, IfErr, IfOk, IfSome, Err, Ok, OnErr, OnOk};
+ghost use Rattle.std.specs.Prelude.{◌≡◌, ◌≢◌, ◌∷◌, IfErr, IfOk, IfSome, Err, Ok, OnErr, OnOk, vec_capacity};
 ghost use Rattle.hc_records.specs.declared.faults.EditFault.TheVariants.{Memory};
 ghost use Rattle.hc_records.specs.Edits.{edited, state_after};
 ghost use Rattle.hc_groups.specs.Edits.{own_fault};
@@ -7,11 +7,16 @@ ghost use Rattle.hc_events.specs.declared.answer.Answer.TheVariants as answer;
 ghost use Rattle.hc_events.specs.Entries.{Edited};
 ghost use Rattle.hc_events.specs.Points.{state_of};
 ghost use Rattle.hc_events.specs.Steps.{edit_answer};
+ghost use Rattle.hc_core.specs.Prepared.{CanBeCarriedOut};
 
 use crate::declaring::follow;
 use crate::keeping::Core;
 use crate::prepared::{CoreEdit, add_swap, edit_memory};
 use hc_events::answer::Answer;
+use hc_events::change::Change;
+use hc_images::moves::Moves;
+use hc_owed::room::OwedRoom;
+use hc_plan::prepared::PreparedEdit;
 use hc_plan::report::Report;
 use hc_records::edit::Edit;
 use hc_records::faults::EditFault;
@@ -78,6 +83,21 @@ impl Core {
             room,
             core: _,
         } = core_edit;
+        self.carry(edit, moves, slaves, room)
+    }
+
+    /// Carries out what `plan` worked out for the core as it is, with the core's own memory for it.
+    fn carry(
+        &mut self,
+        edit: PreparedEdit,
+        moves: Moves,
+        slaves: Option<OwedRoom>,
+        room: Vec<Change>,
+    ) -> Answer
+        requires { CanBeCarriedOut self.old edit moves slaves room.items (vec_capacity room) }
+        ensures answer { result ≡ edit_answer (state_of self.old.history) (state_after (state_of self.old.history) edit.report.swap.edit) }
+        ensures entries { self.new ≡ record self.old { history = Edited edit.report.swap.edit ∷ self.old.history } }
+    {
         self.awaited.clear();
         self.inputs.clear();
         self.data_serials.clear();
@@ -101,7 +121,15 @@ impl Core {
         ensures entries { OnOk result (self.new ≡ record self.old { history = Edited edit.now ∷ self.old.history }) }
         ensures unchanged { OnErr result (self.new ≡ self.old) }
     {
-        let core_edit = self.prepare(alloc, edit)?;
-        Ok(self.carry_out(core_edit))
+        let prepared = self.plan.prepare(alloc, edit)?;
+        let (moves, slaves, room) = edit_memory(
+            alloc,
+            self.plan.places(),
+            &self.owed,
+            &self.changes,
+            edit,
+            &prepared.report().swap,
+        )?;
+        Ok(self.carry(prepared, moves, slaves, room))
     }
 }

@@ -205,7 +205,7 @@ pub(crate) fn room_for(
 ) -> Result<Vec<DatagramBytes>, AllocError>
     ensures { IfOk result (λ room. HasRoomToGrow (length changed.now) (length_in places.now) changed.now room.items) }
 {
-    let mut room = Vec::with_capacity(alloc, SLOTS)?;
+    let mut room = Vec::with_capacity(alloc, MOST_DATAGRAMS)?;
     for (task, table) in changed {
         push_room(alloc, &mut room, places, *task, table)?;
     }

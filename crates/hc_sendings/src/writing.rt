@@ -15,8 +15,8 @@ use hc_records::task::Task;
 use hc_registers::fmmu::logical_address;
 use std::alloc::{AllocError, Global};
 
-/// The most bytes of a frame that is written over zeros. A longer one is added part by part.
-const SHORT_FRAME: usize = 512;
+/// The most bytes of datagrams of a frame that is written over zeros. A longer one is added part by part.
+const SHORT_BYTES: usize = 500;
 
 /// Where the data are with which datagrams are sent.
 pub trait SentData {
@@ -126,36 +126,39 @@ fn add_padding(text: &mut Vec<u8>, size: usize) -> Result<(), AllocError>
     text.extend_from_slice(&[0; 44][..zeros])
 }
 
-/// The text of a frame, written over zeros: takes the fewest steps where the frame is short.
+/// The text of a frame with so many bytes of datagrams, written over zeros: that takes the fewest steps where the frame is short.
 fn text_over_zeros<D: SentData>(
     alloc: Global,
     frame: &Sending,
     sent: &D,
+    size: usize,
 ) -> Result<Items<u8>, AllocError>
     requires serial { frame.now.serial < 2 ^ 40 }
     requires known { All (λ named. named.0 < TASKS) frame.now.datagrams }
-    requires size { 2 + carried_bytes (D.bytes sent.now) frame.now.datagrams ≤ MAX_ETHERCAT }
+    requires most { 2 + carried_bytes (D.bytes sent.now) frame.now.datagrams ≤ MAX_ETHERCAT }
+    requires size { size ≡ carried_bytes (D.bytes sent.now) frame.now.datagrams }
     ensures { IfOk result (λ text. text ≡ frame_text_of (D.bytes sent.now) frame.now) }
 {
-    let size = HEAD_BYTES + carried_bytes(frame.datagrams(), sent);
-    let mut text = Vec::from_elem(alloc, 0, size.max(usize::from(LEAST_FRAME)))?;
+    let whole = HEAD_BYTES + size;
+    let mut text = Vec::from_elem(alloc, 0, whole.max(usize::from(LEAST_FRAME)))?;
     write_frame(&mut text, frame, sent);
     Ok(Items::of(text))
 }
 
-/// The text of a frame, added part by part: no byte of it is written twice.
+/// The text of a frame with so many bytes of datagrams, added part by part: no byte of it is written twice.
 fn text_by_parts<D: SentData>(
     alloc: Global,
     frame: &Sending,
     sent: &D,
+    size: usize,
 ) -> Result<Items<u8>, AllocError>
     requires serial { frame.now.serial < 2 ^ 40 }
     requires known { All (λ named. named.0 < TASKS) frame.now.datagrams }
-    requires size { 2 + carried_bytes (D.bytes sent.now) frame.now.datagrams ≤ MAX_ETHERCAT }
+    requires most { 2 + carried_bytes (D.bytes sent.now) frame.now.datagrams ≤ MAX_ETHERCAT }
+    requires size { size ≡ carried_bytes (D.bytes sent.now) frame.now.datagrams }
     ensures { IfOk result (λ text. text ≡ frame_text_of (D.bytes sent.now) frame.now) }
 {
     let datagrams = frame.datagrams();
-    let size = carried_bytes(datagrams, sent);
     let mut text = Vec::with_capacity(alloc, frame.size())?;
     add_head(&mut text, frame.serial(), size as u16)?;
     add_datagrams(&mut text, frame.serial(), datagrams, sent)?;
@@ -175,9 +178,10 @@ pub fn frame_text<D: SentData>(
     requires size { 2 + carried_bytes (D.bytes sent.now) frame.now.datagrams ≤ MAX_ETHERCAT }
     ensures { IfOk result (λ text. text ≡ frame_text_of (D.bytes sent.now) frame.now) }
 {
-    if frame.size() <= SHORT_FRAME {
-        text_over_zeros(alloc, frame, sent)
+    let size = carried_bytes(frame.datagrams(), sent);
+    if size <= SHORT_BYTES {
+        text_over_zeros(alloc, frame, sent, size)
     } else {
-        text_by_parts(alloc, frame, sent)
+        text_by_parts(alloc, frame, sent, size)
     }
 }

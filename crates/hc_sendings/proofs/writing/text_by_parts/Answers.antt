@@ -1,7 +1,7 @@
 use Rattle.std.proofs.Common.{◌∙◌, ◌++◌, ℕ, List, ap, map}
 use Rattle.hc_frames.specs.FrameText.{sent_datagrams_text, frame_head}
 use Rattle.hc_events.specs.Sendings.{Named}
-use Rattle.hc_sendings.specs.Texts.{Data, datagram_with_data, carried_bytes}
+use Rattle.hc_sendings.specs.Texts.{Data, datagram_with_data}
 use Rattle.hc_sendings.proofs.Pieces.{added-up}
 use Rattle.hc_sendings.proofs.writing.text_by_parts.Goals as goal
 
@@ -10,7 +10,7 @@ returns g c =
     let sent : Data = g.D.SentData.bytes c.args.sent.now in
     let serial = c.args.frame.now.serial in
     let names = c.args.frame.now.datagrams in
-    let size = c.carried_bytes-size.result in
+    let size = c.args.size in
     let same = c.datagrams-datagrams.ensures.datagrams in
     let none = c.in_ok-text.text.items in
     let head = c.add_head.new.text.items in
@@ -22,4 +22,4 @@ returns g c =
     ∙ ap (λ (n : ℕ). head ++ sent_datagrams_text n (map (datagram_with_data sent) c.datagrams-datagrams.result.now)) c.serial-2.ensures
     ∙ ap (λ (all : List Named). head ++ sent_datagrams_text serial (map (datagram_with_data sent) all)) same)
     c.in_ok-add_padding.ensures
-    (c.carried_bytes-size.ensures ∙ ap (λ (all : List Named). carried_bytes sent all) same)
+    c.requires.size

@@ -1,100 +1,26 @@
-use Rattle.std.proofs.Common.{◌∷◌, ◌++◌, [], ◌∙◌, List, ap, arith, subst, sym}
+use Rattle.std.proofs.Common.{◌∷◌, ◌∙◌, ap, refl}
 use Rattle.std.specs.Prelude.{vec_capacity}
 use Rattle.hc_records.specs.Edits.{state_after}
-use Rattle.hc_records.specs.Line.{State, line}
-use Rattle.hc_places.specs.Swap.{Swap}
-use Rattle.hc_places.specs.Table.{Table, table_of}
-use Rattle.hc_plan.specs.declared.report.Report.{Report}
-use Rattle.hc_images.specs.Moves.{moved_table}
-use Rattle.hc_images.specs.Packed.{HasSizes, IsLaidOut}
-use Rattle.hc_images.specs.Values.{KeepEntries}
-use Rattle.hc_images.proofs.lemmas.Entries.{edit-keeps_entries}
-use Rattle.hc_images.proofs.lemmas.LaidOut.{line-laid_out}
-use Rattle.hc_sendings.specs.Waiting.{Waiting, nothing}
-use Rattle.hc_events.specs.declared.answer.Answer.TheVariants as answer
-use Rattle.hc_events.specs.declared.change.Change.{Change}
-use Rattle.hc_events.specs.declared.change.Change.TheVariants as change
-use Rattle.hc_events.specs.Entries.{History, Edited}
+use Rattle.hc_events.specs.Entries.{Edited}
 use Rattle.hc_events.specs.Points.{state_of}
 use Rattle.hc_events.specs.Steps.{edit_answer}
-use Rattle.hc_core.specs.Records.{history_read}
-use Rattle.hc_core.proofs.Edits.{after-is, agree-carried, can-follow, count-waiting, edited-answer_given, new-project, core_edit-here, table-leads}
-use Rattle.hc_core.specs.Agreement.{Agree, CoreParts, core_parts, state_in}
 use Rattle.hc_core.specs.Prepared.{CoreEdit}
 use Rattle.hc_core.specs.State.{CoreState}
+use Rattle.hc_core.proofs.Edits.{core_edit-here}
 use Rattle.hc_core.proofs.keeping.Core.carry_out.Goals as goal
 
-pub follow-requires : goal.follow-requires
-follow-requires c =
-    let core_edit = (core_edit-here c.core_edit.inside.core.value (state_in c.self.inside) c.args.self.now c.args.core_edit c.core_edit.inside.edit c.core_edit.inside.moves c.core_edit.inside.slaves c.core_edit.inside.room.items (vec_capacity c.core_edit.inside.room) c.core_edit.invariant c.core_edit.view_is c.requires c.self.view_is) in
-    can-follow (core_parts c.self.inside) (history_read c.self.inside.history) (history_read c.self.inside.taken.value) c.core_edit.inside.edit c.core_edit.inside.moves c.core_edit.inside.slaves c.core_edit.inside.room.items (vec_capacity c.core_edit.inside.room)
-    core_edit c.self.invariant
-
-pub change-requires-clause-laid : goal.change-requires-clause-laid
-change-requires-clause-laid c =
-    let core_edit = (core_edit-here c.core_edit.inside.core.value (state_in c.self.inside) c.args.self.now c.args.core_edit c.core_edit.inside.edit c.core_edit.inside.moves c.core_edit.inside.slaves c.core_edit.inside.room.items (vec_capacity c.core_edit.inside.room) c.core_edit.invariant c.core_edit.view_is c.requires c.self.view_is) in
-    subst IsLaidOut (sym core_edit.table) (line-laid_out (state_of (history_read c.self.inside.history)) c.self.invariant.project c.self.invariant.uncrowded)
-
-pub change-requires-clause-laid_out : goal.change-requires-clause-laid_out
-change-requires-clause-laid_out c =
-    let core_edit = (core_edit-here c.core_edit.inside.core.value (state_in c.self.inside) c.args.self.now c.args.core_edit c.core_edit.inside.edit c.core_edit.inside.moves c.core_edit.inside.slaves c.core_edit.inside.room.items (vec_capacity c.core_edit.inside.room) c.core_edit.invariant c.core_edit.view_is c.requires c.self.view_is) in
-    let edit = c.core_edit.inside.edit in
-    let prepared = core_edit.prepared in
-    subst IsLaidOut (sym (table-leads (state_in c.self.inside) edit c.core_edit.inside.moves c.core_edit.inside.slaves c.core_edit.inside.room.items (vec_capacity c.core_edit.inside.room) core_edit prepared))
-    (line-laid_out edit.new (new-project edit prepared) prepared.crowds.1)
-
-pub change-requires-clause-entries : goal.change-requires-clause-entries
-change-requires-clause-entries c =
-    let core_edit = (core_edit-here c.core_edit.inside.core.value (state_in c.self.inside) c.args.self.now c.args.core_edit c.core_edit.inside.edit c.core_edit.inside.moves c.core_edit.inside.slaves c.core_edit.inside.room.items (vec_capacity c.core_edit.inside.room) c.core_edit.invariant c.core_edit.view_is c.requires c.self.view_is) in
-    let edit = c.core_edit.inside.edit in
-    let moves = c.core_edit.inside.moves in
-    let prepared = core_edit.prepared in
-    let asked = edit.report.swap.edit in
-    subst (λ (table : Table). KeepEntries table (moved_table moves)) (ap (λ (state : State). table_of (line state)) core_edit.made ∙ sym core_edit.table)
-    (subst (λ (table : Table). KeepEntries (table_of (line edit.old)) table) (sym (table-leads (state_in c.self.inside) edit moves c.core_edit.inside.slaves c.core_edit.inside.room.items (vec_capacity c.core_edit.inside.room) core_edit prepared))
-    (subst (λ (state : State). KeepEntries (table_of (line edit.old)) (table_of (line state))) (after-is edit.old asked edit.new prepared.accepted) (edit-keeps_entries edit.old asked prepared.project)))
-
-pub change-requires-clause-sizes : goal.change-requires-clause-sizes
-change-requires-clause-sizes c =
-    let core_edit = (core_edit-here c.core_edit.inside.core.value (state_in c.self.inside) c.args.self.now c.args.core_edit c.core_edit.inside.edit c.core_edit.inside.moves c.core_edit.inside.slaves c.core_edit.inside.room.items (vec_capacity c.core_edit.inside.room) c.core_edit.invariant c.core_edit.view_is c.requires c.self.view_is) in
-    subst (λ (table : Table). HasSizes table c.self.inside.outputs.sent) (sym core_edit.table) c.self.invariant.values.sent.sizes
-
-pub add_swap-requires-clause-room : goal.add_swap-requires-clause-room
-add_swap-requires-clause-room c =
-    let core_edit = (core_edit-here c.core_edit.inside.core.value (state_in c.self.inside) c.args.self.now c.args.core_edit c.core_edit.inside.edit c.core_edit.inside.moves c.core_edit.inside.slaves c.core_edit.inside.room.items (vec_capacity c.core_edit.inside.room) c.core_edit.invariant c.core_edit.view_is c.requires c.self.view_is) in
-    let fits = core_edit.fits in
-    let waiting = count-waiting (history_read c.self.inside.taken.value) (history_read c.self.inside.history) c.self.inside.changes.items c.self.invariant.shows in
-    omega (arith, fits, waiting)
-
-pub invariant_of-self : goal.invariant_of-self
-invariant_of-self c =
-    let core_edit = (core_edit-here c.core_edit.inside.core.value (state_in c.self.inside) c.args.self.now c.args.core_edit c.core_edit.inside.edit c.core_edit.inside.moves c.core_edit.inside.slaves c.core_edit.inside.room.items (vec_capacity c.core_edit.inside.room) c.core_edit.invariant c.core_edit.view_is c.requires c.self.view_is) in
-    let inside = c.self.inside in
-    let history = history_read inside.history in
-    let taken = history_read inside.taken.value in
-    let edit = c.core_edit.inside.edit in
-    let prepared = core_edit.prepared in
-    let known = c.follow.ensures (can-follow (core_parts inside) history taken edit c.core_edit.inside.moves c.core_edit.inside.slaves c.core_edit.inside.room.items (vec_capacity c.core_edit.inside.room) core_edit c.self.invariant) in
-    let swap = ap (λ (report : Report). report.swap) c.carry_out-report.ensures.report in
-    let changes = c.add_swap.ensures ∙ ap (λ (one : Swap). inside.changes.items ++ change.Swapped one ∷ []) swap in
-    let grows = c.edited.ensures ∙ ap (λ asked. Edited asked ∷ history) (c.edit.ensures ∙ ap (λ (one : Swap). one.edit) swap) in
-    let unchanged : State → Waiting → List Change → CoreParts = λ plan awaited changes. record { plan = plan; serial = inside.serial; awaited = awaited; inputs = c.clear-2.new.self; serials = c.clear-3.new.self; outputs = c.change.new.self; owed = c.follow.new.owed; changes = changes } in
-    subst (λ (after_it : History). Agree (unchanged c.carry_out-report.new.self c.clear.new.self c.add_swap.new.changes.items) after_it taken) (sym grows)
-    (subst (λ (plan : State). Agree (unchanged plan c.clear.new.self c.add_swap.new.changes.items) (Edited edit.report.swap.edit ∷ history) taken) (sym c.carry_out-report.ensures.plan)
-    (subst (λ (waiting : Waiting). Agree (unchanged edit.new waiting c.add_swap.new.changes.items) (Edited edit.report.swap.edit ∷ history) taken) (sym c.clear.ensures)
-    (subst (λ (answer_given : List Change). Agree (unchanged edit.new nothing answer_given) (Edited edit.report.swap.edit ∷ history) taken) (sym changes)
-    (agree-carried (core_parts inside) history taken edit c.core_edit.inside.moves c.core_edit.inside.slaves c.core_edit.inside.room.items (vec_capacity c.core_edit.inside.room) c.clear-2.new.self c.clear-3.new.self c.change.new.self c.follow.new.owed
-    core_edit prepared c.clear-2.ensures c.clear-3.ensures known c.change.ensures c.self.invariant))))
+pub carry-requires : goal.carry-requires
+carry-requires c =
+    core_edit-here c.core_edit.inside.core.value c.args.self.now c.args.self.now c.args.core_edit c.core_edit.inside.edit c.core_edit.inside.moves c.core_edit.inside.slaves c.core_edit.inside.room.items
+    (vec_capacity c.core_edit.inside.room) c.core_edit.invariant c.core_edit.view_is c.requires refl
 
 pub returns-clause-answer : goal.returns-clause-answer
 returns-clause-answer c =
-    let core_edit = (core_edit-here c.core_edit.inside.core.value (state_in c.self.inside) c.args.self.now c.args.core_edit c.core_edit.inside.edit c.core_edit.inside.moves c.core_edit.inside.slaves c.core_edit.inside.room.items (vec_capacity c.core_edit.inside.room) c.core_edit.invariant c.core_edit.view_is c.requires c.self.view_is) in
-    let edit = c.core_edit.inside.edit in
-    let asked = edit.report.swap.edit in
-    let prepared = core_edit.prepared in
-    c.judged_answer-answer_given.ensures
-    ∙ ap (λ (report : Report). answer.Edited report.epoch report.recut report.moved) c.carry_out-report.ensures.report
-    ∙ edited-answer_given edit.old edit.new asked edit.report prepared.accepted prepared.answer_given
-    ∙ ap (λ (state : State). edit_answer state (state_after state asked)) core_edit.made
-    ∙ ap (λ (core : CoreState). edit_answer (state_of core.history) (state_after (state_of core.history) asked)) c.self.view_is
-    ∙ ap (λ one. edit_answer (state_of c.args.self.now.history) (state_after (state_of c.args.self.now.history) one)) (ap (λ (one : CoreEdit). one.edit.report.swap.edit) c.core_edit.view_is)
+    let old = state_of c.args.self.now.history in
+    c.carry.ensures.answer ∙ ap (λ (one : CoreEdit). edit_answer old (state_after old one.edit.report.swap.edit)) c.core_edit.view_is
+
+pub returns-clause-entries : goal.returns-clause-entries
+returns-clause-entries c =
+    let core = c.args.self.now in
+    let after_it : CoreEdit → CoreState = λ one. record core { history = Edited one.edit.report.swap.edit ∷ core.history } in
+    c.carry.ensures.entries ∙ ap after_it c.core_edit.view_is

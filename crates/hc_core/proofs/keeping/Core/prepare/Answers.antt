@@ -6,15 +6,14 @@ use Rattle.hc_records.specs.Line.{State, line}
 use Rattle.hc_registers.specs.RankPlaces.{stations}
 use Rattle.hc_places.specs.Table.{table_of}
 use Rattle.hc_plan.specs.declared.report.Report.{Report}
-use Rattle.hc_images.specs.Moves.{Moves}
 use Rattle.hc_owed.specs.RegisterState.{RegisterState}
 use Rattle.hc_events.specs.Points.{state_of}
 use Rattle.hc_core.specs.Records.{history_read}
 use Rattle.hc_core.specs.Agreement.{state_in}
 use Rattle.hc_core.specs.Prepared.{CanBeCarriedOut}
 use Rattle.hc_core.specs.State.{CoreState}
-use Rattle.hc_core.proofs.Edits.{accepted-own, after-is, count-waiting}
-use Rattle.hc_core.proofs.Followed.{few-declared, room-answer_given}
+use Rattle.hc_core.proofs.Edits.{accepted-own, after-is, count-waiting, with-memory}
+use Rattle.hc_core.proofs.Followed.{few-declared}
 use Rattle.hc_core.proofs.keeping.Core.prepare.Goals as goal
 
 pub edit_memory-requires : goal.edit_memory-requires
@@ -37,18 +36,12 @@ invariant_of-result c =
     let taken = history_read inside.taken.value in
     let room = c.in_ok-moves.ensures.room in
     let waiting = count-waiting taken history inside.changes.items c.self.invariant.shows in
-    let core_edit : CanBeCarriedOut (state_in inside) c.in_ok-prepared.prepared c.in_ok-moves.moves c.in_ok-moves.slaves c.in_ok-moves.room.items (vec_capacity c.in_ok-moves.room) = record {
-      made = c.in_ok-prepared.ensures.made ∙ c.self.invariant.state;
-      prepared = c.in_ok-prepared.ensures.prepared;
-      slaves = room-answer_given (length inside.owed.stations) (length (stations c.in_ok-prepared.prepared.old)) c.args.edit.now c.in_ok-prepared.prepared.report.swap.edit c.in_ok-moves.slaves c.in_ok-moves.ensures.slaves
-          (ap (λ (register_state : RegisterState). length register_state.stations) c.self.invariant.known ∙ ap (λ (state : State). length (stations state)) (sym (c.in_ok-prepared.ensures.made ∙ c.self.invariant.state)))
-          (sym c.in_ok-prepared.ensures.edit);
-      table = ap (λ (moves : Moves). moves.before) c.in_ok-moves.ensures.moves ∙ c.places.ensures.table
-          ∙ ap (λ (state : State). table_of (line state)) (c.in_ok-prepared.ensures.unchanged ∙ c.self.invariant.state);
-      change = ap (λ (moves : Moves). moves.change) c.in_ok-moves.ensures.moves ∙ ap (λ (report : Report). report.swap.change) c.report.ensures.report;
-      empty = c.in_ok-moves.ensures.empty;
-      fits = omega (arith, room, waiting);
-    } in
+    let made = c.in_ok-prepared.ensures.made ∙ c.self.invariant.state in
+    let table = c.places.ensures.table ∙ ap (λ (state : State). table_of (line state)) (c.in_ok-prepared.ensures.unchanged ∙ c.self.invariant.state) in
+    let known = ap (λ (register_state : RegisterState). length register_state.stations) c.self.invariant.known ∙ ap (λ (state : State). length (stations state)) (sym made) in
+    let core_edit = with-memory (state_in inside) c.in_ok-prepared.prepared c.args.edit.now c.places.result.now c.report.result.now.swap c.in_ok-moves.moves (length inside.owed.stations) c.in_ok-moves.slaves c.in_ok-moves.room.items
+    (vec_capacity c.in_ok-moves.room) made c.in_ok-prepared.ensures.prepared c.in_ok-prepared.ensures.edit table (ap (λ (report : Report). report.swap) c.report.ensures.report) c.in_ok-moves.ensures.moves known
+    c.in_ok-moves.ensures.slaves c.in_ok-moves.ensures.empty (omega (arith, room, waiting)) in
     subst (λ (core : CoreState). CanBeCarriedOut core c.in_ok-prepared.prepared c.in_ok-moves.moves c.in_ok-moves.slaves c.in_ok-moves.room.items (vec_capacity c.in_ok-moves.room)) (sym c.of-core.ensures) core_edit
 
 pub returns-clause-made : goal.returns-clause-made
