@@ -291,11 +291,11 @@ sweep_test worked_threads buffers::a_buffer_begins_anew
 sweep_test worked_threads posts::posts_come_as_they_were_posted
 sweep_test worked_threads frames::frames_go_in_order
 sweep_test worked_threads chains::machines_stay_where_a_chain_is_refused
-sweep_test worked_threads views::shown::a_view_shows_what_was_published
-sweep_steady worked_threads views::steady::few_cycles views::steady::many_cycles
-sweep_test worked_threads conductor::growths::refused_growths_change_nothing
-sweep_steady worked_threads conductor::steady::few_cycles conductor::steady::many_cycles
-sweep_test worked_threads one_thread::growths::refused_growths_change_nothing
+sweep_test worked_views shown::a_view_shows_what_was_published
+sweep_steady worked_views steady::few_cycles steady::many_cycles
+sweep_test worked_conductor growths::refused_growths_change_nothing
+sweep_steady worked_conductor steady::few_cycles steady::many_cycles
+sweep_test worked_conductor one_thread::growths::refused_growths_change_nothing
 sweep_test worked_program exchange::rows::machines_stay_where_an_exchange_is_refused
 sweep_program "alone lasting" "its first run" crates/hotline/stdin crates/hotline/stdout 0
 sweep_program "alone lasting" "every command" tools/commands.in tools/commands.out 2

@@ -14,15 +14,14 @@ for part in "$here"/program/*.sh; do
     sh "$part" "$program"
 done
 # The line that is cycled beside tasks in threads, as the tests have it.
-tests=$top/crates/worked_threads
+tests=$top/crates/worked_conductor
 mkdir -p "$program/proofs"
-cp "$tests/src/projects.rt" "$program/src/"
+cp "$top/crates/worked_views/src/projects.rt" "$program/src/"
 for name in fates lines posting working; do
-    cp "$tests/src/conductor/$name.rt" "$program/src/"
-    [ ! -e "$tests/proofs/conductor/$name" ] || cp -r "$tests/proofs/conductor/$name" "$program/proofs/"
+    cp "$tests/src/$name.rt" "$program/src/"
+    [ ! -e "$tests/proofs/$name" ] || cp -r "$tests/proofs/$name" "$program/proofs/"
 done
-find "$program" -type f -exec sed -i 's/Rattle\.worked_threads\.proofs\.conductor\./Rattle.conductor_bench.proofs./g
-    s/crate::conductor::/crate::/g' {} +
+find "$program" -type f -exec sed -i 's/Rattle\.worked_conductor\./Rattle.conductor_bench./g; s/worked_views::projects::/crate::projects::/g' {} +
 build "$program" rt run
 rustc --edition 2024 -O --crate-type cdylib "$here/../publish/growths.rs" -o "$scratch/growths.so"
 plain "$here/main.rs" -o "$scratch/bench"

@@ -13,16 +13,14 @@ for part in "$here"/program/*.sh; do
     sh "$part" "$program"
 done
 # The line that is published in turn beside seats in threads, as the tests have it.
-tests=$top/crates/worked_threads
-cp "$tests/src/projects.rt" "$program/src/"
-for name in eight lines turns watched; do
-    cp "$tests/src/views/$name.rt" "$program/src/"
-    [ ! -e "$tests/proofs/views/$name" ] || cp -r "$tests/proofs/views/$name" "$program/proofs/"
+tests=$top/crates/worked_views
+for name in eight lines projects turns watched; do
+    cp "$tests/src/$name.rt" "$program/src/"
+    [ ! -e "$tests/proofs/$name" ] || cp -r "$tests/proofs/$name" "$program/proofs/"
 done
 cp "$tests/specs/Lines.antt" "$program/specs/"
 cp "$tests/proofs/Answered.antt" "$tests/proofs/Leading.antt" "$program/proofs/"
-find "$program" -type f -exec sed -i 's/Rattle\.worked_threads\.proofs\.views\./Rattle.publish_bench.proofs./g
-    s/Rattle\.worked_threads\./Rattle.publish_bench./g; s/crate::views::/crate::/g' {} +
+find "$program" -type f -exec sed -i 's/Rattle\.worked_views\./Rattle.publish_bench./g' {} +
 build "$program" rt run
 rustc --edition 2024 -O --crate-type cdylib "$here/growths.rs" -o "$scratch/growths.so"
 plain "$here/main.rs" -o "$scratch/bench"

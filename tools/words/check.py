@@ -145,7 +145,7 @@ def planted_outside(top):
     yield "one in Python", phrases('"""What stands there."""\na = "told"  # that of\n', "tools/a.py") == 2
     yield "one in a script", phrases("told=1 # for want of\n# memory\n/// The `told` of which\n", "tools/a.sh") == 2
     yield "a test that no crate has", len(lost("sweep_test worked_lines lines::none\n")) == 1 and len(lost("sweep_test none a::b\n")) == 1
-    yield "one of two steady ones", len(lost("sweep_steady worked_threads views::steady::few_cycles views::steady::many\n")) == 1
+    yield "one of two steady ones", len(lost("sweep_steady worked_views steady::few_cycles steady::many\n")) == 1
     yield "no test at all", len(lost("sweep_test() {\n")) == 1
 
 

@@ -9,7 +9,7 @@ use crate::fates::{Master, play_all, play_last};
 use crate::lines::{are_written, opened_line};
 use crate::projects::EIGHT;
 use crate::resident::resident;
-use crate::working::{eight_of, work_eight};
+use crate::working::work_eight;
 use hc_conductor::conductor::Conductor;
 use hc_conductor::seat::TaskSeat;
 use std::alloc::Global;
@@ -49,7 +49,7 @@ fn played<R: Wait + Files + AllocGlobal>(
 
 /// What is resident, where the tasks beside it saw what was sent, the last of it in the end, and all that they posted was
 /// taken.
-fn resident_beside<R: Threads + Wait + Files + AllocGlobal>(
+fn resident_beside<R: Threads + Wait + Sync + Files + AllocGlobal>(
     rt: &R,
     alloc: Global,
     conductor: &mut Conductor,
@@ -57,7 +57,6 @@ fn resident_beside<R: Threads + Wait + Files + AllocGlobal>(
     first: u32,
     all: u32,
 ) -> Option<LongRun> {
-    let seats = eight_of(seats)?;
     let mut master = Master::of(0x5eed);
     let is_done = AtomicBool::new(false);
     let (worked, found) = work_eight(rt, seats, &is_done, || -> Option<(u64, u64, u64)> {
@@ -76,7 +75,7 @@ fn resident_beside<R: Threads + Wait + Files + AllocGlobal>(
 }
 
 /// Opens the line, and prints what is resident after the first cycles and after all, and how many posts there were.
-pub fn cycle_often<R: Threads + Wait + Files + AllocGlobal + Print>(
+pub fn cycle_often<R: Threads + Wait + Sync + Files + AllocGlobal + Print>(
     rt: &R,
     alloc: Global,
     first: u32,

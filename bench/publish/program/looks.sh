@@ -238,7 +238,7 @@ cat > "$1/src/stress.rt" <<'END_OF_CODE'
 //! Publishings in turn beside eight seats that view in threads of their own, and the memory that is resident.
 ghost use Rattle.publish_bench.specs.Lines.{LeadsTo};
 
-use crate::eight::{eight_of, watch_eight};
+use crate::eight::watch_eight;
 use crate::lines::opened_line;
 use crate::projects::EIGHT;
 use crate::resident::resident;
@@ -272,7 +272,7 @@ fn resident_twice<R: Wait + Files + AllocGlobal>(
 
 /// The same beside eight seats. None where a view was not of one epoch, or older than an earlier one, or the last one
 /// not of all.
-fn resident_beside<R: Threads + Wait + Files + AllocGlobal>(
+fn resident_beside<R: Threads + Wait + Sync + Files + AllocGlobal>(
     rt: &R,
     alloc: Global,
     plan: &mut Plan,
@@ -283,7 +283,6 @@ fn resident_beside<R: Threads + Wait + Files + AllocGlobal>(
 ) -> Option<(u64, u64)>
     requires { LeadsTo publisher.old plan.old }
 {
-    let seats = eight_of(seats)?;
     let is_done = AtomicBool::new(false);
     let (moment, digest) = watch_eight(
         rt,
@@ -302,7 +301,7 @@ fn resident_beside<R: Threads + Wait + Files + AllocGlobal>(
 }
 
 /// Opens the line, and prints what is resident after the first turns and after all.
-pub fn publish_often<R: Threads + Wait + Files + AllocGlobal + Print>(
+pub fn publish_often<R: Threads + Wait + Sync + Files + AllocGlobal + Print>(
     rt: &R,
     alloc: Global,
     first: u32,

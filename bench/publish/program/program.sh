@@ -32,7 +32,7 @@ use std::sync::Wait;
 use std::thread::Threads;
 
 /// What a word asks, with its numbers.
-fn is_done<R: Threads + Wait + Clock + Print + Files + AllocGlobal>(
+fn is_done<R: Threads + Wait + Sync + Clock + Print + Files + AllocGlobal>(
     rt: &R,
     words: &[String],
     given: &Given,

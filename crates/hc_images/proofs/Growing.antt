@@ -50,8 +50,8 @@ start-grows (suc i) (suc n) (own ∷ rest) le =
 in-table : (table : TaskTable) (d size : ℕ) → size < table_data_length table d → d < length table.datagrams
 in-table table d size longer = elim (cases_lt d (length table.datagrams)) [
   | inl inside ↦ inside
-  | inr past ↦
-      let none : table_data_length table d ≡ 0 = ap (λ (found : Option Datagram). option_map_or (λ datagram. datagram.length) found 0) (slice_get_past table.datagrams d past) in
+  | inr beyond ↦
+      let none : table_data_length table d ≡ 0 = ap (λ (found : Option Datagram). option_map_or (λ datagram. datagram.length) found 0) (slice_get_past table.datagrams d beyond) in
       absurd (omega (arith, longer, none))
 ]
 

@@ -1,4 +1,1 @@
 pub mod Rest
-pub mod Answered
-pub mod Leading
-pub mod Firsts

@@ -1,73 +1,29 @@
 //! A full ring, and the buffers of one.
 use crate::posting::Step::{Held, Post, Take};
 use crate::posting::{Step, Taking, all_done, post_four, takes_four};
-use hc_rings::{
-    Full, LARGEST_IMAGE, NoSpare, PostBuffer, PostFault, PostReceiver, PostSender, post_ring,
-};
+use hc_rings::{Full, LARGEST_IMAGE, NoSpare, PostFault, post_ring};
 use std::alloc::{AllocError, Global};
 use std::test::Fail;
 
-/// A buffer of another ring, with the epoch 70 and two bytes; none where there is no spare.
-fn foreign_buffer(other: &mut PostSender) -> Option<PostBuffer> {
-    match other.buffer() {
-        Ok(mut buffer) => {
-            buffer.begin(70, 2);
-            buffer.bytes_mut().fill(5);
-            Some(buffer)
-        }
-        Err(NoSpare) => None,
-    }
-}
-
-/// The buffer where it is handed back with its epoch and its bytes.
-fn handed_back(sender: &mut PostSender, buffer: PostBuffer) -> Option<PostBuffer> {
-    match sender.post(buffer) {
-        Err(Full(buffer)) if buffer.epoch() == 70 && buffer.bytes() == [5, 5].as_slice() => {
-            Some(buffer)
-        }
-        _ => None,
-    }
-}
-
-/// Whether a full ring hands a buffer of another ring back. Given back to it after its own four the buffer finds no place
-/// among the spares, and is dropped.
-fn takes_no_fifth(
-    sender: &mut PostSender,
-    receiver: &mut PostReceiver,
-    buffer: PostBuffer,
-) -> bool {
-    let is_full = post_four(sender, &[0, 0, 0]);
-    let Some(buffer) = handed_back(sender, buffer) else {
-        return false;
-    };
-    let is_empty = takes_four(receiver, &[0, 0, 0]);
-    receiver.give_back(buffer);
-    is_full && is_empty && post_four(sender, &[0, 0, 0]) && sender.buffer().is_err()
-}
-
-/// The same of a ring of its own.
+/// Whether a full ring hands a buffer of another ring back, with its epoch and its bytes. Given back to it after its own four the
+/// buffer finds no place among the spares, and is dropped.
 fn hands_back(alloc: Global) -> Result<bool, AllocError> {
     let (mut sender, mut receiver) = post_ring(alloc)?;
     let (mut other, _) = post_ring(alloc)?;
-    Ok(match foreign_buffer(&mut other) {
-        Some(buffer) => takes_no_fifth(&mut sender, &mut receiver, buffer),
-        None => false,
-    })
-}
-
-/// Whether a buffer is held for the epoch 70 after three posts, and a buffer of another ring is posted as the fourth.
-fn fills(sender: &mut PostSender, other: &mut PostSender) -> bool {
-    if sender.hold(70, 3).is_err() {
-        return false;
-    }
-    sender.held_mut().fill(5);
-    match other.buffer() {
-        Ok(mut buffer) => {
-            buffer.begin(3, 3);
-            sender.post(buffer).is_ok()
-        }
-        Err(NoSpare) => false,
-    }
+    let Ok(mut buffer) = other.buffer() else {
+        return Ok(false);
+    };
+    buffer.begin(70, 2);
+    buffer.bytes_mut().fill(5);
+    let is_full = post_four(&mut sender, &[0, 0, 0]);
+    let Err(Full(buffer)) = sender.post(buffer) else {
+        return Ok(false);
+    };
+    let is_same = buffer.epoch() == 70 && buffer.bytes() == [5, 5].as_slice();
+    let is_empty = takes_four(&mut receiver, &[0, 0, 0]);
+    receiver.give_back(buffer);
+    let is_full_again = post_four(&mut sender, &[0, 0, 0]) && sender.buffer().is_err();
+    Ok(is_full && is_same && is_empty && is_full_again)
 }
 
 const THREE_POSTS: [Step; 3] = [Post(0, [0, 0, 0]), Post(1, [0, 0, 0]), Post(2, [0, 0, 0])];
@@ -83,12 +39,21 @@ const HELD_LAST: [Step; 7] = [
     Take(Taking::Post(70, [5, 5, 5])),
 ];
 
-/// Whether a full ring keeps the buffer that is held, and it is posted as the last one.
+/// Whether a ring that was filled with a buffer of another ring keeps the buffer that is held for the epoch 70, and it is posted
+/// as the last one.
 fn keeps_held(alloc: Global) -> Result<bool, AllocError> {
     let (mut sender, mut receiver) = post_ring(alloc)?;
     let (mut other, _) = post_ring(alloc)?;
     let is_begun = all_done(&mut sender, &mut receiver, &THREE_POSTS);
-    let is_full = fills(&mut sender, &mut other);
+    if sender.hold(70, 3).is_err() {
+        return Ok(false);
+    }
+    sender.held_mut().fill(5);
+    let Ok(mut buffer) = other.buffer() else {
+        return Ok(false);
+    };
+    buffer.begin(3, 3);
+    let is_full = sender.post(buffer).is_ok();
     let is_unchanged = all_done(&mut sender, &mut receiver, &HELD_LAST);
     Ok(is_begun && is_full && is_unchanged)
 }
@@ -101,24 +66,21 @@ fn a_full_ring_takes_no_fifth_post(rt: HostRuntime) -> Result<(), Fail> {
     Ok(())
 }
 
-/// Whether a buffer is empty at first, is filled with the largest image, and is then begun anew with zeros.
-fn begins_anew(buffer: &mut PostBuffer) -> bool {
-    let is_empty = (buffer.epoch(), buffer.bytes().len()) == (0, 0);
-    buffer.begin(4_294_967_295, LARGEST_IMAGE);
-    buffer.bytes_mut().fill(255);
-    let is_largest = (buffer.epoch(), buffer.bytes().len()) == (4_294_967_295, 23_776);
-    let is_filled = buffer.bytes().iter().all(|&b| b == 255);
-    buffer.begin(1, 4);
-    let is_anew = buffer.epoch() == 1 && buffer.bytes() == [0; 4].as_slice();
-    is_empty && is_largest && is_filled && is_anew
-}
-
 /// A new buffer is empty. It takes the largest image, and has only zeros once it is begun again.
 #[test]
 fn a_buffer_begins_anew(rt: HostRuntime) -> Result<(), Fail> {
     let (mut sender, _) = post_ring(rt.alloc())?;
     let is_well = match sender.buffer() {
-        Ok(mut buffer) => begins_anew(&mut buffer),
+        Ok(mut buffer) => {
+            let is_empty = (buffer.epoch(), buffer.bytes().len()) == (0, 0);
+            buffer.begin(4_294_967_295, LARGEST_IMAGE);
+            buffer.bytes_mut().fill(255);
+            let is_largest = (buffer.epoch(), buffer.bytes().len()) == (4_294_967_295, 23_776);
+            let is_filled = buffer.bytes() == [255; LARGEST_IMAGE].as_slice();
+            buffer.begin(1, 4);
+            let is_anew = buffer.epoch() == 1 && buffer.bytes() == [0; 4].as_slice();
+            is_empty && is_largest && is_filled && is_anew
+        }
         Err(NoSpare) => false,
     };
     assert!(rt; is_well);

@@ -9,21 +9,17 @@ use std::sync::Wait;
 use std::test::Fail;
 use std::thread::Threads;
 
-/// A slave that reads and writes its own byte of a datagram of eight bytes at logical address 0x01000000.
-fn slave_of(alloc: Global, place: u8) -> Result<SlaveMachine, AllocError> {
-    let mut machine = SlaveMachine::new(alloc, u16::from(place))?;
-    let block = [place, 0, 0, 1, 1, 0, 0, 7, 0, 0x10, 0, 3, 1, 0, 0, 0];
-    put(machine.memory_mut(), 0x0600, &block);
-    put(machine.memory_mut(), 0x1000, &[100 + place % 100]);
-    Ok(machine)
-}
-
-/// Eight slaves in segments of `size`, 1 to 8.
+/// Eight slaves in segments of `size`, 1 to 8. Each reads and writes its own byte of a datagram of eight bytes at logical address
+/// 0x01000000.
 fn segments_of(alloc: Global, size: u8) -> Result<Vec<Segment>, AllocError> {
     let mut segments = Vec::new(alloc);
     let mut machines = Vec::new(alloc);
     for place in 0..8 {
-        machines.push(slave_of(alloc, place)?)?;
+        let mut machine = SlaveMachine::new(alloc, u16::from(place))?;
+        let block = [place, 0, 0, 1, 1, 0, 0, 7, 0, 0x10, 0, 3, 1, 0, 0, 0];
+        put(machine.memory_mut(), 0x0600, &block);
+        put(machine.memory_mut(), 0x1000, &[100 + place]);
+        machines.push(machine)?;
         if machines.len() == usize::from(size) {
             segments.push(Segment::of(machines))?;
             machines = Vec::new(alloc);
@@ -92,26 +88,6 @@ fn left_in_chain<R: Threads + Wait + Sync, G: Gate + Sync>(
     Ok(bytes_of(alloc, &out, &segments)?)
 }
 
-/// How many frames come out of a chain into which none goes, and of one with no segment.
-fn counts_of_nothing<R: Threads + Wait + Sync>(
-    rt: &R,
-    alloc: Global,
-) -> Result<[usize; 2], ChainFault> {
-    let mut segments = segments_of(alloc, 4)?;
-    let none = chain(rt, alloc, &mut segments, Vec::new(alloc), &Open)?;
-    let all = chain(rt, alloc, &mut [], frames_of(alloc)?, &Open)?;
-    Ok([none.len(), all.len()])
-}
-
-/// How many segments there are of each of three sizes.
-fn counts_of_segments(alloc: Global) -> Result<[usize; 3], AllocError> {
-    Ok([
-        segments_of(alloc, 8)?.len(),
-        segments_of(alloc, 4)?.len(),
-        segments_of(alloc, 2)?.len(),
-    ])
-}
-
 /// A chain of one, two or four segments leaves the frames and machines that one segment of eight slaves leaves.
 #[test]
 fn chains_are_one_segment(rt: HostRuntime) -> Result<(), Fail> {
@@ -123,8 +99,15 @@ fn chains_are_one_segment(rt: HostRuntime) -> Result<(), Fail> {
             "segments of {size}"
         );
     }
-    let counts = (counts_of_segments(alloc)?, counts_of_nothing(&rt, alloc)?);
-    assert_eq!(rt; counts, ([1, 2, 4], [0, 80]));
+    let mut four = segments_of(alloc, 4)?;
+    let none = chain(&rt, alloc, &mut four, Vec::new(alloc), &Open)?;
+    let all = chain(&rt, alloc, &mut [], frames_of(alloc)?, &Open)?;
+    let counts = [
+        segments_of(alloc, 8)?.len(),
+        four.len(),
+        segments_of(alloc, 2)?.len(),
+    ];
+    assert_eq!(rt; (counts, none.len(), all.len()), ([1, 2, 4], 0, 80));
     Ok(())
 }
 
@@ -157,28 +140,17 @@ const PAIRS: [(usize, usize); 12] = [
     (3, 2),
 ];
 
-/// The first pair of segments where the held one doesn't see the other one begin.
-fn first_unseen<R: Threads + Wait + Sync>(
-    rt: &R,
-    alloc: Global,
-    wanted: &[u8],
-) -> Result<Option<(usize, usize)>, ChainFault> {
-    for pair in &PAIRS {
-        let gate = Holds::of(pair.0, pair.1);
-        if left_in_chain(rt, alloc, 2, &gate)?.as_slice() != wanted || !gate.has_seen() {
-            return Ok(Some(*pair));
-        }
-    }
-    Ok(None)
-}
-
 /// Whichever segment is held before its first frame, each other one has begun: all threads are there, and none of them waits
 /// for a frame before it calls the gate.
 #[test]
 fn each_segment_begins_before_frames_come(rt: HostRuntime) -> Result<(), Fail> {
     let alloc = rt.alloc();
     let wanted = left_in_turn(alloc, 8, &Open)?;
-    assert_eq!(rt; first_unseen(&rt, alloc, &wanted)?, None);
+    for (holder, other) in PAIRS {
+        let gate = Holds::of(holder, other);
+        let same = left_in_chain(&rt, alloc, 2, &gate)? == wanted;
+        assert!(rt; same && gate.has_seen(), "{holder} for {other}");
+    }
     let gate = Meets::of(4);
     let left = left_in_chain(&rt, alloc, 2, &gate)?;
     assert_eq!(rt; (gate.met(), left == wanted), (4, true));
@@ -192,8 +164,10 @@ fn each_segment_calls_the_gate_once(rt: HostRuntime) -> Result<(), Fail> {
     let (four, eight) = (Counts::of_none(), Counts::of_none());
     let left = left_in_chain(&rt, alloc, 2, &four)?;
     let same = left_in_chain(&rt, alloc, 1, &eight)? == left;
-    assert_eq!(rt; (four.counts(), same), ([1, 1, 1, 1, 0, 0, 0, 0], true));
-    assert!(rt; eight.are_once());
+    assert_eq!(rt;
+        (four.counts(), eight.counts(), same),
+        ([1, 1, 1, 1, 0, 0, 0, 0], [1; 8], true)
+    );
     Ok(())
 }
 
@@ -223,28 +197,18 @@ fn is_answered(out: &[FrameBox]) -> bool {
     }
 }
 
-/// One frame of process data.
-fn one_frame(alloc: Global) -> Result<Vec<FrameBox>, AllocError> {
-    let mut frames = Vec::new(alloc);
-    let sent = frame_of(12, 0x0100_0000, &[1, 2, 3, 4, 5, 6, 7, 8]);
-    frames.push(FrameBox::of(alloc, &sent)?)?;
-    Ok(frames)
-}
-
-/// Whether the frame and the machines are as they are to be after a chain; and where it is refused, the machines as before.
-fn is_whole(answer: &Result<Vec<FrameBox>, ChainFault>, segments: &[Segment]) -> bool {
-    match answer {
-        Ok(out) => is_answered(out.as_slice()) && bytes_ascend(segments, 1),
-        Err(fault) => fault.number() == 1 && bytes_ascend(segments, 100),
-    }
-}
-
 /// The sweep refuses each growth of this test in turn: the machines are then as they were.
 #[test]
 fn machines_stay_where_a_chain_is_refused(rt: HostRuntime) -> Result<(), Fail> {
     let alloc = rt.alloc();
     let mut segments = segments_of(alloc, 4)?;
-    let answer = chain(&rt, alloc, &mut segments, one_frame(alloc)?, &Open);
-    assert!(rt; is_whole(&answer, &segments));
+    let mut frames = Vec::new(alloc);
+    let sent = frame_of(12, 0x0100_0000, &[1, 2, 3, 4, 5, 6, 7, 8]);
+    frames.push(FrameBox::of(alloc, &sent)?)?;
+    let is_whole = match chain(&rt, alloc, &mut segments, frames, &Open) {
+        Ok(out) => is_answered(out.as_slice()) && bytes_ascend(&segments, 1),
+        Err(fault) => fault.number() == 1 && bytes_ascend(&segments, 100),
+    };
+    assert!(rt; is_whole);
     Ok(())
 }

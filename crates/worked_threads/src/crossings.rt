@@ -1,9 +1,7 @@
 //! Posts and frames that go from thread to thread.
 use hc_rings::{
-    FrameBox, FrameReceiver, FrameSender, PostBuffer, PostReceiver, PostSender, frame_ring,
-    post_ring,
+    FrameBox, FrameReceiver, FrameSender, PostReceiver, PostSender, frame_ring, post_ring,
 };
-use std::alloc::{AllocError, Global};
 use std::test::Fail;
 use std::thread;
 
@@ -50,20 +48,14 @@ fn take_all(mut receiver: PostReceiver) -> bool {
 fn takes_waiting(receiver: &mut PostReceiver, number: u32) -> bool {
     for _ in 0..TURNS {
         if let Some(buffer) = receiver.take() {
-            let is_wanted = is_post(&buffer, number);
+            let bytes = &[(number % 251) as u8; 7][..number as usize % 7];
+            let is_wanted = buffer.epoch() == number && buffer.bytes() == bytes;
             receiver.give_back(buffer);
             return is_wanted;
         }
         thread::yield_now();
     }
     false
-}
-
-/// Whether this is the post with this number.
-fn is_post(buffer: &PostBuffer, number: u32) -> bool {
-    let bytes = buffer.bytes();
-    let is_same = bytes.iter().all(|&b| b as u32 == number % 251);
-    buffer.epoch() == number && bytes.len() as u32 == number % 7 && is_same
 }
 
 /// Whether the end comes, and no post before it.
@@ -86,17 +78,8 @@ fn posts_go_from_thread_to_thread(rt: HostRuntime) -> Result<(), Fail> {
     Ok(())
 }
 
-/// How many frames go from thread to thread.
+/// How many frames go from thread to thread, each of its number and 1.
 const FRAMES: u32 = 12;
-
-/// So many frames, each of its number and 1.
-fn numbered_frames(alloc: Global) -> Result<Vec<FrameBox>, AllocError> {
-    let mut frames = Vec::new(alloc);
-    for number in 0..FRAMES {
-        frames.push(FrameBox::of(alloc, &[(number % 256) as u8, 1])?)?;
-    }
-    Ok(frames)
-}
 
 /// Sends each frame as soon as there is a place, and answers whether it could.
 fn send_all(mut sender: FrameSender, frames: Vec<FrameBox>) -> bool {
@@ -145,8 +128,12 @@ fn takes_frame_waiting(receiver: &mut FrameReceiver, number: u32) -> bool {
 /// All 12 frames go from one thread to another, whole and in order, through a ring for three.
 #[test]
 fn frames_go_from_thread_to_thread(rt: HostRuntime) -> Result<(), Fail> {
-    let frames = numbered_frames(rt.alloc())?;
-    let (sender, receiver) = frame_ring(rt.alloc(), 3)?;
+    let alloc = rt.alloc();
+    let mut frames = Vec::new(alloc);
+    for number in 0..FRAMES {
+        frames.push(FrameBox::of(alloc, &[(number % 256) as u8, 1])?)?;
+    }
+    let (sender, receiver) = frame_ring(alloc, 3)?;
     let crossed = thread::join(
         &rt,
         move || send_all(sender, frames),

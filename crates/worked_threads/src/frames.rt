@@ -53,13 +53,6 @@ fn sends_two(
     Ok(was_empty && sent && receiver.beside(sender) == 2)
 }
 
-/// Whether a frame that was handed back has 1,514 bytes of 4. Each is then 6.
-fn is_changed(frame: &mut FrameBox) -> bool {
-    let is_same = frame.bytes() == [4; 1514].as_slice();
-    frame.bytes_mut().fill(6);
-    is_same
-}
-
 /// Whether a frame that was handed back is sent after the first two, and all three come in order.
 fn come_in_order(sender: &mut FrameSender, receiver: &mut FrameReceiver, back: FrameBox) -> bool
     requires { AreFrameEnds sender.old receiver.old }
@@ -78,31 +71,22 @@ fn go_in_order(alloc: Global) -> Result<bool, AllocError> {
     let two = sends_two(alloc, &mut sender, &mut receiver)?;
     Ok(match refused(alloc, &mut sender, &[4; 1514])? {
         Some(mut back) => {
-            two && is_changed(&mut back) && come_in_order(&mut sender, &mut receiver, back)
+            let is_same = back.bytes() == [4; 1514].as_slice();
+            back.bytes_mut().fill(6);
+            two && is_same && come_in_order(&mut sender, &mut receiver, back)
         }
         None => false,
     })
 }
 
 /// Whether a ring with no room hands a frame back, and nothing is left.
-fn hands_each_back(
-    alloc: Global,
-    sender: &mut FrameSender,
-    receiver: &mut FrameReceiver,
-) -> Result<bool, AllocError>
-    requires { AreFrameEnds sender.old receiver.old }
-{
-    let is_back = match refused(alloc, sender, &[8])? {
+fn has_no_room(alloc: Global) -> Result<bool, AllocError> {
+    let (mut sender, mut receiver) = frame_ring(alloc, 0)?;
+    let is_back = match refused(alloc, &mut sender, &[8])? {
         Some(back) => back.bytes() == [8].as_slice(),
         None => false,
     };
-    Ok(is_back && receiver.beside(sender) == 0)
-}
-
-/// The same of a ring of its own.
-fn has_no_room(alloc: Global) -> Result<bool, AllocError> {
-    let (mut sender, mut receiver) = frame_ring(alloc, 0)?;
-    hands_each_back(alloc, &mut sender, &mut receiver)
+    Ok(is_back && receiver.beside(&mut sender) == 0)
 }
 
 /// Marks a frame as one that was passed on: its source address becomes a locally administered one (IEEE 802.3).
@@ -125,22 +109,18 @@ fn pass_on(from: &mut FrameReceiver, to: &mut FrameSender) -> bool
     to.send(frame).is_ok()
 }
 
-/// Whether a frame is passed on before one is there; whether one is sent, is then passed on, and comes marked.
-fn is_marked(alloc: Global) -> Result<[bool; 4], AllocError> {
+/// Frames go through a ring in order. A full ring hands a frame back. None is passed on before one is there, and a passed frame
+/// comes marked.
+#[test]
+fn frames_go_in_order(rt: HostRuntime) -> Result<(), Fail> {
+    let alloc = rt.alloc();
+    assert_eq!(rt; (go_in_order(alloc)?, has_no_room(alloc)?), (true, true));
     let (mut sender, mut between) = frame_ring(alloc, 1)?;
     let (mut further, mut receiver) = frame_ring(alloc, 1)?;
     let early = pass_on(&mut between, &mut further);
     let sent = is_sent(alloc, &mut sender, &[9; 8])?;
     let passed = pass_on(&mut between, &mut further);
     let marked = gives(&mut receiver, &[9, 9, 9, 9, 9, 9, 2, 9]);
-    Ok([early, sent, passed, marked])
-}
-
-/// Frames go through a ring in order. A full ring hands a frame back, and a passed frame comes marked.
-#[test]
-fn frames_go_in_order(rt: HostRuntime) -> Result<(), Fail> {
-    let alloc = rt.alloc();
-    let found = (go_in_order(alloc)?, has_no_room(alloc)?, is_marked(alloc)?);
-    assert_eq!(rt; found, (true, true, [false, true, true, true]));
+    assert_eq!(rt; [early, sent, passed, marked], [false, true, true, true]);
     Ok(())
 }

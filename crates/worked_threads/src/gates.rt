@@ -131,11 +131,6 @@ impl Counts {
         }
         counts
     }
-
-    /// Whether each of the eight has begun once.
-    pub fn are_once(&self) -> bool {
-        (0..8).all(|worker| self.is_once(worker))
-    }
 }
 
 impl Gate for Counts {

@@ -1,14 +1,12 @@
-//! What runs in threads: parts of slices, rings, chains of segments, views beside their publisher, and a conductor with
-//! its seats. The rows were worked out by hand, and show what no clause says. There is nothing to call: these are tests.
-//! They have a crate of their own since a crate that has tests is proved twice.
+//! What runs in threads below the publisher: parts of slices, rings, mailboxes, slave machines and chains of segments. The
+//! rows were worked out by hand, and show what no clause says. There is nothing to call: these are tests. They have a crate
+//! of their own since a crate that has tests is proved twice.
 #![tactic(auto)]
 
 #[cfg(test)]
 mod buffers;
 #[cfg(test)]
 mod chains;
-#[cfg(test)]
-mod conductor;
 #[cfg(test)]
 mod crossings;
 #[cfg(test)]
@@ -24,8 +22,6 @@ mod logical;
 #[cfg(test)]
 mod mail;
 #[cfg(test)]
-mod one_thread;
-#[cfg(test)]
 mod parts;
 #[cfg(test)]
 mod physical;
@@ -35,9 +31,5 @@ mod pieces;
 mod posting;
 #[cfg(test)]
 mod posts;
-#[cfg(test)]
-mod projects;
-#[cfg(test)]
-mod views;
 #[cfg(test)]
 mod workers;

@@ -237,29 +237,24 @@ const ROWS: [Row; 20] = [
     },
 ];
 
-/// Whether a machine does with the row's datagram what the row says.
-fn is_row(machine: &mut SlaveMachine, row: &Row) -> bool {
-    let memory = machine.memory_mut();
-    let are_blocks = put(memory, 0x0600, &row.blocks[0]) && put(memory, 0x0610, &row.blocks[1]);
-    let [first, second] = row.memory;
-    let are_put = put(memory, usize::from(first.0), &[first.1])
-        && put(memory, usize::from(second.0), &[second.1]);
-    let mut frame = frame_of(12, 0x0100_0000, &row.came);
-    machine.process(&mut frame);
-    let [low, high] = row.left;
-    let is_left = is_placed(&frame, 26, &[low, high, row.counter, 0]);
-    let [first, second] = row.unchanged;
-    let memory = machine.memory();
-    let are_unchanged = is_placed(memory, usize::from(first.0), &[first.1])
-        && is_placed(memory, usize::from(second.0), &[second.1]);
-    are_blocks && are_put && is_left && are_unchanged
-}
-
-/// The number of the first row that a machine doesn't follow. Each has a machine of its own, with the alias 100.
+/// The number of the first row whose datagram a machine doesn't answer so. Each has a machine of its own, with the alias 100.
 fn first_wrong_row(alloc: Global, rows: &[Row]) -> Result<Option<usize>, AllocError> {
     for (number, row) in rows.iter().enumerate() {
         let mut machine = SlaveMachine::new(alloc, 100)?;
-        if !is_row(&mut machine, row) {
+        let memory = machine.memory_mut();
+        let are_blocks = put(memory, 0x0600, &row.blocks[0]) && put(memory, 0x0610, &row.blocks[1]);
+        let [first, second] = row.memory;
+        let are_put = put(memory, usize::from(first.0), &[first.1])
+            && put(memory, usize::from(second.0), &[second.1]);
+        let mut frame = frame_of(12, 0x0100_0000, &row.came);
+        machine.process(&mut frame);
+        let [low, high] = row.left;
+        let is_left = is_placed(&frame, 26, &[low, high, row.counter, 0]);
+        let [first, second] = row.unchanged;
+        let memory = machine.memory();
+        let are_unchanged = is_placed(memory, usize::from(first.0), &[first.1])
+            && is_placed(memory, usize::from(second.0), &[second.1]);
+        if !(are_blocks && are_put && is_left && are_unchanged) {
             return Ok(Some(number));
         }
     }

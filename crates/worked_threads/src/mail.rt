@@ -49,21 +49,16 @@ fn send_all(mut sender: ImageSender)
     }
 }
 
-/// Looks, and whether the image is whole and none older than the one of an epoch before.
-fn is_newer(receiver: &mut ImageReceiver, epoch: &mut u32) -> bool {
-    receiver.look();
-    let image = receiver.image();
-    let before = *epoch;
-    *epoch = image.epoch();
-    is_whole(image) && before <= image.epoch()
-}
-
 /// Looks until the last image is there, and at most so often: whether each image was whole and none older than the one before,
 /// and the epoch of the last one.
 fn watch(mut receiver: ImageReceiver) -> (bool, u32) {
     let mut epoch = 0;
     for _ in 0..TURNS {
-        if !is_newer(&mut receiver, &mut epoch) {
+        receiver.look();
+        let image = receiver.image();
+        let is_newer = is_whole(image) && epoch <= image.epoch();
+        epoch = image.epoch();
+        if !is_newer {
             return (false, epoch);
         }
         if epoch == SENDINGS {

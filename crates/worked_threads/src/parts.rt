@@ -94,9 +94,14 @@ fn copy_each<R: Threads + Sync>(rt: &R, bytes: &mut [u8], lengths: &[u32], words
     each_at_once(rt, Parts::of(bytes, lengths), &Copies { words }, &Open);
 }
 
-/// Whether no part is left before three are handed out, one of them empty, and whether none is after them; and the bytes,
-/// once each part was filled with its number.
-fn handed_out() -> (bool, bool, [u8; 5]) {
+/// Parts are handed out in order with their own lengths, one of them empty, and the bytes are what was left in each. No part is
+/// left after them.
+#[test]
+fn parts_are_cut_and_handed_out(rt: HostRuntime) {
+    let mut cut = [9; 5];
+    stamp_first(&mut cut, &[2, 3]);
+    let mut copied = [0; 6];
+    copy_each(&rt, &mut copied, &[2, 2, 2], &[[7, 8], [1, 2], [3, 4]]);
     let mut bytes = [0; 5];
     let parts = Parts::of(&mut bytes, &[2, 0, 3]);
     let is_empty_first = parts.is_empty();
@@ -107,16 +112,9 @@ fn handed_out() -> (bool, bool, [u8; 5]) {
     first.fill(1);
     second.fill(2);
     third.fill(3);
-    (is_empty_first, is_empty_last, bytes)
-}
-
-/// Parts are handed out in order with their own lengths, and the bytes are what was left in each.
-#[test]
-fn parts_are_cut_and_handed_out(rt: HostRuntime) {
-    let mut cut = [9; 5];
-    stamp_first(&mut cut, &[2, 3]);
-    let mut copied = [0; 6];
-    copy_each(&rt, &mut copied, &[2, 2, 2], &[[7, 8], [1, 2], [3, 4]]);
-    assert_eq!(rt; handed_out(), (false, true, [1, 1, 3, 3, 3]));
+    assert_eq!(rt;
+        (is_empty_first, is_empty_last, bytes),
+        (false, true, [1, 1, 3, 3, 3])
+    );
     assert_eq!(rt; (cut, copied), ([1, 1, 9, 9, 9], [7, 8, 1, 2, 3, 4]));
 }

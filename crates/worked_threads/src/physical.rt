@@ -12,12 +12,6 @@ const ALIAS_READ: [u8; 60] = [
     0, 0, 0, 0, 0, 0, 0, 0, 0, 0, 0, 0, 0, 0, 0,
 ];
 
-/// Whether it is built so.
-fn is_built() -> bool {
-    let mut frame = [9; 60];
-    build_alias_read(&mut frame, 2) == Ok(60) && frame == ALIAS_READ
-}
-
 /// Station 1001 is written by position, and is then met by the second datagram.
 const WRITTEN_AND_MET: [u8; 44] = [
     0xff, 0xff, 0xff, 0xff, 0xff, 0xff, 2, 0, 0, 0, 0, 0, 0x88, 0xa4, 28, 0x10, 2, 0, 0, 0, 0x10,
@@ -109,11 +103,10 @@ fn are_given_back(alloc: Global) -> Result<bool, AllocError> {
 #[test]
 fn registers_are_read_and_written(rt: HostRuntime) -> Result<(), Fail> {
     let alloc = rt.alloc();
-    let found = (
-        is_built(),
-        first_wrongs(alloc, &RUNS)?,
-        are_given_back(alloc)?,
-    );
-    assert_eq!(rt; found, (true, [None, None], true));
+    let mut frame = [9; 60];
+    let built = build_alias_read(&mut frame, 2);
+    assert_eq!(rt; (built, frame), (Ok(60), ALIAS_READ));
+    let found = (first_wrongs(alloc, &RUNS)?, are_given_back(alloc)?);
+    assert_eq!(rt; found, ([None, None], true));
     Ok(())
 }

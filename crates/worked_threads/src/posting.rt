@@ -47,19 +47,12 @@ fn begins_outputs(sender: &mut PostSender, epoch: u32, size: usize, byte: u8) ->
 {
     match sender.outputs(epoch, size) {
         Ok(outputs) => {
-            let is_zero = outputs.len() == size && outputs.iter().all(|&b| b == 0);
+            let is_zero = &*outputs == &[0; LARGEST_IMAGE][..size];
             outputs.fill(byte);
             is_zero
         }
         Err(NoSpare) => false,
     }
-}
-
-/// Whether no buffer is handed out, and none can be held, neither by its size nor as outputs.
-fn has_no_spare(sender: &mut PostSender) -> bool {
-    let none_is_handed_out = sender.buffer().is_err();
-    let none_is_held = sender.hold(9, 5) == Err(NoSpare) && sender.outputs(9, 5).is_err();
-    none_is_handed_out && none_is_held
 }
 
 /// Whether the next post is for this epoch and has these bytes. Its buffer is given back.
@@ -128,7 +121,7 @@ pub enum Step {
     Begin(u32, usize, u8),
     /// The buffer that is held is posted, or isn't for this cause.
     Held(Result<(), PostFault>),
-    /// No buffer is spare.
+    /// No buffer is spare: none is handed out, and none can be held, neither by its size nor as outputs.
     NoSpare,
     /// The receiver does this.
     Take(Taking),
@@ -144,7 +137,11 @@ fn is_done(sender: &mut PostSender, receiver: &mut PostReceiver, step: &Step) ->
             *size <= LARGEST_IMAGE && begins_outputs(sender, *epoch, *size, *byte)
         }
         Step::Held(posted) => sender.post_held() == *posted,
-        Step::NoSpare => has_no_spare(sender),
+        Step::NoSpare => {
+            let none_is_handed_out = sender.buffer().is_err();
+            let none_is_held = sender.hold(9, 5) == Err(NoSpare) && sender.outputs(9, 5).is_err();
+            none_is_handed_out && none_is_held
+        }
         Step::Take(taking) => comes(receiver, taking),
     }
 }

@@ -3,8 +3,7 @@ use crate::ends::take_what_is_left;
 use crate::posting::Step::{Begin, Held, NoSpare, Post, PostFour, PostHeld, Take};
 use crate::posting::Taking::{self, Four, Left, Nothing};
 use crate::posting::{Step, all_come, all_done};
-use hc_rings::{LARGEST_IMAGE, PostFault, PostReceiver, post_ring};
-use std::alloc::{AllocError, Global};
+use hc_rings::{LARGEST_IMAGE, PostFault, post_ring};
 use std::test::Fail;
 
 /// What is done with both ends of a ring; what is taken once the sender is dropped; and how many posts are then left.
@@ -119,36 +118,17 @@ const RUNS: [Run; 8] = [
     ),
 ];
 
-/// Whether that comes once the sender is gone, and so many posts are then left, and no more.
-fn ends(receiver: &mut PostReceiver, takings: &[Taking], left: u32) -> bool {
-    all_come(receiver, takings)
-        && take_what_is_left(receiver) == Some(left)
-        && receiver.take().is_none()
-}
-
-/// Whether a ring goes through a run.
-fn goes(alloc: Global, run: &Run) -> Result<bool, AllocError> {
-    let (steps, takings, left) = run;
-    let (mut sender, mut receiver) = post_ring(alloc)?;
-    let are_done = all_done(&mut sender, &mut receiver, *steps);
-    drop(sender);
-    let is_ended = ends(&mut receiver, *takings, *left);
-    Ok(are_done && is_ended)
-}
-
-/// The number of the first run that doesn't go so.
-fn first_wrong(alloc: Global) -> Result<Option<usize>, AllocError> {
-    for (number, run) in RUNS.iter().enumerate() {
-        if !goes(alloc, run)? {
-            return Ok(Some(number));
-        }
-    }
-    Ok(None)
-}
-
-/// Posts come out of a ring as they were posted, in order, also after the sender is dropped.
+/// Posts come out of a ring as they were posted, in order, also after the sender is dropped. So many are then left, and no more.
 #[test]
 fn posts_come_as_they_were_posted(rt: HostRuntime) -> Result<(), Fail> {
-    assert_eq!(rt; first_wrong(rt.alloc())?, None);
+    for (number, (steps, takings, left)) in RUNS.iter().enumerate() {
+        let (mut sender, mut receiver) = post_ring(rt.alloc())?;
+        let are_done = all_done(&mut sender, &mut receiver, *steps);
+        drop(sender);
+        let are_left = all_come(&mut receiver, *takings)
+            && take_what_is_left(&mut receiver) == Some(*left)
+            && receiver.take().is_none();
+        assert!(rt; are_done && are_left, "run {number}");
+    }
     Ok(())
 }

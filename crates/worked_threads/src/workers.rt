@@ -1,6 +1,4 @@
 //! What no contract says of workers: that they run at once, and that each calls the gate once, before its work.
-ghost use Rattle.std.specs.Prelude.{◌≡◌, length};
-
 use crate::gates::{Counts, Holds, Meets};
 use crate::parts::Stamp;
 use hc_lend::{Gate, PartWork, Parts, each_at_once};
@@ -15,53 +13,37 @@ fn sees<R: Threads + Sync>(rt: &R, holder: usize, other: usize) -> bool {
     gate.has_seen() && bytes == [1, 2, 2, 2]
 }
 
-/// How many of eight workers meet all others, and what they leave.
-fn eight_met<R: Threads + Sync>(rt: &R) -> (u64, [u8; 9]) {
-    let gate = Meets::of(8);
-    let mut bytes = [0; 9];
-    each_at_once(
-        rt,
-        Parts::of(&mut bytes, &[1, 1, 2, 1, 0, 1, 1, 2]),
-        &Stamp,
-        &gate,
-    );
-    (gate.met(), bytes)
-}
-
-/// The wrong body, for two parts.
-fn both_in_turn(bytes: &mut [u8], gate: &Holds)
-    requires { length bytes.old ≡ 4 }
-{
-    let parts = Parts::of(bytes, &[1, 3]);
-    let (first, rest) = parts.take();
+/// The wrong body, for two parts: whether the first worker sees the second where they work in turn, and what they leave.
+fn seen_in_turn() -> (bool, [u8; 4]) {
+    let gate = Holds::of(0, 1);
+    let mut bytes = [0; 4];
+    let (first, rest) = Parts::of(&mut bytes, &[1, 3]).take();
     gate.begun(0);
     Stamp.work(0, first);
     let (second, _) = rest.take();
     gate.begun(1);
     Stamp.work(1, second);
-}
-
-/// Whether the first worker sees the second where they work in turn, and what they leave.
-fn seen_in_turn() -> (bool, [u8; 4]) {
-    let gate = Holds::of(0, 1);
-    let mut bytes = [0; 4];
-    both_in_turn(&mut bytes, &gate);
     (gate.has_seen(), bytes)
 }
 
 /// A body that works on the parts one after another meets every contract. The gate shows it: whichever part comes first,
-/// one of the two workers is held in vain.
+/// one of the two workers is held in vain. Each of eight workers meets all others.
 #[test]
 fn workers_run_at_once(rt: HostRuntime) {
     let are_seen = [sees(&rt, 0, 1), sees(&rt, 1, 0)];
     assert_eq!(rt;
-        (are_seen, seen_in_turn(), eight_met(&rt)),
-        (
-            [true; 2],
-            (false, [1, 2, 2, 2]),
-            (8, [1, 2, 3, 3, 4, 6, 7, 8, 8])
-        )
+        (are_seen, seen_in_turn()),
+        ([true; 2], (false, [1, 2, 2, 2]))
     );
+    let gate = Meets::of(8);
+    let mut bytes = [0; 9];
+    each_at_once(
+        &rt,
+        Parts::of(&mut bytes, &[1, 1, 2, 1, 0, 1, 1, 2]),
+        &Stamp,
+        &gate,
+    );
+    assert_eq!(rt; (gate.met(), bytes), (8, [1, 2, 3, 3, 4, 6, 7, 8, 8]));
 }
 
 /// Counts the parts whose worker had begun once when their work came.
@@ -97,5 +79,5 @@ fn each_worker_begins_once_and_before_its_work(rt: HostRuntime) {
         &gate,
     );
     let parts = work.parts.load(Ordering::SeqCst);
-    assert_eq!(rt; (parts, gate.are_once(), bytes), (8, true, [5; 8]));
+    assert_eq!(rt; (parts, gate.counts(), bytes), (8, [1; 8], [5; 8]));
 }

@@ -1,0 +1,62 @@
+//! What a seat of the axis' task posts: one byte of outputs.
+ghost use Rattle.std.specs.Prelude.{◌≡◌};
+ghost use Rattle.hc_rings.specs.Ring.{SameSender};
+ghost use Rattle.hc_conductor.specs.Seats.{SeatPostsEach, task_seat_origin, sender};
+
+use hc_conductor::seat::TaskSeat;
+use hc_conductor::taking::Taken;
+use hc_rings::{NoSpare, PostFault};
+
+/// Why a byte isn't posted.
+#[derive(Clone, Copy, Debug, PartialEq, Eq)]
+pub enum Unposted {
+    /// No buffer is free.
+    NoSpare,
+    /// The outputs that are lent aren't one byte that is 0.
+    NotBlank,
+    /// The post isn't made.
+    Fault(PostFault),
+}
+
+/// The outputs that are lent are one byte that is 0, and then this one.
+pub fn lends(seat: &mut TaskSeat, byte: u8) -> Result<(), Unposted> {
+    match seat.outputs() {
+        Ok(outputs) => {
+            let is_blank = &*outputs == [0].as_slice();
+            outputs.fill(byte);
+            if is_blank {
+                Ok(())
+            } else {
+                Err(Unposted::NotBlank)
+            }
+        }
+        Err(NoSpare) => Err(Unposted::NoSpare),
+    }
+}
+
+/// The byte is posted.
+pub fn post(seat: &mut TaskSeat, byte: u8) -> Result<(), Unposted> {
+    lends(seat, byte)?;
+    seat.post().map_err(Unposted::Fault)
+}
+
+/// Whether outputs are posted, each byte as this one.
+pub fn is_posted(seat: &mut TaskSeat, byte: u8) -> bool
+    ensures origin { task_seat_origin seat.new ≡ task_seat_origin seat.old }
+    ensures ring { SameSender (sender seat.old) (sender seat.new) }
+    ensures each { SeatPostsEach seat.old → SeatPostsEach seat.new }
+{
+    if seat.hold().is_err() {
+        return false;
+    }
+    seat.held_mut().fill(byte);
+    seat.post().is_ok()
+}
+
+/// So many are accepted, and none is refused.
+pub fn accepted(posts: u32) -> Taken {
+    Taken {
+        accepted: posts,
+        refused: 0,
+    }
+}

@@ -1,5 +1,0 @@
-use Rattle.worked_threads.proofs.Firsts.{first-origin}
-use Rattle.worked_threads.proofs.conductor.rows.is_shown.Goals as goal
-
-pub is_seen-seen-requires : goal.is_seen-seen-requires
-is_seen-seen-requires g c = first-origin _ _ _ _ c.in-Some.ensures c.in-Some-first_two.ensures.1

@@ -1,9 +1,0 @@
-use denote.Param.Send.{sendable}
-use Rattle.hc_conductor.proofs.lemmas.Crossing.{task_seat_field_send}
-use Rattle.worked_threads.proofs.conductor.scopes.beside.Goals as goal
-
-pub join-requires-send-F : goal.join-requires-send-F
-join-requires-send-F g c κs within = search (sendable, task_seat_field_send) depth 12
-
-pub join-requires-send-A : goal.join-requires-send-A
-join-requires-send-A g c κs within = search (sendable, task_seat_field_send) depth 12
