@@ -25,12 +25,13 @@
  * Memory is taken with malloc, grown with realloc and given back with free. Calls that take some can answer
  * ZANGJULF_MEMORY; then nothing changed, and the call may be given again, but by `zangjulf_open`, which closes what was open.
  * A fault that is judged before memory is taken is answered whatever memory does: of an edit 1 to 11, of `zangjulf_send` 8
- * and 17, of `zangjulf_arrive` 20 to 27.
+ * and 17, of `zangjulf_send_ready` 8 and 36, of `zangjulf_arrive` 20 to 27.
  *
  * Refusals. ZANGJULF_DONE, and of `zangjulf_arrive` 101 to 104 too, answer a call that is done; with any other answer all
  * that is handed in to be written is as it was, slices and structs and single numbers, but for what a call answers by it:
  *
  *   zangjulf_open                           12: `*task`
+ *   zangjulf_locate                         201 to 210: `*location`
  *   zangjulf_block                          29: `*block`
  *   zangjulf_connect, _disconnect, _remap,
  *   _move                                   12: `cost->crowded`
@@ -38,7 +39,10 @@
  *   zangjulf_next_writes                    29: `writes->size`
  *   zangjulf_preview                        29: `*size`
  *   zangjulf_send                           29: `sent->size`; 17: `sent->owed`
+ *   zangjulf_send_ready                     29: `sent->size`; 36: `sent->waits`
  *   zangjulf_next_change                    29: `*change`
+ *   zangjulf_alias_read, _station_write,
+ *   _fmmu_off                               29: `*size`
  */
 #ifndef ZANGJULF_H
 #define ZANGJULF_H
@@ -60,7 +64,7 @@
 extern "C" {
 #endif
 
-/* What calls answer: name, number, text. 1 to 35, but 14 and 30, are the faults of edits and events, which never change;
+/* What calls answer: name, number, text. 1 to 36, but 14 and 30, are the faults of edits and events, which never change;
  * 201 to 212, but 211, are the faults 1 to 12 of a project's text. Where several hold, the lowest is answered. */
 #define ZANGJULF_ANSWERS(ANSWER) \
     ANSWER(DONE, 0, "done") \
@@ -97,6 +101,7 @@ extern "C" {
     ANSWER(VARIABLE_TAKEN, 33, "a declared slave offers one of the variables") \
     ANSWER(TOO_MANY_GROUPS, 34, "more than 512 groups would be declared, the mandatory one counted") \
     ANSWER(TOO_MANY_SLAVES, 35, "more than 2,048 slaves would be declared") \
+    ANSWER(WAITS, 36, "a task waits: register blocks that concern it are owed, or a slave outside the line may take part in it") \
     ANSWER(NOTHING, 100, "there is no such thing") \
     ANSWER(WRITE_DONE, 101, "an arrival answered a register write: the block is known") \
     ANSWER(WRITE_MISSED, 102, "an arrival answered a register write that no slave took: the block stays owed") \
@@ -237,7 +242,8 @@ uint8_t zangjulf_epoch(const struct zangjulf *handle, uint32_t *epoch);
 /* The serial of the next frame, which is the number of frames sent before it. */
 uint8_t zangjulf_next_serial(const struct zangjulf *handle, uint64_t *serial);
 
-/* How many register blocks are owed: no task is sent before they are written. */
+/* How many register blocks are owed: `zangjulf_send` sends no task before they are written, `zangjulf_send_ready` those that none of
+ * them concerns. */
 uint8_t zangjulf_owed(const struct zangjulf *handle, uint32_t *count);
 
 /* The configuration of the present line: ZANGJULF_DONE, ZANGJULF_NOTHING or ZANGJULF_CLOSED unless another answer is named. It
@@ -321,7 +327,8 @@ struct zangjulf_cost {
  * nothing changed, as with every edit, and no other answer than ZANGJULF_MEMORY hangs on memory. Takes memory. */
 uint8_t zangjulf_connect(struct zangjulf *handle, uint16_t alias, bool asks, struct zangjulf_cost *cost);
 
-/* The group with an alias leaves the line. ZANGJULF_DONE; 1, 3, 4, 12, 13; ZANGJULF_MEMORY or ZANGJULF_CLOSED. Takes memory. */
+/* The group with an alias leaves the line. First switch off the FMMUs of its slaves (`zangjulf_fmmu_off`), or unplug them: a slave
+ * that stays on the wire would take the outputs of the next one in its task. ZANGJULF_DONE; 1, 3, 4, 12, 13; ZANGJULF_MEMORY or ZANGJULF_CLOSED. Takes memory. */
 uint8_t zangjulf_disconnect(struct zangjulf *handle, uint16_t alias, bool asks, struct zangjulf_cost *cost);
 
 /* An area, counted from 0, of the present slave with a station address gets the PDOs with these indexes assigned, in this order,
@@ -379,8 +386,9 @@ uint8_t zangjulf_next_writes(struct zangjulf *handle, uint8_t *out, size_t lengt
 
 /* The slave with a station address may have lost its registers, as one that was switched off and on: each of its register blocks
  * is owed again. Nothing else changes: not the epoch, what tasks posted and what they read, nor what arrives of frames that are
- * under way. A write to it that was sent before confirms nothing: its arrival is ZANGJULF_STALE; once a write was sent after
- * this call, the arrival of any write sent before it is ZANGJULF_STALE too. ZANGJULF_DONE; 5 or 6; or ZANGJULF_CLOSED, and
+ * under way. A write to it that was sent before confirms nothing: in an arrival of kind ZANGJULF_WRITTEN its blocks are
+ * ZANGJULF_SENT_AGAIN, and an arrival with no other block is ZANGJULF_STALE. Once a write was sent after this call, the arrival of any
+ * write sent before it is ZANGJULF_STALE. ZANGJULF_DONE; 5 or 6; or ZANGJULF_CLOSED, and
  * nothing changed. Takes no memory. */
 uint8_t zangjulf_forget(struct zangjulf *handle, uint16_t station);
 
@@ -395,7 +403,7 @@ uint8_t zangjulf_post(struct zangjulf *handle, uint8_t task, uint32_t epoch, con
 struct zangjulf_sent {
     size_t size;   /* the bytes of all frames */
     size_t frames; /* how many they are, at most 128 */
-    uint32_t owed; /* of an answer 17 how many register blocks are owed; else 0 */
+    uint32_t owed; /* of an answer 17 how many register blocks are owed; 0 of a sending that is done */
 };
 
 /* Tasks are sent, 1 to 8 and none twice, in this order: their frames are at the front of `out` one after another, each of its
@@ -407,6 +415,50 @@ struct zangjulf_sent {
 uint8_t zangjulf_send(struct zangjulf *handle, const uint8_t *tasks, size_t count, uint8_t *out, size_t length,
                       struct zangjulf_sent *sent);
 
+/* Why a task waits. */
+struct zangjulf_waits {
+    uint8_t task;     /* 0 to 7 */
+    uint32_t blocks;  /* how many owed register blocks concern it */
+    uint32_t outside; /* how many FMMUs of slaves outside the line may map it */
+};
+
+/* What was sent of ready tasks. */
+struct zangjulf_sent_ready {
+    size_t size;                 /* the bytes of all frames */
+    size_t frames;               /* how many they are, at most 128 */
+    struct zangjulf_waits waits; /* of an answer 36 the first of the tasks that waits; zeros of a sending that is done */
+};
+
+/* Sends tasks as `zangjulf_send`, but asks that each of them is ready, and not that no block is owed. A task is ready if no owed
+ * register block concerns it and no slave outside the line may take part in it. An owed block concerns the task of its area, each
+ * task that its register may map by what was written to it, and every task while its register is unknown: from the opening or the
+ * slave's connection until `zangjulf_cleared`, or until the block's write is answered well. A slave outside the line concerns the
+ * tasks that its FMMUs may map, until `zangjulf_cleared` or `zangjulf_unplugged`. So a tool that comes, and is cleared, makes its own
+ * task wait alone. ZANGJULF_DONE; 8, 36, 19, or 29 with the bytes needed in `sent->size`; before these
+ * ZANGJULF_CHANGES_FULL and ZANGJULF_MISUSED as `zangjulf_send`; or ZANGJULF_CLOSED. Unless it is done nothing is sent and nothing
+ * changed, `out` neither. Takes no memory, and is never answered ZANGJULF_MEMORY. */
+uint8_t zangjulf_send_ready(struct zangjulf *handle, const uint8_t *tasks, size_t count, uint8_t *out, size_t length,
+                            struct zangjulf_sent_ready *sent);
+
+/* The ready tasks: bit t of `*tasks` is 1 if task t is ready. A task without an area is ready unless a register may map it.
+ * ZANGJULF_DONE or ZANGJULF_CLOSED. Takes no memory, and no longer for a longer line. */
+uint8_t zangjulf_ready(const struct zangjulf *handle, uint8_t *tasks);
+
+/* The station address of the slave with a number, from 0, among those that hold a task up: first those of the line, in line order,
+ * then those outside it, in declared order. ZANGJULF_DONE; ZANGJULF_NOTHING if fewer slaves do, or there is no such task; or
+ * ZANGJULF_CLOSED. Unless it is done `*station` is as it was. Takes no memory. */
+uint8_t zangjulf_held_by(const struct zangjulf *handle, uint8_t task, uint32_t number, uint16_t *station);
+
+/* The FMMUs of the slave with a station address are zeros now, and no write that was sent to it earlier will still pass it. Say it
+ * once `zangjulf_fmmu_off` came back with counter 1, or after the slave powered up; of a tool that comes after `zangjulf_connect`,
+ * which makes its registers unknown. The blocks of a slave in the line are owed again, as after `zangjulf_forget`. ZANGJULF_DONE; 5;
+ * or ZANGJULF_CLOSED, and nothing changed. Takes no memory. */
+uint8_t zangjulf_cleared(struct zangjulf *handle, uint16_t station);
+
+/* The slave with a station address, outside the line, is off the wire: it holds no task up until its group is connected again.
+ * ZANGJULF_DONE; 5; ZANGJULF_ALREADY_PRESENT if the slave is in the line; or ZANGJULF_CLOSED, and nothing changed. Takes no memory. */
+uint8_t zangjulf_unplugged(struct zangjulf *handle, uint16_t station);
+
 /* The bytes of a frame that the library wrote, 60 to 1,514, by its EtherCAT header; for walking over frames that follow
  * one another. */
 static inline size_t zangjulf_frame_size(const uint8_t *frame) {
@@ -416,8 +468,8 @@ static inline size_t zangjulf_frame_size(const uint8_t *frame) {
 
 /* The frame of one datagram of a task alone as it would be sent next, whether or not blocks are owed; nothing is sent by it. It
  * is at the front of `out`, and `*size` is its bytes. ZANGJULF_DONE; ZANGJULF_NOTHING where the task has no such datagram,
- * there is no such task, or no serial is left; 29 where `out` is too short, and is as it was; or ZANGJULF_CLOSED. Takes no
- * memory. */
+ * there is no such task, or no serial is left; 29 with the bytes needed in `*size`, and `out` is as it was; or ZANGJULF_CLOSED. Takes
+ * no memory. */
 uint8_t zangjulf_preview(const struct zangjulf *handle, uint8_t task, uint8_t datagram, uint8_t *out, size_t length, size_t *size);
 
 /* What an arrival is for a datagram of a task, or for a register block of a frame of several. */
@@ -612,13 +664,24 @@ uint8_t zangjulf_get_value(const struct zangjulf *handle, uint32_t variable, con
 bool zangjulf_is_mine(const uint8_t *frame, size_t length);
 
 /* The frame that reads the station alias of the slave at a position, from 0 (APRD of register 0x0012): it is at the front of
- * `out`, and `*size` is 60. ZANGJULF_DONE, or 29 where `out` is shorter, and is as it was. It bears the serial 2^40 - 1, which
+ * `out`, and `*size` is 60. ZANGJULF_DONE, or 29 with the bytes needed in `*size`, and `out` is as it was. It bears the serial 2^40 - 1, which
  * no other sending has, and `zangjulf_arrive` answers it STALE: its alias is in bytes 26 and 27, low byte first, and the
  * working counter after it is 1 where a slave answered. */
 uint8_t zangjulf_alias_read(uint16_t position, uint8_t *out, size_t length, size_t *size);
 
-/* The frame that gives the slave at a position, from 0, its station address (APWR of register 0x0010), likewise. */
+/* The frame that gives the slave at a position, from 0, its station address (APWR of register 0x0010): it is at the front of `out`,
+ * and `*size` is 60. ZANGJULF_DONE, or 29 with the bytes needed in `*size`, and `out` is as it was. It bears the serial 2^40 - 1, and
+ * `zangjulf_arrive` answers it STALE: the working counter in bytes 28 and 29 is 1 if a slave took it. */
 uint8_t zangjulf_station_write(uint16_t position, uint16_t station, uint8_t *out, size_t length, size_t *size);
+
+/* The frame that switches off the first `count` FMMUs, 1 to 16, of the slave with a station address: FPWR of 16 * `count` zeros to
+ * register 0x0600. It is at the front of `out`, and `*size` is its bytes, 60 to 284. ZANGJULF_DONE; ZANGJULF_MISUSED for another
+ * `count`, and then `*size` and `out` are as they were; 29 with the bytes needed in `*size`, and `out` is as it was.
+ * It bears the serial 2^40 - 1, and `zangjulf_arrive` answers it STALE: its working counter, in bytes 26 + 16 * `count` and 27 + 16 *
+ * `count`, is 1 if the slave took it. A slave that leaves the line and stays on the wire takes outputs and gives inputs as before,
+ * at logical addresses that another slave may get: send it this frame before `zangjulf_disconnect`, with as many FMMUs as it has
+ * areas. */
+uint8_t zangjulf_fmmu_off(uint16_t station, uint8_t count, uint8_t *out, size_t length, size_t *size);
 
 /* A simulated slave, over 12,288 bytes that the caller keeps: registers and process memory from register 0 on
  * (docs/meaning/DEFINITIONS.md). ZANGJULF_DONE; ZANGJULF_MISUSED where `size` is another, and then nothing is written. Neither takes

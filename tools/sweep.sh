@@ -297,6 +297,7 @@ sweep_test worked_conductor growths::refused_growths_change_nothing
 sweep_steady worked_conductor steady::few_cycles steady::many_cycles
 sweep_test worked_conductor one_thread::growths::refused_growths_change_nothing
 sweep_test worked_program exchange::rows::machines_stay_where_an_exchange_is_refused
+sweep_test worked_program exchange::ready::machines_stay_where_a_ready_exchange_is_refused
 sweep_program "alone lasting" "its first run" crates/hotline/stdin crates/hotline/stdout 0
 sweep_program "alone lasting" "every command" tools/commands.in tools/commands.out 2
 sweep_program "alone lasting" "frames" tools/frames.in tools/frames.out 0

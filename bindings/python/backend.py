@@ -1,13 +1,14 @@
 """Builds the package's wheel by Python's standard library alone, so that pip needs no network: `pip install bindings/python`.
 
-The wheel carries the shared object that ZANGJULF_LIBRARY names, or the one in the repository's build folder; where there is
-none, it carries none, and the package looks for an installed one when it is imported. The version is the header's.
+The wheel carries the shared object that ZANGJULF_LIBRARY names, or the one in the repository's build folder. If there is none,
+the installation fails at once, and says which command builds it. The version is the header's.
 """
 
 import base64
 import hashlib
 import os
 import runpy
+import sys
 import sysconfig
 import zipfile
 from pathlib import Path
@@ -28,36 +29,38 @@ Description-Content-Type: text/markdown
 
 WHEEL = """Wheel-Version: 1.0
 Generator: zangjulf
-Root-Is-Purelib: {pure}
+Root-Is-Purelib: false
 Tag: {tag}
 """
 
 
 def get_requires_for_build_wheel(config_settings=None):
+    shared_object()
     return []
 
 
 def shared_object():
-    """The shared object that the wheel carries, or None."""
+    """The shared object that the wheel carries. If it is missing, this ends the installation with one sentence."""
     named = os.environ.get("ZANGJULF_LIBRARY")
     place = Path(named) if named else TOP / "build/libzangjulf.so"
-    return place if place.exists() else None
+    if not place.exists():
+        sys.exit(f"zangjulf: {place} is missing: run tools/library.sh first, which builds build/libzangjulf.so.")
+    return place
 
 
 def files(version, carried, tag):
     """What the wheel holds, by name, but for the record."""
     held = {f"zangjulf/{file.name}": file.read_bytes() for file in sorted((HERE / "zangjulf").glob("*")) if file.is_file()}
-    if carried:
-        held["zangjulf/libzangjulf.so"] = carried.read_bytes()
-        verdict = carried.parent / "verdict.txt"
-        if verdict.exists():
-            held["zangjulf/verdict.txt"] = verdict.read_bytes()
+    held["zangjulf/libzangjulf.so"] = carried.read_bytes()
+    verdict = carried.parent / "verdict.txt"
+    if verdict.exists():
+        held["zangjulf/verdict.txt"] = verdict.read_bytes()
     about = f"zangjulf-{version}.dist-info"
     for name in ("LICENSE-MIT", "LICENSE-APACHE"):
         held[f"{about}/licenses/{name}"] = (TOP / name).read_bytes()
     readme = (HERE / "README.md").read_text(encoding="utf-8")
     held[f"{about}/METADATA"] = METADATA.format(version=version, readme=readme).encode()
-    held[f"{about}/WHEEL"] = WHEEL.format(pure=str(carried is None).lower(), tag=tag).encode()
+    held[f"{about}/WHEEL"] = WHEEL.format(tag=tag).encode()
     return held
 
 
@@ -75,7 +78,7 @@ def build_wheel(wheel_directory, config_settings=None, metadata_directory=None):
     version = header_version(TOP / "include/zangjulf.h")
     carried = shared_object()
     platform = sysconfig.get_platform().replace("-", "_").replace(".", "_")
-    tag = f"py3-none-{platform if carried else 'any'}"
+    tag = f"py3-none-{platform}"
     held = files(version, carried, tag)
     place = f"zangjulf-{version}.dist-info/RECORD"
     held[place] = record(held, place).encode()

@@ -77,6 +77,12 @@ def refusals(text):
         assert raises(zangjulf.Unprogrammed, line.send, 0).detail
     raises(zangjulf.Closed, lambda: line.epoch)
     raises(zangjulf.Misused, zangjulf.get_bits, b"", 0, 1)
+    for count in (0, 17):
+        raises(zangjulf.Misused, zangjulf.fmmu_off, 2001, count)
+    slave, off = zangjulf.Slave(station=2001), bytearray(zangjulf.fmmu_off(2001, 16))
+    slave.memory[0x600:0x800] = b"\1" * 0x200
+    slave.process(off)
+    assert not any(slave.memory[0x600:0x700]) and all(slave.memory[0x700:0x800]) and (len(off), off[-2]) == (284, 1)
 
 
 def seats(text):
@@ -114,6 +120,57 @@ def seats(text):
     raises(zangjulf.Closed, seat.view)
 
 
+def tasks_wait(text):
+    """A tool that comes holds all tasks up until it is cleared, and then its own alone."""
+    with zangjulf.Line(text) as line:
+        slaves = [zangjulf.Slave(station=station) for station in (1001, 1002, 1003, 1004)]
+
+        def pass_frame(frame):
+            passing = bytearray(frame)
+            for slave in slaves:
+                slave.process(passing)
+            return passing
+
+        assert line.ready == [] and line.held_by(7) == [1002, 1003, 1004] and line.held_by(8) == []
+        assert line.write_all(pass_frame) and line.ready == list(range(8))
+        line.connect(100)
+        assert line.ready == [] and line.held_by(0) == [2001] and raises(zangjulf.Waits, line.send_ready, 1, 0).detail == 1
+        line.cleared(2001)
+        assert line.ready == [0, 2, 3, 4, 5, 6, 7] and line.held_by(1) == [1004, 2001]
+        assert [len(line.send_ready(0))] == [1] and raises(zangjulf.Waits, line.send_ready, 0, 1).detail == 1
+        raises(zangjulf.NoSuchTask, line.send_ready, 8)
+        raises(zangjulf.Misused, line.send_ready)
+        raises(zangjulf.AlreadyPresent, line.unplugged, 2001)
+        raises(zangjulf.UnknownStation, line.unplugged, 1)
+        raises(zangjulf.UnknownStation, line.cleared, 1)
+        line.next_writes()
+        line.disconnect(100)
+        line.write_all(pass_frame)
+        assert line.ready == [0, 2, 3, 4, 5, 6, 7] and line.held_by(1) == [2001]
+        line.unplugged(2001)
+        assert line.ready == list(range(8)) and len(line.send_ready(0, 1)) == 1
+
+
+def writing_ends(text):
+    """`write_all` writes as many blocks in a frame as it holds. It gives up after so many frames in a row that confirm no block."""
+    frames = []
+    with zangjulf.Line(text) as line:
+        axis, other = zangjulf.Slave(station=1002), zangjulf.Slave(station=1003)
+
+        def pass_frame(frame):
+            frames.append(frame)
+            if len(frames) == 2:
+                return None
+            passing = bytearray(frame)
+            for slave in (axis,) if len(frames) < 5 else (axis, other):
+                slave.process(passing)
+            return passing
+
+        assert not line.write_all(pass_frame) and len(frames) == 4 and line.owed == 8
+        assert not line.write_all(pass_frame, misses=1) and len(frames) == 6 and line.owed == 4
+        assert line.owed_block(0).station == 1004
+
+
 def a_task_has_a_seat(text):
     """A task's thread posts by its seat while the owner takes and shows: what it views never goes back."""
     with zangjulf.Line(text) as line, line.seat(1) as seat:
@@ -138,29 +195,13 @@ def a_task_has_a_seat(text):
         assert viewed == sorted(viewed) and set(viewed) == set(range(16))
 
 
-def threads_share_a_line(text):
-    """Two threads with one line: no call meets another one."""
-    with zangjulf.Line(text) as line:
-        looks = []
-
-        def look():
-            looks.extend(line.epoch for _ in range(20_000))
-
-        looking = threading.Thread(target=look)
-        looking.start()
-        for _ in range(200):
-            line.connect(100)
-            line.disconnect(100)
-        looking.join()
-        assert len(looks) == 20_000 and looks == sorted(looks) and line.epoch == 400
-
-
 project = Path(sys.argv[1]).read_bytes()
 faults_are_those_of_the_header()
 for layout in sys.argv[2:]:
     structs_are_those_of_the_header(Path(layout))
 refusals(project)
 seats(project)
+tasks_wait(project)
+writing_ends(project)
 a_task_has_a_seat(project)
-threads_share_a_line(project)
 print("refusals: all as written")

@@ -1,5 +1,6 @@
 /* A cycle over a line that changes while it runs, to copy from. Two tasks post, are sent and read; frames are lost; the gripper
- * comes, closes and goes; another time it comes and doesn't answer, and is given up. Each answer is looked at, and each position.
+ * comes, closes, and leaves the line with its FMMUs switched off, while it stays on the wire; another time it comes and doesn't
+ * answer, and is given up. Each answer is looked at, and each position.
  *
  *     cycle PROJECT
  *
@@ -19,6 +20,7 @@
 #define CLOSED 111
 #define GRIPPER 100        /* the tool's alias */
 #define GRIPPER_POSITION 4 /* it is the last slave on the wire */
+#define GRIPPER_AREAS 2    /* each has an FMMU */
 #define MOST_MISSES 3      /* so many writes in a row that aren't taken, and the tool is given up */
 
 static const uint8_t TASKS[] = {MOTION, SLOW};
@@ -102,6 +104,17 @@ static uint16_t write_blocks(void) {
     return write.block.station;
 }
 
+/* Switches off the FMMUs of the gripper. A slave that left the line and stays on the wire would take the outputs of others. */
+static void switch_off_gripper(void) {
+    uint8_t frame[ZANGJULF_FRAME];
+    size_t size;
+    for (int misses = 0; misses < MOST_MISSES; misses++) {
+        must("zangjulf_fmmu_off", zangjulf_fmmu_off(SLAVE[GRIPPER_POSITION].station, GRIPPER_AREAS, frame, sizeof frame, &size));
+        if (network(frame) && frame[26 + 16 * GRIPPER_AREAS] == 1) return; /* the working counter */
+    }
+    must("a gripper that stays on the wire, and may take outputs", ZANGJULF_MISUSED);
+}
+
 /* The gripper's group joins the line or leaves it. What is owed then is written in the next cycle. */
 static void connect_gripper(bool joins) {
     struct zangjulf_cost cost;
@@ -111,8 +124,8 @@ static void connect_gripper(bool joins) {
     has_gripper = joins;
 }
 
-/* A slave doesn't answer. If it is the gripper, its group leaves the line, so that the axes go on. The machine doesn't run without
- * any other. */
+/* A slave doesn't answer. If it is the gripper, its group leaves the line, so that the axes go on: it is off the wire, and an operator
+ * unplugs one that isn't before another tool comes. The machine doesn't run without any other slave. */
 static void give_up(uint16_t station) {
     if (station != SLAVE[GRIPPER_POSITION].station) must("a slave that doesn't answer", ZANGJULF_WRITE_MISSED);
     connect_gripper(false);
@@ -206,8 +219,8 @@ int main(int count, char **words) {
     for (uint16_t position = 0; position < GRIPPER_POSITION; position++) name_slave(position);
     for (cycles = 0; cycles < 1000; cycles++) {
         if (cycles == 200) answering = SLAVES, connect_gripper(true);
-        if (cycles == 400) answering = SLAVES - 1, connect_gripper(false);
-        if (cycles == 600) connect_gripper(true); /* it doesn't answer */
+        if (cycles == 400) switch_off_gripper(), connect_gripper(false);
+        if (cycles == 600) answering = SLAVES - 1, connect_gripper(true); /* it doesn't answer */
         turn();
     }
     zangjulf_close(&line);

@@ -1,8 +1,9 @@
-/* A tool is changed between two cycles, with one frame of register writes: on the wire of `wire.c`, for so many seconds at so many
- * cycles a second. The gripper has a task of its own, so a change owes its own register blocks and no others (`tool.c`). Three
- * times in a second it comes and goes; a fourth time it makes no contact, and is given up after two frames that it doesn't take. No
- * cycle is left out: each is sent in its millisecond, and the axes read in it what they had in the cycle before. Where no
- * namespace can be made it says so, and ends with status 77.
+/* A tool is changed while the axes keep their cycles: on the wire of `wire.c`, for so many seconds at so many cycles a second. The
+ * gripper has a task of its own, so a change owes its own register blocks and no others (`tool.c`), and they go out in one frame beside
+ * the axes' task. Three times in a second it comes and goes, and stays on the wire with its FMMUs switched off; a fourth time it loses
+ * contact once it is in the line, and is given up after two frames that it doesn't take. No cycle is left out: each is sent in its
+ * millisecond, and the axes read in it what they had in the cycle before. Where no namespace can be made it says so, and ends with
+ * status 77.
  *
  *     docking PROJECT SECONDS CYCLES_A_SECOND [CAPTURE]
  *
@@ -24,26 +25,27 @@ static void fail(const char *what) {
     wire_fail(what);
 }
 
-/* The motion task posts, all tasks are sent, and the axes read what they had from the cycle before. */
+/* The motion task posts, all ready tasks are sent, the axes read what they had from the cycle before, and owed blocks are written. */
 static void cycle(void) {
     const uint8_t tasks[] = {0, 1, GRIPPER_TASK};
     struct zangjulf_outcome outcomes[ZANGJULF_OUTCOMES];
     struct zangjulf_arrival arrival;
     struct zangjulf_image image;
-    struct zangjulf_sent sent;
     uint32_t epoch;
     long start = wire_now();
     for (size_t i = 0; i < sizeof posted; i++) posted[i] = (uint8_t)(cycles * 7 + i * 31);
     posted[7] = 0; /* a gap */
     tool_expect(zangjulf_epoch(&tool.line, &epoch), "the epoch");
     tool_expect(zangjulf_post(&tool.line, 0, epoch, posted, sizeof posted), "the motion task posts");
-    tool_expect(zangjulf_send(&tool.line, tasks, sizeof tasks, frames, sizeof frames, &sent), "a sending");
-    tool_expect(tool_pass(&tool, frames, sent.size, outcomes, &arrival), "a frame answers nothing");
+    size_t size = tool_send(&tool, tasks, sizeof tasks, frames, sizeof frames);
+    tool_expect(tool_pass(&tool, frames, size, outcomes, &arrival), "a frame answers nothing");
+    if (arrival.datagrams < 2 || outcomes[0].task != 0) fail("the axes' task isn't sent");
     for (size_t i = 0; i < arrival.datagrams; i++)
         if (outcomes[i].kind != ZANGJULF_INPUTS) fail("a wrong counter");
     tool_expect(zangjulf_read(&tool.line, 0, data, sizeof data, NULL, 0, &image), "the motion task reads");
     if (image.has != 1 || (cycles && memcmp(data + 14, posted_before, 12))) fail("an axis reads another value");
     memcpy(posted_before, posted, sizeof posted);
+    tool_write(&tool);
     long took = wire_now() - start;
     if (took > longest_cycle) longest_cycle = took;
 }

@@ -1,6 +1,7 @@
 /* A master and its slaves: two processes over a pair of virtual Ethernet devices in a network namespace of their own, for so
- * many seconds at so many cycles a second. The line is the tool changer, whose gripper comes and goes every second. Each slave
- * answers a frame with inputs that are the outputs of the frame before it. The run fails where a task reads anything else, or
+ * many seconds at so many cycles a second. The line is the tool changer, whose gripper comes and goes every second. Before it
+ * leaves the line its FMMUs are switched off: it stays on the wire, and takes no part. Each slave answers a frame with inputs that
+ * are the outputs of the frame before it. The run fails where a task reads anything else, or
  * where a wrong counter or a stale frame comes other than of a frame under way at a coming or going. Where no namespace can be
  * made it says so, and ends with status 77. All frames, as they are sent and as they return, are left in a capture where one is
  * named, which Wireshark reads.
@@ -14,6 +15,8 @@
 #include "zangjulf.h"
 
 #define GRIPPER 100
+#define GRIPPER_STATION 2001
+#define GRIPPER_AREAS 2 /* each has an FMMU */
 
 /* Variables of one bit, each output with the input that answers it; the last two are the gripper's. */
 static const uint32_t BITS[][2] = {{41, 51}, {42, 52}, {43, 53}, {101, 111}, {102, 112}};
@@ -58,16 +61,25 @@ static void write_blocks(void) {
     if (answer != ZANGJULF_NOTHING_OWED) expect(answer, "a register write");
 }
 
+/* Switches off the FMMUs of the gripper. While it stays on the wire, they would take outputs of others. */
+static void switch_off_gripper(void) {
+    uint8_t returned[ZANGJULF_FRAME];
+    size_t size;
+    expect(zangjulf_fmmu_off(GRIPPER_STATION, GRIPPER_AREAS, frames, sizeof frames, &size), "the gripper's FMMUs");
+    wire_pass(frames, size, returned);
+    if (returned[26 + 16 * GRIPPER_AREAS] != 1) fail("the gripper isn't switched off"); /* the working counter */
+}
+
 /* The gripper comes, or goes. */
 static void change_tool(bool comes) {
     struct zangjulf_cost cost;
     if (comes) wire_gripper(true, true);
+    else switch_off_gripper();
     long start = wire_now();
     uint8_t answer = comes ? zangjulf_connect(&line, GRIPPER, false, &cost) : zangjulf_disconnect(&line, GRIPPER, false, &cost);
     long took = wire_now() - start;
     expect(answer, "an edit");
     if (took > longest_edit) longest_edit = took;
-    if (!comes) wire_gripper(false, false);
     write_blocks();
     is_known[3] = is_known[4] = false;
 }

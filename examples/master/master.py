@@ -10,7 +10,7 @@ from pathlib import Path
 sys.path.insert(0, str(Path(__file__).parents[2] / "bindings/python"))
 import zangjulf
 
-RATE, GRIPPER = 100, 100
+RATE, GRIPPER, GRIPPER_STATION, GRIPPER_AREAS = 100, 100, 2001, 2
 SLAVES = ((1001, 0, 0, 0), (1002, 0x1100, 0x1180, 6), (1003, 0x1100, 0x1180, 6), (1004, 0x1000, 0x1080, 1), (2001, 0x1100, 0x1180, 1))
 gripper_is_there = Value("b")  # both processes know
 
@@ -43,13 +43,21 @@ def run(line, it, cycles):
         it.send(frame)
         return receive(it)
 
+    def change_tool(comes):
+        if comes:
+            gripper_is_there.value = 1
+            line.connect(GRIPPER)
+        else:  # it stays on the wire, where its FMMUs would take outputs of others
+            came = pass_frame(zangjulf.fmmu_off(GRIPPER_STATION, GRIPPER_AREAS))
+            assert came[26 + 16 * GRIPPER_AREAS] == 1, "the gripper isn't switched off"
+            line.disconnect(GRIPPER)
+
     before, edits, longest, start = None, [0], 0, time.monotonic()
     for cycle in range(cycles):
         time.sleep(max(0, start + cycle / RATE - time.monotonic()))
         began = time.monotonic()
         if cycle and cycle % RATE == 0:
-            gripper_is_there.value ^= 1
-            (line.connect if gripper_is_there.value else line.disconnect)(GRIPPER)
+            change_tool(cycle // RATE % 2 == 1)
             edits.append(time.monotonic() - began)
         assert line.write_all(pass_frame), "a register block isn't taken"
         posted = bytes(0 if i == 7 else (cycle * 7 + i) % 256 for i in range(line.part(0).outputs))

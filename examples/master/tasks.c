@@ -121,21 +121,23 @@ static void *work(void *given) {
     return NULL;
 }
 
-/* The owner takes what was posted, sends the motion task, in each fourth cycle all tasks, and shows what returned. */
+/* The owner takes what was posted, sends the motion task, in each fourth cycle all ready tasks, shows what returned, and writes the
+ * register blocks that are owed. */
 static void cycle(unsigned long number) {
     static uint8_t frames[ZANGJULF_FRAMES];
     const uint8_t tasks[] = {MOTION, MACHINE, GRIPPER_TASK};
     struct zangjulf_outcome outcomes[ZANGJULF_OUTCOMES];
     struct zangjulf_arrival arrival;
     struct zangjulf_taken taken;
-    struct zangjulf_sent sent;
     tool_expect(zangjulf_take_posts(&tool.line, &taken), "posts are taken");
     for (int task = MOTION; task <= MACHINE; task++) refused[task] += taken.refused >> task & 1;
-    tool_expect(zangjulf_send(&tool.line, tasks, number % 4 ? 1 : sizeof tasks, frames, sizeof frames, &sent), "a sending");
-    tool_expect(tool_pass(&tool, frames, sent.size, outcomes, &arrival), "a frame answers nothing");
+    size_t size = tool_send(&tool, tasks, number % 4 ? 1 : sizeof tasks, frames, sizeof frames);
+    tool_expect(tool_pass(&tool, frames, size, outcomes, &arrival), "a frame answers nothing");
+    if (!arrival.datagrams || outcomes[0].task != MOTION) wire_fail("the motion task isn't sent");
     for (size_t i = 0; i < arrival.datagrams; i++)
         if (outcomes[i].kind != ZANGJULF_INPUTS) wire_fail("a wrong counter");
     tool_expect(zangjulf_show(&tool.line), "an image is shown");
+    tool_write(&tool);
 }
 
 /* The memory that the process has, in KiB. */

@@ -5,7 +5,7 @@
 
 #include "wire.h"
 
-#define MOST_MISSES 2 /* so many frames of register writes that a slave doesn't take, and the tool is given up */
+#define MOST_MISSES 2 /* so many frames of register writes that bring nothing, and the tool is given up */
 
 void tool_expect(uint8_t answer, const char *what) {
     if (!answer) return;
@@ -19,48 +19,54 @@ uint8_t tool_pass(struct tool *tool, const uint8_t *frame, size_t size, struct z
     return zangjulf_arrive(&tool->line, returned, came, outcomes, ZANGJULF_OUTCOMES, arrival);
 }
 
-/* Writes the register blocks that are owed, as many in a frame as it holds: a tool's in one. False where a slave doesn't take
- * them twice in a row. */
-static bool write_blocks(struct tool *tool) {
-    uint8_t frame[ZANGJULF_FRAME];
-    struct zangjulf_outcome outcomes[ZANGJULF_OUTCOMES];
-    struct zangjulf_arrival arrival;
-    struct zangjulf_writes writes;
-    for (int misses = 0; misses < MOST_MISSES;) {
-        uint8_t answer = zangjulf_next_writes(&tool->line, frame, sizeof frame, &writes);
-        if (answer == ZANGJULF_NOTHING_OWED) return true;
-        tool_expect(answer, "register writes");
-        tool->register_frames++;
-        misses++;
-        answer = tool_pass(tool, frame, writes.size, outcomes, &arrival);
-        if (answer == ZANGJULF_WRITE_DONE) misses = 0;
-        bool is_taken = answer == ZANGJULF_WRITTEN;
-        for (size_t i = 0; answer == ZANGJULF_WRITTEN && i < arrival.datagrams; i++) is_taken &= outcomes[i].kind == ZANGJULF_BLOCK_WRITTEN;
-        if (is_taken) misses = 0;
-    }
-    return false;
+static uint32_t owed_blocks(const struct tool *tool) {
+    uint32_t count;
+    tool_expect(zangjulf_owed(&tool->line, &count), "what is owed");
+    return count;
 }
 
-static void disconnect(struct tool *tool) {
+/* Whether the gripper took zeros to its FMMUs. Until it has, they may take outputs of any task. */
+static bool is_switched_off(void) {
+    uint8_t frame[ZANGJULF_FRAME], returned[ZANGJULF_FRAME];
+    size_t size;
+    tool_expect(zangjulf_fmmu_off(GRIPPER_STATION, GRIPPER_AREAS, frame, sizeof frame, &size), "the gripper's FMMUs");
+    wire_pass(frame, size, returned);
+    return returned[26 + 16 * GRIPPER_AREAS] == 1; /* the working counter */
+}
+
+static void leave_line(struct tool *tool) {
     struct zangjulf_cost cost;
-    uint32_t owed;
     tool_expect(zangjulf_disconnect(&tool->line, GRIPPER, false, &cost), "the gripper leaves");
-    wire_gripper(false, false);
-    tool_expect(zangjulf_owed(&tool->line, &owed), "what is owed");
-    if (owed) wire_fail("a tool that leaves owes register blocks of others");
+    if (owed_blocks(tool)) wire_fail("a tool that leaves owes register blocks of others");
     tool->is_there = false;
+    tool->misses = 0;
 }
 
-/* The gripper comes. Where it makes no contact it is given up, and the axes go on. */
-static void connect(struct tool *tool, bool has_contact) {
+/* The gripper goes, and stays on the wire with its FMMUs switched off. */
+static void disconnect(struct tool *tool) {
+    if (!is_switched_off()) wire_fail("the gripper isn't switched off");
+    leave_line(tool);
+    tool_expect(zangjulf_cleared(&tool->line, GRIPPER_STATION), "the gripper is cleared");
+}
+
+/* The gripper doesn't answer. It is unplugged, and leaves the line. */
+static void give_up(struct tool *tool) {
+    if (!tool->is_there) wire_fail("a slave takes no register blocks");
+    wire_gripper(false, false);
+    leave_line(tool);
+    tool_expect(zangjulf_unplugged(&tool->line, GRIPPER_STATION), "the gripper is unplugged");
+    tool->given_up++;
+}
+
+/* The gripper comes. One that doesn't take zeros to its FMMUs isn't connected. */
+static void connect(struct tool *tool, bool keeps_contact) {
     struct zangjulf_cost cost;
-    wire_gripper(true, has_contact);
+    wire_gripper(true, true);
+    if (!is_switched_off()) wire_fail("the gripper isn't switched off");
     tool_expect(zangjulf_connect(&tool->line, GRIPPER, false, &cost), "the gripper comes");
-    tool->is_there = write_blocks(tool);
-    if (tool->is_there != has_contact) wire_fail("register blocks are taken without contact, or not taken with it");
-    tool->docked += tool->is_there;
-    tool->given_up += !tool->is_there;
-    if (!tool->is_there) disconnect(tool);
+    tool_expect(zangjulf_cleared(&tool->line, GRIPPER_STATION), "the gripper is cleared");
+    tool->is_there = true;
+    if (!keeps_contact) wire_gripper(true, false);
 }
 
 void tool_change(struct tool *tool, unsigned long eighth) {
@@ -69,6 +75,33 @@ void tool_change(struct tool *tool, unsigned long eighth) {
     else if (eighth % 2 == 1) connect(tool, eighth % 8 != 7);
     long took = wire_now() - start;
     if (took > tool->longest_change) tool->longest_change = took;
+}
+
+size_t tool_send(struct tool *tool, const uint8_t *tasks, size_t count, uint8_t *frames, size_t room) {
+    struct zangjulf_sent_ready sent;
+    uint8_t ready, sendable[ZANGJULF_TASKS];
+    size_t ready_count = 0;
+    tool_expect(zangjulf_ready(&tool->line, &ready), "the ready tasks");
+    for (size_t i = 0; i < count; i++)
+        if (ready >> tasks[i] & 1) sendable[ready_count++] = tasks[i];
+    tool_expect(zangjulf_send_ready(&tool->line, sendable, ready_count, frames, room, &sent), "a sending");
+    return sent.size;
+}
+
+void tool_write(struct tool *tool) {
+    uint8_t frame[ZANGJULF_FRAME];
+    struct zangjulf_outcome outcomes[ZANGJULF_OUTCOMES];
+    struct zangjulf_arrival arrival;
+    struct zangjulf_writes writes;
+    uint32_t before = owed_blocks(tool);
+    if (!before) return;
+    tool_expect(zangjulf_next_writes(&tool->line, frame, sizeof frame, &writes), "register writes");
+    tool->register_frames++;
+    tool_pass(tool, frame, writes.size, outcomes, &arrival);
+    uint32_t left = owed_blocks(tool);
+    tool->misses = left < before ? 0 : tool->misses + 1;
+    if (!left) tool->docked += tool->is_there;
+    else if (tool->misses == MOST_MISSES) give_up(tool);
 }
 
 void tool_open(struct tool *tool, const char *project) {
@@ -80,5 +113,5 @@ void tool_open(struct tool *tool, const char *project) {
     fclose(in);
     tool_expect(zangjulf_open(&tool->line, text, size, 0, &task), "the project isn't opened");
     wire_gripper(false, false);
-    if (!write_blocks(tool)) wire_fail("a slave takes no register blocks");
+    while (owed_blocks(tool)) tool_write(tool);
 }

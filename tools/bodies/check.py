@@ -1,12 +1,13 @@
 """Tries the wrong bodies of the must-fail edits, and judges each by the verdict on its own function.
 
-    python3 tools/bodies/check.py CRATE..
+    python3 tools/bodies/check.py [--new] CRATE..
     python3 tools/bodies/check.py --list
 
 An edit is applied as a whole to a clone of what is committed, and `rt check` gives a verdict on each function: a function's
 proof rests on its own body and on the contracts of what it calls, so the verdict is on its body alone. A body is refused
-by its contract where a goal of its function isn't proved. One refused only because a proof names what the edit took away says
-little of the contract, and counts as not refused.
+by its contract if a clause, an invariant or a loop's invariant of its function isn't proved. Exception: a proof by hand that names
+what the edit took away, or that no longer fits by type, says little of the contract. Such a body is not judged, and counts as
+not refused.
 """
 
 import hashlib
@@ -24,9 +25,11 @@ FUNCTION = re.compile(r"^\s*(?:pub(?:\([a-z]+\))? +)?(?:const +|unsafe +|ghost +
 IMPL = re.compile(r"^impl(?:<[^>]*>)? +(?:(?P<trait>[\w:<>(), ']+) +for +)?&?(?:'\w+ +)?(?P<type>\w+)")
 VERDICT = re.compile(r"^fn (?P<name>[\w:+]+): (?P<verdict>.*)$")
 GOAL = re.compile(r"^\./proofs/(?P<place>[\w/+]+)/\w+\.antt:\d+:\d+: error: (?P<what>.*)$")
-TAKEN_AWAY = re.compile(r"has no field|is not in scope|has no `|was not admitted|that can be named from here")
+TAKEN_AWAY = re.compile(r"has no field|is not in scope|has no `|was not admitted|that can be named from here|the two types|expected type|has type")
 CONTRACT = "refused by its contract"
-NAMES = "refused only by names that the edit took away"
+NAMES = "not judged: a proof by hand names what the edit took away, or no longer fits by type"
+# how bodies are judged; those that an earlier rule judged are named by --list
+RULE = "2"
 UNREADABLE = re.compile(r"\berror\[[\w-]+\]|^\S+\.rt:\d+:\d+: error")
 
 
@@ -89,10 +92,10 @@ def function_at(text, place, file):
 
 
 def apply(edit, folder, only=None):
-    """Applies an edit's bodies to a crate's folder, or one of them alone, and gives them."""
+    """Applies an edit's bodies to a crate's folder, or those with these files and names, and gives them."""
     bodies = {}
     for file, name, old, new in pairs_of(edit):
-        if only and only.key != (file, name):
+        if only and (file, name) not in only:
             continue
         path = folder / file
         text = path.read_text()
@@ -134,14 +137,21 @@ def judged(bodies, printed):
             yield body, NAMES if own else ""
 
 
-def sum_of(crate, edit):
-    """A checksum of a crate's sources, specs and proofs and of an edit."""
+def sum_of_crate(crate):
+    """A checksum of a crate's sources, specs and proofs."""
     found = hashlib.sha256()
     for part in ("src", "specs", "proofs"):
         for path in sorted((TOP / "crates" / crate / part).rglob("*")):
             found.update(path.read_bytes() if path.is_file() else b"")
-    found.update(edit.read_bytes())
     return found.hexdigest()[:16]
+
+
+def sums_of_bodies(edit):
+    """A checksum of each body of an edit, by its file and name."""
+    texts = {}
+    for file, name, old, new in pairs_of(edit):
+        texts.setdefault((file, name), []).append(f"{file}\n{name}\n{old}\n{new}\n")
+    return {key: hashlib.sha256("".join(parts).encode()).hexdigest()[:8] for key, parts in texts.items()}
 
 
 def edits_of(crate):
@@ -149,20 +159,22 @@ def edits_of(crate):
     return sorted((TOP / "crates" / crate / "must-fail").glob("*.edit"))
 
 
-def line_of(crate, edit):
-    """What refused.txt says of an edit with each body refused by its contract."""
-    return f"{crate} {edit.stem} {sum_of(crate, edit)}"
-
-
 def kept_lines():
-    """The lines of refused.txt."""
-    return REFUSED.read_text().splitlines() if REFUSED.exists() else []
+    """What refused.txt says of each crate: the rule of the last run, the crate's checksum then, and the checksums of the bodies that
+    were refused by their contracts."""
+    lines = [line.split() for line in REFUSED.read_text().splitlines()] if REFUSED.exists() else []
+    return {crate: (rule, crate_sum, set(sums)) for crate, rule, crate_sum, *sums in lines}
 
 
-def keep(crate, edit):
-    """Notes that each body of an edit was refused by its contract."""
-    others = [line for line in kept_lines() if not line.startswith(f"{crate} {edit.stem} ")]
-    REFUSED.write_text("".join(f"{line}\n" for line in sorted([*others, line_of(crate, edit)])))
+def keep(crate, sums, is_whole):
+    """Notes bodies that were refused by their contracts; with those that were noted before unless the run was of all."""
+    lines = kept_lines()
+    rule, crate_sum, others = lines.get(crate, (RULE, sum_of_crate(crate), set()))
+    present = {found for edit in edits_of(crate) for found in sums_of_bodies(edit).values()}
+    if is_whole:
+        rule, crate_sum, others = RULE, sum_of_crate(crate), set()
+    lines[crate] = (rule, crate_sum, (others | sums) & present)
+    REFUSED.write_text("".join(f"{name} {rule} {found} {' '.join(sorted(sums))}\n" for name, (rule, found, sums) in sorted(lines.items())))
 
 
 def checked(folder):
@@ -171,7 +183,7 @@ def checked(folder):
 
 
 def try_bodies(crate, edit, clone, only=None):
-    """The bodies of an edit, or one of them alone, each with what a check says of it; nothing where it gives no verdict."""
+    """The bodies of an edit, or those with these files and names, each with what a check says of it; nothing where it gives no verdict."""
     folder = clone / "crates" / crate
     bodies = apply(edit, folder, only)
     printed = checked(folder)
@@ -182,48 +194,90 @@ def try_bodies(crate, edit, clone, only=None):
     return list(judged(bodies, printed))
 
 
-def try_edit(crate, edit, clone):
-    """Tries an edit, and tells whether each body is refused by its contract. One that isn't is tried once more, alone: a proof by
-    hand isn't looked at where it cites a function that another body spoils."""
-    outcomes = dict((body.key, (body, verdict)) for body, verdict in try_bodies(crate, edit, clone))
+def try_edit(crate, edit, clone, only=None):
+    """Tries an edit, or some of its bodies, and gives the checksums of those that their contracts refuse, and how many there are. One
+    that isn't refused is tried once more, alone: a proof by hand isn't looked at where it cites a function that another body
+    spoils."""
+    outcomes = dict((body.key, (body, verdict)) for body, verdict in try_bodies(crate, edit, clone, only))
     for body, verdict in list(outcomes.values()):
         if verdict != CONTRACT and len(outcomes) > 1:
-            outcomes.update((alone.key, (alone, said)) for alone, said in try_bodies(crate, edit, clone, body))
+            outcomes.update((alone.key, (alone, said)) for alone, said in try_bodies(crate, edit, clone, {body.key}))
     for (_, name), (_, verdict) in outcomes.items():
         if verdict != CONTRACT:
             print(f"{crate}/{edit.stem}: {name}: {verdict or 'not refused'}")
-    refused = sum(verdict == CONTRACT for _, verdict in outcomes.values())
-    print(f"{crate}/{edit.stem}: {refused} of {len(outcomes)} bodies are refused by their contracts", flush=True)
-    return outcomes and refused == len(outcomes)
+    refused = {key for key, (_, verdict) in outcomes.items() if verdict == CONTRACT}
+    print(f"{crate}/{edit.stem}: {len(refused)} of {len(outcomes)} bodies are refused by their contracts", flush=True)
+    return {found for key, found in sums_of_bodies(edit).items() if key in refused}, len(only) if only else len(sums_of_bodies(edit))
 
 
-def try_crate(crate):
-    """Tries each edit of a crate over what checks here have kept."""
+def unnoted(crate, edit):
+    """The bodies of a joined edit that refused.txt doesn't name. The gate judges an edit of one body by itself."""
+    sums = sums_of_bodies(edit)
+    noted = kept_lines().get(crate, ("", "", set()))[2]
+    return {key for key, found in sums.items() if found not in noted} if len(sums) > 1 else set()
+
+
+def try_crate(crate, new_alone):
+    """Tries each edit of a crate, or the bodies that weren't noted, over what checks here have kept."""
+    tried = [(edit, unnoted(crate, edit) if new_alone else None) for edit in edits_of(crate)]
+    if new_alone:
+        tried = [(edit, only) for edit, only in tried if only]
+    if not tried:
+        print(f"{crate}: each body was judged")
+        return True
     with tempfile.TemporaryDirectory() as scratch:
         clone = Path(scratch) / "clone"
         subprocess.run(["git", "clone", "-q", str(TOP), str(clone)], check=True)
         if "logic=proved" not in checked(clone / "crates" / crate):
             print(f"{crate}: it isn't proved as it is")
             return False
-        outcomes = [(edit, try_edit(crate, edit, clone)) for edit in edits_of(crate)]
-    for edit, is_refused in outcomes:
-        if is_refused:
-            keep(crate, edit)
-    return all(is_refused for _, is_refused in outcomes)
+        outcomes = [try_edit(crate, edit, clone, only) for edit, only in tried]
+    refused = set().union(*(sums for sums, _ in outcomes))
+    are_all = all(len(sums) == count for sums, count in outcomes)
+    keep(crate, refused, is_whole=are_all and not new_alone)
+    return are_all
+
+
+def broken(edit, crate):
+    """The first text of an edit that doesn't stand once in its file after the pairs before it, or nothing."""
+    texts = {}
+    for file, _, old, new in pairs_of(edit):
+        text = texts.setdefault(file, (TOP / "crates" / crate / file).read_text())
+        if text.count(old) != 1:
+            return old
+        texts[file] = text.replace(old, new)
+    return None
+
+
+def list_unjudged():
+    """Names the joined edits with bodies that were never judged, and the edits that can't be applied: each is a failure. Names the
+    crates that changed since their bodies were judged, and those whose bodies an earlier rule judged: no failure."""
+    failed = 0
+    for crate in sorted(path.parent.name for path in (TOP / "crates").glob("*/must-fail")):
+        rule, crate_sum, _ = kept_lines().get(crate, ("", "", set()))
+        for edit in edits_of(crate):
+            if old := broken(edit, crate):
+                failed += 1
+                print(f"bodies: crates/{crate}/must-fail/{edit.name} can't be applied: {old}")
+            names = sorted(name for _, name in unnoted(crate, edit))
+            if names:
+                failed += 1
+                print(f"bodies: never judged each, crates/{crate}/must-fail/{edit.name}: {', '.join(names)}")
+        if rule and rule != RULE:
+            print(f"bodies: the joined bodies of {crate} were judged by an earlier rule: tools/bodies.sh {crate}")
+        elif rule and crate_sum != sum_of_crate(crate):
+            print(f"bodies: {crate} changed since its joined bodies were judged")
+    return 1 if failed else 0
 
 
 def main(words):
     if words == ["--list"]:
-        crates = sorted(path.parent.name for path in (TOP / "crates").glob("*/must-fail"))
-        for crate in crates:
-            for edit in edits_of(crate):
-                if line_of(crate, edit) not in kept_lines():
-                    print(f"bodies not tried each: crates/{crate}/must-fail/{edit.name}")
-        return 0
-    if not words:
+        return list_unjudged()
+    crates = [word for word in words if word != "--new"]
+    if not crates:
         print(__doc__)
         return 2
-    return 0 if all([try_crate(crate) for crate in words]) else 1
+    return 0 if all([try_crate(crate, "--new" in words) for crate in crates]) else 1
 
 
 if __name__ == "__main__":

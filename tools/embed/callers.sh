@@ -9,10 +9,10 @@ compiled() {
     gcc -std=c11 -g -O1 $warnings "$@" -Iinclude "tools/embed/$caller.c" build/libzangjulf.a -o "$scratch/$caller"
 }
 
-# compiled_fuzz WORDS..: the caller that draws, likewise, over the plain model or the one that `model` names
+# compiled_fuzz WORDS..: the caller that draws, likewise, over the plain models or those that `model` and `readiness` name
 compiled_fuzz() {
     compiled fuzz -Itools/embed tools/embed/draws.c tools/embed/growths.c tools/embed/judge.c "${model:-tools/embed/model.c}" \
-        tools/embed/pending.c tools/embed/seated.c tools/embed/words.c $wrapped "$@"
+        tools/embed/pending.c "${readiness:-tools/embed/readiness.c}" tools/embed/seated.c tools/embed/words.c $wrapped "$@"
 }
 
 # edges CALLER LABEL FLAGS..: what a caller may do wrong
@@ -87,6 +87,8 @@ callers_in_c() {
     report_run $? "a cycle that takes memory"
     threads "threads that meet at one handle" -O2
     threads "threads that meet at one handle, under the address sanitizer" -fsanitize=address,undefined
+    compiled gripper -fsanitize=address,undefined && timeout 60 "$scratch/gripper" examples/own_tasks.toml >"$scratch/printed"
+    report_run $? "axes that keep their cycles while a tool comes, is silent and stays plugged"
     compiled_fuzz && timeout 900 "$scratch/fuzz" examples/tool_changer.toml "$1" 1 >"$scratch/printed"
     report_run $? "$1 drawn calls from C"
     master master
@@ -107,9 +109,11 @@ callers_in_rust() {
     report_run $? "an example in the crate's pages fails, or its structs are laid out in another way"
 }
 
-# callers_in_python: the package's player, and what it refuses
+# callers_in_python: the package's player, what it refuses, and threads that share a line
 callers_in_python() {
     play Python python3 bindings/python/play.py
     timeout 60 python3 bindings/python/refusals.py examples/tool_changer.toml "$scratch/layout.txt" >"$scratch/printed" 2>&1
     report_run $? "what the Python package refuses, or how its structs are laid out"
+    timeout 120 python3 bindings/python/sharing.py examples/own_tasks.toml >"$scratch/printed" 2>&1
+    report_run $? "threads that share a line in Python"
 }

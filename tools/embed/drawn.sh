@@ -19,21 +19,29 @@ drawn() {
     (timeout 300 "$scratch/fuzz" "$1" "$2" "$3" "$scratch/drawn" $declare >"$scratch/printed") 2>/dev/null
 }
 
-# wrong_models: drawn calls find a model of register writes with one wrong line. Each has a name, and what sed makes of it
+# wrong_models: drawn calls find a plain model with one wrong line. Each has a file, a name, and what sed makes of the file
 wrong_models() {
-    model=$scratch/model.c
-    while read -r name edit; do
-        sed "$edit" tools/embed/model.c >"$model"
-        [ "$(diff tools/embed/model.c "$model" | grep -c '^>')" -eq 1 ] && compiled_fuzz
+    while read -r file name edit; do
+        wrong=$scratch/wrong_$file.c
+        sed "$edit" "tools/embed/$file.c" >"$wrong"
+        [ "$(diff "tools/embed/$file.c" "$wrong" | grep -c '^>')" -eq 1 ] && eval "$file=\$wrong" && compiled_fuzz
         report $? "the model with $name isn't built"
-        ! (timeout 300 "$scratch/fuzz" examples/tool_changer.toml 30000 3 >"$scratch/printed") 2>/dev/null </dev/null
+        eval "$file="
+        ! (timeout 300 "$scratch/fuzz" examples/tool_changer.toml 100000 3 >"$scratch/printed") 2>/dev/null </dev/null
         report $? "drawn calls don't find the model with $name"
     done <<'END'
-older_frames_that_confirm s/ || known->serial != sending->serial//
-writes_answered_after_a_forget s/ || sending->forgets < model->forgets_at_write//
-slaves_that_are_forgotten_with_another s/\.station != station)/.station < station)/
+model older_frames_that_confirm s/ || known->serial != sending->serial//
+model writes_answered_after_a_forget s/ || sending->forgets < model->forgets_at_write//
+model slaves_that_are_forgotten_with_another s/\.station != station)/.station < station)/
+model stale_answers_that_shrink_what_is_held s/if (!known) return ZANGJULF_STALE;/if (!known) return got == 1 \&\& (known = known_of(model, sending->heads[0].station, sending->heads[0].number)) ? readiness_answered(\&model->readiness, known->station, known->number, known->bytes, known->size), ZANGJULF_STALE : ZANGJULF_STALE;/
+readiness own_blocks_alone s/return held->is_unknown ? 0xff : own | held->names;/return held->is_unknown ? own : own;/
+readiness last_known_bytes_alone s/names |= named_by(bytes, size);/names |= 0 \& named_by(bytes, size);/
+readiness foreign_blocks_alone s/own = named_by(bytes, block.size);/own = 0 \& named_by(bytes, block.size);/
+readiness sync_managers_that_are_not_judged s/if (!is_fmmu(number)) return own;/if (!is_fmmu(number)) return 0;/
+readiness disconnected_slaves_forgotten s/slave->is_in_line || slave->is_unplugged/true/
+readiness registers_unknown_at_the_first_connection_alone s/held_of(readiness, station, number)->is_unknown = true;/held_of(readiness, station, number);/
+readiness unplugged_slaves_that_count s/slave->is_in_line || slave->is_unplugged/slave->is_in_line/
 END
-    model=
 }
 
 # compare_drawn: drawn calls beside the program, in three projects; then wrong programs and wrong libraries
@@ -67,7 +75,8 @@ compare_drawn() {
     done
     # what the program has no command for is found by the model alone
     for name in next_writes next_writes=2 next_writes=3 arrive=3 seat_open seat_close show seat_view seat_view=2 seat_view=3 seat_view=4 \
-        seat_outputs seat_post seat_post=2 seat_post=3 seat_post=4 take_posts take_posts=2; do
+        seat_outputs seat_post seat_post=2 seat_post=3 seat_post=4 take_posts take_posts=2 send_ready send_ready=2 ready held_by cleared \
+        unplugged; do
         compiled_fuzz tools/embed/wrong.c -DWRONG_$name -Wl,--wrap=zangjulf_${name%=*}
         report $? "the wrong $name isn't built"
         ! (timeout 300 "$scratch/fuzz" examples/tool_changer.in 100000 3 >"$scratch/printed") 2>/dev/null

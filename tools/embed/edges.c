@@ -37,6 +37,7 @@ static void closed(void) {
     uint64_t serials[16];
     size_t size = 7;
     struct zangjulf_sent sent;
+    struct zangjulf_sent_ready ready = {7, 7, {7, 7, 7}};
     struct zangjulf_write write = {7, {7, 7, 7}};
     struct zangjulf_writes writes = {7, 7};
     struct zangjulf_owed_block owed = {7, 7, 7};
@@ -58,6 +59,10 @@ static void closed(void) {
     EXPECT(zangjulf_next_writes(&line, &byte, 1, &writes) == ZANGJULF_CLOSED && byte == 7 && writes.size == 7 && writes.blocks == 7);
     EXPECT(zangjulf_owed_block(&line, 0, &owed) == ZANGJULF_CLOSED && owed.size == 7);
     EXPECT(zangjulf_forget(&line, 1002) == ZANGJULF_CLOSED);
+    EXPECT(zangjulf_cleared(&line, 1002) == ZANGJULF_CLOSED && zangjulf_unplugged(&line, 1002) == ZANGJULF_CLOSED);
+    EXPECT(zangjulf_ready(&line, &byte) == ZANGJULF_CLOSED && byte == 7);
+    EXPECT(zangjulf_held_by(&line, 0, 0, &word) == ZANGJULF_CLOSED && word == 7);
+    EXPECT(zangjulf_send_ready(&line, tasks, 1, &byte, 1, &ready) == ZANGJULF_CLOSED && byte == 7 && ready.size == 7 && ready.waits.task == 7);
     EXPECT(zangjulf_counters(&line, 0, 0, &counters) == ZANGJULF_CLOSED && counters.sent == 7);
     EXPECT(zangjulf_send(&line, tasks, 1, &byte, 1, &sent) == ZANGJULF_CLOSED && byte == 7);
     EXPECT(zangjulf_arrive(&line, &byte, 1, outcomes, 1, &arrival) == ZANGJULF_CLOSED && arrival.serial == 7);
@@ -341,6 +346,31 @@ static void shares(void) {
     zangjulf_close(&line);
 }
 
+/* The frame that switches off a slave's FMMUs. */
+static void fmmus_off(void) {
+    size_t size = 7;
+    uint8_t *out = slice(60), *long_out = slice(284), *memory = slice(ZANGJULF_SLAVE_MEMORY);
+    EXPECT(zangjulf_fmmu_off(2001, 0, out, 60, &size) == ZANGJULF_MISUSED && zangjulf_fmmu_off(2001, 17, out, 60, &size) == ZANGJULF_MISUSED);
+    EXPECT(size == 7 && out[0] == 0xaa);
+    EXPECT(zangjulf_fmmu_off(2001, 1, out, 59, &size) == ZANGJULF_ROOM && size == 60 && out[0] == 0xaa);
+    EXPECT(zangjulf_fmmu_off(2001, 3, out, 60, &size) == ZANGJULF_ROOM && size == 76 && out[0] == 0xaa);
+    EXPECT(zangjulf_fmmu_off(2001, 2, out, 60, &size) == ZANGJULF_DONE && size == 60);
+    /* FPWR, station 2001, register 0x0600, 32 bytes of zeros, counter 0 */
+    EXPECT(out[16] == 5 && out[18] == 0xd1 && out[19] == 7 && !out[20] && out[21] == 6 && out[22] == 32 && !out[23]);
+    for (size_t i = 24; i < 60; i++) EXPECT(!out[i]);
+    EXPECT(zangjulf_fmmu_off(1, 16, long_out, 284, &size) == ZANGJULF_DONE && size == 284 && long_out[23] == 1 && !long_out[22]);
+    /* it takes the FMMUs that it names, and leaves the next one and the sync managers */
+    EXPECT(zangjulf_slave_start(memory, ZANGJULF_SLAVE_MEMORY, 0) == ZANGJULF_DONE);
+    memory[0x10] = 0xd1;
+    memory[0x11] = 7;
+    memset(memory + 0x600, 1, 0x300);
+    EXPECT(zangjulf_slave_process(memory, ZANGJULF_SLAVE_MEMORY, out, 60) == ZANGJULF_DONE && out[58] == 1 && !out[59]);
+    for (size_t i = 0x600; i < 0x900; i++) EXPECT(memory[i] == (i >= 0x620));
+    free(out);
+    free(long_out);
+    free(memory);
+}
+
 /* Frames beside the line's, and where a text is no project. */
 static void beside(void) {
     struct zangjulf_location location;
@@ -352,6 +382,7 @@ static void beside(void) {
     EXPECT(out[16] == 1 && out[18] == 0xfe && out[19] == 0xff && out[20] == 0x12 && !out[21] && zangjulf_is_mine(out, 60));
     EXPECT(zangjulf_station_write(0, 1001, out, 60, &size) == ZANGJULF_DONE && out[16] == 2 && !out[18] && out[20] == 0x10 && out[26] == 0xe9 && out[27] == 3);
     EXPECT(!zangjulf_is_mine(other, 14) && !zangjulf_is_mine(out, 13));
+    fmmus_off();
     EXPECT(zangjulf_locate(text, length, &location) == ZANGJULF_DONE);
     EXPECT(zangjulf_locate((const uint8_t *)"a = 1\n b = [", 12, &location) == ZANGJULF_PROJECT_NOT_TOML && location.line == 2);
     static const char stationless[] = "[[slave]]\nstation = 7\n[[slave]]\n";

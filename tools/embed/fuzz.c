@@ -1,7 +1,7 @@
 /* Draws calls of the C library: any order, any numbers, any bytes, open and closed handles, slices of any length that end where
  * a page that can't be touched begins, refused growths. It ends with status 1 at an answer that include/zangjulf.h doesn't
- * allow, at a slice that was written though the call was refused, at an outcome, an age, a counter, an owed block or a frame of
- * register writes that isn't the plain model's (model.h), at an image, outputs or a post of a seat that isn't its model's
+ * allow, at a slice that was written though the call was refused, at an outcome, an age, a counter, an owed block, a frame of
+ * register writes or a task that waits that isn't the plain model's (model.h), at an image, outputs or a post of a seat that isn't its model's
  * (seated.h), at bits that differ from bits taken one by one, at a change that isn't the next of what happened, at a line
  * that is full of changes and isn't answered so, or the other way round, and where memory is live once all handles are
  * closed.
@@ -135,7 +135,7 @@ static void opening(struct line *line) {
     unsigned number = zangjulf_open(&line->handle, moved, size, line->most_changes, &task);
     bool is_fault = number == ZANGJULF_TOO_MANY_DATAGRAMS || number == ZANGJULF_MEMORY || (number > 200 && number <= ZANGJULF_PROJECT_AREA_TOO_BIG);
     if (line->handle.is_open != !number || (number && !is_fault)) fail("an opening", number);
-    model_opened(&line->model);
+    model_opened(&line->model, &line->handle, moved, size);
     owner_left(&line->owner);
     begin_script(line, moved, size, number, task);
 }
@@ -215,6 +215,49 @@ static void writing_all(struct line *line, bool was_open) {
     model_sent(&line->model, &line->handle, wanted), keep(line, wanted, size), end_script(line);
 }
 
+/* What holds each task up, as the model says; the mask of ready tasks. */
+static uint8_t ready_by_model(const struct line *line, struct waiting *waits) {
+    uint8_t ready = 0;
+    for (uint8_t task = 0; task < ZANGJULF_TASKS; task++) {
+        model_waits(&line->model, &line->handle, task, &waits[task]);
+        if (!waits[task].blocks && !waits[task].outside) ready |= (uint8_t)(1u << task);
+    }
+    return ready;
+}
+
+/* The ready tasks, and the slaves that hold one up: in the order of the model, where it knows the declared order. */
+static void waiting(struct line *line, bool was_open) {
+    static struct waiting waits[ZANGJULF_TASKS];
+    uint8_t mask = 0, task = (uint8_t)below(9);
+    uint16_t station = 0;
+    unsigned number = zangjulf_ready(&line->handle, &mask);
+    expect(number, was_open, "\0");
+    if (!was_open) memset(waits, 0, sizeof waits);
+    if (was_open && mask != ready_by_model(line, waits)) fail("other ready tasks than the model's", number);
+    const struct waiting *own = &waits[task % ZANGJULF_TASKS];
+    size_t count = was_open && task < ZANGJULF_TASKS ? own->holder_count : 0, sure = line->model.readiness.is_ordered ? count : own->holders_in_line;
+    for (uint32_t i = 0; i <= count; i++) {
+        number = zangjulf_held_by(&line->handle, task, i, &station);
+        expect(number, was_open, i < count ? "\0" : "\x64");
+        if (i < sure && i < count && station != own->holders[i]) fail("another slave than the model's holds a task up", number);
+    }
+}
+
+/* There is no command for it: what is written of the line ends with a slave that is cleared or unplugged. */
+static void clearing(struct line *line, bool was_open) {
+    uint32_t position;
+    uint16_t station = some_station();
+    unsigned where = zangjulf_position(&line->handle, station, &position);
+    bool is_unplugged = below(2);
+    unsigned number = is_unplugged ? zangjulf_unplugged(&line->handle, station) : zangjulf_cleared(&line->handle, station);
+    expect(number, was_open, is_unplugged ? "\0\x02\x05" : "\0\x05");
+    unsigned wanted = where == ZANGJULF_UNKNOWN_STATION ? where : !is_unplugged || where == ZANGJULF_ABSENT ? 0 : ZANGJULF_ALREADY_PRESENT;
+    if (was_open && number != wanted) fail("a slave that isn't where it is", number);
+    if (!number && is_unplugged) model_unplugged(&line->model, station), end_script(line);
+    if (!number && !is_unplugged) model_cleared(&line->model, &line->handle, station), end_script(line);
+    if (was_open && !model_owes(&line->model, &line->handle)) fail("other owed blocks than the model's", number);
+}
+
 /* There is no command for it: what is written of the line ends with a slave that is forgotten. */
 static void forgetting(struct line *line, bool was_open) {
     uint32_t position, epoch = 0, after = 0;
@@ -264,6 +307,42 @@ static void sending(struct line *line, bool was_open) {
         keep(line, copy, zangjulf_frame_size(frame));
     }
     if (!number && frame != out + sent.size) fail("frames and their bytes", number);
+}
+
+/* There is no command for it: what is written of the line ends with ready tasks that are sent. */
+static void sending_ready(struct line *line, bool was_open) {
+    static struct waiting waits[ZANGJULF_TASKS];
+    struct zangjulf_sent_ready sent = {0, 0, {0xaa, 0xaaaa, 0xaaaa}};
+    size_t count = below(4) ? 1 + below(2) : below(10), room = below(8) ? some_length(30000) : ZANGJULF_FRAMES, first = 9;
+    uint8_t *tasks = last(&ins, count), mask = was_open ? ready_by_model(line, waits) : 0;
+    bool is_task = true;
+    for (size_t i = 0; i < count; i++) tasks[i] = below(6) ? (uint8_t)((i + below(2)) % 8) : (uint8_t)below(9), is_task &= tasks[i] < 8;
+    for (size_t i = count; i-- > 0;) if (is_task && !(mask >> tasks[i] & 1)) first = i;
+    uint8_t *out = out_room(room);
+    unsigned number = zangjulf_send_ready(&line->handle, tasks, count, out, room, &sent);
+    expect(number, was_open, "\0\x08\x24\x13\x1d\xfc\xfe");
+    if (number != ZANGJULF_MISUSED) expect_full(line, was_open, number, 1);
+    if (number) expect_untouched(out, room, number);
+    bool is_judged = was_open && number != ZANGJULF_MISUSED && number != ZANGJULF_CHANGES_FULL;
+    if (is_judged && (number == ZANGJULF_NO_SUCH_TASK) != !is_task) fail("a task that there isn't", number);
+    if (is_judged && is_task && (number == ZANGJULF_WAITS) != (first < count)) fail("a task that waits", number);
+    const struct zangjulf_waits *why = &sent.waits;
+    bool is_unwritten = why->task == 0xaa && why->blocks == 0xaaaa && why->outside == 0xaaaa;
+    if (number == ZANGJULF_WAITS) {
+        const struct waiting *own = &waits[tasks[first]];
+        if (why->task != tasks[first] || why->blocks != own->blocks || why->outside != own->outside) fail("what a task waits for", number);
+    } else if (number ? !is_unwritten : why->task || why->blocks || why->outside) fail("what no task waits for", number);
+    if (number == ZANGJULF_ROOM && sent.size <= room) fail("a sending's room", number);
+    if (number && number != ZANGJULF_ROOM && (sent.size || sent.frames)) fail("the frames of a refused sending", number);
+    const uint8_t *frame = out;
+    for (size_t i = 0; !number && i < sent.frames; i++, frame += zangjulf_frame_size(frame)) {
+        static uint8_t copy[ZANGJULF_FRAME];
+        memcpy(copy, frame, zangjulf_frame_size(frame));
+        model_sent(&line->model, &line->handle, copy);
+        keep(line, copy, zangjulf_frame_size(frame));
+    }
+    if (!number && frame != out + sent.size) fail("frames and their bytes", number);
+    if (!number) end_script(line);
 }
 
 static void arriving(struct line *line, bool was_open) {
@@ -480,6 +559,7 @@ static void editing(struct line *line, bool was_open) {
     if (is_full && (cost.epoch || (asked && asked != ZANGJULF_MEMORY))) fail("an edit of a line full of changes", asked);
     if (!is_full && asked != ZANGJULF_MEMORY && number != ZANGJULF_MEMORY && (asked != number || would.moved != cost.moved)) fail("what an edit was told to do", number);
     if (is_left_out) return;
+    if (!number && edit.kind == 4) model_declared(&line->model, edit.text, edit.size);
     if (!number) model_edited(&line->model, &line->handle);
     if (!number && line->most_changes) add_edit(&line->pending);
     if (is_scripted(line, number)) print_edited(line, &edit, number, &cost);
@@ -492,6 +572,7 @@ static void call_once(struct line *line) {
     case 10: case 11: case 12: case 13: draw_seat_call(&line->handle, &line->owner, folder); break;
     case 0:
         if (below(folder ? 150 : 3)) call = "telling", asking(line, was_open);
+        else if (below(2)) call = "clearing", clearing(line, was_open);
         else call = "forget", forgetting(line, was_open);
         break;
     case 1: call = "post"; posting(line, was_open); break;
@@ -499,7 +580,10 @@ static void call_once(struct line *line) {
         if (below(folder ? 1500 : 3)) call = "next_write", writing(line, was_open);
         else call = "next_writes", writing_all(line, was_open);
         break;
-    case 4: call = "send"; sending(line, was_open); break;
+    case 4:
+        if (below(folder ? 500 : 2)) call = "send", sending(line, was_open);
+        else call = "send_ready", sending_ready(line, was_open);
+        break;
     case 5: case 6: call = "arrive"; arriving(line, was_open); break;
     case 7: call = "read"; reading(line, was_open); break;
     case 8: call = "next_change"; changing(line, was_open); break;
@@ -507,6 +591,7 @@ static void call_once(struct line *line) {
         if (!below(3)) call = "edit", editing(line, was_open);
         else if (below(2)) call = "looking", looking(line, was_open);
         else if (below(2)) call = "counting", counting(line, was_open);
+        else if (below(2)) call = "waiting", waiting(line, was_open);
         else if (below(2)) call = "bits", bits(line, was_open);
         else call = "preview", previewing(line, was_open);
         break;

@@ -26,6 +26,9 @@ static void of_frames(void) {
     STRUCT(zangjulf_write), FIELD(zangjulf_write, size), FIELD(zangjulf_write, block);
     STRUCT(zangjulf_writes), FIELD(zangjulf_writes, size), FIELD(zangjulf_writes, blocks);
     STRUCT(zangjulf_sent), FIELD(zangjulf_sent, size), FIELD(zangjulf_sent, frames), FIELD(zangjulf_sent, owed);
+    STRUCT(zangjulf_waits), FIELD(zangjulf_waits, task), FIELD(zangjulf_waits, blocks), FIELD(zangjulf_waits, outside);
+    STRUCT(zangjulf_sent_ready), FIELD(zangjulf_sent_ready, size), FIELD(zangjulf_sent_ready, frames);
+    FIELD(zangjulf_sent_ready, waits);
     STRUCT(zangjulf_outcome), FIELD(zangjulf_outcome, kind), FIELD(zangjulf_outcome, task), FIELD(zangjulf_outcome, datagram);
     FIELD(zangjulf_outcome, expected), FIELD(zangjulf_outcome, got), FIELD(zangjulf_outcome, at), FIELD(zangjulf_outcome, length);
     FIELD(zangjulf_outcome, station), FIELD(zangjulf_outcome, start);

@@ -31,7 +31,12 @@ static uint8_t task_of(const struct head *head) { return (uint8_t)((head->addres
 
 static uint8_t datagram_of(const struct head *head) { return head->address >> 11 & 15; }
 
-void model_opened(struct model *model) { memset(model, 0, sizeof *model); }
+void model_opened(struct model *model, const struct zangjulf *line, const uint8_t *text, size_t size) {
+    memset(model, 0, sizeof *model);
+    readiness_opened(&model->readiness, line, text, size);
+}
+
+void model_declared(struct model *model, const uint8_t *text, size_t size) { readiness_declared(&model->readiness, text, size); }
 
 void model_edited(struct model *model, const struct zangjulf *line) {
     size_t left = 0;
@@ -43,6 +48,7 @@ void model_edited(struct model *model, const struct zangjulf *line) {
         if (!zangjulf_position(line, model->known[i].station, &position)) model->known[left++] = model->known[i];
     }
     model->known_count = left;
+    readiness_edited(&model->readiness, line);
 }
 
 /* The number of the block of a slave that begins at a register, and its bytes. */
@@ -67,6 +73,14 @@ void model_forgot(struct model *model, uint16_t station) {
     model->forgets++;
 }
 
+void model_cleared(struct model *model, const struct zangjulf *line, uint16_t station) {
+    uint32_t position;
+    if (!zangjulf_position(line, station, &position)) model_forgot(model, station);
+    readiness_cleared(&model->readiness, station);
+}
+
+void model_unplugged(struct model *model, uint16_t station) { readiness_unplugged(&model->readiness, station); }
+
 /* Register blocks are sent in one frame: of each this is the last write. */
 static void wrote(struct model *model, const struct zangjulf *line, struct sending *sending) {
     uint8_t bytes[16];
@@ -80,6 +94,7 @@ static void wrote(struct model *model, const struct zangjulf *line, struct sendi
         if (!known) return;
         *known = (struct known){.station = head->station, .number = head->number, .size = (uint8_t)head->length, .serial = sending->serial};
         memcpy(known->bytes, bytes, head->length);
+        readiness_wrote(&model->readiness, head->station, head->number, bytes, head->length);
     }
 }
 
@@ -128,11 +143,17 @@ static struct known *awaited_block(const struct model *model, const struct sendi
     return !known || known->serial != sending->serial || sending->forgets < model->forgets_at_write ? NULL : known;
 }
 
+/* A write was answered well: its block is known. */
+static void confirm(struct model *model, struct known *known) {
+    known->is_confirmed = true;
+    readiness_answered(&model->readiness, known->station, known->number, known->bytes, known->size);
+}
+
 /* The answer to the write of one register block that came back with a working counter. */
 static unsigned write_answer(struct model *model, const struct sending *sending, uint16_t got) {
     struct known *known = awaited_block(model, sending, 0);
     if (!known) return ZANGJULF_STALE;
-    if (got == 1) known->is_confirmed = true;
+    if (got == 1) confirm(model, known);
     return got == 1 ? ZANGJULF_WRITE_DONE : ZANGJULF_WRITE_MISSED;
 }
 
@@ -198,7 +219,7 @@ bool model_arrived(struct model *model, const uint8_t *frame, unsigned number, c
     if (arrival->station || arrival->start) return false;
     for (size_t i = 0; i < count; i++) {
         if (!is_register_write) judged(model, &expected[i], sending->serial);
-        else if (expected[i].kind == ZANGJULF_BLOCK_WRITTEN) awaited_block(model, sending, i)->is_confirmed = true;
+        else if (expected[i].kind == ZANGJULF_BLOCK_WRITTEN) confirm(model, awaited_block(model, sending, i));
         if (i < room && !is_same(&outcomes[i], &expected[i])) return false;
     }
     return true;
@@ -258,9 +279,13 @@ bool model_shares(const struct zangjulf *line, uint8_t task, uint8_t number) {
 }
 
 /* Whether a block of the line is owed: its slave isn't known to have these bytes. */
-static bool is_owed(const struct model *model, uint16_t station, uint8_t number, const struct zangjulf_block *block, const uint8_t *bytes) {
-    const struct known *known = known_of((struct model *)model, station, number);
+static bool is_owed(const void *context, uint16_t station, uint8_t number, const struct zangjulf_block *block, const uint8_t *bytes) {
+    const struct known *known = known_of((struct model *)context, station, number);
     return !known || !known->is_confirmed || known->size != block->size || memcmp(known->bytes, bytes, block->size);
+}
+
+void model_waits(const struct model *model, const struct zangjulf *line, uint8_t task, struct waiting *waiting) {
+    readiness_of(&model->readiness, line, task, is_owed, model, waiting);
 }
 
 bool model_owes(const struct model *model, const struct zangjulf *line) {

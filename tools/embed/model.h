@@ -1,5 +1,6 @@
 /* A plain model of what a line answers about its sendings: of each arrival the outcomes with their names, counts and places in
- * the frame; how old each datagram's data are; the counters, and what each slave adds to one; which register blocks are owed.
+ * the frame; how old each datagram's data are; the counters, and what each slave adds to one; which register blocks are owed, and
+ * which tasks wait for them (readiness.h).
  * It knows the frames and the answers that were accepted, and of the library only its configuration (datagrams, blocks,
  * stations). */
 #ifndef MODEL_H
@@ -9,6 +10,7 @@
 #include <stddef.h>
 #include <stdint.h>
 
+#include "readiness.h"
 #include "zangjulf.h"
 
 #define MODEL_SENDINGS 4096
@@ -52,16 +54,25 @@ struct model {
     struct known known[MODEL_BLOCKS];
     size_t known_count;
     uint64_t forgets, forgets_at_write; /* how many slaves were forgotten, and how many before the last write */
+    struct readiness readiness;
 };
 
-/* A line was opened. */
-void model_opened(struct model *model);
+/* A line was opened with a project's text; a group's text was declared. */
+void model_opened(struct model *model, const struct zangjulf *line, const uint8_t *text, size_t size);
+void model_declared(struct model *model, const uint8_t *text, size_t size);
 
 /* An edit was accepted: after it the line has other datagrams and blocks, and slaves may have gone. */
 void model_edited(struct model *model, const struct zangjulf *line);
 
 /* A slave was forgotten: its blocks' last writes say nothing any more. A write that is sent then takes the place of all before. */
 void model_forgot(struct model *model, uint16_t station);
+
+/* A declared slave was cleared: one of the line is forgotten too. A slave outside the line was unplugged. */
+void model_cleared(struct model *model, const struct zangjulf *line, uint16_t station);
+void model_unplugged(struct model *model, uint16_t station);
+
+/* What holds a task up. */
+void model_waits(const struct model *model, const struct zangjulf *line, uint8_t task, struct waiting *waiting);
 
 /* The frame that writes the first owed blocks, as many as it holds, with a serial: it is put into `frame`, which has room for any
  * frame. Its bytes, and how many blocks it writes; 0 where nothing is owed. */

@@ -69,10 +69,13 @@ END
     play "Rust outside the repository" "$scratch/target/release/outside"
 }
 
-# python_outside: the package, installed by pip without a network into an environment of its own
+# python_outside: the package, installed by pip without a network into an environment of its own; without a library it isn't
 python_outside() {
-    python3 -m venv "$scratch/venv" >"$scratch/printed" 2>&1 &&
-        "$scratch/venv/bin/pip" install --quiet --no-index --disable-pip-version-check ./bindings/python >>"$scratch/printed" 2>&1
+    pip="$scratch/venv/bin/pip install --quiet --no-index --disable-pip-version-check ./bindings/python"
+    python3 -m venv "$scratch/venv" >"$scratch/printed" 2>&1 && ! ZANGJULF_LIBRARY=$scratch/none $pip >>"$scratch/printed" 2>&1 &&
+        grep -q "zangjulf: $scratch/none is missing: run tools/library.sh first" "$scratch/printed"
+    report_run $? "pip installs the package without a library, or does not say how to build it"
+    $pip >"$scratch/printed" 2>&1
     report_run $? "pip doesn't install the package"
     mkdir "$scratch/python"
     cp bindings/python/play.py "$scratch/python/"

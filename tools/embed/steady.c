@@ -1,5 +1,5 @@
 /* A cycle takes no memory: 10,000 cycles of one task and of eight, each with posts, a sending, the arrival of what was sent, a
- * read and look-ups, and the same by seats, are counted once three cycles have run. It ends with status 1 where one of them took or
+ * read and look-ups, the same by seats, and a slave that is cleared and written anew, are counted once three cycles have run. It ends with status 1 where one of them took or
  * grew memory, or isn't answered as it should be. */
 #include <stdio.h>
 #include <stdlib.h>
@@ -100,8 +100,33 @@ static void cycle_of_seats(struct zangjulf *line, struct zangjulf_seat *seats, s
     expect(posts.accepted == (1u << count) - 1 && !posts.refused, 1, "posts");
 }
 
-int main(void) {
+/* The slave of task 0 is cleared: its task waits, and another one is sent. Then its blocks are written. */
+static void cycle_of_a_slave(struct zangjulf *line) {
+    static const uint8_t other = 1, own = 0;
+    struct zangjulf_sent_ready sent;
+    uint16_t station;
+    uint8_t ready;
+    expect(zangjulf_cleared(line, 1001), ZANGJULF_DONE, "cleared");
+    expect(zangjulf_unplugged(line, 1001), ZANGJULF_ALREADY_PRESENT, "unplugged");
+    expect(zangjulf_ready(line, &ready), ZANGJULF_DONE, "ready");
+    expect(ready, 0xfe, "ready tasks");
+    expect(zangjulf_held_by(line, 0, 0, &station), ZANGJULF_DONE, "held_by");
+    expect(station, 1001, "a slave that holds a task up");
+    expect(zangjulf_send_ready(line, &own, 1, frames, sizeof frames, &sent), ZANGJULF_WAITS, "send_ready");
+    expect(zangjulf_send_ready(line, &other, 1, frames, sizeof frames, &sent), ZANGJULF_DONE, "send_ready");
+    program(line);
+    expect(zangjulf_ready(line, &ready), ZANGJULF_DONE, "ready");
+    expect(ready, 0xff, "ready tasks");
+}
+
+static void whole_cycle(struct zangjulf *line, struct zangjulf_seat *seats, size_t count, uint32_t value) {
     static const uint8_t tasks[ZANGJULF_TASKS] = {0, 1, 2, 3, 4, 5, 6, 7};
+    cycle(line, tasks, count, value);
+    cycle_of_seats(line, seats, count, value);
+    cycle_of_a_slave(line);
+}
+
+int main(void) {
     struct zangjulf_seat seats[ZANGJULF_TASKS] = {{0}};
     char text[8192];
     uint8_t over_limit;
@@ -110,9 +135,9 @@ int main(void) {
         expect(zangjulf_open(&line, (const uint8_t *)text, write_project(text, sizeof text), 0, &over_limit), ZANGJULF_DONE, "open");
         program(&line);
         for (uint8_t i = 0; i < count; i++) expect(zangjulf_seat_open(&line, i, &seats[i]), ZANGJULF_DONE, "seat_open");
-        for (uint32_t i = 0; i < FIRST; i++) cycle(&line, tasks, count, i), cycle_of_seats(&line, seats, count, i);
+        for (uint32_t i = 0; i < FIRST; i++) whole_cycle(&line, seats, count, i);
         long before = taken;
-        for (uint32_t i = 0; i < CYCLES; i++) cycle(&line, tasks, count, i), cycle_of_seats(&line, seats, count, i);
+        for (uint32_t i = 0; i < CYCLES; i++) whole_cycle(&line, seats, count, i);
         printf("steady: %d cycles of %zu tasks took or grew memory %ld times\n", CYCLES, count, taken - before);
         if (taken != before) return 1;
         zangjulf_close(&line);

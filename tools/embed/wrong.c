@@ -298,3 +298,47 @@ uint8_t __wrap_zangjulf_take_posts(struct zangjulf *handle, struct zangjulf_take
 #endif
 }
 #endif
+
+#ifdef WRONG_send_ready /* a task that waits is answered as one that there isn't; one register outside the line is left out */
+uint8_t __real_zangjulf_send_ready(struct zangjulf *handle, const uint8_t *tasks, size_t count, uint8_t *out, size_t length, struct zangjulf_sent_ready *sent);
+uint8_t __wrap_zangjulf_send_ready(struct zangjulf *handle, const uint8_t *tasks, size_t count, uint8_t *out, size_t length, struct zangjulf_sent_ready *sent) {
+    unsigned number = __real_zangjulf_send_ready(handle, tasks, count, out, length, sent);
+#if WRONG_send_ready == 2
+    if (number == ZANGJULF_WAITS && sent->waits.outside) sent->waits.outside--;
+    return (uint8_t)number;
+#else
+    return number == ZANGJULF_WAITS ? ZANGJULF_NO_SUCH_TASK : (uint8_t)number;
+#endif
+}
+#endif
+
+#ifdef WRONG_ready /* a task is ready though it waits */
+uint8_t __real_zangjulf_ready(const struct zangjulf *handle, uint8_t *tasks);
+uint8_t __wrap_zangjulf_ready(const struct zangjulf *handle, uint8_t *tasks) {
+    unsigned number = __real_zangjulf_ready(handle, tasks);
+    if (!number && *tasks != 0) *tasks |= (uint8_t)(*tasks << 1);
+    return (uint8_t)number;
+}
+#endif
+
+#ifdef WRONG_held_by /* the first slave for each number */
+uint8_t __real_zangjulf_held_by(const struct zangjulf *handle, uint8_t task, uint32_t number, uint16_t *station);
+uint8_t __wrap_zangjulf_held_by(const struct zangjulf *handle, uint8_t task, uint32_t number, uint16_t *station) {
+    return __real_zangjulf_held_by(handle, task, number / 2, station);
+}
+#endif
+
+#ifdef WRONG_cleared /* forgotten and not cleared */
+uint8_t __wrap_zangjulf_cleared(struct zangjulf *handle, uint16_t station) {
+    unsigned number = zangjulf_forget(handle, station);
+    return number == ZANGJULF_ABSENT ? ZANGJULF_DONE : (uint8_t)number;
+}
+#endif
+
+#ifdef WRONG_unplugged /* a slave that is unplugged goes on counting */
+uint8_t __wrap_zangjulf_unplugged(struct zangjulf *handle, uint16_t station) {
+    uint32_t position;
+    unsigned number = zangjulf_position(handle, station, &position);
+    return number == ZANGJULF_ABSENT ? ZANGJULF_DONE : number == ZANGJULF_DONE ? ZANGJULF_ALREADY_PRESENT : (uint8_t)number;
+}
+#endif

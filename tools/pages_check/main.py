@@ -6,7 +6,9 @@ from collections.abc import Iterator
 from pathlib import Path
 
 from commands import check_commands, run_commands
+from definitions import check_definitions
 from frames import check_frames
+from header import check_header
 from links import check_links, check_names, check_words
 from limits import check_limits, check_sentences
 from pages import Pages, read_pages
@@ -15,7 +17,7 @@ from quotes import check_quotes, check_sessions
 
 CHECKS = (
     *(check_links, check_names, check_words, check_quotes, check_sessions, check_frames),
-    *(check_limits, check_sentences, check_commands),
+    *(check_limits, check_sentences, check_commands, check_definitions, check_header),
 )
 
 

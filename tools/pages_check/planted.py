@@ -4,8 +4,10 @@ from collections.abc import Callable, Iterator
 from pathlib import Path
 
 from commands import Step, check_commands, run_step
+from definitions import PAGE, check_definitions
 from findings import Finding
 from frames import check_frames
+from header import HEADER, check_header
 from links import check_links, check_names, check_words
 from limits import IN_ALL, check_limits, check_sentences
 from pages import Block, Pages
@@ -83,6 +85,8 @@ def find_planted(folder: Path) -> Iterator[tuple[str, bool]]:
     for kind, check, old, new in MISTAKES:
         found = list(check(good.with_page("PAGE.md", GOOD.replace(old, new, 1))))
         yield f"{kind}: {old.strip()} -> {new.strip()[:40]}", {finding.kind for finding in found} == {kind}
+    yield from ((f"definition: {mistake}", is_found) for mistake, is_found in _planted_definitions(folder))
+    yield from ((f"header: {mistake}", is_found) for mistake, is_found in _planted_in_header(folder))
     named = Pages(folder, {}, {"tool.py": "# " + "docs/GONE" + ".md has more\n"})
     yield "name: a page that is gone", [finding.kind for finding in check_names(named)] == ["name"]
     for script, printed in (("false", None), ("echo 1", "2")):
@@ -91,3 +95,46 @@ def find_planted(folder: Path) -> Iterator[tuple[str, bool]]:
         yield f"run: {script}", wrong is not None and wrong.kind == "run"
     right = Step(Block("PAGE.md", 1, "sh", ("echo 1",)), Block("PAGE.md", 1, "text", ("1",), "printed"))
     yield "a good command is taken", run_step(right, folder) is None
+
+
+SPECS = {"crates/hc_a/specs/A.antt": "abbrev pub width : A\n", "crates/hc_b/specs/B.antt": "pub record IsCut : B where\n  pub few : A\n"}
+
+
+def _planted_definitions(folder: Path) -> Iterator[tuple[str, bool]]:
+    """Names below a heading of their crate, of another crate, and of none."""
+    for text, count in (("`width`, `few`", 0), ("`IsCut`", 1), ("`IsCut` of `hc_b`", 0), ("`unknown`", 0)):
+        pages = Pages(folder, {PAGE: f"# All\n\n## Areas (`hc_a`)\n\n{text}\n"}, SPECS)
+        yield text, [finding.kind for finding in check_definitions(pages)] == ["definition"] * count
+
+
+GOOD_HEADER = """/* Refusals.
+ *
+ *   zangjulf_a, _b                          29: `*size`
+ *   zangjulf_c                              29: `sent->size`; 17: `sent->owed`
+ */
+    ANSWER(UNPROGRAMMED, 17, "owed") \\
+/* 29 with the bytes needed in `*size`. */
+uint8_t zangjulf_a(uint8_t *out, size_t length, size_t *size);
+
+/* DONE, or 29 with the bytes needed in `*size`, and `out` is as it was. */
+uint8_t zangjulf_b(const uint8_t *out, size_t length, size_t *size);
+
+struct zangjulf_sent {
+    size_t size;
+    uint32_t owed; /* of an answer 17 how many are owed */
+};
+
+/* 8, 16 to 19, or 29 with the bytes needed in `sent->size`. */
+uint8_t zangjulf_c(struct zangjulf *handle, struct zangjulf_sent *sent);
+"""
+
+
+def _planted_in_header(folder: Path) -> Iterator[tuple[str, bool]]:
+    """A header whose list is right, one that lacks an entry, one with an entry too many, and one with a value that isn't written."""
+    changes = (
+        *(("", "", 0), (" *   zangjulf_a, _b ", " *   zangjulf_a     ", 1), ("; 17: `sent->owed`", "", 1)),
+        *(("29 with the bytes needed in `*size`. ", "Nothing. ", 1), ("how many are owed */", "how many are owed; else 0 */", 1)),
+    )
+    for old, new, count in changes:
+        pages = Pages(folder, {}, {HEADER: GOOD_HEADER.replace(old, new)})
+        yield f"{old.strip()} -> {new.strip()}", [finding.kind for finding in check_header(pages)] == ["header"] * count

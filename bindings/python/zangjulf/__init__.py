@@ -5,8 +5,8 @@
             frame = line.next_write()
 
 Each method is a call of the C library (include/zangjulf.h). What the library refuses is raised as an exception with the fault's
-name, as `zangjulf.Unprogrammed`; nothing changed then. A number that the library's type doesn't hold is a `ValueError`. Calls hold
-Python's lock, so that threads may share a line or a seat: their calls come one after the other. Neither is copied or pickled. Bytes
+name, as `zangjulf.Unprogrammed`; nothing changed then. A number that the library's type doesn't hold is a `ValueError`. Threads may
+share a line or a seat: its calls run one after the other, and each returns its own frames and data. Neither is copied or pickled. Bytes
 are handed in as `bytes`, `bytearray` or `memoryview`, without a copy where they can be written; frames come as `bytes`.
 """
 
@@ -19,7 +19,7 @@ from .faults import (
     UnknownAlias, AlreadyPresent, NotPresent, Mandatory, UnknownStation, Absent, NoSuchArea, NoSuchTask, UnknownPdo,
     RepeatedPdo, AreaTooBig, TooManyDatagrams, EpochsSpent, StalePost, PostLength, Unprogrammed, NothingOwed,
     SerialsSpent, Short, NotEtherCat, BadType, BadLength, Circulating, MoreFollows, UnknownCommand, IndexMismatch,
-    Memory, Room, AliasTaken, StationTaken, VariableTaken, TooManyGroups, TooManySlaves, Nothing, IsInput, TooWide, NoSpare,
+    Memory, Room, AliasTaken, StationTaken, VariableTaken, TooManyGroups, TooManySlaves, Waits, Nothing, IsInput, TooWide, NoSpare,
     ProjectNotToml, ProjectMissingField, ProjectOutOfRange, ProjectRepeatedAlias, ProjectRepeatedStation,
     ProjectRepeatedSyncManager, ProjectOverlappingAreas, ProjectRepeatedVariable, ProjectUnknownPdo,
     ProjectAreaTooBig, ProjectNotOneGroup, ChangesFull, Busy, Misused, Closed,
@@ -28,7 +28,7 @@ from .library import IMAGE, library_path, library_version
 from .line import FRAMES, Line
 from .seat import Seat
 from .slave import SLAVE_MEMORY, Slave
-from .values import OTHER_SOURCE, alias_read, get_bits, is_mine, locate, put_bits, station_write
+from .values import OTHER_SOURCE, alias_read, fmmu_off, get_bits, is_mine, locate, put_bits, station_write
 from .version import VERSION as __version__
 
 __all__ = [
@@ -43,6 +43,6 @@ __all__ = [
     "ProjectRepeatedSyncManager", "ProjectRepeatedVariable", "ProjectUnknownPdo", "RepeatedPdo", "Room",
     "SLAVE_MEMORY", "Seat", "SerialsSpent", "Short", "Slave", "Spot", "StalePost", "StationTaken", "Swapped", "Taken",
     "TooManyDatagrams", "TooManyGroups", "TooManySlaves", "TooWide", "UnknownAlias", "UnknownCommand", "UnknownPdo",
-    "UnknownStation", "Unprogrammed", "VariableTaken", "View", "__version__", "alias_read", "get_bits", "is_mine",
-    "library_path", "library_version", "locate", "put_bits", "station_write",
+    "UnknownStation", "Unprogrammed", "VariableTaken", "View", "Waits", "__version__", "alias_read", "fmmu_off", "get_bits",
+    "is_mine", "library_path", "library_version", "locate", "put_bits", "station_write",
 ]

@@ -253,6 +253,13 @@ class TooManySlaves(Fault):
     text = "more than 2,048 slaves would be declared"
 
 
+class Waits(Fault):
+    """A task waits: register blocks that concern it are owed, or a slave outside the line may take part in it. `detail` is the task."""
+
+    number = 36
+    text = "a task waits: register blocks that concern it are owed, or a slave outside the line may take part in it"
+
+
 class Nothing(Fault):
     """There is no such thing."""
 

@@ -75,6 +75,14 @@ class Sent(ctypes.Structure):
     _fields_ = [("size", c_size_t), ("frames", c_size_t), ("owed", c_uint32)]
 
 
+class Waits(ctypes.Structure):
+    _fields_ = [("task", c_uint8), ("blocks", c_uint32), ("outside", c_uint32)]
+
+
+class SentReady(ctypes.Structure):
+    _fields_ = [("size", c_size_t), ("frames", c_size_t), ("waits", Waits)]
+
+
 class Outcome(ctypes.Structure):
     _fields_ = [
         ("kind", c_uint8), ("task", c_uint8), ("datagram", c_uint8),
@@ -138,6 +146,11 @@ LINE_CALLS: dict[str, tuple[Any, ...]] = {
     "forget": (c_uint16,),
     "post": (c_uint8, c_uint32, *_SLICE),
     "send": (*_SLICE, *_SLICE, POINTER(Sent)),
+    "send_ready": (*_SLICE, *_SLICE, POINTER(SentReady)),
+    "ready": (POINTER(c_uint8),),
+    "held_by": (c_uint8, c_uint32, POINTER(c_uint16)),
+    "cleared": (c_uint16,),
+    "unplugged": (c_uint16,),
     "preview": (c_uint8, c_uint8, *_SLICE, POINTER(c_size_t)),
     "arrive": (*_SLICE, POINTER(Outcome), c_size_t, POINTER(Arrival)),
     "read": (c_uint8, *_SLICE, POINTER(c_uint64), c_size_t, POINTER(Image)),
@@ -164,6 +177,7 @@ CALLS: dict[str, tuple[Any, ...]] = {
     "put_bits": (*_SLICE, c_size_t, c_uint8, c_uint64),
     "alias_read": (c_uint16, *_SLICE, POINTER(c_size_t)),
     "station_write": (c_uint16, c_uint16, *_SLICE, POINTER(c_size_t)),
+    "fmmu_off": (c_uint16, c_uint8, *_SLICE, POINTER(c_size_t)),
     "slave_start": (*_SLICE, c_uint16),
     "slave_process": (*_SLICE, *_SLICE),
 }

@@ -4,6 +4,8 @@ from __future__ import annotations
 
 from collections.abc import Callable, Iterable
 from ctypes import byref, c_size_t, c_uint8, c_uint16, c_uint32, c_uint64
+from itertools import count, takewhile
+from threading import Lock
 from typing import Any, TypeVar, Union
 
 from . import library as c
@@ -19,7 +21,7 @@ FRAMES = 128 * 1514
 #: the most datagrams of a frame
 _OUTCOMES = 115
 #: the faults that come with a number
-_DETAILED = (12, 17, 29)
+_DETAILED = (12, 17, 29, 36)
 
 Bytes = Union[bytes, bytearray, memoryview]
 Answer = TypeVar("Answer")
@@ -27,11 +29,14 @@ Answer = TypeVar("Answer")
 
 class Line:
     """An open line. `close` frees it, as does the end of a `with`. It keeps so many `changes` of what tasks read until
-    `next_change` asks for them: none where that is 0. A call that would add more raises `ChangesFull`. The faults of a project,
-    `TooManyDatagrams` with the task, `Memory`."""
+    `next_change` asks for them: none where that is 0. A call that would add more raises `ChangesFull`. Several threads may share
+    a line: each call runs alone, and returns its own frames and data. The faults of a project, `TooManyDatagrams` with the task,
+    `Memory`."""
 
     def __init__(self, text: Bytes, changes: int = 0) -> None:
         self._handle = c.Handle(False, None)
+        # held from a call of the library until its bytes are taken out of the two buffers
+        self._lock = Lock()
         self._out = bytearray(FRAMES)
         self._outcomes = (c.Outcome * _OUTCOMES)()
         task = c_uint8()
@@ -68,11 +73,12 @@ class Line:
 
     def _found(self, made: Callable[[], Answer], *arguments: Any) -> Answer | None:
         """What a look-up answers, or None."""
-        number = self._call(*arguments)
-        if number == 100:
-            return None
-        self._done(number)
-        return made()
+        with self._lock:
+            number = self._call(*arguments)
+            if number == 100:
+                return None
+            self._done(number)
+            return made()
 
     @property
     def epoch(self) -> int:
@@ -151,7 +157,8 @@ class Line:
         return self._edit("connect", alias, asks=asks)
 
     def disconnect(self, alias: int, asks: bool = False) -> Cost:
-        """The group with an alias leaves the line. `UnknownAlias`, `NotPresent`, `Mandatory`."""
+        """The group with an alias leaves the line. Send `fmmu_off` to its slaves first, or unplug them: one that stays on the wire would
+        take the outputs of the next one in its task. `UnknownAlias`, `NotPresent`, `Mandatory`."""
         return self._edit("disconnect", alias, asks=asks)
 
     def remap(self, station: int, area: int, pdos: Iterable[int], asks: bool = False) -> Cost:
@@ -173,15 +180,17 @@ class Line:
         """Sends the first owed register block: its frame. One that is lost is sent again by the next call. `NothingOwed`,
         `SerialsSpent`."""
         it = c.Write()
-        self._done(self._call("next_write", *c.slice_of(self._out), byref(it)), it.size)
-        return bytes(self._out[: it.size])
+        with self._lock:
+            self._done(self._call("next_write", *c.slice_of(self._out), byref(it)), it.size)
+            return bytes(self._out[: it.size])
 
     def next_writes(self) -> bytes:
         """Sends the first owed register blocks in one frame, as many as it holds: its frame. One that is lost is sent again by the
         next call. One block has the frame of `next_write`, and is answered as that is. `NothingOwed`, `SerialsSpent`."""
         it = c.Writes()
-        self._done(self._call("next_writes", *c.slice_of(self._out), byref(it)), it.size)
-        return bytes(self._out[: it.size])
+        with self._lock:
+            self._done(self._call("next_writes", *c.slice_of(self._out), byref(it)), it.size)
+            return bytes(self._out[: it.size])
 
     def forget(self, station: int) -> None:
         """The slave with a station address may have lost its registers, as one that was switched off and on: each of its register
@@ -197,14 +206,44 @@ class Line:
         """Sends tasks, 1 to 8 and none twice: their frames. `NoSuchTask`, `Unprogrammed` with the number of owed blocks,
         `SerialsSpent`; `ChangesFull` of a line that keeps changes and has as many as it may; `Misused` of other tasks."""
         sent = c.Sent()
-        number = self._call("send", *c.slice_of(bytes(tasks)), *c.slice_of(self._out), byref(sent))
-        self._done(number, sent.owed if number == 17 else sent.size)
-        frames, at = [], 0
-        while at < sent.size:
-            size = max(60, 16 + (int.from_bytes(self._out[at + 14 : at + 16], "little") & 0x7FF))
-            frames.append(bytes(self._out[at : at + size]))
-            at += size
-        return frames
+        with self._lock:
+            number = self._call("send", *c.slice_of(bytes(tasks)), *c.slice_of(self._out), byref(sent))
+            self._done(number, sent.owed if number == 17 else sent.size)
+            return _frames(bytes(self._out[: sent.size]))
+
+    def send_ready(self, *tasks: int) -> list[bytes]:
+        """Sends ready tasks, 1 to 8 and none twice: their frames. A task is ready if no owed register block concerns it and no slave
+        outside the line may take part in it. `NoSuchTask`, `Waits` with the first task that does, `SerialsSpent`; `ChangesFull` and
+        `Misused` as `send`."""
+        sent = c.SentReady()
+        with self._lock:
+            number = self._call("send_ready", *c.slice_of(bytes(tasks)), *c.slice_of(self._out), byref(sent))
+            self._done(number, sent.waits.task if number == 36 else sent.size)
+            return _frames(bytes(self._out[: sent.size]))
+
+    @property
+    def ready(self) -> list[int]:
+        """The ready tasks."""
+        mask = self._number("ready", c_uint8)
+        return [task for task in range(8) if mask >> task & 1]
+
+    def held_by(self, task: int) -> list[int]:
+        """The station addresses of the slaves that hold a task up: first those of the line, in line order, then those outside it, in
+        declared order. None of a task over 7."""
+        it = c_uint16()
+        found = (self._found(lambda: it.value, "held_by", task, number, byref(it)) for number in count())
+        return list(takewhile(lambda station: station is not None, found))
+
+    def cleared(self, station: int) -> None:
+        """The FMMUs of the slave with a station address are zeros now, and no write that was sent to it earlier will still pass it. Say
+        it once `fmmu_off` came back with counter 1, or after the slave powered up; of a tool that comes after `connect`. The blocks
+        of a slave in the line are owed again, as after `forget`. `UnknownStation`."""
+        self._done(self._call("cleared", station))
+
+    def unplugged(self, station: int) -> None:
+        """The slave with a station address, outside the line, is off the wire: it holds no task up until its group is connected
+        again. `UnknownStation`, `AlreadyPresent`."""
+        self._done(self._call("unplugged", station))
 
     def preview(self, task: int, datagram: int) -> bytes | None:
         """The frame of one datagram as it would be sent next, or None."""
@@ -216,24 +255,27 @@ class Line:
         """A frame arrives: what it answers. A `FrameFault` of one that can't be read, which is somebody else's; `ChangesFull`;
         `Memory`."""
         it = c.Arrival()
-        number = self._call("arrive", *c.slice_of(data), self._outcomes, _OUTCOMES, byref(it))
-        if number in (101, 102):
-            return Arrival(Arrived(number), it.serial, [], it.station, it.start)
-        if number == 103:
-            return Arrival(Arrived.STALE, it.serial, [], None, None)
-        if number == 104:
-            return Arrival(Arrived.WRITTEN, it.serial, [], None, None, tuple(map(_block, self._outcomes[: it.datagrams])))
-        self._done(number)
-        return Arrival(Arrived.TASKS, it.serial, [_outcome(one, data) for one in self._outcomes[: it.datagrams]], None, None)
+        with self._lock:
+            number = self._call("arrive", *c.slice_of(data), self._outcomes, _OUTCOMES, byref(it))
+            if number in (101, 102):
+                return Arrival(Arrived(number), it.serial, [], it.station, it.start)
+            if number == 103:
+                return Arrival(Arrived.STALE, it.serial, [], None, None)
+            outcomes = self._outcomes[: it.datagrams]
+            if number == 104:
+                return Arrival(Arrived.WRITTEN, it.serial, [], None, None, tuple(map(_block, outcomes)))
+            self._done(number)
+            return Arrival(Arrived.TASKS, it.serial, [_outcome(one, data) for one in outcomes], None, None)
 
     def write_all(self, pass_frame: Callable[[bytes], Bytes | None], misses: int = 3) -> bool:
-        """Writes all owed blocks; `pass_frame` sends a frame and returns the one that comes back, or None. False where as many
-        writes in a row as `misses` come back untaken or not at all: the slave doesn't answer."""
+        """Writes all owed blocks, as many in each frame as it holds; `pass_frame` sends a frame and returns the one that comes back,
+        or None. False if so many frames in a row as `misses` confirm no block: the slave of the first owed block does not answer."""
         missed = 0
-        while self.owed and missed < misses:
-            came = pass_frame(self.next_write())
-            is_taken = came is not None and self.arrive(came).answers is Arrived.WRITE_DONE
-            missed = 0 if is_taken else missed + 1
+        while (before := self.owed) and missed < misses:
+            came = pass_frame(self.next_writes())
+            if came is not None:
+                self.arrive(came)
+            missed = 0 if self.owed < before else missed + 1
         return missed < misses
 
     def exchange(self, tasks: Iterable[int], pass_frame: Callable[[bytes], Bytes | None]) -> list[Arrival]:
@@ -244,9 +286,10 @@ class Line:
     def read(self, task: int) -> Image:
         """What a task reads. `NoSuchTask`."""
         serials, it = (c_uint64 * c.DATAGRAMS)(), c.Image()
-        self._done(self._call("read", task, *c.slice_of(self._out), serials, c.DATAGRAMS, byref(it)), it.size)
-        known = [serials[d] if it.has >> d & 1 else None for d in range(it.datagrams)]
-        return Image(it.epoch, bytes(self._out[: it.size]), known)
+        with self._lock:
+            self._done(self._call("read", task, *c.slice_of(self._out), serials, c.DATAGRAMS, byref(it)), it.size)
+            data = bytes(self._out[: it.size])
+        return Image(it.epoch, data, [serials[d] if it.has >> d & 1 else None for d in range(it.datagrams)])
 
     def next_change(self) -> Good | Swapped | None:
         """The next change that was not taken yet, or None, also of a line that keeps none."""
@@ -288,6 +331,16 @@ class Line:
         it = c_uint64()
         self._done(self._call("get_value", variable, *c.slice_of(data), byref(it)))
         return it.value
+
+
+def _frames(sent: bytes) -> list[bytes]:
+    """The frames that follow one another; each has its size in its EtherCAT header, and at least 60 bytes."""
+    frames, at = [], 0
+    while at < len(sent):
+        size = max(60, 16 + (int.from_bytes(sent[at + 14 : at + 16], "little") & 0x7FF))
+        frames.append(sent[at : at + size])
+        at += size
+    return frames
 
 
 def _outcome(it: c.Outcome, frame: Bytes) -> Outcome:

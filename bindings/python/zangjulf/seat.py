@@ -3,6 +3,7 @@
 from __future__ import annotations
 
 from ctypes import byref, c_uint64
+from threading import Lock
 from typing import TYPE_CHECKING, Any
 
 from . import library as c
@@ -15,11 +16,13 @@ if TYPE_CHECKING:
 
 
 class Seat:
-    """A task's seat, for a thread of its own: `Line.seat` opens it. Its calls wait for nobody. `close` frees it, before the line or
-    after it, as does the end of a `with`."""
+    """A task's seat, for a thread of its own: `Line.seat` opens it. Its calls do not wait for the line. `close` frees it, before the
+    line or after it, as does the end of a `with`. Several threads may share a seat: each call runs alone, and returns its own data."""
 
     def __init__(self, line: Line, task: int) -> None:
         self._handle = c.Seat(False, None)
+        # held from a call of the library until its bytes are taken out of the buffer
+        self._lock = Lock()
         self._out = bytearray(c.IMAGE)
         self._count = 0
         line._done(line._call("seat_open", task, byref(self._handle)))
@@ -50,15 +53,18 @@ class Seat:
         """The newest image that was shown, or the one that the seat has where none is newer. Before anything was shown it is of epoch
         0 and has no bytes."""
         serials, it = (c_uint64 * c.DATAGRAMS)(), c.View()
-        self._call("seat_view", *c.slice_of(self._out), serials, c.DATAGRAMS, byref(it))
-        self._count = it.outputs
+        with self._lock:
+            self._call("seat_view", *c.slice_of(self._out), serials, c.DATAGRAMS, byref(it))
+            self._count = it.outputs
+            data = bytes(self._out[: it.size])
         known = {d: serials[d] for d in range(c.DATAGRAMS) if it.has >> d & 1}
-        return View(it.epoch, bytes(self._out[: it.size]), it.outputs, known)
+        return View(it.epoch, data, it.outputs, known)
 
     def outputs(self) -> bytearray:
         """The outputs of the image that was viewed last, as they were to be sent when it was shown: change some, and post all."""
-        out = bytearray(self._count)
-        self._call("seat_outputs", *c.slice_of(out))
+        with self._lock:
+            out = bytearray(self._count)
+            self._call("seat_outputs", *c.slice_of(out))
         return out
 
     def post(self, epoch: int, data: Bytes) -> None:

@@ -14,6 +14,9 @@ Bytes = Union[bytes, bytearray, memoryview]
 #: the first byte of the source address of a master's own EtherCAT frames
 OTHER_SOURCE = 0x06
 
+#: the bytes of the longest frame that is built here: zeros to 16 FMMUs
+_LONGEST = 284
+
 _NOWHERE = c_size_t(-1).value
 _KEYS = (
     "table", "group", "alias", "slave", "station", "area", "sm", "dir", "phys", "task", "assigned", "assigned item", "pdo", "index",
@@ -66,7 +69,7 @@ def is_mine(frame: Bytes) -> bool:
 
 
 def _frame(name: str, *numbers: int) -> bytes:
-    out, size = bytearray(60), c_size_t()
+    out, size = bytearray(_LONGEST), c_size_t()
     _done(c.call(name, *numbers, *c.slice_of(out), byref(size)))
     return bytes(out[: size.value])
 
@@ -79,3 +82,10 @@ def alias_read(position: int) -> bytes:
 def station_write(position: int, station: int) -> bytes:
     """The frame that gives the slave at a position, from 0, its station address."""
     return _frame("station_write", position, station)
+
+
+def fmmu_off(station: int, count: int) -> bytes:
+    """The frame that switches off the first `count` FMMUs, 1 to 16, of the slave with a station address, as many as it has areas: its
+    working counter is 1 in what returns if the slave took it. Send it before `Line.disconnect`, while the slave still answers: a slave
+    that stays on the wire would take the outputs of the next one in its task. `Misused` for another count."""
+    return _frame("fmmu_off", station, count)

@@ -111,7 +111,8 @@ pub struct Cost {
 pub enum Edit<'a> {
     /// The group with this alias joins the line.
     Connect(u16),
-    /// The group with this alias leaves the line.
+    /// The group with this alias leaves the line. Send [`fmmu_off`](crate::fmmu_off) to its slaves first, or unplug them: one that stays
+    /// on the wire would take the outputs of the next one in its task.
     Disconnect(u16),
     /// An area of a present slave gets these PDOs assigned, in this order.
     Remap {

@@ -113,6 +113,12 @@ pub struct Frames<'a> {
     left: &'a [u8],
 }
 
+impl<'a> Frames<'a> {
+    pub(crate) fn of(left: &'a [u8]) -> Frames<'a> {
+        Frames { left }
+    }
+}
+
 impl<'a> Iterator for Frames<'a> {
     type Item = &'a [u8];
 
@@ -220,7 +226,7 @@ impl Line {
         done(unsafe { ffi::zangjulf_forget(&mut self.handle, station) }, 0)
     }
 
-    /// Sends tasks, 1 to 8 and none twice: their frames are at the front of `out`, for which [`crate::FRAMES`] bytes are enough.
+    /// Sends tasks, 1 to 8 and none twice: their frames are at the front of `out`. [`crate::FRAMES`] bytes are enough for them.
     /// `NoSuchTask`, `Unprogrammed` with the number of owed blocks, `SerialsSpent`, `Room` with the bytes needed, `ChangesFull`
     /// where the line keeps changes and has as many as it may, `Misused` of other tasks; then nothing is sent, and nothing
     /// changed, `out` neither. It takes no memory.
@@ -250,7 +256,7 @@ impl Line {
         let number =
             unsafe { ffi::zangjulf_send(&mut self.handle, tasks.as_ptr(), tasks.len(), bytes, length, &mut sent) };
         done(number, if number == 17 { sent.owed as usize } else { sent.size })?;
-        Ok(Frames { left: &out[..sent.size] })
+        Ok(Frames::of(&out[..sent.size]))
     }
 
     /// The frame of one datagram of a task as it would be sent next, at the front of `out`; none where there is none. `Room`.

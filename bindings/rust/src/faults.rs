@@ -83,6 +83,7 @@ faults! {
     VariableTaken = 33, "a declared slave offers one of the variables";
     TooManyGroups = 34, "more than 512 groups would be declared, the mandatory one counted";
     TooManySlaves = 35, "more than 2,048 slaves would be declared";
+    Waits(u8) = 36, "a task waits: register blocks that concern it are owed, or a slave outside the line may take part in it";
     Nothing = 100, "there is no such thing";
     IsInput = 105, "the variable is an input: no value is put into it";
     TooWide = 106, "the value needs more bits than there are";
@@ -109,6 +110,7 @@ impl fmt::Display for Fault {
         out.write_str(self.text())?;
         match self {
             Fault::TooManyDatagrams(task) => write!(out, " (task {task})"),
+            Fault::Waits(task) => write!(out, " (task {task})"),
             Fault::Unprogrammed(owed) => write!(out, " ({owed} are owed)"),
             Fault::Room(needed) if *needed > 0 => write!(out, " ({needed} bytes are needed)"),
             _ => Ok(()),

@@ -64,6 +64,22 @@ pub struct Sent {
 }
 
 #[repr(C)]
+#[derive(Default)]
+pub struct Waits {
+    pub task: u8,
+    pub blocks: u32,
+    pub outside: u32,
+}
+
+#[repr(C)]
+#[derive(Default)]
+pub struct SentReady {
+    pub size: usize,
+    pub frames: usize,
+    pub waits: Waits,
+}
+
+#[repr(C)]
 #[derive(Clone, Copy, Debug, Default)]
 pub struct Outcome {
     pub kind: u8,
@@ -175,6 +191,18 @@ extern "C" {
         length: usize,
         sent: *mut Sent,
     ) -> u8;
+    pub fn zangjulf_send_ready(
+        handle: *mut Handle,
+        tasks: *const u8,
+        count: usize,
+        out: *mut u8,
+        length: usize,
+        sent: *mut SentReady,
+    ) -> u8;
+    pub fn zangjulf_ready(handle: *const Handle, tasks: *mut u8) -> u8;
+    pub fn zangjulf_held_by(handle: *const Handle, task: u8, number: u32, station: *mut u16) -> u8;
+    pub fn zangjulf_cleared(handle: *mut Handle, station: u16) -> u8;
+    pub fn zangjulf_unplugged(handle: *mut Handle, station: u16) -> u8;
     pub fn zangjulf_preview(
         handle: *const Handle,
         task: u8,
@@ -229,6 +257,7 @@ extern "C" {
     pub fn zangjulf_is_mine(frame: *const u8, length: usize) -> bool;
     pub fn zangjulf_alias_read(position: u16, out: *mut u8, length: usize, size: *mut usize) -> u8;
     pub fn zangjulf_station_write(position: u16, station: u16, out: *mut u8, length: usize, size: *mut usize) -> u8;
+    pub fn zangjulf_fmmu_off(station: u16, count: u8, out: *mut u8, length: usize, size: *mut usize) -> u8;
     pub fn zangjulf_slave_start(memory: *mut u8, size: usize, alias: u16) -> u8;
     pub fn zangjulf_slave_process(memory: *mut u8, size: usize, frame: *mut u8, length: usize) -> u8;
 }

@@ -24,6 +24,8 @@ fn declared() -> Vec<String> {
         lines!("zangjulf_write", ffi::Write, size block),
         lines!("zangjulf_writes", ffi::Writes, size blocks),
         lines!("zangjulf_sent", ffi::Sent, size frames owed),
+        lines!("zangjulf_waits", ffi::Waits, task blocks outside),
+        lines!("zangjulf_sent_ready", ffi::SentReady, size frames waits),
         lines!("zangjulf_outcome", ffi::Outcome, kind task datagram expected got at length station start),
         lines!("zangjulf_arrival", ffi::Arrival, serial datagrams station start),
         lines!("zangjulf_image", ffi::Image, epoch datagrams size has),

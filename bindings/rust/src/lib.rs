@@ -14,6 +14,7 @@ mod ffi;
 mod layout;
 mod line;
 mod locating;
+mod readiness;
 mod seat;
 mod slave;
 mod values;
@@ -28,7 +29,7 @@ pub use line::Line;
 pub use locating::{locate, Key, Location, Spot};
 pub use seat::Seat;
 pub use slave::Slave;
-pub use values::{alias_read, get_bits, is_mine, put_bits, station_write};
+pub use values::{alias_read, fmmu_off, get_bits, is_mine, put_bits, station_write};
 
 /// The most bytes of a frame; the fewest are 60.
 pub const FRAME: usize = 1514;

@@ -131,3 +131,27 @@ pub fn station_write(position: u16, station: u16, out: &mut [u8]) -> Result<&[u8
     done(unsafe { ffi::zangjulf_station_write(position, station, out.as_mut_ptr(), out.len(), &mut size) }, 0)?;
     Ok(&out[..size])
 }
+
+/// The frame that switches off the first `count` FMMUs, 1 to 16, of the slave with a station address, as many as it has areas, at the
+/// front of `out`; 284 bytes are enough. Its working counter is 1 in what returns if the slave took it. Send it before
+/// [`Edit::Disconnect`](crate::Edit::Disconnect), while the slave still answers: a slave that stays on the wire would take the outputs of
+/// the next one in its task. `Misused` for another count, `Room`.
+///
+/// ```
+/// # fn main() -> Result<(), Box<dyn std::error::Error>> {
+/// let mut slave = zangjulf::Slave::new(0, 2001);
+/// slave.memory()[0x600..0x620].fill(1);
+/// let mut out = [0; 284];
+/// let size = zangjulf::fmmu_off(2001, 2, &mut out)?.len();
+/// slave.process(&mut out[..size]);
+/// assert_eq!(slave.memory()[0x600..0x620], [0; 32]);
+/// assert_eq!(out[58..60], [1, 0]);
+/// assert_eq!(zangjulf::fmmu_off(2001, 17, &mut out), Err(zangjulf::Fault::Misused));
+/// # Ok(())
+/// # }
+/// ```
+pub fn fmmu_off(station: u16, count: u8, out: &mut [u8]) -> Result<&[u8], Fault> {
+    let mut size = 0;
+    done(unsafe { ffi::zangjulf_fmmu_off(station, count, out.as_mut_ptr(), out.len(), &mut size) }, 0)?;
+    Ok(&out[..size])
+}

@@ -1,7 +1,7 @@
 -- The bits that say which datagrams have data, added up from the least significant one on.
 use Rattle.std.proofs.Common.{◌≡◌, ◌∙◌, ℕ, zero, suc, ◌+◌, ◌*◌, ◌^◌, ◌<◌, ◌≤◌, Bool, true, false, List, [], ◌∷◌, refl, sym, ap, pow-suc, suc-mul, zero-mul, arith}
 use Rattle.std.proofs.lemmas.Nat.{pow_pos}
-use Rattle.hc_c.specs.Reads.{mask_of}
+use Rattle.hc_c.specs.Reads.{bit_mask}
 use Rattle.hc_c.specs.Seats.{mask_from}
 
 mask_twice : (bit : ℕ) (bits : List Bool) → mask_from (2 * bit) bits ≡ 2 * mask_from bit bits
@@ -14,7 +14,7 @@ mask_twice bit (false ∷ bits) =
     ap (λ (n : ℕ). 0 + n) (mask_twice (2 * bit) bits) ∙ both
 
 -- from bit 1 on they are the number of all
-pub mask_is : (bits : List Bool) → mask_from 1 bits ≡ mask_of bits
+pub mask_is : (bits : List Bool) → mask_from 1 bits ≡ bit_mask bits
 mask_is [] = refl
 mask_is (true ∷ bits) = ap (λ (n : ℕ). 1 + n) (mask_twice 1 bits ∙ ap (λ (n : ℕ). 2 * n) (mask_is bits))
 mask_is (false ∷ bits) = ap (λ (n : ℕ). 0 + n) (mask_twice 1 bits ∙ ap (λ (n : ℕ). 2 * n) (mask_is bits))

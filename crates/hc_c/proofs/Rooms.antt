@@ -1,15 +1,15 @@
 -- What is needed where a slice is too short.
-use Rattle.std.proofs.Common.{◌≡◌, ◌≢◌, ℕ, Bool, true, false, if◌then◌else◌, List, [], ◌∷◌, ◌++◌, Some, None, ◌==◌, nat_lt, refl}
+use Rattle.std.proofs.Common.{◌≡◌, ◌≢◌, ℕ, Bool, true, false, not, if◌then◌else◌, List, [], ◌∷◌, ◌++◌, length, map, Some, None, ◌==◌, nat_lt, refl}
 use Rattle.std.proofs.lemmas.Option.{same_Some}
 use Rattle.std.proofs.lemmas.Bool.{eq-eqb}
 use Rattle.hc_records.specs.Lists.{lowest}
 use Rattle.hc_events.specs.declared.faults.CoreFault.{CoreFault}
-use Rattle.hc_events.specs.declared.faults.CoreFault.TheVariants.{UnknownAlias, AlreadyPresent, NotPresent, Mandatory, UnknownStation, Absent, NoSuchArea, NoSuchTask, UnknownPdo, RepeatedPdo, AreaTooBig, TooManyDatagrams, EpochsSpent, StalePost, PostLength, Unprogrammed, NothingOwed, SerialsSpent, Short, NotEtherCat, BadType, BadLength, Circulating, MoreFollows, UnknownCommand, IndexMismatch, Memory, Room, BadGroup, AliasTaken, StationTaken, VariableTaken, TooManyGroups, TooManySlaves}
-use Rattle.hc_events.specs.Calls.{frames_size, room_faults, send_into_faults, write_all_into_faults, write_into_faults, write_size}
+use Rattle.hc_events.specs.declared.faults.CoreFault.TheVariants.{UnknownAlias, AlreadyPresent, NotPresent, Mandatory, UnknownStation, Absent, NoSuchArea, NoSuchTask, UnknownPdo, RepeatedPdo, AreaTooBig, TooManyDatagrams, EpochsSpent, StalePost, PostLength, Unprogrammed, NothingOwed, SerialsSpent, Short, NotEtherCat, BadType, BadLength, Circulating, MoreFollows, UnknownCommand, IndexMismatch, Memory, Room, BadGroup, AliasTaken, StationTaken, VariableTaken, TooManyGroups, TooManySlaves, Waits}
+use Rattle.hc_events.specs.Calls.{frames_size, ready_into_faults, room_faults, send_into_faults, write_all_into_faults, write_into_faults, write_size}
 use Rattle.hc_events.specs.Entries.{History}
 use Rattle.hc_events.specs.Faults.{core_fault_number}
 use Rattle.hc_events.specs.Owed.{owed_blocks}
-use Rattle.hc_events.specs.Steps.{task_faults, write_faults}
+use Rattle.hc_events.specs.Steps.{has_serials, is_no_task, proposal, ready_faults, task_faults, wait_fault, write_faults}
 use Rattle.hc_events.specs.WriteFrames.{frame_blocks, writes_size}
 
 -- no other fault has its number
@@ -48,6 +48,7 @@ numbered_room StationTaken e = cc
 numbered_room VariableTaken e = cc
 numbered_room TooManyGroups e = cc
 numbered_room TooManySlaves e = cc
+numbered_room (Waits task blocks outside) e = cc
 
 pub room_alone : (fault : CoreFault) → core_fault_number fault ≡ 29 → (needed : ℕ) × (fault ≡ Room needed)
 room_alone fault e = numbered_room fault (eq-eqb (core_fault_number fault) 29 e)
@@ -92,3 +93,55 @@ pub frames_need : (history : History) (tasks : List ℕ) (bytes needed : ℕ) �
 frames_need history tasks bytes needed is =
     let apart : AreOther (task_faults history tasks) = (λ one e. cc, (λ one e. cc, (λ one e. cc, tt))) in
     needed_after (task_faults history tasks) (frames_size history tasks) bytes needed apart is
+
+-- those of ready tasks that are sent
+waits_are_other : (history : History) (tasks : List ℕ) (rest : List (Bool × CoreFault)) → AreOther rest → AreOther (map (wait_fault history) tasks ++ rest)
+waits_are_other history [] rest other = other
+waits_are_other history (task ∷ tasks) rest other = (λ one e. cc, waits_are_other history tasks rest other)
+
+pub ready_frames_need : (history : History) (tasks : List ℕ) (bytes needed : ℕ) → lowest (ready_into_faults history tasks bytes) ≡ Some (Room needed) → needed ≡ frames_size history tasks
+ready_frames_need history tasks bytes needed is =
+    let last : AreOther ((not (has_serials history (length (proposal history tasks))), SerialsSpent) ∷ []) = (λ one e. cc, tt) in
+    let apart : AreOther (ready_faults history tasks) = (λ one e. cc, waits_are_other history tasks ((not (has_serials history (length (proposal history tasks))), SerialsSpent) ∷ []) last) in
+    needed_after (ready_faults history tasks) (frames_size history tasks) bytes needed apart is
+
+-- a task's waiting has a number of its own
+numbered_waits : (fault : CoreFault) → (core_fault_number fault == 36) ≡ true → (task blocks outside : ℕ) × (fault ≡ Waits task blocks outside)
+numbered_waits UnknownAlias e = cc
+numbered_waits AlreadyPresent e = cc
+numbered_waits NotPresent e = cc
+numbered_waits Mandatory e = cc
+numbered_waits UnknownStation e = cc
+numbered_waits Absent e = cc
+numbered_waits NoSuchArea e = cc
+numbered_waits NoSuchTask e = cc
+numbered_waits UnknownPdo e = cc
+numbered_waits RepeatedPdo e = cc
+numbered_waits AreaTooBig e = cc
+numbered_waits (TooManyDatagrams task) e = cc
+numbered_waits EpochsSpent e = cc
+numbered_waits StalePost e = cc
+numbered_waits PostLength e = cc
+numbered_waits (Unprogrammed owed) e = cc
+numbered_waits NothingOwed e = cc
+numbered_waits SerialsSpent e = cc
+numbered_waits Short e = cc
+numbered_waits NotEtherCat e = cc
+numbered_waits BadType e = cc
+numbered_waits BadLength e = cc
+numbered_waits Circulating e = cc
+numbered_waits MoreFollows e = cc
+numbered_waits UnknownCommand e = cc
+numbered_waits IndexMismatch e = cc
+numbered_waits Memory e = cc
+numbered_waits (Room needed) e = cc
+numbered_waits (BadGroup bad) e = cc
+numbered_waits AliasTaken e = cc
+numbered_waits StationTaken e = cc
+numbered_waits VariableTaken e = cc
+numbered_waits TooManyGroups e = cc
+numbered_waits TooManySlaves e = cc
+numbered_waits (Waits task blocks outside) e = (task, blocks, outside, refl)
+
+pub waits_alone : (fault : CoreFault) → core_fault_number fault ≡ 36 → (task blocks outside : ℕ) × (fault ≡ Waits task blocks outside)
+waits_alone fault e = numbered_waits fault (eq-eqb (core_fault_number fault) 36 e)

@@ -1,17 +1,30 @@
 -- Frames beside those of the line, as C gets them.
-use Rattle.std.specs.Prelude.{◌≡◌, ℕ, ◌<◌, ◌≤◌, ◌==◌, nat_le, ◌&&◌, Bool, true, List, ◌++◌, length, drop, slice_index, Result, Ok, Err}
+use Rattle.std.specs.Prelude.{◌≡◌, ℕ, ◌<◌, ◌≤◌, ◌*◌, ◌==◌, nat_le, ◌&&◌, Bool, true, List, [], ◌∷◌, ◌++◌, length, drop, slice_index, Result, Ok, Err}
+use Rattle.hc_registers.specs.declared.registers.TheConstants.{FMMU_BLOCK_BYTES}
 use Rattle.hc_frames.specs.declared.building.Room.{Room}
-use Rattle.hc_frames.specs.declared.limits.TheConstants.{LEAST_FRAME}
-use Rattle.hc_frames.specs.FrameText.{Datagram, frame_text}
+use Rattle.hc_frames.specs.declared.limits.TheConstants.{LEAST_FRAME, MOST_FMMUS, SETUP_SERIAL}
+use Rattle.hc_frames.specs.FrameText.{Datagram, frame_text, fmmu_off}
+use Rattle.hc_frames.specs.Sizes.{frame_size}
 use Rattle.hc_c.specs.declared.beside.TheConstants.{SOURCE}
 use Rattle.hc_c.specs.declared.numbers.TheConstants.{DONE, ROOM}
 
--- the bytes of a frame of the least size are reported; its text replaces the slice's first bytes, where they are so many, else the slice is as it
--- was
-pub record GivesFrame (text : List ℕ) (number size : ℕ) (before after : List ℕ) : Type 0 where
-  pub sized : size ≡ LEAST_FRAME
-  pub done : LEAST_FRAME ≤ length before → (number ≡ DONE) × (after ≡ text ++ drop LEAST_FRAME before)
-  pub short : length before < LEAST_FRAME → (number ≡ ROOM) × (after ≡ before)
+-- the frame's bytes are reported; its text replaces the slice's first bytes, where they are so many, else the slice is as it was
+pub record GivesFrameOf (bytes : ℕ) (text : List ℕ) (number size : ℕ) (before after : List ℕ) : Type 0 where
+  pub sized : size ≡ bytes
+  pub done : bytes ≤ length before → (number ≡ DONE) × (after ≡ text ++ drop bytes before)
+  pub short : length before < bytes → (number ≡ ROOM) × (after ≡ before)
+
+-- it is a frame of the least size
+abbrev pub GivesFrame : List ℕ → ℕ → ℕ → List ℕ → List ℕ → Type 0
+GivesFrame = GivesFrameOf LEAST_FRAME
+
+-- a slave may have so many FMMUs: 1 to 16
+abbrev pub is_fmmu_count : ℕ → Bool
+is_fmmu_count count = nat_le 1 count && nat_le count MOST_FMMUS
+
+-- the frame of zeros to so many FMMUs of a slave is given
+abbrev pub GivesFmmuOff : ℕ → ℕ → ℕ → ℕ → List ℕ → List ℕ → Type 0
+GivesFmmuOff station count = GivesFrameOf (frame_size (FMMU_BLOCK_BYTES * count)) (frame_text SETUP_SERIAL (fmmu_off station count ∷ []))
 
 -- a builder's frame is done, with its bytes, or the slice is too short, with the bytes that are needed
 abbrev pub AnswersBuilt : Result ℕ Room → ℕ → ℕ → Type 0

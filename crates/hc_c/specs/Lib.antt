@@ -7,6 +7,8 @@ pub mod Lists
 pub mod Looks
 pub mod Edits
 pub mod Sends
+pub mod ReadySends
+pub mod Readiness
 pub mod Arrivals
 pub mod Returned
 pub mod Reads

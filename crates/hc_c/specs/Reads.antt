@@ -35,9 +35,9 @@ image_from history task number (datagram ∷ datagrams) =
     data_or_zeros datagram.length (slot_of history task number) ++ image_from history task (number + 1) datagrams
 
 -- the number whose bits, from the least significant one on, say so
-abbrev pub mask_of : List Bool → ℕ
-mask_of [] = 0
-mask_of (bit ∷ bits) = (if bit then 1 else 0) + 2 * mask_of bits
+abbrev pub bit_mask : List Bool → ℕ
+bit_mask [] = 0
+bit_mask (bit ∷ bits) = (if bit then 1 else 0) + 2 * bit_mask bits
 
 -- of so many datagrams of a task, from a number on, whether each has data
 abbrev pub have_data : History → ℕ → ℕ → ℕ → List Bool
@@ -66,7 +66,7 @@ pub record HoldsImage (history : History) (task : ℕ) (datagrams : List Datagra
   pub epoch_is : image.epoch ≡ epoch_of history
   pub counted : image.datagrams ≡ length datagrams
   pub size : image.size ≡ image_size datagrams
-  pub has : image.has ≡ mask_of (have_data history task 0 (length datagrams))
+  pub has : image.has ≡ bit_mask (have_data history task 0 (length datagrams))
   pub bytes : after ≡ image_from history task 0 datagrams ++ drop (image_size datagrams) before
   pub answered_serials : serials' ≡ put_first (serials_from history task 0 (length datagrams)) serials
 

@@ -8,7 +8,7 @@ use Rattle.hc_rings.specs.Post.{post_of}
 use Rattle.hc_rings.specs.Ring.{ArePostEnds, SameSender, posted, taken}
 use Rattle.hc_c.specs.Embedded.{embedded_history}
 use Rattle.hc_c.specs.Lists.{put_first}
-use Rattle.hc_c.specs.Reads.{mask_of}
+use Rattle.hc_c.specs.Reads.{bit_mask}
 use Rattle.hc_c.specs.SeatImages.{ShowsAll}
 use Rattle.hc_c.specs.SeatRoom.{image_room}
 use Rattle.hc_c.specs.declared.embedded.Embedded.{Embedded}
@@ -65,7 +65,7 @@ pub record GivesImage (image : Image) (view : SeatView) (before after : List ℕ
   pub epoch_is : view.epoch ≡ image.epoch
   pub size : view.size ≡ length image.bytes
   pub outputs : view.outputs ≡ length image.outputs
-  pub has : view.has ≡ mask_of (map is_some image.serials)
+  pub has : view.has ≡ bit_mask (map is_some image.serials)
   pub bytes : after ≡ image.bytes ++ drop (length image.bytes) before
   pub answered_serials : serials' ≡ put_first (serials_answered image.serials) serials
 

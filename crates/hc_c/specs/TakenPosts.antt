@@ -27,7 +27,7 @@ abbrev pub is_refused : Answer → Bool
 is_refused answer_given = not (is_posted answer_given)
 
 -- these posts, so many at most, came out of a ring, in order; none only where none is known to wait. Their buffers went back, where a place for each was known
-pub record AreTaken (most : ℕ) (old new : PostReceiver) (posts : List Post) : Type 0 where
+pub record LeaveTheRing (most : ℕ) (old new : PostReceiver) (posts : List Post) : Type 0 where
   pub few : length posts ≤ most
   pub some : 0 < most → posts ≡ [] → left old ≡ []
   pub ring : SameReceiver old new
@@ -42,7 +42,7 @@ pub record AreJudged (task : ℕ) (before after : CoreState) (posts : List Post)
 
 -- some posts of a ring, so many at most, were taken and judged
 abbrev pub TakesFrom : ℕ → ℕ → CoreState → CoreState → PostReceiver → PostReceiver → Bool × Bool → Type 0
-TakesFrom task most before after old new answer_given = (posts : List Post) × AreTaken most old new posts × AreJudged task before after posts answer_given.0 answer_given.1
+TakesFrom task most before after old new answer_given = (posts : List Post) × LeaveTheRing most old new posts × AreJudged task before after posts answer_given.0 answer_given.1
 
 -- so it was with four at most of a task's seat, if it has one; what it is shown is as it was
 abbrev pub TakesEnd : ℕ → CoreState → CoreState → Option OwnerEnd → Option OwnerEnd → Bool × Bool → Type 0

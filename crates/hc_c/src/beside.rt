@@ -1,11 +1,13 @@
 //! Frames beside those of the line: a master's own before it opens one, and other people's on the same wire.
-ghost use Rattle.std.specs.Prelude.{◌≡◌, [], ◌∷◌};
+ghost use Rattle.std.specs.Prelude.{◌≡◌, false, true, [], ◌∷◌};
 ghost use Rattle.hc_frames.specs.FrameText.{alias_read, frame_text, station_write};
 ghost use Rattle.hc_frames.specs.declared.limits.TheConstants.{SETUP_SERIAL};
-ghost use Rattle.hc_c.specs.Beside.{AnswersBuilt, GivesFrame, is_mine};
+ghost use Rattle.hc_c.specs.Beside.{AnswersBuilt, GivesFmmuOff, GivesFrame, is_fmmu_count, is_mine};
+ghost use Rattle.hc_c.specs.declared.numbers.TheConstants.{MISUSED};
 
-use crate::numbers::{DONE, ROOM};
-use hc_frames::building::{Room, build_alias_read, build_station};
+use crate::numbers::{DONE, MISUSED, ROOM};
+use hc_frames::building::{Room, build_alias_read, build_fmmu_off, build_station};
+use hc_frames::limits::MOST_FMMUS;
 
 /// The first byte of the source address of each frame that the library writes: a locally administered address.
 pub const SOURCE: u8 = 2;
@@ -49,6 +51,21 @@ pub extern "C" fn zangjulf_station_write(
     ensures { GivesFrame (frame_text SETUP_SERIAL (station_write position station ∷ [])) result size.new out.old out.new }
 {
     give(build_station(out, position, station), size)
+}
+
+/// Returns the frame that switches off the first `count` FMMUs, 1 to 16, of the slave with a station address: an FPWR of
+/// 16 × `count` zeros to register 0x0600 (ETG.1000.4, 6.6). After it a slave without another FMMU in use takes no part in
+/// process data. The frame is at the front of `out`, and its bytes, 60 to 284, are in `size`. `DONE`; `ROOM` if `out` is
+/// shorter, which is then as it was; `MISUSED` for another `count`, and then nothing is written. It takes no memory.
+#[unsafe(no_mangle)]
+pub extern "C" fn zangjulf_fmmu_off(station: u16, count: u8, out: &mut [u8], size: &mut usize) -> u8
+    ensures given { is_fmmu_count count ≡ true → GivesFmmuOff station count result size.new out.old out.new }
+    ensures misused { is_fmmu_count count ≡ false → (result ≡ MISUSED) × (size.new ≡ size.old) × (out.new ≡ out.old) }
+{
+    if count < 1 || count > MOST_FMMUS {
+        return MISUSED;
+    }
+    give(build_fmmu_off(out, station, count), size)
 }
 
 /// Whether a frame may be one that the library wrote, as it was sent or as it came back: its EtherType is 0x88A4, and its

@@ -1,4 +1,4 @@
-//! The numbers that calls answer. 1 to 35, but 14, are those of the faults of edits and events.
+//! The numbers that calls answer. 1 to 36, but 14, are those of the faults of edits and events.
 /// It is done.
 pub const DONE: u8 = 0;
 
@@ -13,6 +13,9 @@ pub const MEMORY: u8 = 28;
 
 /// A slice is too short for what is to be in it.
 pub const ROOM: u8 = 29;
+
+/// A task waits, so it isn't sent.
+pub const WAITS: u8 = 36;
 
 /// There is no such thing.
 pub const NOTHING: u8 = 100;

@@ -7,7 +7,7 @@ ghost use Rattle.hc_events.specs.Points.{line_of};
 ghost use Rattle.hc_c.specs.Lists.{put_first};
 ghost use Rattle.hc_c.specs.Pieces.{HaveLengths};
 ghost use Rattle.hc_c.specs.declared.numbers.TheConstants.{CLOSED};
-ghost use Rattle.hc_c.specs.Reads.{HoldsImage, data_or_zeros, fit_number, have_data, image_from, image_size, mask_of, serials_from, HoldsTask, read_number};
+ghost use Rattle.hc_c.specs.Reads.{HoldsImage, data_or_zeros, fit_number, have_data, image_from, image_size, bit_mask, serials_from, HoldsTask, read_number};
 ghost use Rattle.hc_c.specs.Handles.{IfAnswered, IfAnsweredWith};
 
 use crate::handle::Handle;
@@ -75,7 +75,7 @@ fn put_data(core: &Core, task: u8, number: u8, datagrams: &[Datagram], out: &mut
 fn mask(core: &Core, task: u8, number: u8, datagrams: &[Datagram]) -> u16
     requires task { task < TASKS }
     requires few { number + length datagrams.now ≤ MOST_DATAGRAMS }
-    ensures mask { result ≡ mask_of (have_data core.now.history task number (length datagrams.now)) }
+    ensures mask { result ≡ bit_mask (have_data core.now.history task number (length datagrams.now)) }
     ensures below { result < 2 ^ length datagrams.now }
 {
     match datagrams {

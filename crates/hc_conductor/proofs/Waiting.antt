@@ -1,18 +1,23 @@
 -- What waits between a conductor and its seats, where both ends of each ring are in one hand.
-use Rattle.std.proofs.Common.{◌≡◌, ℕ, suc, ◌+◌, ◌<◌, ◌≤◌, List, [], ◌∷◌, ◌++◌, length, map, take, drop, refl, sym, ap, subst, ◌∙◌, arith, append_assoc}
+use Rattle.std.proofs.Common.{rules, ◌≡◌, ℕ, zero, suc, Bool, true, false, cond, ◌⊎◌, inl, inr, filter, ◌+◌, ◌<◌, ◌≤◌, List, [], ◌∷◌, ◌++◌, length, map, take, drop, refl, sym, ap, subst, ◌∙◌, arith, append_assoc}
 use Rattle.std.specs.Prelude.{All}
 use Rattle.std.proofs.Math.Seq.{drop-append_seam, take-append_seam}
-use Rattle.std.proofs.lemmas.List.{append-nil, append_cancel_left, length-append}
+use Rattle.std.proofs.lemmas.List.{append-nil, append_cancel_left, length-append, length-map}
 use Rattle.std.proofs.lemmas.List.Elements.{All-cons, All-nil}
 use Rattle.std.proofs.lemmas.Grind.{common_steps}
 use mathlib.Core.List.{IsPrefix}
+use Rattle.hc_events.specs.declared.answer.Answer.{Answer}
+use Rattle.hc_events.specs.Entries.{History}
+use Rattle.hc_events.specs.Steps.{answer_to, answers_to, entries_after, entries_after_all}
 use Rattle.hc_rings.specs.declared.posts.TheConstants.{POSTS_WAITING}
 use Rattle.hc_rings.specs.declared.posts.PostReceiver.{PostReceiver}
 use Rattle.hc_rings.specs.declared.posts.PostSender.{PostSender}
 use Rattle.hc_rings.specs.Post.{Post}
-use Rattle.hc_rings.specs.Ring.{given_back, left, posted, taken}
+use Rattle.hc_rings.specs.Ring.{SameReceiver, given_back, left, posted, spare_places, taken}
 use Rattle.hc_rings.proofs.lemmas.Same.{ends-still, sender-same}
-use Rattle.hc_conductor.specs.Taking.{AreTaken, AreTakenFrom, EachTakesKnown, TakesKnown}
+use Rattle.hc_core.specs.State.{CoreState}
+use Rattle.hc_conductor.specs.declared.taking.Taken.{Taken}
+use Rattle.hc_conductor.specs.Taking.{AreTaken, AreTakenFrom, EachTakesKnown, TakesFrom, TakesKnown, TakesWaiting, event_of, events_of, one_if, posted_in, was_accepted}
 use Rattle.hc_conductor.specs.Together.{AreJoined, EachRing, LostNoBuffer, KnowAll, posts_waiting, waiting_between}
 
 -- ---- one post that is known comes out
@@ -29,6 +34,80 @@ one-known n old mid back new post first one after_it still others few =
     ∙ (ap (λ ps. ps ++ take n (left back)) (after_it ∙ one)
     ∙ (append_assoc (taken old) (post ∷ []) (take n (left back))
     ∙ ap (λ ps. taken old ++ ps) (ap (λ l. post ∷ take n l) still ∙ sym known.1)))
+
+-- one post that came out became an event of the core
+
+accepted_one : (accepted : Bool) (answer_given : Answer) (others : List Answer) → was_accepted answer_given ≡ accepted → length (filter was_accepted (answer_given ∷ others)) ≡ one_if accepted + length (filter was_accepted others)
+accepted_one true answer_given others is = ap (λ b. length (cond b (answer_given ∷ filter was_accepted others) (filter was_accepted others))) is ∙ omega arith
+accepted_one false answer_given others is = ap (λ b. length (cond b (answer_given ∷ filter was_accepted others) (filter was_accepted others))) is ∙ omega arith
+
+one_back : (old mid back : List Post) (places : ℕ) (post : Post) → mid ≡ old → (back ≡ mid ++ post ∷ []) ⊎ ((back ≡ mid) × (places ≡ 0)) → length back ≤ length old + 1
+one_back old mid back places post same (inl more) = omega (arith, ap length more, length-append mid (post ∷ []), ap length same)
+one_back old mid back places post same (inr (none, full)) = omega (arith, ap length none, ap length same)
+
+pub one-taken : (task n most : ℕ) (before middle after : CoreState) (old mid back new : PostReceiver) (post : Post) (accepted : Bool) (others answer_given : Taken) → suc n ≡ most
+    → middle ≡ record before { history = entries_after before.history (event_of task post) } → was_accepted (answer_to before.history (event_of task post)) ≡ accepted
+    → SameReceiver old mid → taken mid ≡ taken old ++ post ∷ [] → spare_places mid ≡ spare_places old → given_back mid ≡ given_back old
+    → SameReceiver mid back → taken back ≡ taken mid → (given_back back ≡ given_back mid ++ post ∷ []) ⊎ ((given_back back ≡ given_back mid) × (spare_places back ≡ 0))
+    → (0 < spare_places mid → given_back back ≡ given_back mid ++ post ∷ []) → spare_places mid ≤ spare_places back + 1
+    → TakesFrom task n middle after back new others → answer_given.accepted ≡ one_if accepted + others.accepted → answer_given.accepted + answer_given.refused ≡ 1 + (others.accepted + others.refused)
+    → TakesFrom task most before after old new answer_given
+one-taken task n most before middle after old mid back new post accepted others answer_given all moved answers ring one places given ring_too still gave gives room from counted sum =
+    let next = entries_after before.history (event_of task post) in
+    let history : middle.history ≡ next = ap (λ (core : CoreState). core.history) moved in
+    let few = from.ring.few in
+    let more = one_back (given_back old) (given_back mid) (given_back back) (spare_places back) post given gave in
+    let no_more = from.ring.no_more in
+    let length_is : length (events_of task from.posts) ≡ length from.posts = length-map from.posts (event_of task) in
+    record {
+      posts = post ∷ from.posts;
+      ring = record {
+        few = omega (arith, few, all);
+        ring = same_receivers old mid back new ring ring_too from.ring.ring;
+        taken = from.ring.taken ∙ ap (λ (posts : List Post). posts ++ from.posts) (still ∙ one) ∙ append_assoc (taken old) (post ∷ []) from.posts;
+        back = λ enough.
+            let back_too : given_back back ≡ given_back mid ++ post ∷ [] = gives (omega (arith, enough, places)) in
+            from.ring.back (omega (arith, enough, places, room)) ∙ ap (λ (posts : List Post). posts ++ from.posts) (back_too ∙ ap (λ (posts : List Post). posts ++ post ∷ []) given) ∙ append_assoc (given_back old) (post ∷ []) from.posts;
+        no_more = omega (arith, no_more, more);
+      };
+      core = from.core ∙ ap (λ (core : CoreState). let made : CoreState = record core { history = entries_after_all core.history (events_of task from.posts) } in made) moved;
+      counts = record {
+        accepted = counted ∙ ap (λ k. one_if accepted + k) (from.counts.accepted ∙ ap (λ (h : History). posted_in h (events_of task from.posts)) history)
+            ∙ sym (accepted_one accepted (answer_to before.history (event_of task post)) (answers_to next (events_of task from.posts)) answers);
+        all = sum ∙ ap (λ k. 1 + k) from.counts.all ∙ omega arith;
+      };
+    }
+  where
+    same_receivers : (a b c d : PostReceiver) → SameReceiver a b → SameReceiver b c → SameReceiver c d → SameReceiver a d
+    same_receivers a b c d first second third = search rules
+
+-- the front of a prefix is a prefix of the front
+front_prefix : {X : Type 0} (n : ℕ) (l m : List X) → IsPrefix l m → IsPrefix (take n l) (take n m)
+front_prefix zero l m p = ([], refl)
+front_prefix (suc n) [] m p = (take (suc n) m, refl)
+front_prefix {X = X} (suc n) (x ∷ l) m p =
+    let rest = front_prefix n l (l ++ p.0) (p.0, refl) in
+    subst (λ (ys : List X). IsPrefix (x ∷ take n l) (take (suc n) ys)) p.1 (rest.0, ap (λ ys. x ∷ ys) rest.1)
+
+pub one-waiting : (n : ℕ) (old mid back new : PostReceiver) (post : Post) → IsPrefix (left old) (post ∷ left mid) → taken mid ≡ taken old ++ post ∷ []
+    → taken back ≡ taken mid → left back ≡ left mid → TakesWaiting n back new → TakesWaiting (suc n) old new
+one-waiting n old mid back new post first one after_it still others =
+    let front = front_prefix (suc n) (left old) (post ∷ left mid) first in
+    let begun : taken old ++ (post ∷ take n (left mid)) ≡ taken back ++ take n (left back) =
+        sym (append_assoc (taken old) (post ∷ []) (take n (left mid)))
+        ∙ (ap (λ ps. ps ++ take n (left mid)) (sym (after_it ∙ one)) ∙ ap (λ l. taken back ++ take n l) (sym still)) in
+    (front.0 ++ others.0,
+      sym (append_assoc (taken old ++ take (suc n) (left old)) front.0 others.0)
+      ∙ (ap (λ ps. ps ++ others.0) (append_assoc (taken old) (take (suc n) (left old)) front.0 ∙ (ap (λ ps. taken old ++ ps) front.1 ∙ begun))
+      ∙ others.1))
+
+take-nothing : {X : Type 0} (n : ℕ) → take {A = X} n [] ≡ []
+take-nothing zero = refl
+take-nothing (suc n) = refl
+
+pub none-waiting : (n : ℕ) (old new : PostReceiver) → left old ≡ [] → taken new ≡ taken old → TakesWaiting n old new
+none-waiting n old new none same =
+    ([], append-nil (taken old ++ take n (left old)) ∙ (ap (λ l. taken old ++ take n l) none ∙ (ap (λ l. taken old ++ l) (take-nothing n) ∙ (append-nil (taken old) ∙ sym same))))
 
 -- ---- a ring whose ends look at each other
 

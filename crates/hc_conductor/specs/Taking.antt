@@ -1,5 +1,6 @@
 -- What is taken of the tasks' posts.
 use Rattle.std.specs.Prelude.{◌≡◌, ℕ, ◌+◌, ◌≤◌, Bool, true, false, if◌then◌else◌, List, [], ◌∷◌, ◌++◌, filter, length, map, take}
+use mathlib.Core.List.{IsPrefix}
 use Rattle.hc_events.specs.declared.answer.Answer.{Answer}
 use Rattle.hc_events.specs.declared.answer.Answer.TheVariants as answer
 use Rattle.hc_events.specs.Entries.{History}
@@ -60,6 +61,16 @@ abbrev pub EachTakesKnown : List ℕ → List PostReceiver → List PostReceiver
 EachTakesKnown [] [] [] = Unit {0}
 EachTakesKnown (n ∷ ns) (old ∷ olds) (new ∷ updates) = TakesKnown n old new × EachTakesKnown ns olds updates
 EachTakesKnown ns olds updates = ⊥
+
+-- the posts that are known to wait, so many at most, are the first that come out of the ring
+abbrev pub TakesWaiting : ℕ → PostReceiver → PostReceiver → Type 0
+TakesWaiting most old new = IsPrefix (taken old ++ take most (left old)) (taken new)
+
+-- of each ring so many at most
+abbrev pub EachTakesWaiting : List ℕ → List PostReceiver → List PostReceiver → Type 0
+EachTakesWaiting [] [] [] = Unit {0}
+EachTakesWaiting (n ∷ ns) (old ∷ olds) (new ∷ updates) = TakesWaiting n old new × EachTakesWaiting ns olds updates
+EachTakesWaiting ns olds updates = ⊥
 
 -- of each ring these, at most four
 abbrev pub AreTaken : List PostReceiver → List PostReceiver → List (List Post) → Type 0

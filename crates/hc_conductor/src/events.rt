@@ -5,10 +5,11 @@ ghost use Rattle.hc_frames.specs.Arrived.{fault_in};
 ghost use Rattle.hc_events.specs.declared.answer.Arrived.TheVariants.{Answered, Written};
 ghost use Rattle.hc_events.specs.declared.faults.CoreFault.TheVariants.{Memory};
 ghost use Rattle.hc_events.specs.Calls.{MayAnswer, write_all_into_faults, write_into_faults};
-ghost use Rattle.hc_events.specs.Entries.{Forgot};
+ghost use Rattle.hc_events.specs.Entries.{Forgot, Unplugged};
 ghost use Rattle.hc_events.specs.Faults.{frame_refusal};
 ghost use Rattle.hc_events.specs.Outcomes.{arrived_answer};
-ghost use Rattle.hc_events.specs.Steps.{Arrives, Edits, SendsWrite, SendsWrites, answer_to, entries_after, forget_faults, step_of};
+ghost use Rattle.hc_events.specs.Ready.{with_cleared};
+ghost use Rattle.hc_events.specs.Steps.{Arrives, Edits, SendsWrite, SendsWrites, answer_to, clear_faults, entries_after, forget_faults, step_of, unplug_faults};
 ghost use Rattle.hc_core.specs.Early.{ShowsEarly};
 ghost use Rattle.hc_core.specs.Serving.{IsAsked};
 ghost use Rattle.hc_core.specs.Written.{HoldsWrite, HoldsWrites};
@@ -118,5 +119,31 @@ impl Conductor {
         ensures unchanged { OnErr result (self.new ≡ self.old) }
     {
         self.core.forget(station)
+    }
+
+    /// The FMMUs of the declared slave with this station address are zero now, and no write of them that was sent earlier will
+    /// still pass it, as the core's `cleared` says. A slave of the line is forgotten too. Views show nothing of it. Fails with
+    /// `UnknownStation` if no declared slave has the address; nothing has changed then. It needs no allocation.
+    pub fn cleared(&mut self, station: u16) -> Result<(), CoreFault>
+        ensures accepted { OnOk result (lowest (clear_faults (core_history self.old) station) ≡ None) }
+        ensures entries { OnOk result (core_history self.new ≡ with_cleared (core_history self.old) station) }
+        ensures lists { SameLists self.old self.new }
+        ensures refused { IfErr result (λ fault. lowest (clear_faults (core_history self.old) station) ≡ Some fault) }
+        ensures unchanged { OnErr result (self.new ≡ self.old) }
+    {
+        self.core.cleared(station)
+    }
+
+    /// The declared slave with this station address, which is outside the line, is off the wire, as the core's `unplugged` says.
+    /// Views show nothing of it. Fails with `UnknownStation` if no declared slave has the address, else with `AlreadyPresent`
+    /// if the slave is in the line; nothing has changed then. It needs no allocation.
+    pub fn unplugged(&mut self, station: u16) -> Result<(), CoreFault>
+        ensures accepted { OnOk result (lowest (unplug_faults (core_history self.old) station) ≡ None) }
+        ensures entries { OnOk result (core_history self.new ≡ Unplugged station ∷ core_history self.old) }
+        ensures lists { SameLists self.old self.new }
+        ensures refused { IfErr result (λ fault. lowest (unplug_faults (core_history self.old) station) ≡ Some fault) }
+        ensures unchanged { OnErr result (self.new ≡ self.old) }
+    {
+        self.core.unplugged(station)
     }
 }

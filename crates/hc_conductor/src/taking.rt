@@ -4,7 +4,7 @@ ghost use Rattle.hc_records.specs.declared.limits.TheConstants.{TASKS};
 ghost use Rattle.hc_events.specs.Steps.{answer_to, entries_after};
 ghost use Rattle.hc_rings.specs.declared.posts.TheConstants.{POSTS_WAITING};
 ghost use Rattle.hc_conductor.specs.Conducting.{SameChanges};
-ghost use Rattle.hc_conductor.specs.Taking.{EachTakesKnown, TakesFrom, TakesFromAll, TakesKnown, TakesPosts, event_of, was_accepted, one_if};
+ghost use Rattle.hc_conductor.specs.Taking.{EachTakesKnown, EachTakesWaiting, TakesFrom, TakesFromAll, TakesKnown, TakesPosts, TakesWaiting, event_of, was_accepted, one_if};
 
 use crate::conductor::Conductor;
 use hc_core::keeping::Core;
@@ -63,6 +63,7 @@ fn take_some(core: &mut Core, task: u8, ring: &mut PostReceiver, most: u32) -> T
     requires { most ≤ POSTS_WAITING }
     ensures taken { TakesFrom task most core.old core.new ring.old ring.new result }
     ensures known { TakesKnown most ring.old ring.new }
+    ensures waiting { TakesWaiting most ring.old ring.new }
 {
     if most == 0 {
         return NOTHING;
@@ -83,6 +84,7 @@ pub(crate) fn take_all(core: &mut Core, task: u8, rings: &mut [PostReceiver], mo
     requires few { All (λ n. n ≤ POSTS_WAITING) most.now }
     ensures taken { TakesFromAll task core.old core.new rings.old rings.new result }
     ensures known { EachTakesKnown most.now rings.old rings.new }
+    ensures waiting { EachTakesWaiting most.now rings.old rings.new }
 {
     let Some((ring, others)) = rings.split_first_mut() else {
         return NOTHING;
@@ -99,16 +101,18 @@ pub(crate) fn take_all(core: &mut Core, task: u8, rings: &mut [PostReceiver], mo
 }
 
 impl Conductor {
-    ghost use Rattle.std.specs.Prelude.{List};
+    ghost use Rattle.std.specs.Prelude.{List, replicate};
     ghost use Rattle.hc_rings.specs.declared.posts.PostSender.{PostSender};
     ghost use Rattle.hc_conductor.specs.Together.{AreJoined, EachRing};
 
     /// Takes what tasks posted, at most four posts of each, and hands each to the core as a post of its task, for its
-    /// epoch: the tasks ascending, each one's posts in order. A post that the core refuses, since another epoch has
-    /// begun, leaves nothing. Each buffer goes back to its seat, unless no place is found for it. It waits for nobody and
-    /// takes no memory; what is posted meanwhile may be left for the next call.
+    /// epoch: the tasks ascending, each one's posts in order. Each post that is known to wait is among them, up to four of
+    /// a task. A post that the core refuses, since another epoch has begun, leaves nothing. Each buffer goes back to its
+    /// seat, unless no place is found for it. It waits for nobody and takes no memory; what is posted meanwhile may be left
+    /// for the next call.
     pub fn take_posts(&mut self) -> Taken
         ensures taken { TakesPosts self.old self.new result }
+        ensures waiting { EachTakesWaiting (replicate TASKS POSTS_WAITING) self.old.rings self.new.rings }
         ensures joined { (seats : List PostSender) → EachRing AreJoined seats self.old.rings → EachRing AreJoined seats self.new.rings }
         ensures changes { SameChanges self.old self.new }
     {

@@ -18,25 +18,31 @@ use Rattle.hc_records.specs.Project.{lowest_fault}
 use Rattle.hc_events.specs.Arrivals.{Arrival}
 use Rattle.hc_events.specs.Accepted.{AreAccepted, IsInLine}
 use Rattle.hc_events.specs.Entries.{HistoryEntry, History, Opened, Sent, Came}
-use Rattle.hc_events.specs.Heads.{Head, is_block}
+use Rattle.hc_events.specs.Heads.{Block, Head, is_block}
 use Rattle.hc_events.specs.Points.{line_of, state_of}
-use Rattle.hc_events.specs.Answering.{is_stale_to, judge, judged_by}
+use Rattle.hc_events.specs.Answering.{Sending, is_stale_to, judge, judged_by}
+use Rattle.hc_events.specs.Awaited.{awaited, is_write_sending}
 use Rattle.hc_events.specs.Ages.{data_serial, dated}
 use Rattle.hc_events.specs.Images.{FitsImage, NewAnswer, new_answer_by, renewed, slot_of}
-use Rattle.hc_events.specs.Owed.{known_bytes}
+use Rattle.hc_events.specs.Holding.{held_after_answer, is_unplugged, may_hold}
+use Rattle.hc_events.specs.Owed.{confirms, known_bytes, last_write, write_of}
 use Rattle.hc_events.specs.declared.answer.Outcome.{Outcome}
 use Rattle.hc_events.proofs.lemmas.SameAfter.{same-says, same-stale}
 use Rattle.hc_events.proofs.lemmas.Slots.{AllSent, FitsNewAnswer, new_answer-fits}
 use Rattle.hc_sendings.proofs.lemmas.Listed.{standing-task}
 use Rattle.hc_events.proofs.lemmas.WithoutStale.{good_answers-of_updates}
-use Rattle.hc_events.proofs.lemmas.LastWrites.{known-framed}
+use Rattle.hc_events.proofs.lemmas.Confirmed.{confirmed-last}
+use Rattle.hc_events.proofs.lemmas.LastWrites.{awaited-last, known-framed, not-frame}
 use Rattle.hc_sendings.specs.declared.writes.AwaitedBlock.{AwaitedBlock}
 use Rattle.hc_sendings.specs.Judging.{Due, block_due, blocks_with, due_of, found_frame, found_write, frame_due, write_due, written_head}
 use Rattle.hc_sendings.specs.History.{KeepsAwaited, dues_of}
 use Rattle.hc_sendings.proofs.lemmas.Dues.{heads-back}
 use Rattle.hc_sendings.specs.Waiting.{AwaitedFrame, AwaitedWrite, AwaitedDatagram, Waiting, ended}
 use Rattle.hc_images.specs.Image.{DatagramImage, data_of}
+use Rattle.hc_owed.specs.declared.area.JudgedArea.{JudgedArea}
+use Rattle.hc_owed.specs.Readiness.{readiness_of}
 use Rattle.hc_owed.specs.RegisterState.{RegisterState, register_state_of}
+use Rattle.hc_core.proofs.AreasKept.{areas-alike, areas-written, same-hold}
 use Rattle.hc_core.proofs.Awaits.{waits-ended, waits-stale}
 use Rattle.hc_core.proofs.Posts.{values-came}
 use Rattle.hc_core.proofs.Known.{unchanged-alike, known-written}
@@ -46,6 +52,7 @@ use Rattle.hc_core.specs.Agreement.{Agree, CoreParts}
 use Rattle.hc_core.specs.GoodAnswers.{change_of, good_answers_in}
 use Rattle.hc_core.specs.Serials.{Serials, serial_of}
 use Rattle.hc_core.specs.Chosen.{AreWriteOutcomes, CanConfirm, IsAwaitedAt, known_done}
+use Rattle.hc_core.specs.Held.{CanConfirmAreas, held_done}
 use Rattle.hc_core.specs.Waits.{Waits}
 
 -- a stale one
@@ -72,6 +79,8 @@ agree-stale unchanged history taken arrival stale agree =
       dates = λ task d below. agree.dates task d below ∙ sym (none_dated history arrival task d (none-new_answer history arrival stale));
       values = values-came history arrival unchanged.outputs agree.values;
       known = agree.known ∙ unchanged-alike (known_bytes history) (known_bytes (Came arrival ∷ history)) (state_of history) (λ station number. sym (says.known station number));
+      ready = areas-alike unchanged.readiness (known_bytes history) (may_hold history) (is_unplugged history) (Came arrival ∷ history) agree.ready (λ station number. sym (says.known station number))
+          (λ station number. same-hold (may_hold history station number) (may_hold (Came arrival ∷ history) station number) (sym (says.held station number))) (λ station. sym (says.unplugged station));
       shows = updates-none taken history arrival unchanged.changes (none-new_answer history arrival stale) agree.shows;
     }
 
@@ -82,6 +91,13 @@ all_sent (Sent frame ∷ history) all = (all.0.is_placed, all_sent history all.1
 all_sent (other ∷ history) all = all_sent history all.1
 
 -- one that answers a frame of tasks
+
+held_framed : (history : History) (arrival : Arrival) (sending : Sending) → awaited history arrival.serial ≡ Some sending → is_write_sending sending ≡ false
+    → (station number : ℕ) → may_hold history station number ≡ may_hold (Came arrival ∷ history) station number
+held_framed history arrival sending there frame station number =
+    by_bool (list_any (confirms (Block station number)) (judged_by history arrival))
+    (λ t. let never : false ≡ true = sym frame ∙ not-frame sending station number (awaited-last history station number (write_of arrival.serial (confirmed-last history arrival station number t).block) sending (confirmed-last history arrival station number t).last there) in cc)
+    (λ t. sym (ap (λ b. held_after_answer b (last_write history station number) (may_hold history station number)) t))
 
 pub agree-inputs : (unchanged : CoreParts) (history taken : History) (arrival : Arrival) (outcomes : List Outcome) (inputs : DatagramImage) (serials : Serials) → ShowsInputs history arrival outcomes
     → ((task d : ℕ) → d < MOST_DATAGRAMS → data_of inputs task d ≡ fold (renewed task d) (data_of unchanged.inputs task d) (good_answers_in outcomes arrival.parts))
@@ -103,6 +119,9 @@ agree-inputs unchanged history taken arrival outcomes inputs serials shows puts 
       ∙ ap (fold (dated arrival.serial task d) (data_serial history task d)) (sym shows.good_answers);
   values = values-came history arrival unchanged.outputs agree.values;
   known = search (rules, unchanged-alike, known-framed);
+  ready = areas-alike unchanged.readiness (known_bytes history) (may_hold history) (is_unplugged history) (Came arrival ∷ history) agree.ready
+      (λ station number. sym (known-framed history arrival shows.sending shows.there shows.frame station number))
+      (λ station number. same-hold (may_hold history station number) (may_hold (Came arrival ∷ history) station number) (held_framed history arrival shows.sending shows.there shows.frame station number)) (λ station. refl);
   shows = updates-came taken history arrival unchanged.changes (good_answers_in outcomes arrival.parts) shows.good_answers (new_answer-fits IsInLine history arrival (all_sent history agree.accepted)) agree.shows;
 }
 
@@ -183,10 +202,24 @@ can-confirm unchanged history taken arrival shown with same agree = record {
   placed = subst (All (IsAwaitedAt (state_of history))) (sym same) (placed-with history unchanged.awaited arrival agree.waits with);
 }
 
-pub agree-written : (unchanged : CoreParts) (history taken : History) (arrival : Arrival) (outcomes : List Outcome) (owed : RegisterState) → AreWriteOutcomes (judged_by history arrival) outcomes
-    → (with : IsUnchangedWith history unchanged.awaited arrival) → owed ≡ register_state_of (known_done (state_of history) with.write.blocks outcomes (known_bytes history)) (state_of history) → Agree unchanged history taken
-    → Agree (record unchanged { awaited = ended arrival.serial unchanged.awaited; owed = owed }) (Came arrival ∷ history) taken
-agree-written unchanged history taken arrival outcomes owed written with confirmed agree =
+-- and so can their areas
+abbrev pub can-confirm_areas : (unchanged : CoreParts) (history taken : History) (arrival : Arrival) (shown : List AwaitedBlock) (with : IsUnchangedWith history unchanged.awaited arrival) → shown ≡ with.write.blocks → Agree unchanged history taken
+    → CanConfirmAreas unchanged.readiness shown
+can-confirm_areas unchanged history taken arrival shown with same agree = record {
+  known = known_bytes history;
+  held = may_hold history;
+  unplugged = is_unplugged history;
+  state = state_of history;
+  project = agree.project;
+  right = agree.ready;
+  placed = subst (All (IsAwaitedAt (state_of history))) (sym same) (placed-with history unchanged.awaited arrival agree.waits with);
+}
+
+pub agree-written : (unchanged : CoreParts) (history taken : History) (arrival : Arrival) (outcomes : List Outcome) (owed : RegisterState) (readiness : List JudgedArea) → AreWriteOutcomes (judged_by history arrival) outcomes
+    → (with : IsUnchangedWith history unchanged.awaited arrival) → owed ≡ register_state_of (known_done (state_of history) with.write.blocks outcomes (known_bytes history)) (state_of history)
+    → readiness ≡ readiness_of (known_done (state_of history) with.write.blocks outcomes (known_bytes history)) (held_done (state_of history) with.write.blocks outcomes (may_hold history)) (is_unplugged history) (state_of history)
+    → Agree unchanged history taken → Agree (record unchanged { awaited = ended arrival.serial unchanged.awaited; owed = owed; readiness = readiness }) (Came arrival ∷ history) taken
+agree-written unchanged history taken arrival outcomes owed readiness written with confirmed ready agree =
     let shows = answer_given-writes history arrival outcomes written in
     let blocks = with.write.blocks in
     record {
@@ -203,6 +236,7 @@ agree-written unchanged history taken arrival outcomes owed written with confirm
       known = confirmed
           ∙ unchanged-alike (known_done (state_of history) blocks outcomes (known_bytes history)) (known_bytes (Came arrival ∷ history)) (state_of history)
           (λ station number. sym (known-written history arrival with.since blocks outcomes agree.project agree.accepted with.judged_as written.answer_given station number));
+      ready = areas-written readiness history arrival with.since blocks outcomes agree.project agree.accepted with.judged_as written.answer_given ready;
       shows = updates-none taken history arrival unchanged.changes shows.none agree.shows;
     }
 

@@ -7,7 +7,7 @@ use Rattle.hc_records.specs.declared.records.Group.{Group}
 use Rattle.hc_records.specs.Line.{State}
 use Rattle.hc_events.specs.Arrivals.{Arrival}
 use Rattle.hc_events.specs.Accepted.{just_opened}
-use Rattle.hc_events.specs.Entries.{History, Edited, Posted, Wrote, Came, Forgot}
+use Rattle.hc_events.specs.Entries.{History, Edited, Posted, Wrote, Came, Forgot, Cleared, Unplugged}
 use Rattle.hc_events.specs.Points.{next_serial, state_of}
 use Rattle.hc_events.specs.Answering.{is_stale_to}
 use Rattle.hc_sendings.specs.declared.write_frames.PlacedBlock.{PlacedBlock}
@@ -38,6 +38,12 @@ waits-stale history unchanged arrival stale waits = record { unchanged = awaited
 
 pub waits-posted : (history : History) (unchanged : Waiting) (task : ℕ) (bytes : List ℕ) → Waits history unchanged → Waits (Posted task bytes ∷ history) unchanged
 waits-posted history unchanged task bytes waits = record { unchanged = awaited.waits-posted history unchanged task bytes waits.unchanged; placed = waits.placed }
+
+pub waits-cleared : (history : History) (unchanged : Waiting) (station : ℕ) → Waits history unchanged → Waits (Cleared station ∷ history) unchanged
+waits-cleared history unchanged station waits = record { unchanged = awaited.waits-cleared history unchanged station waits.unchanged; placed = waits.placed }
+
+pub waits-unplugged : (history : History) (unchanged : Waiting) (station : ℕ) → Waits history unchanged → Waits (Unplugged station ∷ history) unchanged
+waits-unplugged history unchanged station waits = record { unchanged = awaited.waits-unplugged history unchanged station waits.unchanged; placed = waits.placed }
 
 -- an arrival that is current ends what it answers, and the writes that it doesn't answer stay
 

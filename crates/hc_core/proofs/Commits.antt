@@ -1,5 +1,5 @@
 -- What a commit asks of the present proposal, and what is kept after it.
-use Rattle.std.proofs.Common.{◌≡◌, ℕ, ◌+◌, ◌<◌, ◌≤◌, List, [], ◌∷◌, length, map, sym, subst, arith, None, rules}
+use Rattle.std.proofs.Common.{◌≡◌, ℕ, ◌+◌, ◌<◌, ◌≤◌, ◌⊎◌, inl, inr, false, not, nat_lt, List, [], ◌∷◌, length, map, sym, ◌∙◌, subst, arith, None, rules}
 use Rattle.std.specs.Prelude.{All, AllPairs}
 use Rattle.std.specs.List.{range_with_len}
 use Rattle.std.proofs.lemmas.Bool.{ltb-false}
@@ -14,11 +14,11 @@ use Rattle.hc_records.proofs.lemmas.Lists.{AllPairs-nil}
 use Rattle.hc_frames.specs.declared.limits.TheConstants.{SETUP_SERIAL}
 use Rattle.hc_events.specs.Accepted.{IsInLine}
 use Rattle.hc_events.specs.Entries.{History}
-use Rattle.hc_events.specs.Owed.{owed_blocks}
 use Rattle.hc_events.specs.Points.{line_of, next_serial, state_of}
 use Rattle.hc_events.specs.Sendings.{Frame, Named}
-use Rattle.hc_events.specs.Steps.{proposal, task_faults, with_sent}
-use Rattle.hc_events.proofs.lemmas.Accepted.{passed, proposal-is_placed, none_owed}
+use Rattle.hc_events.specs.declared.faults.CoreFault.TheVariants.{SerialsSpent}
+use Rattle.hc_events.specs.Steps.{has_serials, proposal, ready_faults, task_faults, with_sent}
+use Rattle.hc_events.proofs.lemmas.Accepted.{passed, proposal-is_placed}
 use Rattle.hc_events.proofs.lemmas.Frames.{proposals-numbered}
 use Rattle.hc_events.proofs.lemmas.Answers.{twice}
 use Rattle.hc_events.proofs.lemmas.Live.{at_least}
@@ -27,7 +27,9 @@ use Rattle.hc_sendings.specs.Waiting.{AwaitedFrame, ComeAfter, IsTaskDatagram, a
 use Rattle.hc_core.proofs.Sendings.{agree-sent}
 use Rattle.hc_core.proofs.SentAll.{first-number}
 use Rattle.hc_core.specs.Agreement.{Agree, CoreParts}
+use Rattle.hc_core.specs.Early.{early_ready_faults}
 use Rattle.hc_core.specs.Proposed.{IsProposal}
+use Rattle.hc_core.proofs.Lowest.{lowest-after_it, lowest-none}
 
 -- a datagram of the line has a number that tasks can have
 
@@ -80,18 +82,35 @@ proposal-after_it unchanged history taken frames is agree =
           unchanged.awaited.frames agree.waits.unchanged.below;
     })
 
--- nothing is owed, and the serials suffice
+-- the serials suffice
 
-pub record Allowed (history : History) (tasks : List ℕ) : Type 0 where
-  pub owed : owed_blocks history ≡ []
-  pub left : next_serial history + length (proposal history tasks) ≤ SETUP_SERIAL
+abbrev pub IsAllowed : History → List ℕ → Type 0
+IsAllowed history tasks = next_serial history + length (proposal history tasks) ≤ SETUP_SERIAL
 
-pub allowed : (history : History) (tasks : List ℕ) → lowest (task_faults history tasks) ≡ None → Allowed history tasks
-allowed history tasks none = search (rules, passed, none_owed, ltb-false, twice)
+pub allowed : (history : History) (tasks : List ℕ) → lowest (task_faults history tasks) ≡ None → IsAllowed history tasks
+allowed history tasks none = search (rules, passed, ltb-false, twice)
 
-proposal-left : (unchanged : CoreParts) (history taken : History) (frames : List Frame) → IsProposal history frames → Agree unchanged history taken → unchanged.serial + length frames ≤ SETUP_SERIAL
-proposal-left unchanged history taken frames is agree = search rules
+-- what is judged before the frames are planned finds nothing, and neither does what is judged after it
+pub early-apart : (history : History) (tasks : List ℕ) → lowest (ready_faults history tasks) ≡ None → lowest (early_ready_faults history tasks) ≡ None
+early-apart history tasks none = lowest-none (early_ready_faults history tasks) ((not (has_serials history (length (proposal history tasks))), SerialsSpent) ∷ []) none
+
+serials_left_over : (n : ℕ) → (not (not (nat_lt SETUP_SERIAL n))) ≡ false → n ≤ SETUP_SERIAL
+serials_left_over n e = search (rules, ltb-false, twice)
+
+pub ready-allowed : (history : History) (tasks : List ℕ) → lowest (ready_faults history tasks) ≡ None → IsAllowed history tasks
+ready-allowed history tasks none =
+    let spent = not (has_serials history (length (proposal history tasks))) in
+    let after : lowest ((spent, SerialsSpent) ∷ []) ≡ None = sym (lowest-after_it (early_ready_faults history tasks) ((spent, SerialsSpent) ∷ []) (early-apart history tasks none)) ∙ none in
+    serials_left_over (next_serial history + length (proposal history tasks)) (passed spent SerialsSpent [] after).0
+
+pub proposed-allowed : (history : History) (tasks : List ℕ) → (lowest (task_faults history tasks) ≡ None) ⊎ (lowest (ready_faults history tasks) ≡ None) → IsAllowed history tasks
+proposed-allowed history tasks (inl none) = allowed history tasks none
+proposed-allowed history tasks (inr none) = ready-allowed history tasks none
 
 pub agree-committed : (unchanged : CoreParts) (history taken : History) (frames : List Frame) → IsProposal history frames → Agree unchanged history taken
     → Agree (record unchanged { awaited = all_sent unchanged.awaited frames; serial = unchanged.serial + length frames }) (with_sent history frames) taken
-agree-committed unchanged history taken frames is agree = search (rules, proposal-left, agree-sent, allowed)
+agree-committed unchanged history taken frames is agree =
+    let left : unchanged.serial + length (proposal history is.tasks) ≤ SETUP_SERIAL =
+    subst (λ (n : ℕ). n + length (proposal history is.tasks) ≤ SETUP_SERIAL) (sym agree.serial) (proposed-allowed history is.tasks is.accepted) in
+    subst (λ (all : List Frame). Agree (record unchanged { awaited = all_sent unchanged.awaited all; serial = unchanged.serial + length all }) (with_sent history all) taken) (sym is.whole)
+    (agree-sent unchanged history taken is.tasks is.accepted left agree)

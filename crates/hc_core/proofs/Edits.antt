@@ -1,11 +1,14 @@
 -- What is kept stays right after an accepted edit.
-use Rattle.std.proofs.Common.{◌≡◌, ℕ, ◌+◌, ◌<◌, List, [], ◌∷◌, ◌++◌, length, refl, sym, ap, ◌∙◌, subst, append_assoc, length-append, None, Option, rules}
-use Rattle.std.specs.Prelude.{Err, IfSome, Ok, Result}
+use Rattle.std.proofs.Common.{◌≡◌, ℕ, ◌+◌, ◌*◌, ◌<◌, List, [], ◌∷◌, ◌++◌, length, refl, sym, ap, ◌∙◌, subst, append_assoc, length-append, None, Option, rules}
+use Rattle.std.specs.Prelude.{Contains, Err, IfSome, Ok, Result}
 use Rattle.std.specs.Result.{result_unwrap_or}
 use Rattle.std.proofs.lemmas.List.{length-map, map-append}
 use Rattle.hc_records.specs.declared.edit.Edit.{Edit}
+use Rattle.hc_records.specs.declared.edit.Edit.TheVariants.{Declare}
+use Rattle.hc_records.specs.declared.records.Group.{Group}
+use Rattle.hc_records.specs.declared.records.Slave.{Slave}
 use Rattle.hc_records.specs.declared.faults.EditFault.{EditFault}
-use Rattle.hc_records.specs.Edits.{changed as changed_state, over_limit_task, edit_faults, edited, state_after}
+use Rattle.hc_records.specs.Edits.{changed as changed_state, over_limit_task, edit_faults, edited, is_declared_station, state_after}
 use Rattle.hc_records.specs.Line.{State, groups_of, line}
 use Rattle.hc_records.specs.Lists.{lowest}
 use Rattle.hc_records.specs.Project.{lowest_fault}
@@ -18,16 +21,19 @@ use Rattle.hc_places.specs.Table.{Table, table_of}
 use Rattle.hc_plan.specs.Prepared.{IsPrepared, PreparedEdit}
 use Rattle.hc_plan.specs.declared.report.Report.{Report}
 use Rattle.hc_plan.specs.Reports.{ReportsEdit}
+use Rattle.hc_events.specs.Accepted.{AreAccepted}
 use Rattle.hc_events.specs.declared.answer.Answer.TheVariants as answer
 use Rattle.hc_events.specs.declared.change.Change.{Change}
 use Rattle.hc_events.specs.declared.change.Change.TheVariants as change
 use Rattle.hc_events.specs.Changes.{updates_of}
 use Rattle.hc_events.specs.Entries.{History, Edited}
+use Rattle.hc_events.specs.Holding.{is_unplugged, may_hold}
 use Rattle.hc_events.specs.UpdatesLaws.{state_after_changes}
 use Rattle.hc_events.specs.Outputs.{value_bit}
 use Rattle.hc_events.specs.Owed.{known_bytes}
 use Rattle.hc_events.specs.Points.{line_of, state_of}
 use Rattle.hc_events.specs.Steps.{edit_answer}
+use Rattle.hc_events.proofs.lemmas.Undeclared.{undeclared-empty}
 use Rattle.hc_events.proofs.lemmas.Views.{legal-joined}
 use Rattle.hc_sendings.specs.Waiting.{nothing}
 use Rattle.hc_images.specs.Image.{HasNone, DatagramImage}
@@ -36,7 +42,10 @@ use Rattle.hc_images.specs.Packed.{HoldsOutputValues, Packed}
 use Rattle.hc_images.specs.Values.{unchanged as unchanged_over}
 use Rattle.hc_owed.specs.RegisterState.{RegisterState, register_state_of}
 use Rattle.hc_owed.specs.Laws.{known_over}
-use Rattle.hc_owed.specs.Room.{OwedRoom}
+use Rattle.hc_owed.specs.declared.area.JudgedArea.{JudgedArea}
+use Rattle.hc_owed.specs.Readiness.{readiness_of}
+use Rattle.hc_owed.specs.ReadinessSteps.{IsReadinessFor, held_over, unplugged_over}
+use Rattle.hc_core.proofs.AreasKept.{areas-edited}
 use Rattle.hc_core.proofs.Awaits.{waits-edited}
 use Rattle.hc_core.proofs.Update.{exact-joined}
 use Rattle.hc_core.proofs.Posts.{values-edited}
@@ -44,10 +53,12 @@ use Rattle.hc_core.proofs.Known.{unchanged-alike, known-edited}
 use Rattle.hc_core.specs.Agreement.{Agree, CoreParts}
 use Rattle.hc_core.specs.Serials.{HaveNone, Serials}
 use Rattle.hc_core.specs.Update.{ShowUpdates}
+use Rattle.hc_core.specs.declared.declaring.SlaveRoom.{SlaveRoom}
 use Rattle.hc_core.specs.Prepared.{CanFollow, CoreEdit, CanBeCarriedOut, HasSlaveRoom}
 use Rattle.hc_core.specs.State.{CoreState}
-use Rattle.hc_core.proofs.Followed.{room-answer_given}
+use Rattle.hc_core.proofs.Followed.{areas-many, new-slaves, room-answer_given}
 use Rattle.hc_core.proofs.Serves.{accepted_edit}
+use Rattle.hc_core.proofs.Stations.{kept-right}
 
 -- the state that an accepted edit leads to is that after it
 
@@ -95,8 +106,9 @@ updates-edited taken history edit changes new report accepted say shows =
 
 -- all that is kept
 
-agree-edited : (unchanged : CoreParts) (history taken : History) (new : State) (report : Report) (inputs : DatagramImage) (serials : Serials) (outputs : Packed) (owed : RegisterState) → edited (state_of history) report.swap.edit ≡ Ok new → ReportsEdit (state_of history) report.swap.edit new report
+agree-edited : (unchanged : CoreParts) (history taken : History) (new : State) (report : Report) (inputs : DatagramImage) (serials : Serials) (outputs : Packed) (owed : RegisterState) (readiness : List JudgedArea) → edited (state_of history) report.swap.edit ≡ Ok new → ReportsEdit (state_of history) report.swap.edit new report
     → over_limit_task (line new) ≡ None → HasNone inputs → HaveNone serials → owed ≡ register_state_of (known_over (state_of history) (known_bytes history)) new
+    → readiness ≡ readiness_of (known_over (state_of history) (known_bytes history)) (held_over (state_of history) new (may_hold history)) (unplugged_over new (is_unplugged history)) new
     → HoldsOutputValues (table_of (line new)) (unchanged_over (table_of (line_of history)) (value_bit history)) outputs → Agree unchanged history taken
     → Agree (record {
       plan = new;
@@ -106,9 +118,10 @@ agree-edited : (unchanged : CoreParts) (history taken : History) (new : State) (
       serials = serials;
       outputs = outputs;
       owed = owed;
+      readiness = readiness;
       changes = unchanged.changes ++ change.Swapped report.swap ∷ [];
     }) (Edited report.swap.edit ∷ history) taken
-agree-edited unchanged history taken new report inputs serials outputs owed accepted say uncrowded none undated known carried agree =
+agree-edited unchanged history taken new report inputs serials outputs owed readiness accepted say uncrowded none undated known ready carried agree =
     let edit = report.swap.edit in
     let after : state_after (state_of history) edit ≡ new = after-is (state_of history) edit new accepted in
     record {
@@ -124,21 +137,22 @@ agree-edited unchanged history taken new report inputs serials outputs owed acce
       values = values-edited history edit outputs
           (subst (λ (state : State). HoldsOutputValues (table_of (line state)) (unchanged_over (table_of (line_of history)) (value_bit history)) outputs) (sym after) carried);
       known = search (rules, unchanged-alike, known-edited);
+      ready = areas-edited readiness history edit new after ready;
       shows = updates-edited taken history edit unchanged.changes new report accepted say agree.shows;
     }
 
 -- an edit that is ready for a core, as what the core keeps
 
-pub core_edit-here : (made own now : CoreState) (core_edit : CoreEdit) (edit : PreparedEdit) (moves : Moves) (slaves : Option OwedRoom) (room : List Change) (capacity : ℕ) → CanBeCarriedOut made edit moves slaves room capacity
+pub core_edit-here : (made own now : CoreState) (core_edit : CoreEdit) (edit : PreparedEdit) (moves : Moves) (slaves : Option SlaveRoom) (room : List Change) (capacity : ℕ) → CanBeCarriedOut made edit moves slaves room capacity
     → (let seen : CoreEdit = record { core = made; edit = edit } in seen) ≡ core_edit → core_edit.core ≡ now → own ≡ now → CanBeCarriedOut own edit moves slaves room capacity
 core_edit-here made own now core_edit edit moves slaves room capacity is view asked sees = search rules
 
-pub still-here : (own now : CoreState) (edit : PreparedEdit) (moves : Moves) (slaves : Option OwedRoom) (room : List Change) (capacity : ℕ) → own ≡ now → CanBeCarriedOut now edit moves slaves room capacity
+pub still-here : (own now : CoreState) (edit : PreparedEdit) (moves : Moves) (slaves : Option SlaveRoom) (room : List Change) (capacity : ℕ) → own ≡ now → CanBeCarriedOut now edit moves slaves room capacity
     → CanBeCarriedOut own edit moves slaves room capacity
 still-here own now edit moves slaves room capacity same = subst (λ (core : CoreState). CanBeCarriedOut core edit moves slaves room capacity) (sym same)
 
 -- an edit of the core's line, with the memory that was taken for it
-pub with-memory : (core : CoreState) (edit : PreparedEdit) (asked : Edit) (table : Table) (swap : Swap) (moves : Moves) (count : ℕ) (slaves : Option OwedRoom) (room : List Change) (capacity : ℕ) → edit.old ≡ state_of core.history
+pub with-memory : (core : CoreState) (edit : PreparedEdit) (asked : Edit) (table : Table) (swap : Swap) (moves : Moves) (count : ℕ) (slaves : Option SlaveRoom) (room : List Change) (capacity : ℕ) → edit.old ≡ state_of core.history
     → IsPrepared edit → edit.report.swap.edit ≡ asked → table ≡ table_of (line_of core.history) → swap ≡ edit.report.swap → moves ≡ record { before = table; change = swap.change } → count ≡ length (stations edit.old)
     → HasSlaveRoom count asked slaves → room ≡ [] → length (updates_of core.history) < length (updates_of core.taken) + capacity → CanBeCarriedOut core edit moves slaves room capacity
 with-memory core edit asked table swap moves count slaves room capacity made prepared same placed shown moved known has empty fits = record {
@@ -151,23 +165,43 @@ with-memory core edit asked table swap moves count slaves room capacity made pre
   fits = fits;
 }
 
-pub table-leads : (core : CoreState) (edit : PreparedEdit) (moves : Moves) (slaves : Option OwedRoom) (room : List Change) (capacity : ℕ) → CanBeCarriedOut core edit moves slaves room capacity → IsPrepared edit → moved_table moves ≡ table_of (line edit.new)
+pub table-leads : (core : CoreState) (edit : PreparedEdit) (moves : Moves) (slaves : Option SlaveRoom) (room : List Change) (capacity : ℕ) → CanBeCarriedOut core edit moves slaves room capacity → IsPrepared edit → moved_table moves ≡ table_of (line edit.new)
 table-leads core edit moves slaves room capacity core_edit prepared = search rules
 
 pub new-project : (edit : PreparedEdit) → IsPrepared edit → lowest_fault (groups_of edit.new.groups) ≡ None
 new-project edit prepared = accepted-project edit.old edit.new edit.report.swap.edit prepared.project prepared.accepted
 
-abbrev pub can-follow : (unchanged : CoreParts) (history taken : History) (edit : PreparedEdit) (moves : Moves) (slaves : Option OwedRoom) (room : List Change) (capacity : ℕ)
-    → CanBeCarriedOut (record { history = history; taken = taken }) edit moves slaves room capacity → Agree unchanged history taken → CanFollow unchanged.owed edit slaves
+-- eight areas are kept for each slave whose station address is kept
+
+pub areas-declared : (unchanged : CoreParts) (history taken : History) → Agree unchanged history taken → length unchanged.readiness ≡ 8 * length unchanged.owed.stations
+areas-declared unchanged history taken agree =
+    areas-many (known_bytes history) (may_hold history) (is_unplugged history) (state_of history) unchanged.readiness agree.ready
+    ∙ ap (λ (registers : RegisterState). 8 * length registers.stations) (sym agree.known)
+
+-- a slave that the edit declares has registers without contents
+
+pub declared-empty : (history : History) (edit : PreparedEdit) → edit.old ≡ state_of history → IsPrepared edit → AreAccepted history
+    → (group : Group) → edit.report.swap.edit ≡ Declare group → (slave : Slave) → Contains group.slaves slave → (number : ℕ) → (may_hold history slave.station number).contents ≡ []
+declared-empty history edit made prepared accepted group named slave has number =
+    undeclared-empty history slave.station number accepted
+    (ap (λ (state : State). is_declared_station state slave.station) (sym made) ∙ new-slaves edit.old edit.new edit.report.swap.edit group slave prepared.accepted named has)
+
+abbrev pub can-follow : (unchanged : CoreParts) (history taken : History) (edit : PreparedEdit) (moves : Moves) (slaves : Option SlaveRoom) (room : List Change) (capacity : ℕ)
+    → CanBeCarriedOut (record { history = history; taken = taken }) edit moves slaves room capacity → Agree unchanged history taken → CanFollow unchanged.owed unchanged.readiness edit slaves
 can-follow unchanged history taken edit moves slaves room capacity core_edit agree = record {
   known = known_bytes history;
+  held = may_hold history;
+  unplugged = is_unplugged history;
   right = agree.known ∙ ap (register_state_of (known_bytes history)) (sym core_edit.made);
+  areas = subst (λ (state : State). IsReadinessFor (known_bytes history) (may_hold history) (is_unplugged history) state unchanged.readiness) (sym core_edit.made) (kept-right unchanged history taken agree);
+  empty = declared-empty history edit core_edit.made core_edit.prepared agree.accepted;
   prepared = core_edit.prepared;
   slaves = core_edit.slaves;
 }
 
-pub agree-carried : (unchanged : CoreParts) (history taken : History) (edit : PreparedEdit) (moves : Moves) (slaves : Option OwedRoom) (room : List Change) (capacity : ℕ) (inputs : DatagramImage) (serials : Serials) (outputs : Packed) (owed : RegisterState)
+pub agree-carried : (unchanged : CoreParts) (history taken : History) (edit : PreparedEdit) (moves : Moves) (slaves : Option SlaveRoom) (room : List Change) (capacity : ℕ) (inputs : DatagramImage) (serials : Serials) (outputs : Packed) (owed : RegisterState) (readiness : List JudgedArea)
     → CanBeCarriedOut (record { history = history; taken = taken }) edit moves slaves room capacity → IsPrepared edit → HasNone inputs → HaveNone serials → owed ≡ register_state_of (known_over edit.old (known_bytes history)) edit.new
+    → readiness ≡ readiness_of (known_over edit.old (known_bytes history)) (held_over edit.old edit.new (may_hold history)) (unplugged_over edit.new (is_unplugged history)) edit.new
     → ((value : ℕ → ℕ → ℕ) → HoldsOutputValues moves.before value unchanged.outputs → HoldsOutputValues (moved_table moves) (unchanged_over moves.before value) outputs) → Agree unchanged history taken
     → Agree (record {
       plan = edit.new;
@@ -177,9 +211,10 @@ pub agree-carried : (unchanged : CoreParts) (history taken : History) (edit : Pr
       serials = serials;
       outputs = outputs;
       owed = owed;
+      readiness = readiness;
       changes = unchanged.changes ++ change.Swapped edit.report.swap ∷ [];
     }) (Edited edit.report.swap.edit ∷ history) taken
-agree-carried unchanged history taken edit moves slaves room capacity inputs serials outputs owed core_edit prepared none undated known moves_so agree =
+agree-carried unchanged history taken edit moves slaves room capacity inputs serials outputs owed readiness core_edit prepared none undated known ready moves_so agree =
     let asked = edit.report.swap.edit in
     let accepted : edited (state_of history) asked ≡ Ok edit.new = subst (λ (state : State). edited state asked ≡ Ok edit.new) core_edit.made prepared.accepted in
     let answer_given : ReportsEdit (state_of history) asked edit.new edit.report = subst (λ (state : State). ReportsEdit state asked edit.new edit.report) core_edit.made prepared.answer_given in
@@ -187,8 +222,9 @@ agree-carried unchanged history taken edit moves slaves room capacity inputs ser
     let carried : HoldsOutputValues (table_of (line edit.new)) (unchanged_over (table_of (line_of history)) (value_bit history)) outputs =
     subst (λ (table : Table). HoldsOutputValues (table_of (line edit.new)) (unchanged_over table (value_bit history)) outputs) core_edit.table
     (subst (λ (table : Table). HoldsOutputValues table (unchanged_over moves.before (value_bit history)) outputs) (table-leads (record { history = history; taken = taken }) edit moves slaves room capacity core_edit prepared) (moves_so (value_bit history) before)) in
-    agree-edited unchanged history taken edit.new edit.report inputs serials outputs owed accepted answer_given prepared.crowds.1 none undated
-    (known ∙ ap (λ (state : State). register_state_of (known_over state (known_bytes history)) edit.new) core_edit.made) carried agree
+    agree-edited unchanged history taken edit.new edit.report inputs serials outputs owed readiness accepted answer_given prepared.crowds.1 none undated
+    (known ∙ ap (λ (state : State). register_state_of (known_over state (known_bytes history)) edit.new) core_edit.made)
+    (ready ∙ ap (λ (state : State). readiness_of (known_over state (known_bytes history)) (held_over state edit.new (may_hold history)) (unplugged_over edit.new (is_unplugged history)) edit.new) core_edit.made) carried agree
 
 -- room that was taken for the changes of a core suffices for them and one more
 

@@ -1,5 +1,5 @@
 -- How many frames a proposal has.
-use Rattle.std.proofs.Common.{◌≡◌, ℕ, ◌+◌, ◌*◌, ◌<◌, ◌≤◌, Bool, false, cond, List, [], ◌∷◌, length, arith, length-append, None, rules}
+use Rattle.std.proofs.Common.{◌≡◌, ℕ, ◌+◌, ◌*◌, ◌<◌, ◌≤◌, inl, inr, Bool, false, cond, List, [], ◌∷◌, length, arith, length-append, None, rules}
 use Rattle.std.specs.List.{flat_map, list_any}
 use Rattle.std.proofs.lemmas.Bool.Decides.{nat_tests}
 use Rattle.std.proofs.lemmas.List.FromFn.{length-map-range_with_len}
@@ -14,6 +14,7 @@ use Rattle.hc_events.specs.Sendings.{Frame, Named, frame_of_one, framed, framed_
 use Rattle.hc_events.specs.Steps.{is_no_task}
 use Rattle.hc_events.proofs.lemmas.Accepted.{passed}
 use Rattle.hc_core.specs.Proposed.{IsProposal}
+use Rattle.hc_core.proofs.Sendings.{NothingRefuses}
 
 -- no more frames than datagrams
 
@@ -40,5 +41,9 @@ datagrams_few line (task ∷ tasks) uncrowded low =
     let both = or_parts (is_no_task task) (list_any is_no_task tasks) low in
     search (rules, or_parts, length-map-range_with_len, uncrowded-few, is_task, length-append, datagrams_few line tasks uncrowded both.1)
 
+low_tasks : (history : History) (tasks : List ℕ) → NothingRefuses history tasks → list_any is_no_task tasks ≡ false
+low_tasks history tasks (inl none) = search (rules, passed)
+low_tasks history tasks (inr none) = search (rules, passed)
+
 pub proposal-few : (history : History) (frames : List Frame) → over_limit_task (line_of history) ≡ None → IsProposal history frames → length frames ≤ MOST_DATAGRAMS * TASKS
-proposal-few history frames uncrowded is = search (rules, passed, framed_few, datagrams_few)
+proposal-few history frames uncrowded is = search (rules, framed_few, datagrams_few, low_tasks history is.tasks is.accepted)

@@ -13,6 +13,7 @@ use Rattle.hc_events.specs.declared.faults.CoreFault.TheVariants.{Room}
 use Rattle.hc_events.specs.Accepted.{IsWrite}
 use Rattle.hc_events.specs.Calls.{room_faults}
 use Rattle.hc_events.specs.Entries.{History}
+use Rattle.hc_events.specs.Holding.{is_unplugged, may_hold}
 use Rattle.hc_events.specs.Owed.{is_owed, known_bytes, owed_blocks}
 use Rattle.hc_events.specs.Points.{line_of, state_of}
 use Rattle.hc_events.specs.WriteFrames.{block_datagram, blocks_beside, blocks_bytes, writes_text}
@@ -23,6 +24,7 @@ use Rattle.hc_sendings.specs.declared.write_frames.PlacedBlock.{PlacedBlock}
 use Rattle.hc_sendings.specs.WriteFrames.{WriteFrame, block_of, no_blocks, placed_datagram, placed_text}
 use Rattle.hc_core.specs.Agreement.{Agree, CoreParts}
 use Rattle.hc_core.specs.Chosen.{CanMark, IsChosenFrom, IsLineBlock, KeepsBlocks}
+use Rattle.hc_core.specs.Held.{CanMarkAreas}
 use Rattle.hc_core.specs.Written.{first_blocks}
 
 -- what is kept of the blocks is right for the line
@@ -77,6 +79,20 @@ can-mark unchanged history taken placed shown same agree write at = record {
   state = state_of history;
   project = agree.project;
   right = agree.known;
+  placed = subst (All (IsLineBlock (state_of history))) (sym same) at;
+  lacking = subst (All (λ (one : PlacedBlock). lacks (known_bytes history) one.block ≡ true)) (sym same) (all-lacking history placed write);
+}
+
+-- and so can their areas
+abbrev pub can-mark_areas : (unchanged : CoreParts) (history taken : History) (placed shown : List PlacedBlock) → shown ≡ placed → Agree unchanged history taken → IsWrite (owed_blocks history) (map block_of placed) → All (IsLineBlock (state_of history)) placed
+    → CanMarkAreas unchanged.readiness shown
+can-mark_areas unchanged history taken placed shown same agree write at = record {
+  known = known_bytes history;
+  held = may_hold history;
+  unplugged = is_unplugged history;
+  state = state_of history;
+  project = agree.project;
+  right = agree.ready;
   placed = subst (All (IsLineBlock (state_of history))) (sym same) at;
   lacking = subst (All (λ (one : PlacedBlock). lacks (known_bytes history) one.block ≡ true)) (sym same) (all-lacking history placed write);
 }

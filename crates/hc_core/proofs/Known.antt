@@ -37,12 +37,12 @@ use Rattle.hc_core.specs.Chosen.{block_bytes_in, write_is_done, known_done, know
 pub unchanged-alike : (a b : Knowledge) (state : State) → ((station number : ℕ) → a station number ≡ b station number) → register_state_of a state ≡ register_state_of b state
 unchanged-alike a b state same = search rules
 
-name_turned : (a b c d : ℕ) → ((a == b) && (c == d)) ≡ ((b == a) && (d == c))
+pub name_turned : (a b c d : ℕ) → ((a == b) && (c == d)) ≡ ((b == a) && (d == c))
 name_turned a b c d = ap (λ t. t && (c == d)) (own-swap a b) ∙ ap (λ t. (b == a) && t) (own-swap c d)
 
 -- once blocks are sent nothing is known of any of them
 
-abbrev are_named : ℕ → ℕ → List PlacedBlock → Bool
+abbrev pub are_named : ℕ → ℕ → List PlacedBlock → Bool
 are_named station number placed = list_any (λ one. same_name (found_name one.block) (station, number)) placed
 
 none_or : {X : Type 0} (a b : Bool) (found : Option X) → cond b None (cond a None found) ≡ cond (a || b) None found
@@ -56,7 +56,7 @@ sent_known (one ∷ placed) known station number =
     sent_known placed (known_with (found_name one.block) None known) station number
     ∙ none_or (same_name (found_name one.block) (station, number)) (are_named station number placed) (known station number)
 
-named_sends : (placed : List PlacedBlock) (station number : ℕ) → is_some (block_among station number (map block_of placed)) ≡ are_named station number placed
+pub named_sends : (placed : List PlacedBlock) (station number : ℕ) → is_some (block_among station number (map block_of placed)) ≡ are_named station number placed
 named_sends [] station number = refl
 named_sends (one ∷ placed) station number =
     found_first (same_item (Block station number) (block_item one.block)) one.block (block_among station number (map block_of placed))
@@ -80,12 +80,12 @@ known-wrote history placed station number =
 
 -- once a frame of writes is answered the bytes that the line configures are known of each block whose write is done
 
-abbrev are_done : ℕ → ℕ → List AwaitedBlock → List Outcome → Bool
+abbrev pub are_done : ℕ → ℕ → List AwaitedBlock → List Outcome → Bool
 are_done station number [] outcomes = false
 are_done station number (block ∷ blocks) [] = false
 are_done station number (block ∷ blocks) (outcome ∷ outcomes) = (same_name (block.station, block.number) (station, number) && write_is_done outcome) || are_done station number blocks outcomes
 
-abbrev configured_bytes : State → ℕ → ℕ → Option (List ℕ)
+abbrev pub configured_bytes : State → ℕ → ℕ → Option (List ℕ)
 configured_bytes state station number = option_map (λ (found : RegisterBlock). found.bytes) (block_at (line state) station number)
 
 one_done : (done same later : Bool) (own bytes known : Option (List ℕ)) → (same ≡ true → own ≡ bytes) → cond later bytes (cond done (cond same own known) known) ≡ cond ((same && done) || later) bytes known
@@ -106,7 +106,7 @@ if_known state block outcome known station number = by_bool (write_is_done outco
     (λ t. ap (λ b. cond b (known_with (block.station, block.number) (block_bytes_in state block) known) known station number) t
     ∙ sym (ap (λ b. cond b (cond (same_name (block.station, block.number) (station, number)) (block_bytes_in state block) (known station number)) (known station number)) t))
 
-own_bytes : (state : State) (block : AwaitedBlock) (station number : ℕ) → same_name (block.station, block.number) (station, number) ≡ true → block_bytes_in state block ≡ configured_bytes state station number
+pub own_bytes : (state : State) (block : AwaitedBlock) (station number : ℕ) → same_name (block.station, block.number) (station, number) ≡ true → block_bytes_in state block ≡ configured_bytes state station number
 own_bytes state block station number same =
     let both = and_parts (block.station == station) (block.number == number) same in
     ap (λ n. configured_bytes state n block.number) (eqb-true block.station station both.0) ∙ ap (configured_bytes state station) (eqb-true block.number number both.1)
@@ -124,7 +124,7 @@ done_known state (block ∷ blocks) (outcome ∷ outcomes) known station number 
 good_done : (head : Head) (part : Part) (verdict : Verdict) (station number : ℕ) → head.item ≡ Block station number → write_is_done (outcome_of head part verdict) ≡ is_good verdict
 good_done head part verdict station number is = search rules
 
-confirms_done : (since : List HistoryEntry) (station number : ℕ) (blocks : List AwaitedBlock) (parts : List Part)
+pub confirms_done : (since : List HistoryEntry) (station number : ℕ) (blocks : List AwaitedBlock) (parts : List Part)
     → list_any (confirms (Block station number)) (map (judge since) (zip (map written_head blocks) parts)) ≡ are_done station number blocks (map outcome_for (map (judge since) (zip (map written_head blocks) parts)))
 confirms_done since station number [] parts = refl
 confirms_done since station number (block ∷ blocks) [] = refl
@@ -136,7 +136,7 @@ confirms_done since station number (block ∷ blocks) (part ∷ parts) =
     (sym (good_done (written_head block) part one.verdict block.station block.number refl))
     ∙ ap (λ b. (same_name (block.station, block.number) (station, number) && write_is_done (outcome_for one)) || b) (confirms_done since station number blocks parts)
 
-written_bytes : (history : History) (arrival : Arrival) (station number : ℕ) → lowest_fault (groups_of (state_of history).groups) ≡ None → AreAccepted history → list_any (confirms (Block station number)) (judged_by history arrival) ≡ true
+pub written_bytes : (history : History) (arrival : Arrival) (station number : ℕ) → lowest_fault (groups_of (state_of history).groups) ≡ None → AreAccepted history → list_any (confirms (Block station number)) (judged_by history arrival) ≡ true
     → option_map (λ write. write.1) (last_write history station number) ≡ configured_bytes (state_of history) station number
 written_bytes history arrival station number project all confirmed =
     let one = confirmed-last history arrival station number confirmed in

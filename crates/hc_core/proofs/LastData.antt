@@ -16,6 +16,7 @@ use Rattle.hc_events.specs.Entries.{HistoryEntry, History, Opened, Edited, Sent,
 use Rattle.hc_events.specs.Points.{epoch_of, line_of, next_serial}
 use Rattle.hc_events.specs.Sendings.{Named}
 use Rattle.hc_events.specs.Heads.{Datagram, Head, data_head, data_heads, item_of, write_heads}
+use Rattle.hc_events.specs.Ages.{data_serial, dated}
 use Rattle.hc_events.specs.Answering.{Good, Sending, Stale, Wrong, answered_by, has_good, has_heads, is_good, judge, judged, sends}
 use Rattle.hc_events.specs.AnswerLaws.{LeavesAwaited}
 use Rattle.hc_events.specs.Awaited.{is_no_arrival}
@@ -25,6 +26,7 @@ use Rattle.hc_events.specs.Steps.{image_of, unless}
 use Rattle.hc_events.proofs.lemmas.Answers.{answers-first, none-opened}
 use Rattle.hc_events.proofs.lemmas.Slots.{slots-fit}
 use Rattle.hc_events.proofs.lemmas.Views.{is_task}
+use Rattle.hc_core.proofs.LastSerials.{dated-left, dated-renewed}
 use Rattle.hc_core.specs.LastData.{FrameCameBack, GoodAnswer, IsGoodIn, IsLastData, IsLater, TasksReadLastData, begins_epoch}
 
 -- a frame that came back is the answer to its sending
@@ -255,11 +257,23 @@ by_answer history arrival task d slot (Some sending) e =
 arrival_shows : (history : History) (arrival : Arrival) (task d : ℕ) (slot : Option (List ℕ)) → Shows history arrival task d slot (fold (renewed task d) slot (new_answer_by history arrival))
 arrival_shows history arrival task d slot = by_answer history arrival task d slot (answered_by history arrival) refl
 
+-- the serial of a datagram's data is the arrival's where something in it is good
+serial_renewed : (history : History) (arrival : Arrival) (task d : ℕ) (so_far : Option ℕ) (place : ℕ) (part : Part) → IsGoodIn history arrival task d place part
+    → Shows history arrival task d None (fold (renewed task d) None (new_answer_by history arrival)) → fold (dated arrival.serial task d) so_far (new_answer_by history arrival) ≡ Some arrival.serial
+serial_renewed history arrival task d so_far place part good (inl renewal) = dated-renewed arrival.serial task d so_far renewal.part.bytes (new_answer_by history arrival) renewal.is
+serial_renewed history arrival task d so_far place part good (inr (same, none)) = absurd (none place part good)
+
+-- and stays where nothing is
+serial_left : (history : History) (arrival : Arrival) (task d : ℕ) (so_far : Option ℕ) → ((m : ℕ) (part : Part) → ¬ (IsGoodIn history arrival task d m part))
+    → Shows history arrival task d None (fold (renewed task d) None (new_answer_by history arrival)) → fold (dated arrival.serial task d) so_far (new_answer_by history arrival) ≡ so_far
+serial_left history arrival task d so_far none (inl renewal) = absurd (none renewal.place renewal.part renewal.good)
+serial_left history arrival task d so_far none (inr (same, also)) = dated-left arrival.serial task d so_far (new_answer_by history arrival) same
+
 -- along the record
 
 abbrev HasLast : History → ℕ → ℕ → Option (List ℕ) → Type 0
 HasLast history task d None = ¬ (GoodAnswer history task d)
-HasLast history task d (Some bytes) = (answer : GoodAnswer history task d) × (bytes ≡ answer.part.bytes) × ((other : GoodAnswer history task d) → ¬ (IsLater other answer))
+HasLast history task d (Some bytes) = (answer : GoodAnswer history task d) × (bytes ≡ answer.part.bytes) × (data_serial history task d ≡ Some answer.arrival.serial) × ((other : GoodAnswer history task d) → ¬ (IsLater other answer))
 
 -- a good answer after one more entry is the newest entry, or one of the older ones
 record Older (history : History) (task d : ℕ) (after_it : List HistoryEntry) (place : ℕ) : Type 0 where
@@ -309,9 +323,9 @@ nothing_in (first ∷ after_it) arrival before e = search rules
 later_too : (l a b p q r : ℕ) → l ≡ suc a → p ≡ q → (l < suc b) ⊎ ((l ≡ suc b) × (r < p)) → (a < b) ⊎ ((a ≡ b) × (r < q))
 later_too l a b p q r one same later = search rules
 
-carried_on : (entry : HistoryEntry) (history : History) (task d : ℕ) (slot : Option (List ℕ)) → begins_epoch entry ≡ false → ((answer : GoodAnswer (entry ∷ history) task d) → Older history task d answer.after_it answer.place) → HasLast history task d slot → HasLast (entry ∷ history) task d slot
-carried_on entry history task d None plain older has = λ answer. let one = older answer in has one.older
-carried_on entry history task d (Some bytes) plain older (answer, read, last) =
+carried_on : (entry : HistoryEntry) (history : History) (task d : ℕ) (slot : Option (List ℕ)) → begins_epoch entry ≡ false → data_serial (entry ∷ history) task d ≡ data_serial history task d → ((answer : GoodAnswer (entry ∷ history) task d) → Older history task d answer.after_it answer.place) → HasLast history task d slot → HasLast (entry ∷ history) task d slot
+carried_on entry history task d None plain dates older has = λ answer. let one = older answer in has one.older
+carried_on entry history task d (Some bytes) plain dates older (answer, read, serial, last) =
     let unchanged : GoodAnswer (entry ∷ history) task d = record {
       after_it = entry ∷ answer.after_it;
       arrival = answer.arrival;
@@ -324,6 +338,7 @@ carried_on entry history task d (Some bytes) plain older (answer, read, last) =
     } in (
       unchanged,
       read,
+      dates ∙ serial,
       λ other later.
           let one = older other in
           last one.older (later_too (length other.after_it) (length one.older.after_it) (length answer.after_it) other.place one.older.place answer.place one.counted one.place_is later),
@@ -333,9 +348,9 @@ no_last_sent : (entry : HistoryEntry) (history : History) (task d : ℕ) (after_
 no_last_sent entry history task d after_it arrival before place plain (inl last_sent) = search rules
 no_last_sent entry history task d after_it arrival before place plain (inr older) = older
 
-plain_entry : (entry : HistoryEntry) (history : History) (task d : ℕ) (slot : Option (List ℕ)) → begins_epoch entry ≡ false → is_no_arrival entry ≡ true → HasLast history task d slot → HasLast (entry ∷ history) task d slot
-plain_entry entry history task d slot plain none has =
-    carried_on entry history task d slot plain (λ answer. no_last_sent entry history task d answer.after_it answer.arrival answer.before answer.place none (pop entry history task d answer)) has
+plain_entry : (entry : HistoryEntry) (history : History) (task d : ℕ) (slot : Option (List ℕ)) → begins_epoch entry ≡ false → data_serial (entry ∷ history) task d ≡ data_serial history task d → is_no_arrival entry ≡ true → HasLast history task d slot → HasLast (entry ∷ history) task d slot
+plain_entry entry history task d slot plain dates none has =
+    carried_on entry history task d slot plain dates (λ answer. no_last_sent entry history task d answer.after_it answer.arrival answer.before answer.place none (pop entry history task d answer)) has
 
 same_arrival : (a b : Arrival) → Came a ≡ Came b → a ≡ b
 same_arrival a b e = cc
@@ -366,17 +381,17 @@ came history arrival task d before slot (inl last_sent) has =
       good = last_sent.good;
     } in
     subst (HasLast (Came arrival ∷ history) task d) (sym last_sent.is)
-    (answer, refl, λ other later. none_later history arrival task d last_sent.place last_sent.last other (pop (Came arrival) history task d other) later)
+    (answer, refl, serial_renewed history arrival task d (data_serial history task d) last_sent.place last_sent.part last_sent.good (arrival_shows history arrival task d None), λ other later. none_later history arrival task d last_sent.place last_sent.last other (pop (Came arrival) history task d other) later)
 came history arrival task d before slot (inr (same, none)) has =
     subst (HasLast (Came arrival ∷ history) task d) (sym same)
-    (carried_on (Came arrival) history task d before refl (λ answer. no_good history arrival task d none answer (pop (Came arrival) history task d answer)) has)
+    (carried_on (Came arrival) history task d before refl (serial_left history arrival task d (data_serial history task d) none (arrival_shows history arrival task d None)) (λ answer. no_good history arrival task d none answer (pop (Came arrival) history task d answer)) has)
 
 has_last : (history : History) (task d : ℕ) → HasLast history task d (slot_of history task d)
 has_last [] task d = λ answer. nothing_in answer.after_it answer.arrival answer.before answer.came
 has_last (Opened groups ∷ history) task d = λ answer. none_begun (Opened groups) history answer.after_it answer.arrival answer.before refl answer.came answer.present
 has_last (Edited edit ∷ history) task d = λ answer. none_begun (Edited edit) history answer.after_it answer.arrival answer.before refl answer.came answer.present
 has_last (Came arrival ∷ history) task d = search (rules, came, arrival_shows, has_last history task d)
-has_last (other ∷ history) task d = plain_entry other history task d (slot_of history task d) refl refl (has_last history task d)
+has_last (other ∷ history) task d = plain_entry other history task d (slot_of history task d) refl refl refl (has_last history task d)
 
 -- in one epoch the line stays
 
@@ -412,7 +427,7 @@ sent_here history task d answer =
 
 is_last : (history : History) (task d : ℕ) (slot : Option (List ℕ)) → slot_of history task d ≡ slot → HasLast history task d slot → IsLastData history task d slot
 is_last history task d None e has = has
-is_last history task d (Some bytes) e (answer, read, last) = search (rules, epoch_here, sent_here, slots-fit)
+is_last history task d (Some bytes) e (answer, read, serial, last) = search (rules, epoch_here, sent_here, slots-fit)
 
 -- an image
 

@@ -1,5 +1,9 @@
 pub mod Added
 pub mod Arrivals
+pub mod AreaBlocks
+pub mod AreasKept
+pub mod Indices
+pub mod Stations
 pub mod Awaits
 pub mod Commits
 pub mod Edits
@@ -24,9 +28,11 @@ pub mod Values
 pub mod Fills
 pub mod FewFrames
 pub mod LastData
+pub mod LastSerials
 pub mod Lines
 pub mod GoesWithout
 pub mod ReadsAmong
+pub mod ReadyFaults
 pub mod PartsSent
 pub mod Rooms
 pub mod ChosenBlocks

@@ -11,7 +11,10 @@ use Rattle.hc_sendings.specs.Waiting.{nothing}
 use Rattle.hc_images.specs.Image.{HasNone, DatagramImage}
 use Rattle.hc_images.specs.Packed.{HoldsOutputValues, Packed}
 use Rattle.hc_places.specs.Table.{table_of}
+use Rattle.hc_owed.specs.declared.area.JudgedArea.{JudgedArea}
+use Rattle.hc_owed.specs.Readiness.{none_unplugged, readiness_of, unknown_registers}
 use Rattle.hc_owed.specs.RegisterState.{RegisterState, register_state_of, nothing_known}
+use Rattle.hc_core.proofs.AreasKept.{areas-opened}
 use Rattle.hc_core.proofs.Awaits.{waits-opened}
 use Rattle.hc_core.proofs.Known.{unchanged-alike}
 use Rattle.hc_core.specs.Agreement.{Agree}
@@ -20,7 +23,7 @@ use Rattle.hc_core.specs.Serials.{HaveNone, Serials}
 none_sent : 0 ≤ SETUP_SERIAL
 none_sent = omega arith
 
-pub agree-opened : (groups : List Group) (inputs : DatagramImage) (serials : Serials) (outputs : Packed) (owed : RegisterState) → lowest_fault (groups_of (opened groups).groups) ≡ None → over_limit_task (line (opened groups)) ≡ None → HasNone inputs → HaveNone serials → owed ≡ register_state_of nothing_known (opened groups) → HoldsOutputValues (table_of (line (opened groups))) (λ variable k. 0) outputs
+pub agree-opened : (groups : List Group) (inputs : DatagramImage) (serials : Serials) (outputs : Packed) (owed : RegisterState) (readiness : List JudgedArea) → lowest_fault (groups_of (opened groups).groups) ≡ None → over_limit_task (line (opened groups)) ≡ None → HasNone inputs → HaveNone serials → owed ≡ register_state_of nothing_known (opened groups) → readiness ≡ readiness_of nothing_known unknown_registers none_unplugged (opened groups) → HoldsOutputValues (table_of (line (opened groups))) (λ variable k. 0) outputs
     → Agree (record {
       plan = opened groups;
       serial = 0;
@@ -29,9 +32,10 @@ pub agree-opened : (groups : List Group) (inputs : DatagramImage) (serials : Ser
       serials = serials;
       outputs = outputs;
       owed = owed;
+      readiness = readiness;
       changes = [];
     }) (just_opened groups) (just_opened groups)
-agree-opened groups inputs serials outputs owed project uncrowded none undated unknown zeros = search (rules, none_sent, waits-opened, unchanged-alike, append-nil)
+agree-opened groups inputs serials outputs owed readiness project uncrowded none undated unknown ready zeros = search (rules, none_sent, waits-opened, unchanged-alike, append-nil, areas-opened)
 
 abbrev pub IsProject : State → Type 0
 IsProject state = lowest_fault (groups_of state.groups) ≡ None

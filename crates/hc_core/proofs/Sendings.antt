@@ -1,5 +1,5 @@
 -- What is kept stays right after frames of tasks and register writes.
-use Rattle.std.proofs.Common.{◌≡◌, ℕ, suc, ◌+◌, ◌<◌, ◌≤◌, List, [], ◌∷◌, length, map, refl, sym, ap, ◌∙◌, subst, arith, None}
+use Rattle.std.proofs.Common.{◌≡◌, ℕ, suc, ◌+◌, ◌<◌, ◌≤◌, ◌⊎◌, inl, inr, List, [], ◌∷◌, length, map, refl, sym, ap, ◌∙◌, subst, arith, None}
 use Rattle.std.specs.Prelude.{All}
 use Rattle.hc_records.specs.Edits.{over_limit_task}
 use Rattle.hc_records.specs.Line.{groups_of, line}
@@ -10,22 +10,27 @@ use Rattle.hc_events.specs.Accepted.{AreAccepted, IsWrite}
 use Rattle.hc_events.specs.Changes.{updates_of}
 use Rattle.hc_events.specs.Entries.{History, Sent, Wrote}
 use Rattle.hc_events.specs.Ages.{data_serial}
+use Rattle.hc_events.specs.Holding.{is_unplugged, may_hold}
 use Rattle.hc_events.specs.Images.{slot_of}
 use Rattle.hc_events.specs.Owed.{known_bytes, owed_blocks}
 use Rattle.hc_events.specs.Points.{next_serial, state_of}
 use Rattle.hc_events.specs.Sendings.{Frame, Named}
-use Rattle.hc_events.specs.Steps.{SendsTasks, unless_fault, proposal, task_faults, with_sent}
+use Rattle.hc_events.specs.Steps.{SendsReady, SendsTasks, unless_fault, proposal, ready_faults, task_faults, with_sent}
 use Rattle.hc_events.proofs.lemmas.Accepted.{accepted-more, unchanged-after}
 use Rattle.hc_sendings.specs.Waiting.{all_sent, awaited_block, wrote}
 use Rattle.hc_sendings.specs.declared.write_frames.PlacedBlock.{PlacedBlock}
 use Rattle.hc_sendings.specs.WriteFrames.{block_of}
+use Rattle.hc_owed.specs.declared.area.JudgedArea.{JudgedArea}
+use Rattle.hc_owed.specs.Readiness.{readiness_of}
 use Rattle.hc_owed.specs.RegisterState.{RegisterState, register_state_of}
+use Rattle.hc_core.proofs.AreasKept.{areas-alike, areas-wrote, same-hold}
 use Rattle.hc_core.proofs.Awaits.{waits-wrote}
 use Rattle.hc_core.proofs.Posts.{values-sent, values-wrote}
 use Rattle.hc_core.proofs.Known.{unchanged-alike, known-wrote}
 use Rattle.hc_core.proofs.SentAll.{waits-all_sent}
 use Rattle.hc_core.specs.Agreement.{Agree, CoreParts}
 use Rattle.hc_core.specs.Chosen.{IsLineBlock, known_sent}
+use Rattle.hc_core.specs.Held.{held_sent}
 use Rattle.hc_core.proofs.Rooms.{same-length}
 use Rattle.hc_core.specs.Waits.{Waits}
 
@@ -45,13 +50,19 @@ serial_sent : (frames : List Frame) (history : History) → next_serial (with_se
 serial_sent [] history = none_more (next_serial history)
 serial_sent (frame ∷ frames) history = serial_sent frames (Sent frame.datagrams ∷ history) ∙ one_more (next_serial history) (length frames)
 
-accepted_sent : (history : History) (tasks : List ℕ) → lowest (task_faults history tasks) ≡ None → AreAccepted history → AreAccepted (with_sent history (proposal history tasks))
-accepted_sent history tasks none all =
-    subst AreAccepted (ap (λ refused. unless_fault refused history (with_sent history (proposal history tasks))) none) (unchanged-after AreAccepted accepted-more history (SendsTasks tasks) all)
+-- nothing refuses to send the tasks, or to send them as ready tasks
+abbrev pub NothingRefuses : History → List ℕ → Type 0
+NothingRefuses history tasks = (lowest (task_faults history tasks) ≡ None) ⊎ (lowest (ready_faults history tasks) ≡ None)
 
-pub agree-sent : (unchanged : CoreParts) (history taken : History) (tasks : List ℕ) → lowest (task_faults history tasks) ≡ None → owed_blocks history ≡ [] → unchanged.serial + length (proposal history tasks) ≤ SETUP_SERIAL → Agree unchanged history taken
+accepted_sent : (history : History) (tasks : List ℕ) → NothingRefuses history tasks → AreAccepted history → AreAccepted (with_sent history (proposal history tasks))
+accepted_sent history tasks (inl none) all =
+    subst AreAccepted (ap (λ refused. unless_fault refused history (with_sent history (proposal history tasks))) none) (unchanged-after AreAccepted accepted-more history (SendsTasks tasks) all)
+accepted_sent history tasks (inr none) all =
+    subst AreAccepted (ap (λ refused. unless_fault refused history (with_sent history (proposal history tasks))) none) (unchanged-after AreAccepted accepted-more history (SendsReady tasks) all)
+
+pub agree-sent : (unchanged : CoreParts) (history taken : History) (tasks : List ℕ) → NothingRefuses history tasks → unchanged.serial + length (proposal history tasks) ≤ SETUP_SERIAL → Agree unchanged history taken
     → Agree (record unchanged { awaited = all_sent unchanged.awaited (proposal history tasks); serial = unchanged.serial + length (proposal history tasks) }) (with_sent history (proposal history tasks)) taken
-agree-sent unchanged history taken tasks none owed left agree =
+agree-sent unchanged history taken tasks none left agree =
     let frames = proposal history tasks in
     let same : state_of (with_sent history frames) ≡ state_of history = sent_alike state_of (λ before frame. refl) frames history in
     let accepted = accepted_sent history tasks none agree.accepted in
@@ -69,6 +80,11 @@ agree-sent unchanged history taken tasks none owed left agree =
       known = agree.known
           ∙ unchanged-alike (known_bytes history) (known_bytes (with_sent history frames)) (state_of history) (λ station number. sym (sent_alike (λ before. known_bytes before station number) (λ before frame. refl) frames history))
           ∙ ap (register_state_of (known_bytes (with_sent history frames))) (sym same);
+      ready = areas-alike unchanged.readiness (known_bytes history) (may_hold history) (is_unplugged history) (with_sent history frames)
+          (agree.ready ∙ ap (readiness_of (known_bytes history) (may_hold history) (is_unplugged history)) (sym same))
+          (λ station number. sym (sent_alike (λ before. known_bytes before station number) (λ before frame. refl) frames history))
+          (λ station number. same-hold (may_hold history station number) (may_hold (with_sent history frames) station number) (sym (sent_alike (λ before. may_hold before station number) (λ before frame. refl) frames history)))
+          (λ station. sym (sent_alike (λ before. is_unplugged before station) (λ before frame. refl) frames history));
       shows = record {
         answer_given = sent_alike updates_of (λ before frame. refl) frames history ∙ agree.shows.answer_given;
         legal = agree.shows.legal;
@@ -82,10 +98,11 @@ agree-sent unchanged history taken tasks none owed left agree =
 one_left : (n most : ℕ) → n < most → n + 1 ≤ most
 one_left n most less = omega (arith, less)
 
-pub agree-wrote : (unchanged : CoreParts) (history taken : History) (placed : List PlacedBlock) (owed : RegisterState) → IsWrite (owed_blocks history) (map block_of placed) → All (IsLineBlock (state_of history)) placed → unchanged.serial < SETUP_SERIAL
-    → owed ≡ register_state_of (known_sent placed (known_bytes history)) (state_of history) → Agree unchanged history taken
-    → Agree (record unchanged { awaited = wrote unchanged.serial (map awaited_block placed) unchanged.awaited; owed = owed; serial = unchanged.serial + 1 }) (Wrote (map block_of placed) ∷ history) taken
-agree-wrote unchanged history taken placed owed write at left sent agree = record {
+pub agree-wrote : (unchanged : CoreParts) (history taken : History) (placed : List PlacedBlock) (owed : RegisterState) (readiness : List JudgedArea) → IsWrite (owed_blocks history) (map block_of placed) → All (IsLineBlock (state_of history)) placed → unchanged.serial < SETUP_SERIAL
+    → owed ≡ register_state_of (known_sent placed (known_bytes history)) (state_of history)
+    → readiness ≡ readiness_of (known_sent placed (known_bytes history)) (held_sent placed (may_hold history)) (is_unplugged history) (state_of history) → Agree unchanged history taken
+    → Agree (record unchanged { awaited = wrote unchanged.serial (map awaited_block placed) unchanged.awaited; owed = owed; readiness = readiness; serial = unchanged.serial + 1 }) (Wrote (map block_of placed) ∷ history) taken
+agree-wrote unchanged history taken placed owed readiness write at left sent ready agree = record {
   accepted = (write, agree.accepted);
   state = agree.state;
   project = agree.project;
@@ -98,5 +115,6 @@ agree-wrote unchanged history taken placed owed write at left sent agree = recor
   dates = agree.dates;
   values = values-wrote history (map block_of placed) unchanged.outputs agree.values;
   known = sent ∙ unchanged-alike (known_sent placed (known_bytes history)) (known_bytes (Wrote (map block_of placed) ∷ history)) (state_of history) (λ station number. sym (known-wrote history placed station number));
+  ready = areas-wrote readiness history placed agree.project at ready;
   shows = record { answer_given = agree.shows.answer_given; legal = agree.shows.legal; exact = agree.shows.exact; after_it = agree.shows.after_it };
 }

@@ -12,13 +12,14 @@ use Rattle.hc_events.specs.declared.answer.Answer.TheVariants as answer
 use Rattle.hc_events.specs.declared.faults.CoreFault.{CoreFault}
 use Rattle.hc_events.specs.declared.faults.CoreFault.TheVariants as fault
 use Rattle.hc_events.specs.Calls.{MayAnswer, takes_memory}
-use Rattle.hc_events.specs.Entries.{History, Edited, Forgot, Posted}
+use Rattle.hc_events.specs.Entries.{History, Edited, Forgot, Posted, Unplugged}
+use Rattle.hc_events.specs.Ready.{with_cleared}
 use Rattle.hc_events.specs.Faults.{edit_refusal}
 use Rattle.hc_events.specs.Owed.{owed_blocks}
 use Rattle.hc_events.specs.Points.{state_of}
-use Rattle.hc_events.specs.Steps.{Step, Edits, Posts, SendsTasks, SendsWrite, SendsWrites, Reads, Forgets, answer_to, edit_refused, entries_after, forget_faults, post_faults, task_faults, edit_answer, write_faults}
+use Rattle.hc_events.specs.Steps.{Step, Edits, Posts, SendsTasks, SendsWrite, SendsWrites, Reads, Forgets, SendsReady, Clears, Unplugs, answer_to, clear_faults, edit_refused, entries_after, forget_faults, post_faults, ready_faults, task_faults, edit_answer, unplug_faults, write_faults}
 use Rattle.hc_core.specs.Early.{ShowsEarly}
-use Rattle.hc_core.specs.Serving.{MayAnswerAll, answer_of, answer_of_edit, answer_of_forget, answer_of_post, answer_or_memory}
+use Rattle.hc_core.specs.Serving.{MayAnswerAll, answer_of, answer_of_clear, answer_of_edit, answer_of_forget, answer_of_post, answer_of_unplug, answer_or_memory}
 use Rattle.hc_core.specs.State.{CoreState}
 
 -- an answer that is the event's, or `Memory`
@@ -124,3 +125,27 @@ forget-served old new station result accepted names entries same = search rules
 pub forget-early : {X : Type 0} (found : Option CoreFault) (result : Result X CoreFault) → OnOk result (found ≡ None) → IfErr result (λ fault. found ≡ Some fault)
     → IfSome found (λ fault. answer_of_forget result ≡ answer.Refused fault)
 forget-early found result accepted names = search rules
+
+-- nor does what is said of a slave's FMMUs
+
+pub clear-served : {X : Type 0} (old new : History) (station : ℕ) (result : Result X CoreFault) → OnOk result (lowest (clear_faults old station) ≡ None) → IfErr result (λ found. lowest (clear_faults old station) ≡ Some found)
+    → OnOk result (new ≡ with_cleared old station) → OnErr result (new ≡ old) → MayAnswer old (Clears station) (answer_of_clear result) new
+clear-served old new station result accepted names entries same = search rules
+
+pub clear-early : {X : Type 0} (found : Option CoreFault) (result : Result X CoreFault) → OnOk result (found ≡ None) → IfErr result (λ fault. found ≡ Some fault)
+    → IfSome found (λ fault. answer_of_clear result ≡ answer.Refused fault)
+clear-early found result accepted names = search rules
+
+pub unplug-served : {X : Type 0} (old new : History) (station : ℕ) (result : Result X CoreFault) → OnOk result (lowest (unplug_faults old station) ≡ None) → IfErr result (λ found. lowest (unplug_faults old station) ≡ Some found)
+    → OnOk result (new ≡ Unplugged station ∷ old) → OnErr result (new ≡ old) → MayAnswer old (Unplugs station) (answer_of_unplug result) new
+unplug-served old new station result accepted names entries same = search rules
+
+pub unplug-early : {X : Type 0} (found : Option CoreFault) (result : Result X CoreFault) → OnOk result (found ≡ None) → IfErr result (λ fault. found ≡ Some fault)
+    → IfSome found (λ fault. answer_of_unplug result ≡ answer.Refused fault)
+unplug-early found result accepted names = search rules
+
+-- ready tasks
+
+pub ready-served : (old new : History) (tasks : List ℕ) (result : Result Answer CoreFault) → IfOk result (λ answer_given. answer_given ≡ answer_to old (SendsReady tasks))
+    → IfErr result (λ found. found ≢ fault.Memory → lowest (ready_faults old tasks) ≡ Some found) → OnOk result (new ≡ entries_after old (SendsReady tasks)) → OnErr result (new ≡ old) → MayAnswer old (SendsReady tasks) (answer_of result) new
+ready-served old new tasks result answers names entries same = search rules

@@ -14,7 +14,9 @@ use Rattle.hc_events.specs.Owed.{known_bytes}
 use Rattle.hc_sendings.specs.Waiting.{Waiting}
 use Rattle.hc_images.specs.Image.{DatagramImage, data_of}
 use Rattle.hc_images.specs.Packed.{Packed}
+use Rattle.hc_owed.specs.declared.area.JudgedArea.{JudgedArea}
 use Rattle.hc_owed.specs.RegisterState.{RegisterState, register_state_of}
+use Rattle.hc_core.specs.Held.{areas_of}
 use Rattle.hc_core.specs.Records.{history_read}
 use Rattle.hc_core.specs.declared.keeping.Core.TheInside.{Inside}
 use Rattle.hc_core.specs.Update.{ShowUpdates}
@@ -36,6 +38,7 @@ pub record CoreParts : Type 0 where
   pub serials : Serials
   pub outputs : Packed
   pub owed : RegisterState
+  pub readiness : List JudgedArea
   pub changes : List Change
 
 -- each part says what the record says
@@ -51,6 +54,7 @@ pub record Agree (unchanged : CoreParts) (history taken : History) : Type 0 wher
   pub dates : ShowSerials history unchanged.serials
   pub values : HoldsValues history unchanged.outputs
   pub known : unchanged.owed ≡ register_state_of (known_bytes history) (state_of history)
+  pub ready : unchanged.readiness ≡ areas_of history
   pub shows : ShowUpdates taken history unchanged.changes
 
 -- what contracts see of a core
@@ -67,6 +71,7 @@ core_parts core = record {
   serials = core.data_serials;
   outputs = core.outputs;
   owed = core.owed;
+  readiness = core.readiness;
   changes = core.changes.items;
 }
 

@@ -1,19 +1,25 @@
 -- What is refused whatever memory does (this project's profile).
-use Rattle.std.specs.Prelude.{◌≡◌, IfSome, Option, length, option_map}
+use Rattle.std.specs.Prelude.{◌≡◌, ℕ, ◌∷◌, Bool, IfSome, List, Option, length, map, option_map}
+use Rattle.std.specs.List.{list_any}
 use Rattle.hc_records.specs.Lists.{lowest}
 use Rattle.hc_frames.specs.Arrived.{fault_in}
 use Rattle.hc_groups.specs.Edits.{own_fault}
 use Rattle.hc_events.specs.declared.answer.Answer.{Answer}
 use Rattle.hc_events.specs.declared.answer.Answer.TheVariants as answer
 use Rattle.hc_events.specs.declared.faults.CoreFault.{CoreFault}
+use Rattle.hc_events.specs.declared.faults.CoreFault.TheVariants.{NoSuchTask}
 use Rattle.hc_events.specs.Entries.{History}
 use Rattle.hc_events.specs.Faults.{edit_refusal, frame_refusal}
 use Rattle.hc_events.specs.Owed.{owed_blocks}
 use Rattle.hc_events.specs.Points.{state_of}
-use Rattle.hc_events.specs.Steps.{Step, Edits, Posts, SendsTasks, SendsWrite, SendsWrites, Arrives, Reads, Forgets, forget_faults, post_faults, read_faults, write_faults}
+use Rattle.hc_events.specs.Steps.{Step, Edits, Posts, SendsTasks, SendsWrite, SendsWrites, Arrives, Reads, Forgets, SendsReady, Clears, Unplugs, clear_faults, forget_faults, is_no_task, post_faults, read_faults, unplug_faults, wait_fault, write_faults}
 use Rattle.hc_sendings.specs.Refusals.{early_faults}
 
--- the fault of an event that is judged before memory is taken: of an edit the one that it has by itself, of tasks that there is no such task or that blocks are owed, of any other event each that it has
+-- what refuses ready tasks before any frame is planned, in order: 8 one is no task, 36 the first of them that waits
+abbrev pub early_ready_faults : History → List ℕ → List (Bool × CoreFault)
+early_ready_faults history tasks = (list_any is_no_task tasks, NoSuchTask) ∷ map (wait_fault history) tasks
+
+-- the fault of an event that is judged before memory is taken: of an edit the one that it has by itself, of tasks that there is no such task, that blocks are owed or that one waits, of any other event each that it has
 abbrev pub early_fault : History → Step → Option CoreFault
 early_fault history (Edits edit) = option_map edit_refusal (own_fault (state_of history).groups edit)
 early_fault history (Posts task epoch bytes) = lowest (post_faults history task epoch bytes)
@@ -23,6 +29,9 @@ early_fault history SendsWrites = lowest (write_faults history (owed_blocks hist
 early_fault history (Arrives bytes) = option_map frame_refusal (fault_in bytes)
 early_fault history (Reads task) = lowest (read_faults task)
 early_fault history (Forgets station) = lowest (forget_faults history station)
+early_fault history (SendsReady tasks) = lowest (early_ready_faults history tasks)
+early_fault history (Clears station) = lowest (clear_faults history station)
+early_fault history (Unplugs station) = lowest (unplug_faults history station)
 
 -- it is reported
 abbrev pub ShowsEarly : History → Step → Answer → Type 0

@@ -11,6 +11,7 @@ use Rattle.hc_events.specs.Entries.{HistoryEntry, History, Opened, Edited, Sent,
 use Rattle.hc_events.specs.Points.{epoch_of, line_of, next_serial}
 use Rattle.hc_events.specs.Sendings.{Named, line_data_length}
 use Rattle.hc_events.specs.Heads.{Datagram, data_heads}
+use Rattle.hc_events.specs.Ages.{data_serial}
 use Rattle.hc_events.specs.Answering.{has_heads, sends}
 use Rattle.hc_events.specs.AnswerLaws.{LeavesAwaited}
 use Rattle.hc_events.specs.Stale.{SameAfter, SaysTheSame, without_stale}
@@ -55,11 +56,12 @@ pub record GoodAnswer (history : History) (task d : ℕ) : Type 0 where
 abbrev pub IsLater : {history : History} {task d : ℕ} → GoodAnswer history task d → GoodAnswer history task d → Type 0
 IsLater one other = (length one.after_it < length other.after_it) ⊎ ((length one.after_it ≡ length other.after_it) × (other.place < one.place))
 
--- data of a datagram: those of its last good answer in the present epoch. Its frame was sent in this epoch too, so in a line with the present places, and there are as many bytes as the datagram has in it
+-- data of a datagram: those of its last good answer in the present epoch. Its frame was sent in this epoch too, so in a line with the present places, and there are as many bytes as the datagram has in it. The datagram's data have the serial of this answer's arrival, so of the sending that it answered
 pub record AreLastData (history : History) (task d : ℕ) (bytes : List ℕ) : Type 0 where
   pub which : GoodAnswer history task d
   pub read : bytes ≡ which.part.bytes
   pub last : (other : GoodAnswer history task d) → ¬ (IsLater other which)
+  pub serial : data_serial history task d ≡ Some which.arrival.serial
   pub epoch : epoch_of which.good.back.before ≡ epoch_of history
   pub line : line_of which.good.back.before ≡ line_of history
   pub fits : length bytes ≡ line_data_length (line_of history) (task, d)

@@ -10,17 +10,20 @@ use Rattle.hc_events.specs.Entries.{History}
 use Rattle.hc_events.specs.Outputs.{sent_data}
 use Rattle.hc_events.specs.Points.{line_of}
 use Rattle.hc_events.specs.Sendings.{Frame}
-use Rattle.hc_events.specs.Steps.{SendsTasks, answer_to, entries_after, proposal, sent_text, with_sent}
+use Rattle.hc_records.specs.Lists.{lowest}
+use Rattle.hc_events.specs.Steps.{SendsReady, SendsTasks, answer_to, entries_after, proposal, ready_faults, sent_text, task_faults, with_sent}
 use Rattle.hc_sendings.specs.PartTexts.{part_text}
 use Rattle.hc_core.specs.Filled.{CanBeFilled}
 use Rattle.hc_core.specs.Proposed.{IsProposal}
 
--- proposed, filled and committed with no event between: each frame can be filled, they are no more than there are serials, and they are what the event answers and leaves
+-- proposed, filled and committed with no event between: each frame can be filled, they are no more than there are serials, and they are what the event answers and leaves: the sending of tasks while nothing is owed, the sending of ready tasks while each is ready
 pub record IsSending (history : History) (frames : List Frame) (is : IsProposal history frames) : Type 0 where
   pub filled : All (CanBeFilled history) frames
   pub few : length frames ≤ SETUP_SERIAL
-  pub answer : answer_to history (SendsTasks is.tasks) ≡ answer.Sent (map (sent_text history) frames)
-  pub entries : entries_after history (SendsTasks is.tasks) ≡ with_sent history frames
+  pub ready_answer : lowest (ready_faults history is.tasks) ≡ None → answer_to history (SendsReady is.tasks) ≡ answer.Sent (map (sent_text history) frames)
+  pub ready_entries : lowest (ready_faults history is.tasks) ≡ None → entries_after history (SendsReady is.tasks) ≡ with_sent history frames
+  pub answer : lowest (task_faults history is.tasks) ≡ None → answer_to history (SendsTasks is.tasks) ≡ answer.Sent (map (sent_text history) frames)
+  pub entries : lowest (task_faults history is.tasks) ≡ None → entries_after history (SendsTasks is.tasks) ≡ with_sent history frames
 
 -- so are any frames that are a present proposal of the record
 abbrev pub PiecesAreTheEvent : Type 0

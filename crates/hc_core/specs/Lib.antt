@@ -2,6 +2,7 @@ pub mod State
 pub mod Early
 pub mod Serving
 pub mod Proposed
+pub mod Ready
 pub mod Filled
 pub mod Written
 pub mod Laws
@@ -18,3 +19,4 @@ pub mod Values
 pub mod GoodAnswers
 pub mod Firsts
 pub mod Chosen
+pub mod Held

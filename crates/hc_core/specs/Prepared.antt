@@ -1,18 +1,25 @@
 -- An edit that is prepared for a core, before anything changes.
-use Rattle.std.specs.Prelude.{◌≡◌, ℕ, ◌+◌, ◌<◌, false, List, [], length, Option, Some, None}
+use Rattle.std.specs.Prelude.{◌≡◌, ℕ, ◌+◌, ◌*◌, ◌<◌, Bool, false, Contains, List, [], length, Option, Some, None}
 use Rattle.hc_records.specs.declared.edit.Edit.{Edit}
 use Rattle.hc_records.specs.declared.edit.Edit.TheVariants.{Declare}
 use Rattle.hc_records.specs.declared.records.Group.{Group}
+use Rattle.hc_records.specs.declared.records.Slave.{Slave}
 use Rattle.hc_records.specs.Edits.{declares}
 use Rattle.hc_registers.specs.RankPlaces.{stations}
 use Rattle.hc_places.specs.Table.{table_of}
 use Rattle.hc_images.specs.Moves.{Moves}
+use Rattle.hc_owed.specs.declared.area.JudgedArea.{JudgedArea}
+use Rattle.hc_owed.specs.Readiness.{Holdings, readiness_of}
+use Rattle.hc_owed.specs.ReadinessRoom.{IsReadinessRoomFor}
+use Rattle.hc_owed.specs.ReadinessSteps.{IsReadinessFor, held_over, unplugged_over}
+use Rattle.hc_owed.specs.Laws.{known_over}
 use Rattle.hc_owed.specs.RegisterState.{RegisterState, Knowledge, register_state_of}
-use Rattle.hc_owed.specs.Room.{IsOwedRoomFor, OwedRoom}
+use Rattle.hc_owed.specs.Room.{IsOwedRoomFor}
 use Rattle.hc_plan.specs.Prepared.{IsPrepared, PreparedEdit}
 use Rattle.hc_events.specs.declared.change.Change.{Change}
 use Rattle.hc_events.specs.Changes.{updates_of}
 use Rattle.hc_events.specs.Points.{line_of, state_of}
+use Rattle.hc_core.specs.declared.declaring.SlaveRoom.{SlaveRoom}
 use Rattle.hc_core.specs.State.{CoreState}
 
 -- the core that an edit is prepared for, and what the edit makes of its line
@@ -21,25 +28,34 @@ pub record CoreEdit : Type 0 where
   pub edit : PreparedEdit
 
 -- an edit declares a group, and there is memory for its slaves after so many others
-pub record DeclaresWith (count : ℕ) (edit : Edit) (room : OwedRoom) : Type 0 where
+pub record DeclaresWith (count : ℕ) (edit : Edit) (room : SlaveRoom) : Type 0 where
   pub group : Group
   pub named : edit ≡ Declare group
-  pub fits : IsOwedRoomFor count group.slaves room
+  pub fits : IsOwedRoomFor count group.slaves room.owed
+  pub areas : IsReadinessRoomFor (8 * count) (length group.slaves) room.readiness
 
 -- memory for the slaves that an edit declares after so many others, and none where it declares none
-abbrev pub HasSlaveRoom : ℕ → Edit → Option OwedRoom → Type 0
+abbrev pub HasSlaveRoom : ℕ → Edit → Option SlaveRoom → Type 0
 HasSlaveRoom count edit None = declares edit ≡ false
 HasSlaveRoom count edit (Some room) = DeclaresWith count edit room
 
--- what is kept of the register blocks is right for the state before a prepared edit, and there is memory for the slaves that it declares
-pub record CanFollow (owed : RegisterState) (edit : PreparedEdit) (memory : Option OwedRoom) : Type 0 where
+-- what is kept of the register blocks and of the areas is right for the state before a prepared edit; there is memory for the slaves that it declares, and no register of theirs has contents
+pub record CanFollow (owed : RegisterState) (readiness : List JudgedArea) (edit : PreparedEdit) (memory : Option SlaveRoom) : Type 0 where
   pub known : Knowledge
+  pub held : Holdings
+  pub unplugged : ℕ → Bool
   pub right : owed ≡ register_state_of known edit.old
+  pub areas : IsReadinessFor known held unplugged edit.old readiness
+  pub empty : (group : Group) → edit.report.swap.edit ≡ Declare group → (slave : Slave) → Contains group.slaves slave → (number : ℕ) → (held slave.station number).contents ≡ []
   pub prepared : IsPrepared edit
   pub slaves : HasSlaveRoom (length (stations edit.old)) edit.report.swap.edit memory
 
+-- what is kept of the areas after it
+abbrev pub areas_followed : {owed : RegisterState} {readiness : List JudgedArea} {edit : PreparedEdit} {memory : Option SlaveRoom} → CanFollow owed readiness edit memory → List JudgedArea
+areas_followed {owed} {readiness} {edit} {memory} can = readiness_of (known_over edit.old can.known) (held_over edit.old edit.new can.held) (unplugged_over edit.new can.unplugged) edit.new
+
 -- the edit is one of the core's line, output values are to move as it says, there is memory for the slaves that it declares, and memory without a change in it has room for the changes that nobody took and one more
-pub record CanBeCarriedOut (core : CoreState) (edit : PreparedEdit) (moves : Moves) (memory : Option OwedRoom) (room : List Change) (capacity : ℕ) : Type 0 where
+pub record CanBeCarriedOut (core : CoreState) (edit : PreparedEdit) (moves : Moves) (memory : Option SlaveRoom) (room : List Change) (capacity : ℕ) : Type 0 where
   pub made : edit.old ≡ state_of core.history
   pub prepared : IsPrepared edit
   pub table : moves.before ≡ table_of (line_of core.history)

@@ -1,7 +1,7 @@
 -- The record that a past stands for.
 use Rattle.std.specs.Prelude.{◌∷◌, map}
 use Rattle.hc_core.specs.declared.history.HistoryGhost.{HistoryGhost}
-use Rattle.hc_core.specs.declared.history.HistoryGhost.TheVariants.{Opened, Edited', Posted', Sent', Wrote', Came', Forgot'}
+use Rattle.hc_core.specs.declared.history.HistoryGhost.TheVariants.{Opened, Edited', Posted', Sent', Wrote', Came', Forgot', Cleared', Unplugged'}
 use Rattle.hc_events.specs.Accepted.{just_opened}
 use Rattle.hc_events.specs.Arrivals.{arrival_in}
 use Rattle.hc_events.specs.Entries.{History}
@@ -18,4 +18,6 @@ history_read (Posted' m history task text) = entry.Posted task.value (text_bytes
 history_read (Sent' m history frame) = entry.Sent frame.value.datagrams ∷ history_read history
 history_read (Wrote' m history frame) = entry.Wrote (map block_of frame.value.blocks) ∷ history_read history
 history_read (Forgot' m history station) = entry.Forgot station.value ∷ history_read history
+history_read (Cleared' m history station) = entry.Cleared station.value ∷ history_read history
+history_read (Unplugged' m history station) = entry.Unplugged station.value ∷ history_read history
 history_read (Came' m history text) = with_arrival (history_read history) (arrival_in (text_bytes text.value))

@@ -8,12 +8,13 @@ use Rattle.hc_events.specs.declared.faults.CoreFault.TheVariants.{Memory}
 use Rattle.hc_events.specs.Calls.{AreSentTogether, MayAnswer}
 use Rattle.hc_events.specs.Entries.{History}
 use Rattle.hc_events.specs.Faults.{edit_refusal}
-use Rattle.hc_events.specs.Steps.{Step, SendsTasks}
+use Rattle.hc_events.specs.Steps.{Step, SendsReady, SendsTasks}
 use Rattle.hc_core.specs.Early.{ShowsEarly}
 
 -- what the caller keeps to: tasks that are sent together are at least one, at most eight, and none twice; of any other event nothing
 abbrev pub IsAsked : Step → Type 0
 IsAsked (SendsTasks tasks) = AreSentTogether tasks
+IsAsked (SendsReady tasks) = AreSentTogether tasks
 IsAsked step = Unit {0}
 
 -- what an event is answered, by what the call that serves it gave: its answer, or a refusal
@@ -30,6 +31,16 @@ answer_of_post (Err fault) = answer.Refused fault
 abbrev pub answer_of_forget : {X : Type 0} → Result X CoreFault → Answer
 answer_of_forget (Ok done) = answer.Forgotten
 answer_of_forget (Err fault) = answer.Refused fault
+
+-- the answer to clearing a slave, by what its call gave: cleared, or a refusal
+abbrev pub answer_of_clear : {X : Type 0} → Result X CoreFault → Answer
+answer_of_clear (Ok done) = answer.Cleared
+answer_of_clear (Err fault) = answer.Refused fault
+
+-- the answer to unplugging a slave, by what its call gave: unplugged, or a refusal
+abbrev pub answer_of_unplug : {X : Type 0} → Result X CoreFault → Answer
+answer_of_unplug (Ok done) = answer.Unplugged
+answer_of_unplug (Err fault) = answer.Refused fault
 
 -- the answer to an edit, by what its call gave: its answer, or a refusal by the edit's fault
 abbrev pub answer_of_edit : Result Answer EditFault → Answer

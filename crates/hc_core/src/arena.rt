@@ -30,7 +30,7 @@ fn size_of(frame: &Sending) -> usize
 }
 
 /// The bytes of frames. A proposal has 128 frames at most, so deep is this recursion.
-fn size_of_all(frames: &[Sending]) -> usize
+pub(crate) fn size_of_all(frames: &[Sending]) -> usize
     requires { length frames.now ≤ SETUP_SERIAL }
     ensures bytes { result ≡ sum_by sent_frame_size frames.now }
     ensures most { result ≤ LARGEST_FRAME * length frames.now }
@@ -56,7 +56,7 @@ fn fill_all(core: &Core, frames: &[Sending], out: &mut [u8])
 }
 
 /// Fills frames at the front of an arena, where they have so many bytes.
-fn fill_front(core: &Core, frames: &[Sending], size: usize, arena: &mut [u8])
+pub(crate) fn fill_front(core: &Core, frames: &[Sending], size: usize, arena: &mut [u8])
     requires can { All (CanBeFilled core.now.history) frames.now }
     requires size { size ≡ sum_by sent_frame_size frames.now }
     requires room { size ≤ length arena.old }

@@ -13,6 +13,7 @@ ghost use Rattle.hc_events.specs.Steps.{Arrives, answer_to, entries_after, judge
 ghost use Rattle.hc_core.specs.Chosen.{AreWriteOutcomes};
 ghost use Rattle.hc_sendings.specs.declared.awaited.TheConstants.{FRAME_DATAGRAMS};
 
+use crate::areas::confirm_areas;
 use crate::choosing::confirm;
 use crate::good_answers::{put_changes, put_good_answers};
 use crate::keeping::Core;
@@ -89,6 +90,7 @@ impl Core {
     {
         let blocks = self.awaited.written(arrival.serial());
         confirm(&mut self.owed, blocks, outcomes);
+        confirm_areas(&mut self.readiness, blocks, outcomes);
         self.awaited.end(arrival.serial());
         self.history = self.history.came(bytes);
     }

@@ -1,40 +1,66 @@
-//! What is kept of the register blocks after an edit: the slaves that it declares are taken in, in memory that was
-//! taken before, or it loses those that left and compares what moved.
-ghost use Rattle.std.specs.Prelude.{◌≡◌, ◌+◌, ◌<◌, IfOk, length};
+//! What is kept of the register blocks and of the areas after an edit: the slaves that it declares are taken in, in memory that was
+//! taken before, or they lose the slaves that left and compare what moved.
+ghost use Rattle.std.specs.Prelude.{◌≡◌, ◌+◌, ◌*◌, ◌<◌, IfOk, length};
 ghost use Rattle.hc_records.specs.declared.edit.Edit.TheVariants.{Declare};
 ghost use Rattle.hc_records.specs.declared.records.Group.{Group};
 ghost use Rattle.hc_owed.specs.RegisterState.{register_state_of};
 ghost use Rattle.hc_owed.specs.Laws.{known_over};
-ghost use Rattle.hc_core.specs.Prepared.{CanFollow, HasSlaveRoom};
+ghost use Rattle.hc_core.specs.Prepared.{CanFollow, HasSlaveRoom, areas_followed};
 
 use hc_owed::owed::Owed;
+use hc_owed::readiness::Readiness;
+use hc_owed::readiness_room::ReadinessRoom;
 use hc_owed::room::OwedRoom;
 use hc_plan::prepared::PreparedEdit;
 use hc_records::edit::Edit;
 use std::alloc::{AllocError, Global};
 
-/// Memory for the slaves that an edit declares, none where it declares none. `AllocError` where a growth was refused.
+/// Memory for the slaves of a group that an edit declares: for their register blocks, and for their areas.
+#[derive(Drop)]
+pub(crate) struct SlaveRoom {
+    pub(crate) owed: OwedRoom,
+    pub(crate) readiness: ReadinessRoom,
+}
+
+/// Memory for the slaves that an edit declares, none where it declares none. Fails with `AllocError` if an allocation fails.
 pub(crate) fn slave_room(
     alloc: Global,
     owed: &Owed,
+    readiness: &Readiness,
     edit: &Edit,
-) -> Result<Option<OwedRoom>, AllocError>
-    requires { (group : Group) → edit.now ≡ Declare group → length owed.now.stations + length group.slaves < 65536 }
+) -> Result<Option<SlaveRoom>, AllocError>
+    requires few { (group : Group) → edit.now ≡ Declare group → length owed.now.stations + length group.slaves < 65536 }
+    requires areas { length readiness.now ≡ 8 * length owed.now.stations }
     ensures { IfOk result (HasSlaveRoom (length owed.now.stations) edit.now) }
 {
     match edit {
-        Edit::Declare(group) => Ok(Some(owed.room_for(alloc, group.slaves.as_slice())?)),
+        Edit::Declare(group) => Ok(Some(SlaveRoom {
+            owed: owed.room_for(alloc, group.slaves.as_slice())?,
+            readiness: readiness.room_for(alloc, group.slaves.len())?,
+        })),
         Edit::Connect(_) | Edit::Disconnect(_) | Edit::Remap { .. } | Edit::Move { .. } => Ok(None),
     }
 }
 
-/// Brings what is kept of the blocks after a prepared edit. Nothing can be refused.
-pub(crate) fn follow(owed: &mut Owed, edit: &PreparedEdit, slaves: Option<OwedRoom>)
-    requires { CanFollow owed.old edit.now slaves }
-    ensures { (can : CanFollow owed.old edit.now slaves) → owed.new ≡ register_state_of (known_over edit.now.old can.known) edit.now.new }
+/// Brings what is kept of the blocks and of the areas after a prepared edit. Nothing can be refused.
+pub(crate) fn follow(
+    owed: &mut Owed,
+    readiness: &mut Readiness,
+    edit: &PreparedEdit,
+    slaves: Option<SlaveRoom>,
+)
+    requires { CanFollow owed.old readiness.old edit.now slaves }
+    ensures known { (can : CanFollow owed.old readiness.old edit.now slaves) → owed.new ≡ register_state_of (known_over edit.now.old can.known) edit.now.new }
+    ensures ready { (can : CanFollow owed.old readiness.old edit.now slaves) → readiness.new ≡ areas_followed can }
 {
     match slaves {
-        Some(room) => owed.admit(room),
-        None => owed.change(edit.gone(), edit.blocks()),
+        Some(room) => {
+            owed.admit(room.owed);
+            readiness.admit(room.readiness);
+        }
+        None => {
+            owed.change(edit.gone(), edit.blocks());
+            readiness.change(owed, edit.gone(), edit.blocks());
+        }
     }
 }

@@ -9,13 +9,12 @@ ghost use Rattle.hc_events.specs.Points.{state_of};
 ghost use Rattle.hc_events.specs.Steps.{edit_answer};
 ghost use Rattle.hc_core.specs.Prepared.{CanBeCarriedOut};
 
-use crate::declaring::follow;
+use crate::declaring::{SlaveRoom, follow};
 use crate::keeping::Core;
 use crate::prepared::{CoreEdit, add_swap, edit_memory};
 use hc_events::answer::Answer;
 use hc_events::change::Change;
 use hc_images::moves::Moves;
-use hc_owed::room::OwedRoom;
 use hc_plan::prepared::PreparedEdit;
 use hc_plan::report::Report;
 use hc_records::edit::Edit;
@@ -53,6 +52,7 @@ impl Core {
             alloc,
             self.plan.places(),
             &self.owed,
+            &self.readiness,
             &self.changes,
             edit,
             &prepared.report().swap,
@@ -91,7 +91,7 @@ impl Core {
         &mut self,
         edit: PreparedEdit,
         moves: Moves,
-        slaves: Option<OwedRoom>,
+        slaves: Option<SlaveRoom>,
         room: Vec<Change>,
     ) -> Answer
         requires { CanBeCarriedOut self.old edit moves slaves room.items (vec_capacity room) }
@@ -101,7 +101,7 @@ impl Core {
         self.awaited.clear();
         self.inputs.clear();
         self.data_serials.clear();
-        follow(&mut self.owed, &edit, slaves);
+        follow(&mut self.owed, &mut self.readiness, &edit, slaves);
         self.outputs.change(moves, &edit.report().swap);
         let report = self.plan.carry_out(edit);
         let answer_given = judged_answer(&report);
@@ -126,6 +126,7 @@ impl Core {
             alloc,
             self.plan.places(),
             &self.owed,
+            &self.readiness,
             &self.changes,
             edit,
             &prepared.report().swap,

@@ -1,7 +1,8 @@
 //! A slave that may have lost its registers.
-ghost use Rattle.std.specs.Prelude.{◌≡◌, ◌∷◌, IfErr, None, OnErr, OnOk, Some};
+ghost use Rattle.std.specs.Prelude.{◌≡◌, ◌∷◌, IfErr, None, OnErr, OnOk, Some, true};
 ghost use Rattle.hc_records.specs.Lists.{lowest};
 ghost use Rattle.hc_events.specs.Entries.{Forgot};
+ghost use Rattle.hc_events.specs.Owed.{is_in_line};
 ghost use Rattle.hc_events.specs.Steps.{forget_faults};
 
 use crate::keeping::Core;
@@ -21,9 +22,19 @@ impl Core {
         ensures unchanged { OnErr result (self.new ≡ self.old) }
     {
         self.plan.position(station)?;
+        self.forget_known(station);
+        Ok(())
+    }
+
+    /// Forgets a slave of the line: nothing is known of its registers any more, and no write to it is awaited.
+    pub(crate) fn forget_known(&mut self, station: u16)
+        requires { is_in_line self.old.history station ≡ true }
+        ensures { self.new ≡ record self.old { history = Forgot station ∷ self.old.history } }
+    {
+        let index = self.index_of(station);
         self.awaited.forget(station);
         self.owed.forget(station);
+        self.readiness.forget(index);
         self.history = self.history.forgot(station);
-        Ok(())
     }
 }

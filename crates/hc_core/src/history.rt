@@ -24,6 +24,10 @@ pub enum HistoryGhost {
     Came(Snapshot<HistoryGhost>, Snapshot<Text>),
     /// The registers of the slave with this station address were forgotten.
     Forgot(Snapshot<HistoryGhost>, Snapshot<u16>),
+    /// The FMMUs of the slave with this station address are zero.
+    Cleared(Snapshot<HistoryGhost>, Snapshot<u16>),
+    /// The slave with this station address is off the wire.
+    Unplugged(Snapshot<HistoryGhost>, Snapshot<u16>),
 }
 
 mod steps;

@@ -7,6 +7,7 @@ use hc_events::sending::Sending;
 use hc_images::inputs::Inputs;
 use hc_images::outputs::Outputs;
 use hc_owed::owed::Owed;
+use hc_owed::readiness::Readiness;
 use hc_plan::plan::Plan;
 use hc_sendings::awaited::Awaited;
 use hc_sendings::write_frames::WriteFrame;
@@ -25,6 +26,8 @@ pub struct Core {
     pub(crate) data_serials: Serials,
     pub(crate) outputs: Outputs,
     pub(crate) owed: Owed,
+    // which tasks owed blocks and registers outside the line keep waiting
+    pub(crate) readiness: Readiness,
     pub(crate) changes: Vec<Change>,
     // the changes of one arrival until all of them are there
     pub(crate) new_answer: Vec<Change>,
@@ -47,6 +50,7 @@ impl Drop for Core {
             data_serials: _,
             outputs: _,
             owed: _,
+            readiness: _,
             changes: _,
             new_answer: _,
             buffers: _,

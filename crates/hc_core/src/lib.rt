@@ -3,6 +3,7 @@
 #![tactic(auto)]
 
 mod adding;
+mod areas;
 pub mod arena;
 mod arriving;
 mod buffers;
@@ -11,6 +12,7 @@ mod declaring;
 mod discarding;
 mod editing;
 mod filling;
+mod fmmus;
 mod forgetting;
 mod good_answers;
 mod history;
@@ -23,9 +25,11 @@ mod parting;
 mod posting;
 pub mod prepared;
 mod reading;
+mod ready;
 mod sending;
 mod serials;
 mod serving;
 mod taking;
 mod text;
+mod waiting;
 pub mod writing;

@@ -12,6 +12,7 @@ use crate::serials::Serials;
 use hc_images::inputs::Inputs;
 use hc_images::outputs::Outputs;
 use hc_owed::owed::Owed;
+use hc_owed::readiness::Readiness;
 use hc_plan::plan::Plan;
 use hc_records::faults::EditFault;
 use hc_records::project::Project;
@@ -38,6 +39,7 @@ impl Core {
         let outputs = Outputs::new(alloc, plan.places())?;
         let data_serials = Serials::new(alloc)?;
         let writes = WriteFrame::new(alloc)?;
+        let readiness = Readiness::new(alloc, &plan, &owed)?;
         let taken = Snapshot::of(&history);
         Ok(Core {
             plan,
@@ -47,6 +49,7 @@ impl Core {
             data_serials,
             outputs,
             owed,
+            readiness,
             changes: Vec::new(alloc),
             new_answer: Vec::new(alloc),
             buffers: Buffers::new(alloc),

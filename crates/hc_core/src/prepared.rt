@@ -1,16 +1,16 @@
 //! An edit worked out for a core before anything changes, with the memory for carrying it out.
-ghost use Rattle.std.specs.Prelude.{◌≡◌, ◌+◌, ◌<◌, ◌≤◌, ◌∷◌, ◌++◌, [], length, vec_capacity, IfOk};
+ghost use Rattle.std.specs.Prelude.{◌≡◌, ◌+◌, ◌*◌, ◌<◌, ◌≤◌, ◌∷◌, ◌++◌, [], length, vec_capacity, IfOk};
 ghost use Rattle.hc_records.specs.declared.edit.Edit.TheVariants.{Declare};
 ghost use Rattle.hc_records.specs.declared.records.Group.{Group};
 ghost use Rattle.hc_core.specs.Prepared.{HasSlaveRoom};
 ghost use Rattle.hc_events.specs.declared.change.Change.TheVariants as change;
 
-use crate::declaring::slave_room;
+use crate::declaring::{SlaveRoom, slave_room};
 use crate::keeping::Core;
 use hc_events::change::Change;
 use hc_images::moves::Moves;
 use hc_owed::owed::Owed;
-use hc_owed::room::OwedRoom;
+use hc_owed::readiness::Readiness;
 use hc_places::swap::Swap;
 use hc_places::table::Places;
 use hc_plan::prepared::PreparedEdit;
@@ -27,7 +27,7 @@ pub struct CoreEdit {
     pub(crate) edit: PreparedEdit,
     pub(crate) moves: Moves,
     // for the slaves that the edit declares
-    pub(crate) slaves: Option<OwedRoom>,
+    pub(crate) slaves: Option<SlaveRoom>,
     // has room for the changes that nobody took, and for the swap after them
     pub(crate) room: Vec<Change>,
     pub(crate) core: Snapshot<Core>,
@@ -59,23 +59,25 @@ impl CoreEdit {
 }
 
 /// The memory that an edit of a line takes beside its plan's: for the output values that move, for the slaves that it
-/// declares, and for changes with one more. `AllocError` where a growth was refused.
+/// declares, and for changes with one more. Fails with `AllocError` if an allocation fails.
 pub(crate) fn edit_memory(
     alloc: Global,
     places: &Places,
     owed: &Owed,
+    readiness: &Readiness,
     changes: &Vec<Change>,
     edit: &Edit,
     swap: &Swap,
-) -> Result<(Moves, Option<OwedRoom>, Vec<Change>), AllocError>
-    requires { (group : Group) → edit.now ≡ Declare group → length owed.now.stations + length group.slaves < 65536 }
+) -> Result<(Moves, Option<SlaveRoom>, Vec<Change>), AllocError>
+    requires few { (group : Group) → edit.now ≡ Declare group → length owed.now.stations + length group.slaves < 65536 }
+    requires areas { length readiness.now ≡ 8 * length owed.now.stations }
     ensures moves { IfOk result (λ memory. memory.0 ≡ record { before = places.now; change = swap.now.change }) }
     ensures slaves { IfOk result (λ memory. HasSlaveRoom (length owed.now.stations) edit.now memory.1) }
     ensures empty { IfOk result (λ memory. memory.2.items ≡ []) }
     ensures room { IfOk result (λ memory. length changes.now.items + 1 ≤ vec_capacity memory.2) }
 {
     let moves = Moves::of(alloc, places, swap)?;
-    let slaves = slave_room(alloc, owed, edit)?;
+    let slaves = slave_room(alloc, owed, readiness, edit)?;
     let room = Vec::with_capacity(alloc, changes.len() + 1)?;
     Ok((moves, slaves, room))
 }

@@ -1,11 +1,11 @@
 //! Serves events.
 ghost use Rattle.std.specs.Prelude.{◌≡◌, All, IfOk, OnErr, map};
 ghost use Rattle.hc_events.specs.Calls.{AreSentTogether, MayAnswer};
-ghost use Rattle.hc_events.specs.Steps.{Arrives, Edits, Forgets, Posts, Reads, SendsTasks, SendsWrite, SendsWrites, step_of};
+ghost use Rattle.hc_events.specs.Steps.{Arrives, Clears, Edits, Forgets, Posts, Reads, SendsReady, SendsTasks, SendsWrite, SendsWrites, Unplugs, step_of};
 ghost use Rattle.hc_core.specs.Early.{ShowsEarly};
 ghost use Rattle.hc_core.specs.Lines.{IsLineAfter};
 ghost use Rattle.hc_core.specs.LastData.{GoesWithoutThem, IsAsWithoutStale, ReadsShowLastData, StaleLeavesNothing, TasksReadLastData};
-ghost use Rattle.hc_core.specs.Serving.{IsAsked, MayAnswerAll, answer_of, answer_of_edit, answer_of_forget, answer_of_post, answer_or_memory};
+ghost use Rattle.hc_core.specs.Serving.{IsAsked, MayAnswerAll, answer_of, answer_of_clear, answer_of_edit, answer_of_forget, answer_of_post, answer_of_unplug, answer_or_memory};
 
 use crate::keeping::Core;
 use hc_events::answer::Answer;
@@ -41,6 +41,26 @@ fn answer_of_forget(answer_given: Result<(), CoreFault>) -> Answer
 {
     match answer_given {
         Ok(()) => Answer::Forgotten,
+        Err(fault) => Answer::Refused(fault),
+    }
+}
+
+/// The answer to clearing a slave, by what its call gave.
+fn answer_of_clear(answer_given: Result<(), CoreFault>) -> Answer
+    ensures { result ≡ answer_of_clear answer_given }
+{
+    match answer_given {
+        Ok(()) => Answer::Cleared,
+        Err(fault) => Answer::Refused(fault),
+    }
+}
+
+/// The answer to unplugging a slave, by what its call gave.
+fn answer_of_unplug(answer_given: Result<(), CoreFault>) -> Answer
+    ensures { result ≡ answer_of_unplug answer_given }
+{
+    match answer_given {
+        Ok(()) => Answer::Unplugged,
         Err(fault) => Answer::Refused(fault),
     }
 }
@@ -139,11 +159,39 @@ impl Core {
         answer_of_forget(self.forget(station))
     }
 
+    /// Serves a sending of ready tasks.
+    fn serve_ready(&mut self, alloc: Global, tasks: &[u8]) -> Answer
+        requires { AreSentTogether tasks.now }
+        ensures answer { MayAnswer self.old.history (SendsReady tasks.now) result self.new.history }
+        ensures early { ShowsEarly self.old.history (SendsReady tasks.now) result }
+        ensures taken { self.new.taken ≡ self.old.taken }
+    {
+        answer_of(self.send_ready(alloc, tasks))
+    }
+
+    /// Serves the clearing of a slave.
+    fn serve_clear(&mut self, station: u16) -> Answer
+        ensures answer { MayAnswer self.old.history (Clears station) result self.new.history }
+        ensures early { ShowsEarly self.old.history (Clears station) result }
+        ensures taken { self.new.taken ≡ self.old.taken }
+    {
+        answer_of_clear(self.cleared(station))
+    }
+
+    /// Serves the unplugging of a slave.
+    fn serve_unplug(&mut self, station: u16) -> Answer
+        ensures answer { MayAnswer self.old.history (Unplugs station) result self.new.history }
+        ensures early { ShowsEarly self.old.history (Unplugs station) result }
+        ensures taken { self.new.taken ≡ self.old.taken }
+    {
+        answer_of_unplug(self.unplugged(station))
+    }
+
     /// Serves an event: the answer is the definition's (`answer_to`) for the history of what was accepted, and what it accepts is
     /// recorded; or `Memory`, where the event takes some, and nothing changed. A fault that is judged before memory is taken is
     /// reported whatever memory does (`early_fault`): a fault that an edit has by itself, of the faults 1 to 11; of tasks to be sent
-    /// that there is no such task, or that blocks are owed; every fault of a write, a read, a post, a slave to be forgotten and a
-    /// frame that can't be read. Tasks that are sent together are 1 to 8, and none twice. An arrival that is reported to be stale
+    /// that there is no such task, that blocks are owed, or that one waits; every fault of a write, a read, a post, a slave to be
+    /// forgotten, cleared or unplugged, and a frame that can't be read. Tasks that are sent together are 1 to 8, and none twice. An arrival that is reported to be stale
     /// leaves nothing: whatever comes after it is answered as if it hadn't come, what tasks read too.
     pub fn step(&mut self, alloc: Global, event: Event<'_>) -> Answer
         requires { IsAsked (step_of event) }
@@ -161,6 +209,9 @@ impl Core {
             Event::SendTasks(tasks) => self.serve_tasks(alloc, tasks),
             Event::Post { task, epoch, bytes } => self.serve_post(task, epoch, bytes),
             Event::Forget(station) => self.serve_forget(station),
+            Event::SendReady(tasks) => self.serve_ready(alloc, tasks),
+            Event::Cleared(station) => self.serve_clear(station),
+            Event::Unplugged(station) => self.serve_unplug(station),
         }
     }
 

@@ -10,6 +10,7 @@ ghost use Rattle.hc_events.specs.WriteFrames.{writes_text};
 ghost use Rattle.hc_events.specs.declared.faults.CoreFault.TheVariants.{Memory};
 ghost use Rattle.hc_core.specs.Written.{HoldsBlocks, HoldsWrite, HoldsWrites, IsMost, first_blocks, first_into_faults, sent_answer};
 
+use crate::areas::mark_areas;
 use crate::choosing::{choose_first, mark_sent};
 use crate::keeping::Core;
 use hc_events::answer::Answer;
@@ -74,6 +75,7 @@ impl Core {
         self.history = self.history.wrote(&self.writes);
         self.awaited.write(self.serial, self.writes.blocks());
         mark_sent(&mut self.owed, self.writes.blocks());
+        mark_areas(&mut self.readiness, self.writes.blocks());
         self.serial += 1;
         Ok(SentWrites {
             size,
@@ -99,6 +101,7 @@ impl Core {
         self.history = self.history.wrote(&self.writes);
         self.awaited.write(self.serial, self.writes.blocks());
         mark_sent(&mut self.owed, self.writes.blocks());
+        mark_areas(&mut self.readiness, self.writes.blocks());
         self.serial += 1;
         Ok((text, self.writes.blocks().len()))
     }

@@ -8,7 +8,7 @@ use Rattle.std.proofs.lemmas.List.Elements.{All-nil, All-cons, All-append, All-c
 use Rattle.hc_records.proofs.lemmas.Lists.{All-flat_map}
 use Rattle.hc_records.proofs.lemmas.Choices.{contains-first, contains-later}
 use Rattle.hc_events.specs.Arrivals.{Arrival, Part}
-use Rattle.hc_events.specs.Entries.{HistoryEntry, History, Opened, Edited, Posted, Sent, Wrote, Came, Forgot}
+use Rattle.hc_events.specs.Entries.{HistoryEntry, History, Opened, Edited, Posted, Sent, Wrote, Came, Forgot, Cleared, Unplugged}
 use Rattle.hc_events.specs.Heads.{Block, Datagram, Head, Item}
 use Rattle.hc_events.specs.Answering.{Good, Sending, Stale, Wrong, answered_by, has_good, is_good, is_outdated, judge, judged, sends, verdict}
 use Rattle.hc_events.specs.Images.{NewAnswer, new_answer, new_answer_by, new_answer_item}
@@ -104,6 +104,8 @@ updates-of_history (Edited edit ∷ history) =
     (All-cons (AreUpdatesOf (Edited edit ∷ history)) (Swapped edit) [] (contains-first (Edited edit) history) (All-nil (AreUpdatesOf (Edited edit ∷ history))))
 updates-of_history (Posted task bytes ∷ history) = all_further (Posted task bytes) history (updates_of history) (updates-of_history history)
 updates-of_history (Forgot station ∷ history) = all_further (Forgot station) history (updates_of history) (updates-of_history history)
+updates-of_history (Cleared station ∷ history) = all_further (Cleared station) history (updates_of history) (updates-of_history history)
+updates-of_history (Unplugged station ∷ history) = all_further (Unplugged station) history (updates_of history) (updates-of_history history)
 updates-of_history (Sent frame ∷ history) = all_further (Sent frame) history (updates_of history) (updates-of_history history)
 updates-of_history (Wrote blocks ∷ history) = all_further (Wrote blocks) history (updates_of history) (updates-of_history history)
 updates-of_history (Came arrival ∷ history) =

@@ -13,7 +13,7 @@ use Rattle.hc_events.specs.Answering.{Good, Judged, Sending, Stale, Verdict, Wro
 use Rattle.hc_events.specs.Arrivals.{Arrival, Part}
 use Rattle.hc_events.specs.Awaited.{still_awaited, all_outdated, awaited, is_ended, is_no_arrival}
 use Rattle.hc_events.specs.Changes.{Answered, Swapped, updates_of}
-use Rattle.hc_events.specs.Entries.{HistoryEntry, History, Opened, Edited, Posted, Sent, Wrote, Came, Forgot}
+use Rattle.hc_events.specs.Entries.{HistoryEntry, History, Opened, Edited, Posted, Sent, Wrote, Came, Forgot, Cleared, Unplugged}
 use Rattle.hc_events.specs.Forgetting.{SaysAsAtFirst, writes_one}
 use Rattle.hc_events.specs.Heads.{Block, Datagram, Head, Item, block_item, data_heads, same_item, write_head, write_heads, is_block, data_head}
 use Rattle.hc_events.specs.Images.{new_answer, new_answer_by, renewed, slot_of}
@@ -79,6 +79,8 @@ plain_sending (Edited edit ∷ history) serial plain = plain_more (Edited edit) 
 plain_sending (Posted task bytes ∷ history) serial plain = plain_more (Posted task bytes) (sending_of history serial) refl (plain_sending history serial plain)
 plain_sending (Came arrival ∷ history) serial plain = plain_more (Came arrival) (sending_of history serial) refl (plain_sending history serial plain)
 plain_sending (Forgot station ∷ history) serial plain = cc
+plain_sending (Cleared other ∷ history) serial plain = plain_more (Cleared other) (sending_of history serial) refl (plain_sending history serial plain)
+plain_sending (Unplugged other ∷ history) serial plain = plain_more (Unplugged other) (sending_of history serial) refl (plain_sending history serial plain)
 plain_sending (Sent frame ∷ history) serial plain =
     plain_either (next_serial history == serial) (sending_of_heads (data_heads (line_of history) frame)) (option_map (followed_by (Sent frame)) (sending_of history serial)) refl
     (plain_more (Sent frame) (sending_of history serial) refl (plain_sending history serial plain))
@@ -103,6 +105,8 @@ same_sending (Edited edit ∷ history) serial one = ap (option_map (followed_by 
 same_sending (Posted task bytes ∷ history) serial one = ap (option_map (followed_by (Posted task bytes))) (same_sending history serial one)
 same_sending (Came arrival ∷ history) serial one = ap (option_map (followed_by (Came arrival))) (same_sending history serial one)
 same_sending (Forgot station ∷ history) serial one = ap (option_map (followed_by (Forgot station))) (same_sending history serial one)
+same_sending (Cleared other ∷ history) serial one = ap (option_map (followed_by (Cleared other))) (same_sending history serial one)
+same_sending (Unplugged other ∷ history) serial one = ap (option_map (followed_by (Unplugged other))) (same_sending history serial one)
 same_sending (Sent frame ∷ history) serial one =
     same_either (next_serial history == serial) (Some (sending_of_heads (data_heads (line_of history) frame))) (Sent frame) (first.sending_of history serial) (sending_of history serial) (same_sending history serial one)
 same_sending (Wrote [] ∷ history) serial one = cc
@@ -123,6 +127,8 @@ same_sends item (Edited edit ∷ since) one = same_sends item since one
 same_sends item (Posted task bytes ∷ since) one = same_sends item since one
 same_sends item (Came arrival ∷ since) one = same_sends item since one
 same_sends item (Forgot station ∷ since) one = same_sends item since one
+same_sends item (Cleared other ∷ since) one = same_sends item since one
+same_sends item (Unplugged other ∷ since) one = same_sends item since one
 same_sends item (Sent frame ∷ since) one = ap (λ b. sends item (Sent frame) || b) (same_sends item since one)
 
 outdated_first : (item : Item) (since : List HistoryEntry) → Plain since → Single since → list_any (first.sends item) since ≡ is_outdated item since
@@ -149,6 +155,8 @@ single_sending (Edited edit ∷ history) serial one = single_more (Edited edit) 
 single_sending (Posted task bytes ∷ history) serial one = single_more (Posted task bytes) (sending_of history serial) refl (single_sending history serial one)
 single_sending (Came arrival ∷ history) serial one = single_more (Came arrival) (sending_of history serial) refl (single_sending history serial one)
 single_sending (Forgot station ∷ history) serial one = single_more (Forgot station) (sending_of history serial) refl (single_sending history serial one)
+single_sending (Cleared other ∷ history) serial one = single_more (Cleared other) (sending_of history serial) refl (single_sending history serial one)
+single_sending (Unplugged other ∷ history) serial one = single_more (Unplugged other) (sending_of history serial) refl (single_sending history serial one)
 single_sending (Sent frame ∷ history) serial one =
     single_either (next_serial history == serial) (sending_of_heads (data_heads (line_of history) frame)) (option_map (followed_by (Sent frame)) (sending_of history serial)) refl
     (single_more (Sent frame) (sending_of history serial) refl (single_sending history serial one))
@@ -217,6 +225,8 @@ same_slot (Came arrival ∷ history) task d plain one =
     ap (λ slot. fold (renewed task d) slot (first.new_answer_by history arrival)) (same_slot history task d plain one)
     ∙ ap (fold (renewed task d) (slot_of history task d)) (same_new_answer history arrival (plain, one))
 same_slot (Forgot station ∷ history) task d plain one = cc
+same_slot (Cleared other ∷ history) task d plain one = same_slot history task d plain one
+same_slot (Unplugged other ∷ history) task d plain one = same_slot history task d plain one
 same_slot (Posted post bytes ∷ history) task d plain one = same_slot history task d plain one
 same_slot (Sent frame ∷ history) task d plain one = same_slot history task d plain one
 same_slot (Wrote blocks ∷ history) task d plain one = same_slot history task d plain (and_parts (length blocks == 1) (list_all writes_one history) one).1
@@ -229,6 +239,8 @@ same_date (Came arrival ∷ history) task d plain one =
     ap (λ date. fold (dated arrival.serial task d) date (first.new_answer_by history arrival)) (same_date history task d plain one)
     ∙ ap (fold (dated arrival.serial task d) (data_serial history task d)) (same_new_answer history arrival (plain, one))
 same_date (Forgot station ∷ history) task d plain one = cc
+same_date (Cleared other ∷ history) task d plain one = same_date history task d plain one
+same_date (Unplugged other ∷ history) task d plain one = same_date history task d plain one
 same_date (Posted post bytes ∷ history) task d plain one = same_date history task d plain one
 same_date (Sent frame ∷ history) task d plain one = same_date history task d plain one
 same_date (Wrote blocks ∷ history) task d plain one = same_date history task d plain (and_parts (length blocks == 1) (list_all writes_one history) one).1
@@ -241,6 +253,8 @@ same_updates (Came arrival ∷ history) plain one =
     ap (λ updates. updates ++ map Answered (first.new_answer_by history arrival)) (same_updates history plain one)
     ∙ ap (λ good_answers. updates_of history ++ map Answered good_answers) (same_new_answer history arrival (plain, one))
 same_updates (Forgot station ∷ history) plain one = cc
+same_updates (Cleared other ∷ history) plain one = same_updates history plain one
+same_updates (Unplugged other ∷ history) plain one = same_updates history plain one
 same_updates (Posted post bytes ∷ history) plain one = same_updates history plain one
 same_updates (Sent frame ∷ history) plain one = same_updates history plain one
 same_updates (Wrote blocks ∷ history) plain one = same_updates history plain (and_parts (length blocks == 1) (list_all writes_one history) one).1
@@ -262,6 +276,8 @@ same_write (Wrote (block ∷ []) ∷ history) station number kind =
     ∙ one_or (same_item (Block station number) (block_item block)) (next_serial history) block (last_write history station number)
 same_write (Edited edit ∷ history) station number kind = ap (λ write. cond (is_in_line history station) write None) (same_write history station number (kind.0, kind.1))
 same_write (Forgot other ∷ history) station number kind = let never = kind.0 in cc
+same_write (Cleared other ∷ history) station number kind = same_write history station number (kind.0, kind.1)
+same_write (Unplugged other ∷ history) station number kind = same_write history station number (kind.0, kind.1)
 same_write (Posted task bytes ∷ history) station number kind = same_write history station number (kind.0, kind.1)
 same_write (Sent frame ∷ history) station number kind = same_write history station number (kind.0, kind.1)
 same_write (Came arrival ∷ history) station number kind = same_write history station number (kind.0, kind.1)
@@ -274,6 +290,8 @@ first_unconfirmed (Opened groups ∷ history) serial kind above = refl
 first_unconfirmed (Edited edit ∷ history) serial kind above = first_unconfirmed history serial (kind.0, kind.1) above
 first_unconfirmed (Posted task bytes ∷ history) serial kind above = first_unconfirmed history serial (kind.0, kind.1) above
 first_unconfirmed (Forgot station ∷ history) serial kind above = let never = kind.0 in cc
+first_unconfirmed (Cleared other ∷ history) serial kind above = first_unconfirmed history serial (kind.0, kind.1) above
+first_unconfirmed (Unplugged other ∷ history) serial kind above = first_unconfirmed history serial (kind.0, kind.1) above
 first_unconfirmed (Sent frame ∷ history) serial kind above = first_unconfirmed history serial (kind.0, kind.1) (omega arith)
 first_unconfirmed (Wrote blocks ∷ history) serial kind above =
     first_unconfirmed history serial (kind.0, (and_parts (length blocks == 1) (list_all writes_one history) kind.1).1) (omega arith)
@@ -309,6 +327,8 @@ confirmed_as (Opened groups ∷ since) before block item same running kind = cc
 confirmed_as (Edited edit ∷ since) before block item same running kind = confirmed_as since before block item same running (kind.0, kind.1)
 confirmed_as (Posted task bytes ∷ since) before block item same running kind = confirmed_as since before block item same running (kind.0, kind.1)
 confirmed_as (Forgot station ∷ since) before block item same running kind = let never = kind.0 in cc
+confirmed_as (Cleared other ∷ since) before block item same running kind = confirmed_as since before block item same running (kind.0, kind.1)
+confirmed_as (Unplugged other ∷ since) before block item same running kind = confirmed_as since before block item same running (kind.0, kind.1)
 confirmed_as (Sent frame ∷ since) before block item same running kind = confirmed_as since before block item same running (kind.0, kind.1)
 confirmed_as (Wrote blocks ∷ since) before block item same running kind =
     confirmed_as since before block item same running (kind.0, (and_parts (length blocks == 1) (list_all writes_one (since ++ Wrote (block ∷ []) ∷ before)) kind.1).1)
@@ -442,6 +462,8 @@ answered_by_entry history sending parts before (Edited edit) one split sends hea
 answered_by_entry history sending parts before (Posted task bytes) one split sends heads = cc
 answered_by_entry history sending parts before (Came arrival) one split sends heads = cc
 answered_by_entry history sending parts before (Forgot station) one split sends heads = cc
+answered_by_entry history sending parts before (Cleared other) one split sends heads = cc
+answered_by_entry history sending parts before (Unplugged other) one split sends heads = cc
 answered_by_entry history sending parts before (Sent frame) one split sends heads =
     answered_plain (map (judge sending.since) (zip sending.heads parts))
     (subst (λ all. All no_block (map (judge sending.since) (zip all parts))) (sym heads) (data_plain (line_of before) sending.since frame parts))

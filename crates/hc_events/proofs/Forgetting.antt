@@ -1,18 +1,19 @@
 -- What forgetting a slave's registers changes, and that histories without it say what they said.
-use Rattle.std.proofs.Common.{◌≡◌, ℕ, ◌==◌, Bool, true, false, cond, not, ◌||◌, List, [], ◌∷◌, map, refl, sym, ap, ◌∙◌, subst, Option, Some, None}
+use Rattle.std.proofs.Common.{◌≡◌, ℕ, ◌==◌, Bool, true, false, cond, not, ◌&&◌, ◌||◌, List, [], ◌∷◌, map, refl, sym, ap, ◌∙◌, subst, Option, Some, None}
 use Rattle.std.specs.Prelude.{All, option_and_then}
 use Rattle.std.specs.Option.{option_map_or}
 use Rattle.std.specs.List.{list_any, zip}
 use Rattle.std.specs.Str.{bytes_eq}
-use Rattle.std.proofs.lemmas.Bool.{or_left}
+use Rattle.std.proofs.lemmas.Bool.{and_parts, and_right, not-true, or_left}
 use Rattle.std.proofs.lemmas.List.Elements.{All-nil, All-cons}
+use Rattle.hc_records.proofs.lemmas.Choices.{by_bool}
 use Rattle.hc_registers.specs.Blocks.{LineBlock}
 use Rattle.hc_events.specs.Answering.{Good, Sending, Stale, Verdict, Wrong, answered_by, followed_by, forgets, is_dropped, is_outdated, judge, judged, judged_by, sending_of, sends, starts_over}
 use Rattle.hc_events.specs.Arrivals.{Arrival, Part}
-use Rattle.hc_events.specs.Awaited.{awaited, is_write_sending}
+use Rattle.hc_events.specs.Awaited.{all_outdated, awaited, is_write_sending}
 use Rattle.hc_events.specs.Entries.{HistoryEntry, History, Forgot}
-use Rattle.hc_events.specs.Forgetting.{IsForgotten, IsStaleFor}
-use Rattle.hc_events.specs.Heads.{Block, Head}
+use Rattle.hc_events.specs.Forgetting.{IsForgotten, IsStaleFor, carries_other, is_of_other}
+use Rattle.hc_events.specs.Heads.{Block, Datagram, Head, Item}
 use Rattle.hc_events.specs.Owed.{if_confirmed, known_bytes, last_write}
 use Rattle.hc_events.proofs.lemmas.Awaited.{awaited_other, awaited-new_answer, frame-untouched, same_is, unless_again}
 
@@ -35,6 +36,30 @@ frame-stays history station serial sending there frame =
     ∙ ap (option_and_then (unless_again (Forgot station))) there
     ∙ ap (λ b. cond b None (Some (followed_by (Forgot station) sending))) (frame-untouched (Forgot station) (λ task d. refl) sending.heads sending.since frame ∙ awaited-new_answer history serial sending there)
 
+-- so does a frame of writes that has another slave's block that isn't out of date
+
+pub other-judged : (station : ℕ) (since : List HistoryEntry) (item : Item) → is_of_other station item ≡ true → is_outdated item (Forgot station ∷ since) ≡ is_outdated item since
+other-judged station since (Datagram task d) other = cc
+other-judged station since (Block owner number) other =
+    ap (λ b. ((b || list_any (forgets owner) since) || starts_over since) || list_any (sends (Block owner number)) since) (not-true (owner == station) other)
+
+one_current : (station : ℕ) (since : List HistoryEntry) (heads : List Head) → list_any (λ head. is_of_other station head.item && not (is_outdated head.item since)) heads ≡ true
+    → all_outdated (Forgot station ∷ since) heads ≡ false
+one_current station since [] other = cc
+one_current station since (head ∷ heads) other =
+    by_bool (is_of_other station head.item && not (is_outdated head.item since))
+    (λ t. let both = and_parts (is_of_other station head.item) (not (is_outdated head.item since)) t in
+    ap (λ b. b && all_outdated (Forgot station ∷ since) heads) (other-judged station since head.item both.0 ∙ not-true (is_outdated head.item since) both.1))
+    (λ t. and_right (is_outdated head.item (Forgot station ∷ since)) (all_outdated (Forgot station ∷ since) heads)
+    (one_current station since heads (sym (ap (λ b. b || list_any (λ head. is_of_other station head.item && not (is_outdated head.item since)) heads) t) ∙ other)))
+
+pub write-stays : (history : History) (station serial : ℕ) (sending : Sending) → awaited history serial ≡ Some sending → carries_other station sending ≡ true
+    → awaited (Forgot station ∷ history) serial ≡ Some (followed_by (Forgot station) sending)
+write-stays history station serial sending there other =
+    awaited_other serial (Forgot station) (λ heads. refl) refl (sending_of history serial)
+    ∙ ap (option_and_then (unless_again (Forgot station))) there
+    ∙ ap (λ b. cond b None (Some (followed_by (Forgot station) sending))) (one_current station sending.since sending.heads other)
+
 pub is-forgotten : (history : History) (station : ℕ) → IsForgotten history station
 is-forgotten history station = record {
   own = λ number. known_if history station station number true (same_is station);
@@ -50,6 +75,8 @@ is-forgotten history station = record {
   values = λ variable k. refl;
   updates = refl;
   frames = λ serial sending there frame. frame-stays history station serial sending there frame;
+  writes = λ serial sending there other. write-stays history station serial sending there other;
+  judged = λ since item other. other-judged station since item other;
 }
 
 -- writes of its blocks that were sent before are stale

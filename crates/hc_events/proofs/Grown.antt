@@ -1,17 +1,18 @@
 -- Events add updates after those that there are.
-use Rattle.std.proofs.Common.{◌≡◌, List, [], ◌∷◌, ◌++◌, map, refl, sym, ap, ◌∙◌, append_assoc, append-nil, Option, Some, None}
+use Rattle.std.proofs.Common.{◌≡◌, ℕ, Bool, true, false, cond, List, [], ◌∷◌, ◌++◌, map, refl, sym, ap, ◌∙◌, append_assoc, append-nil, Option, Some, None}
 use Rattle.std.specs.Prelude.{Result, Ok, Err}
 use Rattle.hc_records.specs.Lists.{lowest}
 use Rattle.hc_registers.specs.Blocks.{LineBlock}
 use Rattle.hc_frames.specs.declared.reading.faults.FrameFault.{FrameFault}
 use Rattle.hc_events.specs.declared.faults.CoreFault.{CoreFault}
 use Rattle.hc_events.specs.Arrivals.{Arrival, arrival_in}
-use Rattle.hc_events.specs.Entries.{History, Edited, Posted, Sent, Forgot}
+use Rattle.hc_events.specs.Entries.{History, Edited, Posted, Sent, Forgot, Cleared, Unplugged}
 use Rattle.hc_events.specs.Sendings.{Frame}
 use Rattle.hc_events.specs.Images.{new_answer_by}
 use Rattle.hc_events.specs.Changes.{Update, Swapped, Answered, updates_of}
-use Rattle.hc_events.specs.Owed.{owed_blocks}
-use Rattle.hc_events.specs.Steps.{Step, Edits, Posts, SendsTasks, SendsWrite, Arrives, Reads, Forgets, unless_fault, edit_refused, forget_faults, post_faults, proposal, task_faults, with_sent, write_faults, with_write, with_arrival, entries_after, entries_after_all, SendsWrites, with_writes}
+use Rattle.hc_events.specs.Owed.{is_in_line, owed_blocks}
+use Rattle.hc_events.specs.Ready.{with_cleared}
+use Rattle.hc_events.specs.Steps.{Step, Edits, Posts, SendsTasks, SendsWrite, Arrives, Reads, Forgets, SendsReady, Clears, Unplugs, unless_fault, edit_refused, clear_faults, forget_faults, ready_faults, unplug_faults, post_faults, proposal, task_faults, with_sent, write_faults, with_write, with_arrival, entries_after, entries_after_all, SendsWrites, with_writes}
 use Rattle.hc_events.specs.UpdatesLaws.{Grows}
 use Rattle.hc_events.specs.WriteFrames.{frame_blocks}
 
@@ -47,6 +48,14 @@ grows_arrival : (history : History) (read : Result Arrival FrameFault) → Grows
 grows_arrival history (Err fault) = same (updates_of history)
 grows_arrival history (Ok arrival) = record { more = map Answered (new_answer_by history arrival); joined = refl }
 
+grows_either : (old : List Update) (b : Bool) (x y : History) → Grows old (updates_of x) → Grows old (updates_of y) → Grows old (updates_of (cond b x y))
+grows_either old true x y a b = a
+grows_either old false x y a b = b
+
+grows_cleared : (history : History) (station : ℕ) → Grows (updates_of history) (updates_of (with_cleared history station))
+grows_cleared history station =
+    grows_either (updates_of history) (is_in_line history station) (Cleared station ∷ Forgot station ∷ history) (Cleared station ∷ history) (same (updates_of history)) (same (updates_of history))
+
 grows_after : (history : History) (step : Step) → Grows (updates_of history) (updates_of (entries_after history step))
 grows_after history (Edits edit) =
     grows_if (updates_of history) (edit_refused history edit) history (Edited edit ∷ history) (same (updates_of history)) (record { more = Swapped edit ∷ []; joined = refl })
@@ -63,6 +72,12 @@ grows_after history (Arrives bytes) = grows_arrival history (arrival_in bytes)
 grows_after history (Reads task) = same (updates_of history)
 grows_after history (Forgets station) =
     grows_if (updates_of history) (lowest (forget_faults history station)) history (Forgot station ∷ history) (same (updates_of history)) (same (updates_of history))
+grows_after history (SendsReady tasks) =
+    grows_if (updates_of history) (lowest (ready_faults history tasks)) history (with_sent history (proposal history tasks)) (same (updates_of history)) (grows_sent history (proposal history tasks))
+grows_after history (Clears station) =
+    grows_if (updates_of history) (lowest (clear_faults history station)) history (with_cleared history station) (same (updates_of history)) (grows_cleared history station)
+grows_after history (Unplugs station) =
+    grows_if (updates_of history) (lowest (unplug_faults history station)) history (Unplugged station ∷ history) (same (updates_of history)) (same (updates_of history))
 
 pub updates-grow : (history : History) (steps : List Step) → Grows (updates_of history) (updates_of (entries_after_all history steps))
 updates-grow history [] = same (updates_of history)

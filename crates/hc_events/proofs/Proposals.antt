@@ -9,13 +9,14 @@ use Rattle.hc_registers.specs.Blocks.{LineBlock}
 use Rattle.hc_events.specs.declared.faults.CoreFault.{CoreFault}
 use Rattle.hc_events.specs.declared.answer.Answer.{Answer}
 use Rattle.hc_events.specs.declared.answer.Answer.TheVariants as answer
-use Rattle.hc_events.specs.Entries.{HistoryEntry, History, Opened, Edited, Posted, Sent, Wrote, Came, Forgot}
+use Rattle.hc_events.specs.Entries.{HistoryEntry, History, Opened, Edited, Posted, Sent, Wrote, Came, Forgot, Cleared, Unplugged}
 use Rattle.hc_events.specs.Points.{line_of, next_serial}
 use Rattle.hc_events.specs.Sendings.{Frame}
 use Rattle.hc_events.specs.Heads.{data_heads}
 use Rattle.hc_events.specs.Answering.{sending_of}
 use Rattle.hc_events.specs.Owed.{owed_blocks}
-use Rattle.hc_events.specs.Steps.{unless_fault, proposal, sent_text, task_faults, unless, with_sent, with_write, write_faults, sent_write_answer, writes_answer, with_writes}
+use Rattle.hc_events.specs.ReadyLaws.{AreReadySent}
+use Rattle.hc_events.specs.Steps.{unless_fault, proposal, ready_faults, sent_text, task_faults, unless, with_sent, with_write, write_faults, sent_write_answer, writes_answer, with_writes}
 use Rattle.hc_events.specs.SendingLaws.{AreSent, IsFound, BlockIsWritten, is_frame, is_opening, BlocksAreWritten}
 use Rattle.hc_events.proofs.lemmas.Frames.{proposals-numbered}
 use Rattle.hc_events.proofs.lemmas.Placing.{found-under}
@@ -55,6 +56,8 @@ none_opened (Opened groups ∷ since) e = cc
 none_opened (Edited edit ∷ since) e = cc
 none_opened (Posted task bytes ∷ since) e = cc
 none_opened (Forgot station ∷ since) e = cc
+none_opened (Cleared station ∷ since) e = cc
+none_opened (Unplugged station ∷ since) e = cc
 none_opened (Wrote blocks ∷ since) e = cc
 none_opened (Came arrival ∷ since) e = cc
 
@@ -100,6 +103,13 @@ pub frames-found : (history : History) (tasks : List ℕ) → IsNone (lowest (ta
 frames-found history tasks none = record {
   answer_given = answered_next (lowest (task_faults history tasks)) (answer.Sent (map (sent_text history) (proposal history tasks))) none;
   found = found_unless history (with_sent history (proposal history tasks)) (lowest (task_faults history tasks)) (proposal history tasks) none
+      (are_found history (with_sent history (proposal history tasks)) (proposal history tasks) (found_all (line_of history) history (proposal history tasks) refl (proposals-numbered history tasks)));
+}
+
+pub ready-found : (history : History) (tasks : List ℕ) → IsNone (lowest (ready_faults history tasks)) → AreReadySent history tasks
+ready-found history tasks none = record {
+  answer_given = answered_next (lowest (ready_faults history tasks)) (answer.Sent (map (sent_text history) (proposal history tasks))) none;
+  found = found_unless history (with_sent history (proposal history tasks)) (lowest (ready_faults history tasks)) (proposal history tasks) none
       (are_found history (with_sent history (proposal history tasks)) (proposal history tasks) (found_all (line_of history) history (proposal history tasks) refl (proposals-numbered history tasks)));
 }
 

@@ -15,7 +15,7 @@ use Rattle.hc_frames.specs.Laws.{CanBeCarried}
 use Rattle.hc_frames.specs.Returned.{AllComeBack, ComesBack, IsReturned}
 use Rattle.hc_frames.proofs.lemmas.Returns.{returned-read}
 use Rattle.hc_events.specs.Arrivals.{Arrival, Part, arrival_in, read_unless}
-use Rattle.hc_events.specs.Entries.{HistoryEntry, History, Opened, Edited, Posted, Sent, Wrote, Came, Forgot}
+use Rattle.hc_events.specs.Entries.{HistoryEntry, History, Opened, Edited, Posted, Sent, Wrote, Came, Forgot, Cleared, Unplugged}
 use Rattle.hc_events.specs.Points.{line_of, next_serial}
 use Rattle.hc_events.specs.Sendings.{Named, line_data_length}
 use Rattle.hc_events.specs.Heads.{data_head, data_heads, item_of, write_head, write_heads}
@@ -68,6 +68,8 @@ some_sent before (Opened groups) parts back some = absurd (none_carried parts ba
 some_sent before (Edited edit) parts back some = absurd (none_carried parts back some)
 some_sent before (Posted task bytes) parts back some = absurd (none_carried parts back some)
 some_sent before (Forgot station) parts back some = absurd (none_carried parts back some)
+some_sent before (Cleared station) parts back some = absurd (none_carried parts back some)
+some_sent before (Unplugged station) parts back some = absurd (none_carried parts back some)
 some_sent before (Came arrival) parts back some = absurd (none_carried parts back some)
 some_sent before (Sent frame) parts back some = refl
 some_sent before (Wrote blocks) parts back some = refl
@@ -77,6 +79,8 @@ all_back before (Opened groups) parts back some = absurd (none_carried parts bac
 all_back before (Edited edit) parts back some = absurd (none_carried parts back some)
 all_back before (Posted task bytes) parts back some = absurd (none_carried parts back some)
 all_back before (Forgot station) parts back some = absurd (none_carried parts back some)
+all_back before (Cleared station) parts back some = absurd (none_carried parts back some)
+all_back before (Unplugged station) parts back some = absurd (none_carried parts back some)
 all_back before (Came arrival) parts back some = absurd (none_carried parts back some)
 all_back before (Sent frame) parts back some = heads_back before frame parts back
 all_back before (Wrote blocks) parts back some = writes_back blocks parts back
@@ -114,6 +118,8 @@ entry_data since before (Opened groups) parts = refl
 entry_data since before (Edited edit) parts = refl
 entry_data since before (Posted task bytes) parts = refl
 entry_data since before (Forgot station) parts = refl
+entry_data since before (Cleared station) parts = refl
+entry_data since before (Unplugged station) parts = refl
 entry_data since before (Came arrival) parts = refl
 entry_data since before (Sent frame) parts = data_back since (line_of before) frame parts
 entry_data since before (Wrote blocks) parts = write_data since blocks parts

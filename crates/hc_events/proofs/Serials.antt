@@ -12,15 +12,16 @@ use Rattle.hc_frames.specs.declared.reading.faults.FrameFault.{FrameFault}
 use Rattle.hc_events.specs.declared.faults.CoreFault.{CoreFault}
 use Rattle.hc_events.specs.declared.faults.CoreFault.TheVariants.{NoSuchTask, NothingOwed, SerialsSpent, Unprogrammed}
 use Rattle.hc_events.specs.Arrivals.{Arrival, arrival_in}
-use Rattle.hc_events.specs.Entries.{HistoryEntry, History, Opened, Edited, Posted, Sent, Wrote, Came, Forgot}
+use Rattle.hc_events.specs.Entries.{HistoryEntry, History, Opened, Edited, Posted, Sent, Wrote, Came, Forgot, Cleared, Unplugged}
 use Rattle.hc_events.specs.Points.{line_of, next_serial}
 use Rattle.hc_events.specs.Sendings.{Frame}
 use Rattle.hc_events.specs.Heads.{data_heads, write_heads}
 use Rattle.hc_events.specs.Answering.{Sending, sending_of_heads, followed_by, sending_of}
-use Rattle.hc_events.specs.Owed.{owed_blocks}
-use Rattle.hc_events.specs.Steps.{Step, Edits, Posts, SendsTasks, SendsWrite, Arrives, Reads, Forgets, forget_faults, unless_fault, edit_refused, has_serials, is_no_task, post_faults, proposal, task_faults, with_sent, write_faults, with_write, with_arrival, entries_after, entries_after_all, SendsWrites, with_writes}
+use Rattle.hc_events.specs.Owed.{is_in_line, owed_blocks}
+use Rattle.hc_events.specs.Ready.{with_cleared}
+use Rattle.hc_events.specs.Steps.{Step, Edits, Posts, SendsTasks, SendsWrite, Arrives, Reads, Forgets, SendsReady, Clears, Unplugs, clear_faults, forget_faults, ready_faults, unplug_faults, unless_fault, edit_refused, has_serials, is_no_task, post_faults, proposal, task_faults, with_sent, write_faults, with_write, with_arrival, entries_after, entries_after_all, SendsWrites, with_writes}
 use Rattle.hc_events.specs.Accepted.{just_opened, history_of}
-use Rattle.hc_events.proofs.lemmas.Accepted.{passed}
+use Rattle.hc_events.proofs.lemmas.Accepted.{passed, ready-passed}
 use Rattle.hc_events.proofs.lemmas.Once.{serial-below}
 use Rattle.hc_events.specs.WriteFrames.{frame_blocks}
 
@@ -79,6 +80,8 @@ serials-ascend (Opened groups ∷ history) low high = λ older newer e f less. c
 serials-ascend (Edited edit ∷ history) low high = ascends_on (Edited edit) low high (sending_of history low) (sending_of history high) (serials-ascend history low high)
 serials-ascend (Posted task bytes ∷ history) low high = ascends_on (Posted task bytes) low high (sending_of history low) (sending_of history high) (serials-ascend history low high)
 serials-ascend (Forgot station ∷ history) low high = ascends_on (Forgot station) low high (sending_of history low) (sending_of history high) (serials-ascend history low high)
+serials-ascend (Cleared station ∷ history) low high = ascends_on (Cleared station) low high (sending_of history low) (sending_of history high) (serials-ascend history low high)
+serials-ascend (Unplugged station ∷ history) low high = ascends_on (Unplugged station) low high (sending_of history low) (sending_of history high) (serials-ascend history low high)
 serials-ascend (Came arrival ∷ history) low high = ascends_on (Came arrival) low high (sending_of history low) (sending_of history high) (serials-ascend history low high)
 serials-ascend (Sent frame ∷ history) low high =
     ascends_sent history (Sent frame) (sending_of_heads (data_heads (line_of history) frame)) low high (next_serial history == low) (next_serial history == high) refl refl refl (serials-ascend history low high)
@@ -116,6 +119,15 @@ left_sent history tasks e =
     let third = passed (not (has_serials history (length (proposal history tasks)))) SerialsSpent [] second.1 in
     subst (λ n. n ≤ SETUP_SERIAL) (sent_numbers history (proposal history tasks)) (enough (next_serial history) (length (proposal history tasks)) (not-false _ third.0))
 
+left_ready : (history : History) (tasks : List ℕ) → lowest (ready_faults history tasks) ≡ None → Left (with_sent history (proposal history tasks))
+left_ready history tasks e =
+    let last = passed (not (has_serials history (length (proposal history tasks)))) SerialsSpent [] (ready-passed history tasks e).1 in
+    subst (λ n. n ≤ SETUP_SERIAL) (sent_numbers history (proposal history tasks)) (enough (next_serial history) (length (proposal history tasks)) (not-false _ last.0))
+
+left_either : (b : Bool) (x y : History) → Left x → Left y → Left (cond b x y)
+left_either true x y a b = a
+left_either false x y a b = b
+
 left_write : (history : History) (blocks : List LineBlock) → lowest (write_faults history blocks) ≡ None → Left history → Left (with_write history blocks)
 left_write history [] e before = before
 left_write history (block ∷ blocks) e before =
@@ -146,6 +158,10 @@ left_after history SendsWrites before =
 left_after history (Arrives bytes) before = left_arrival history (arrival_in bytes) before
 left_after history (Reads task) before = before
 left_after history (Forgets station) before = left_if (lowest (forget_faults history station)) history (Forgot station ∷ history) (λ e. before) before
+left_after history (SendsReady tasks) before = left_if (lowest (ready_faults history tasks)) history (with_sent history (proposal history tasks)) (λ e. left_ready history tasks e) before
+left_after history (Clears station) before =
+    left_if (lowest (clear_faults history station)) history (with_cleared history station) (λ e. left_either (is_in_line history station) (Cleared station ∷ Forgot station ∷ history) (Cleared station ∷ history) before before) before
+left_after history (Unplugs station) before = left_if (lowest (unplug_faults history station)) history (Unplugged station ∷ history) (λ e. before) before
 
 left_after_all : (history : History) (steps : List Step) → Left history → Left (entries_after_all history steps)
 left_after_all history [] before = before

@@ -1,17 +1,18 @@
 -- What is known of an entry by its being accepted, and of a record by the events that led to it.
-use Rattle.std.specs.Prelude.{◌≡◌, ℕ, ◌<◌, ◌≤◌, ◌⊎◌, true, All, Contains, List, [], ◌∷◌, length, map, take, None}
+use Rattle.std.specs.Prelude.{◌≡◌, ℕ, ◌<◌, ◌≤◌, ◌⊎◌, true, false, All, Contains, List, [], ◌∷◌, length, map, take, None}
 use Rattle.hc_records.specs.declared.limits.TheConstants.{TASKS}
 use Rattle.hc_records.specs.declared.records.Group.{Group}
 use Rattle.hc_records.specs.Lists.{lowest}
 use Rattle.hc_records.specs.Line.{Member}
 use Rattle.hc_records.specs.Image.{datagram_count, output_length, task_places}
-use Rattle.hc_records.specs.Edits.{edit_faults}
+use Rattle.hc_records.specs.Edits.{edit_faults, is_declared_station}
 use Rattle.hc_registers.specs.Blocks.{LineBlock}
 use Rattle.hc_frames.specs.declared.limits.TheConstants.{SETUP_SERIAL}
-use Rattle.hc_events.specs.Entries.{HistoryEntry, History, Opened, Edited, Posted, Sent, Wrote, Came, Forgot}
+use Rattle.hc_events.specs.Entries.{HistoryEntry, History, Opened, Edited, Posted, Sent, Wrote, Came, Forgot, Cleared, Unplugged}
 use Rattle.hc_events.specs.Points.{line_of, next_serial, opened_with, state_of}
 use Rattle.hc_events.specs.Sendings.{Named, sendings_of}
-use Rattle.hc_events.specs.Owed.{is_in_line, owed_blocks}
+use Rattle.hc_events.specs.Owed.{is_in_line, last_write, owed_blocks}
+use Rattle.hc_events.specs.Ready.{is_ready}
 use Rattle.hc_events.specs.WriteFrames.{frame_blocks}
 use Rattle.hc_events.specs.Steps.{Step, entries_after_all}
 
@@ -28,9 +29,9 @@ pub record IsPost (line : List Member) (task : ℕ) (bytes : List ℕ) : Type 0 
 abbrev pub frames_of : List Member → ℕ → List ℕ → List (List Named)
 frames_of line serial tasks = map (λ sending. sending.datagrams) (sendings_of line serial tasks)
 
--- one of the frames where a list of tasks is sent, of datagrams of the line, while nothing is owed
+-- one of the frames where a list of tasks is sent, of datagrams of the line, while nothing is owed, or each task that it carries is ready
 pub record IsFrame (history : History) (frame : List Named) : Type 0 where
-  pub programmed : owed_blocks history ≡ []
+  pub programmed : (owed_blocks history ≡ []) ⊎ All (λ (named : Named). is_ready history named.0 ≡ true) frame
   pub is_placed : All (IsInLine (line_of history)) frame
   pub tasks : List ℕ
   pub serial : ℕ
@@ -46,7 +47,17 @@ pub record IsWrite (owed blocks : List LineBlock) : Type 0 where
   pub some : 0 < length blocks
   pub first : (blocks ≡ take 1 owed) ⊎ (blocks ≡ frame_blocks owed)
 
--- an edit that the state accepts, such a post, such a frame, such register blocks, any arrival that can be read, a slave of the line that is forgotten; a project is opened once
+-- a declared slave is cleared; where it is in the line it was forgotten first, so none of its writes counts
+pub record IsClearing (history : History) (station : ℕ) : Type 0 where
+  pub declared : is_declared_station (state_of history) station ≡ true
+  pub forgotten : is_in_line history station ≡ true → (number : ℕ) → last_write history station number ≡ None
+
+-- a declared slave outside the line is unplugged
+pub record IsUnplugging (history : History) (station : ℕ) : Type 0 where
+  pub declared : is_declared_station (state_of history) station ≡ true
+  pub outside : is_in_line history station ≡ false
+
+-- an edit that the state accepts, such a post, such a frame, such register blocks, any arrival that can be read, a slave of the line that is forgotten, a slave that is cleared, one outside the line that is unplugged; a project is opened once
 abbrev pub IsAccepted : History → HistoryEntry → Type 0
 IsAccepted history (Opened groups) = ⊥
 IsAccepted history (Edited edit) = lowest (edit_faults (state_of history) edit) ≡ None
@@ -55,6 +66,8 @@ IsAccepted history (Sent frame) = IsFrame history frame
 IsAccepted history (Wrote blocks) = IsWrite (owed_blocks history) blocks
 IsAccepted history (Came arrival) = Unit {0}
 IsAccepted history (Forgot station) = is_in_line history station ≡ true
+IsAccepted history (Cleared station) = IsClearing history station
+IsAccepted history (Unplugged station) = IsUnplugging history station
 
 -- the record of a project where nothing has happened, and what events make of it
 abbrev pub just_opened : List Group → History

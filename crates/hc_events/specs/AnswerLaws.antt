@@ -1,7 +1,9 @@
 -- What holds of answers: an arrival answers a sending as its first one, and what is awaited is what arrivals can answer.
-use Rattle.std.specs.Prelude.{◌≡◌, ◌↔◌, ℕ, ◌<◌, ◌≤◌, ◌==◌, ◌&&◌, not, true, false, if◌then◌else◌, All, Contains, List, [], ◌∷◌, ◌++◌, length, map, Some, Ok}
+use Rattle.std.specs.Prelude.{◌≡◌, ◌↔◌, ℕ, ◌<◌, ◌≤◌, ◌==◌, ◌&&◌, not, Bool, true, false, if◌then◌else◌, All, Contains, List, [], ◌∷◌, ◌++◌, length, map, Some, None, Ok}
 use Rattle.std.specs.List.{flat_map, list_all, list_any, zip}
-use Rattle.hc_records.specs.Line.{Member}
+use Rattle.hc_records.specs.declared.records.Group.{Group}
+use Rattle.hc_records.specs.Line.{Member, State, groups_of, line}
+use Rattle.hc_records.specs.Project.{lowest_fault}
 use Rattle.hc_records.specs.Image.{expected_counter}
 use Rattle.hc_registers.specs.Blocks.{LineBlock, line_blocks}
 use Rattle.hc_frames.specs.FrameText.{Datagram}
@@ -16,8 +18,9 @@ use Rattle.hc_events.specs.Heads.{Head, Item, Datagram as DatagramItem, Block, b
 use Rattle.hc_events.specs.Answering.{Sending, answered_by, has_heads, is_forgetting, is_stale_to, judge, judged, judged_by, sending_of, sends}
 use Rattle.hc_events.specs.Awaited.{awaited, is_write_sending}
 use Rattle.hc_events.specs.Images.{NewAnswer, new_answer_by}
-use Rattle.hc_events.specs.Steps.{Arrives, answer_to, sent_datagram, judged_answer}
-use Rattle.hc_events.specs.Accepted.{IsReachable, IsInLine}
+use Rattle.hc_events.specs.Owed.{owed_blocks}
+use Rattle.hc_events.specs.Steps.{Arrives, SendsReady, Step, answer_to, sent_datagram, judged_answer}
+use Rattle.hc_events.specs.Accepted.{IsReachable, IsInLine, history_of}
 use Rattle.hc_events.specs.SendingLaws.{IsSendingAt, heads_of}
 use Rattle.hc_events.specs.Forgetting.{writes_one}
 use Rattle.hc_events.specs.WriteFrames.{block_datagram}
@@ -84,6 +87,10 @@ abbrev pub HasOwnNames : List Member → Type 0
 HasOwnNames line =
     (a b : LineBlock) → Contains (line_blocks line) a → Contains (line_blocks line) b → same_item (block_item a) (block_item b) ≡ true → a ≡ b
 
+-- so it is in the line of any project's state: `Project::groups` gives the condition of the opened groups, and `Plan` of the state's after its edits
+abbrev pub ProjectsHaveOwnNames : Type 0
+ProjectsHaveOwnNames = (state : State) → lowest_fault (groups_of state.groups) ≡ None → HasOwnNames (line state)
+
 -- of two frames of register writes the later one is of one block, and the earlier one is of more
 pub record IsBesideOne (older newer : Sending) : Type 0 where
   pub one : length newer.heads ≡ 1
@@ -109,10 +116,25 @@ WritesFitAFrame =
     (history : History) (serial : ℕ) (sending : Sending) → IsReachable history → sending_of history serial ≡ Some sending
     → is_write_sending sending ≡ true → length sending.heads ≤ FRAME_BLOCKS
 
--- and as long as no slave's registers were forgotten no frame of tasks is awaited beside a register write
+-- each frame of tasks was sent while nothing was owed
+abbrev pub sent_programmed : History → Bool
+sent_programmed [] = true
+sent_programmed (Sent frame ∷ history) = (length (owed_blocks history) == 0) && sent_programmed history
+sent_programmed (entry ∷ history) = sent_programmed history
+
+-- the event sends ready tasks, which may be while blocks are owed
+abbrev pub sends_ready : Step → Bool
+sends_ready (SendsReady tasks) = true
+sends_ready step = false
+
+-- so it is in each record of events without such a sending
+abbrev pub SendTasksAreProgrammed : Type 0
+SendTasksAreProgrammed = (groups : List Group) (steps : List Step) → list_any sends_ready steps ≡ false → sent_programmed (history_of groups steps) ≡ true
+
+-- as long as no slave's registers were forgotten, and each frame of tasks was sent while nothing was owed, no frame of tasks is awaited beside a register write
 abbrev pub WritesAreAwaitedAlone : Type 0
 WritesAreAwaitedAlone =
-    (history : History) (serial other : ℕ) (write sending : Sending) → IsReachable history → list_any is_forgetting history ≡ false
+    (history : History) (serial other : ℕ) (write sending : Sending) → IsReachable history → list_any is_forgetting history ≡ false → sent_programmed history ≡ true
     → awaited history serial ≡ Some write → is_write_sending write ≡ true
     → awaited history other ≡ Some sending → is_write_sending sending ≡ true
 

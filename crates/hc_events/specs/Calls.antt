@@ -7,7 +7,7 @@ use Rattle.hc_records.specs.Image.{datagram_count, task_places}
 use Rattle.hc_registers.specs.Blocks.{LineBlock}
 use Rattle.hc_frames.specs.Sizes.{frame_bytes}
 use Rattle.hc_events.specs.declared.answer.Answer.{Answer}
-use Rattle.hc_events.specs.Steps.{sent_text, Step, Posts, Forgets, answer_to, entries_after, has_serials, proposal, task_faults, write_faults}
+use Rattle.hc_events.specs.Steps.{sent_text, Step, Posts, Forgets, Clears, Unplugs, answer_to, entries_after, has_serials, proposal, ready_faults, task_faults, write_faults}
 use Rattle.hc_events.specs.declared.answer.Answer.TheVariants as answer
 use Rattle.hc_events.specs.declared.faults.CoreFault.{CoreFault}
 use Rattle.hc_events.specs.declared.faults.CoreFault.TheVariants.{Memory, Room}
@@ -17,10 +17,12 @@ use Rattle.hc_events.specs.Sendings.{Frame, frame_of_one, line_data_length, sent
 use Rattle.hc_events.specs.Owed.{owed_blocks}
 use Rattle.hc_events.specs.WriteFrames.{frame_blocks, writes_size}
 
--- an event takes memory for what it answers or for what is kept after it; a post takes none, since the room for its values was taken at the opening or by an accepted edit; forgetting a slave's registers takes none
+-- an event takes memory for what it answers or for what is kept after it; a post takes none, since the room for its values was taken at the opening or by an accepted edit; forgetting a slave's registers takes none, nor does clearing or unplugging a slave
 abbrev pub takes_memory : Step → Bool
 takes_memory (Posts task epoch bytes) = false
 takes_memory (Forgets station) = false
+takes_memory (Clears station) = false
+takes_memory (Unplugs station) = false
 takes_memory step = true
 
 -- the event's answer, and the record after it
@@ -66,6 +68,10 @@ arena_sent history tasks arena = flat_map (sent_text history) (proposal history 
 -- they go into one slice of so many bytes, one after another: refused in the same way
 abbrev pub send_into_faults : History → List ℕ → ℕ → List (Bool × CoreFault)
 send_into_faults history tasks bytes = task_faults history tasks ++ room_faults (frames_size history tasks) bytes
+
+-- ready tasks go into one slice of so many bytes, one after another: refused in the same way
+abbrev pub ready_into_faults : History → List ℕ → ℕ → List (Bool × CoreFault)
+ready_into_faults history tasks bytes = ready_faults history tasks ++ room_faults (frames_size history tasks) bytes
 
 -- what the caller keeps to who sends tasks: at least one, as many as there are tasks at most, and none twice; whether there is such a task is judged by the event
 pub record AreSentTogether (tasks : List ℕ) : Type 0 where

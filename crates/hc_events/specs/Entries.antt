@@ -6,7 +6,7 @@ use Rattle.hc_registers.specs.Blocks.{LineBlock}
 use Rattle.hc_events.specs.Arrivals.{Arrival}
 use Rattle.hc_events.specs.Sendings.{Named}
 
--- the project's groups; an edit; a task and the bytes that it posted; a frame by its datagrams; the register blocks that one frame writes, in order; a frame that arrived and could be read; the station address of a slave whose registers were forgotten
+-- the project's groups; an edit; a task and the bytes that it posted; a frame by its datagrams; the register blocks that one frame writes, in order; a frame that arrived and could be read; the station address of a slave whose registers were forgotten, whose FMMUs are zero, or that is off the wire
 pub data HistoryEntry : Type 0 where
   Opened : List Group → HistoryEntry
   Edited : Edit → HistoryEntry
@@ -15,6 +15,8 @@ pub data HistoryEntry : Type 0 where
   Wrote : List LineBlock → HistoryEntry
   Came : Arrival → HistoryEntry
   Forgot : ℕ → HistoryEntry
+  Cleared : ℕ → HistoryEntry
+  Unplugged : ℕ → HistoryEntry
 
 -- a list of entries, the newest first: what the core accepted since a project was opened
 abbrev pub History : Type 0

@@ -1,16 +1,16 @@
 -- What holds of slaves whose registers are forgotten, and of histories where none is and each register write has a frame of its own.
-use Rattle.std.specs.Prelude.{◌≡◌, ℕ, ◌==◌, ◌||◌, Bool, true, false, All, List, ◌∷◌, length, map, None, Some}
+use Rattle.std.specs.Prelude.{◌≡◌, ℕ, ◌==◌, ◌&&◌, ◌||◌, not, Bool, true, false, All, List, ◌∷◌, length, map, None, Some}
 use Rattle.std.specs.List.{list_all, list_any}
 use Rattle.hc_records.specs.declared.records.Group.{Group}
 use Rattle.hc_registers.specs.Blocks.{LineBlock}
 use Rattle.hc_events.specs.Accepted.{just_opened}
 use Rattle.hc_events.specs.Ages.{data_serial}
-use Rattle.hc_events.specs.Answering.{Judged, Sending, Stale, answered_by, followed_by, forgets, is_forgetting, judged_by}
+use Rattle.hc_events.specs.Answering.{Judged, Sending, Stale, answered_by, followed_by, forgets, is_forgetting, is_outdated, judged_by}
 use Rattle.hc_events.specs.Arrivals.{Arrival}
 use Rattle.hc_events.specs.Awaited.{awaited, is_write_sending}
 use Rattle.hc_events.specs.Changes.{updates_of}
 use Rattle.hc_events.specs.Entries.{HistoryEntry, History, Forgot, Wrote}
-use Rattle.hc_events.specs.Heads.{Block}
+use Rattle.hc_events.specs.Heads.{Block, Datagram, Item}
 use Rattle.hc_events.specs.Images.{slot_of}
 use Rattle.hc_events.specs.Outputs.{value_bit}
 use Rattle.hc_events.specs.Owed.{is_owed, known_bytes, owed_blocks}
@@ -19,8 +19,17 @@ use Rattle.hc_events.specs.Steps.{answers_to, entries_after_all}
 use Rattle.hc_events.specs.WithoutForgetting.{FirstStep, step_of}
 use Rattle.hc_events.specs.WithoutForgetting as first
 
--- a slave was forgotten: nothing is known of its blocks, so each of them is owed; of other slaves the same is known; and nothing else changes: line, epoch, serial, images, output values, changes, and the
--- frames of tasks that are awaited
+-- the item is a register block of another slave than the one with a station address
+abbrev pub is_of_other : ℕ → Item → Bool
+is_of_other station (Datagram task d) = false
+is_of_other station (Block other number) = not (other == station)
+
+-- of what a sending carries something is another slave's block that isn't out of date
+abbrev pub carries_other : ℕ → Sending → Bool
+carries_other station sending = list_any (λ head. is_of_other station head.item && not (is_outdated head.item sending.since)) sending.heads
+
+-- a slave was forgotten: nothing is known of its blocks, so each of them is owed; of other slaves the same is known; and nothing else changes: line, epoch, serial, images, output values, changes, the
+-- frames of tasks that are awaited, and the writes of other slaves' blocks
 pub record IsForgotten (history : History) (station : ℕ) : Type 0 where
   pub own : (number : ℕ) → known_bytes (Forgot station ∷ history) station number ≡ None
   pub others : (other number : ℕ) → (other == station) ≡ false → known_bytes (Forgot station ∷ history) other number ≡ known_bytes history other number
@@ -35,6 +44,11 @@ pub record IsForgotten (history : History) (station : ℕ) : Type 0 where
   pub frames :
       (serial : ℕ) (sending : Sending) → awaited history serial ≡ Some sending → is_write_sending sending ≡ false
       → awaited (Forgot station ∷ history) serial ≡ Some (followed_by (Forgot station) sending)
+  pub writes :
+      (serial : ℕ) (sending : Sending) → awaited history serial ≡ Some sending → carries_other station sending ≡ true
+      → awaited (Forgot station ∷ history) serial ≡ Some (followed_by (Forgot station) sending)
+  pub judged :
+      (since : List HistoryEntry) (item : Item) → is_of_other station item ≡ true → is_outdated item (Forgot station ∷ since) ≡ is_outdated item since
 
 -- so it is with any slave in any history
 abbrev pub ForgettingLosesRegistersAlone : Type 0

@@ -9,6 +9,9 @@ pub mod Images
 pub mod Ages
 pub mod Outputs
 pub mod Owed
+pub mod Holding
+pub mod Ready
+pub mod Steady
 pub mod WriteFrames
 pub mod Changes
 pub mod Exact
@@ -23,6 +26,9 @@ pub mod WorkedFrames
 pub mod WorkedArrivals
 pub mod WorkedForgetting
 pub mod WorkedRefusals
+pub mod WorkedAges
+pub mod WorkedReady
+pub mod WorkedSteady
 pub mod Awaited
 pub mod Stale
 pub mod Accepted
@@ -38,3 +44,6 @@ pub mod ViewLaws
 pub mod FaultLaws
 pub mod CallLaws
 pub mod WriteLaws
+pub mod ReadyLaws
+pub mod SteadyLaws
+pub mod WorkedLimits

@@ -1,7 +1,9 @@
 -- What a frame that came back names by the addresses in it: FPWR addresses a slave by its station address and a register (ETG.1000.4, 5.4), LRW a task's datagram by its logical address (this project's profile).
-use Rattle.std.specs.Prelude.{◌≡◌, ℕ, ◌-◌, ◌/◌, ◌%◌, ◌<◌, All, List}
+use Rattle.std.specs.Prelude.{◌≡◌, ℕ, ◌-◌, ◌/◌, ◌%◌, ◌<◌, All, List, None}
 use Rattle.hc_records.specs.declared.limits.TheConstants.{MOST_DATAGRAMS}
-use Rattle.hc_records.specs.Line.{Member}
+use Rattle.hc_records.specs.Edits.{over_limit_task}
+use Rattle.hc_records.specs.Line.{Member, State, groups_of, line}
+use Rattle.hc_records.specs.Project.{lowest_fault}
 use Rattle.hc_events.specs.declared.answer.Answer.TheVariants as answer
 use Rattle.hc_events.specs.declared.answer.Outcome.{Outcome}
 use Rattle.hc_events.specs.Arrivals.{Arrival}
@@ -39,6 +41,10 @@ pub record IsNamedByAddress (line : List Member) (datagram : Judged) : Type 0 wh
 -- each datagram of a task of the line has a number below 16
 abbrev pub HasFewDatagrams : List Member → Type 0
 HasFewDatagrams line = (named : Named) → IsInLine line named → named.1 < MOST_DATAGRAMS
+
+-- so it is in the line of any project's state in which no task has more than 16 datagrams: `Plan` gives both conditions of its state
+abbrev pub ProjectsHaveFewDatagrams : Type 0
+ProjectsHaveFewDatagrams = (state : State) → lowest_fault (groups_of state.groups) ≡ None → over_limit_task (line state) ≡ None → HasFewDatagrams (line state)
 
 -- where an arrival answers frames of tasks each of its datagrams names a task's datagram of the present line: the one that was sent in its place
 abbrev pub AnsweredAreNamed : Type 0

@@ -1,5 +1,5 @@
 -- What the core answers to each event, and what it accepts of it. `Calls` says which events may be answered with `Memory` instead.
-use Rattle.std.specs.Prelude.{ℕ, ◌+◌, ◌==◌, not, nat_lt, is_none, Bool, if◌then◌else◌, List, [], ◌∷◌, length, map, Option, Some, None, option_map, Result, Ok, Err}
+use Rattle.std.specs.Prelude.{ℕ, ◌+◌, ◌==◌, not, nat_lt, is_none, Bool, if◌then◌else◌, List, [], ◌∷◌, ◌++◌, length, map, Option, Some, None, option_map, Result, Ok, Err}
 use Rattle.std.specs.List.{list_any}
 use Rattle.hc_records.specs.declared.limits.TheConstants.{TASKS}
 use Rattle.hc_records.specs.declared.edit.Edit.{Edit}
@@ -17,19 +17,20 @@ use Rattle.hc_events.specs.declared.answer.Outcome.TheVariants as outcome
 use Rattle.hc_events.specs.declared.event.Event.{Event}
 use Rattle.hc_events.specs.declared.event.Event.TheVariants as event
 use Rattle.hc_events.specs.declared.faults.CoreFault.{CoreFault}
-use Rattle.hc_events.specs.declared.faults.CoreFault.TheVariants.{Absent, NoSuchTask, NothingOwed, PostLength, SerialsSpent, StalePost, UnknownStation, Unprogrammed}
+use Rattle.hc_events.specs.declared.faults.CoreFault.TheVariants.{Absent, AlreadyPresent, NoSuchTask, NothingOwed, PostLength, SerialsSpent, StalePost, UnknownStation, Unprogrammed, Waits}
 use Rattle.hc_frames.specs.declared.limits.TheConstants.{SETUP_SERIAL}
 use Rattle.hc_frames.specs.declared.reading.faults.FrameFault.{FrameFault}
 use Rattle.hc_events.specs.Faults.{edit_refusal, frame_refusal}
 use Rattle.hc_events.specs.Arrivals.{Arrival, Part, arrival_in}
-use Rattle.hc_events.specs.Entries.{History, Edited, Posted, Sent, Wrote, Came, Forgot}
+use Rattle.hc_events.specs.Entries.{History, Edited, Posted, Sent, Wrote, Came, Forgot, Unplugged}
 use Rattle.hc_events.specs.Points.{epoch_of, line_of, next_serial, state_of}
 use Rattle.hc_events.specs.Sendings.{Frame, Named, sendings_of}
 use Rattle.hc_events.specs.Heads.{Head, Item, Datagram as DatagramItem, Block, is_block}
 use Rattle.hc_events.specs.Answering.{Judged, Verdict, Good, Wrong, Stale, is_current, judged_by}
 use Rattle.hc_events.specs.Images.{slots_of}
 use Rattle.hc_events.specs.Outputs.{sent_data}
-use Rattle.hc_events.specs.Owed.{owed_blocks}
+use Rattle.hc_events.specs.Owed.{is_in_line, owed_blocks}
+use Rattle.hc_events.specs.Ready.{is_ready, waited_for, waited_for_outside, with_cleared}
 use Rattle.hc_events.specs.WriteFrames.{frame_blocks, writes_text}
 
 -- an event, without where it lies in memory
@@ -42,6 +43,9 @@ pub data Step : Type 0 where
   Arrives : List ℕ → Step
   Reads : ℕ → Step
   Forgets : ℕ → Step
+  SendsReady : List ℕ → Step
+  Clears : ℕ → Step
+  Unplugs : ℕ → Step
 
 -- a refusal, or else this answer; the record unchanged, or else this one
 abbrev pub unless : Option CoreFault → Answer → Answer
@@ -97,6 +101,20 @@ task_faults history tasks =
     (list_any is_no_task tasks, NoSuchTask)
     ∷ (nat_lt 0 (length (owed_blocks history)), Unprogrammed (length (owed_blocks history)))
     ∷ (not (has_serials history (length (proposal history tasks))), SerialsSpent)
+    ∷ []
+
+-- a sending of ready tasks: the same frames, while blocks are owed that concern none of the tasks
+
+-- a task waits: for so many owed blocks, and for so many registers of slaves outside the line
+abbrev pub wait_fault : History → ℕ → Bool × CoreFault
+wait_fault history task = (not (is_ready history task), Waits task (length (waited_for history task)) (length (waited_for_outside history task)))
+
+-- what refuses sending ready tasks, in order: 8 one is no task, 36 the first of them that waits, 19 fewer serials are left than frames
+abbrev pub ready_faults : History → List ℕ → List (Bool × CoreFault)
+ready_faults history tasks =
+    (list_any is_no_task tasks, NoSuchTask)
+    ∷ map (wait_fault history) tasks
+    ++ (not (has_serials history (length (proposal history tasks))), SerialsSpent)
     ∷ []
 
 -- the frame of a sending, with the data that its datagrams are sent with
@@ -216,6 +234,19 @@ forget_faults history station =
     ∷ (is_none (slave_at (state_of history) station), Absent)
     ∷ []
 
+-- clearing and unplugging a slave
+
+-- what refuses clearing a slave: 5 no declared slave has the station address
+abbrev pub clear_faults : History → ℕ → List (Bool × CoreFault)
+clear_faults history station = (not (is_declared_station (state_of history) station), UnknownStation) ∷ []
+
+-- what refuses a slave's unplugging, in order: 5 no declared slave has the station address, 2 the slave is in the line
+abbrev pub unplug_faults : History → ℕ → List (Bool × CoreFault)
+unplug_faults history station =
+    (not (is_declared_station (state_of history) station), UnknownStation)
+    ∷ (is_in_line history station, AlreadyPresent)
+    ∷ []
+
 -- an event as the core is given it
 abbrev pub step_of : Event → Step
 step_of (event.Edit edit) = Edits edit.now
@@ -226,6 +257,9 @@ step_of event.SendWrites = SendsWrites
 step_of (event.Arrive bytes) = Arrives bytes.now
 step_of (event.Read task) = Reads task
 step_of (event.Forget station) = Forgets station
+step_of (event.SendReady tasks) = SendsReady tasks.now
+step_of (event.Cleared station) = Clears station
+step_of (event.Unplugged station) = Unplugs station
 
 -- the answer to an event; of several refusals the first that holds
 abbrev pub answer_to : History → Step → Answer
@@ -237,6 +271,9 @@ answer_to history SendsWrites = unless (lowest (write_faults history (owed_block
 answer_to history (Arrives bytes) = arrival_answer history (arrival_in bytes)
 answer_to history (Reads task) = unless (lowest (read_faults task)) (image_of history task)
 answer_to history (Forgets station) = unless (lowest (forget_faults history station)) answer.Forgotten
+answer_to history (SendsReady tasks) = unless (lowest (ready_faults history tasks)) (answer.Sent (map (sent_text history) (proposal history tasks)))
+answer_to history (Clears station) = unless (lowest (clear_faults history station)) answer.Cleared
+answer_to history (Unplugs station) = unless (lowest (unplug_faults history station)) answer.Unplugged
 
 -- the record with what was accepted; a refused event leaves it as it was, and a read too
 abbrev pub entries_after : History → Step → History
@@ -248,6 +285,9 @@ entries_after history SendsWrites = unless_fault (lowest (write_faults history (
 entries_after history (Arrives bytes) = with_arrival history (arrival_in bytes)
 entries_after history (Reads task) = history
 entries_after history (Forgets station) = unless_fault (lowest (forget_faults history station)) history (Forgot station ∷ history)
+entries_after history (SendsReady tasks) = unless_fault (lowest (ready_faults history tasks)) history (with_sent history (proposal history tasks))
+entries_after history (Clears station) = unless_fault (lowest (clear_faults history station)) history (with_cleared history station)
+entries_after history (Unplugs station) = unless_fault (lowest (unplug_faults history station)) history (Unplugged station ∷ history)
 
 -- the answers to a list of events, each after those before it, and the record that all of them leave
 abbrev pub answers_to : History → List Step → List Answer

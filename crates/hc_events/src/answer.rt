@@ -104,6 +104,10 @@ pub enum Answer {
     },
     /// The slave's registers are forgotten: all its blocks are owed again.
     Forgotten,
+    /// The slave's FMMUs are zero: it holds up no task but those of its own areas.
+    Cleared,
+    /// The slave is off the wire: it holds up no task until its group is connected again.
+    Unplugged,
     /// The event was refused, and nothing changed.
     Refused(CoreFault),
 }

@@ -29,4 +29,14 @@ pub enum Event<'a> {
     /// The slave with this station address may have lost its registers: none of its register blocks is known
     /// to be written any more. Refused where no declared slave has the address, or the slave isn't in the line.
     Forget(u16),
+    /// The process data of these tasks are sent, in this order, if each of them is ready: 1 to 8 distinct ones, which
+    /// is the caller's condition. One over 7 is refused. Register blocks that concern other tasks may be owed.
+    SendReady(&'a [u8]),
+    /// The FMMUs of the slave with this station address are zero now, and no register write that was sent to it earlier
+    /// will still pass it. If the slave is in the line, its register blocks are forgotten too. Refused if no declared
+    /// slave has the address.
+    Cleared(u16),
+    /// The slave with this station address is off the wire: it holds up no task until its group is connected again.
+    /// Refused if no declared slave has the address, or the slave is in the line.
+    Unplugged(u16),
 }

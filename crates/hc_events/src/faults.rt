@@ -114,10 +114,21 @@ pub enum CoreFault {
     /// More than 2,048 slaves would be declared.
     #[error("too many slaves would be declared")]
     TooManySlaves,
+    /// The task waits, so it is not sent: register blocks of the line that concern it are owed, or registers of slaves
+    /// outside the line may name it.
+    #[error("task {task} waits for {blocks} register blocks and {outside} registers outside the line")]
+    Waits {
+        /// The first task in the given order that waits, 0 to 7.
+        task: u8,
+        /// How many owed register blocks of the line concern it.
+        blocks: u32,
+        /// How many registers of slaves outside the line concern it.
+        outside: u32,
+    },
 }
 
 impl CoreFault {
-    /// The fault's number, 1 to 35; 14 is no fault's number.
+    /// The fault's number, 1 to 36; 14 is no fault's number.
     pub fn number(self) -> u8
         ensures { result ≡ core_fault_number self }
     {
@@ -156,6 +167,7 @@ impl CoreFault {
             CoreFault::VariableTaken => 33,
             CoreFault::TooManyGroups => 34,
             CoreFault::TooManySlaves => 35,
+            CoreFault::Waits { .. } => 36,
         }
     }
 }

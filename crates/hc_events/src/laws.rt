@@ -1,14 +1,17 @@
 //! What follows from the definitions of `specs/`, so that a reader can trust them: each function here
 //! does nothing, and its contract is a law that holds of every record. Nobody calls it.
+pub mod ready;
+pub mod steady;
+
 ghost use Rattle.hc_events.specs.Accepted.{RecordsAreReachable};
 ghost use Rattle.hc_events.specs.Ages.{SerialsAreOfData};
-ghost use Rattle.hc_events.specs.AnswerLaws.{AnsweredAreOfTheLine, AnswersTheSerial, AwaitedAreAnswered, OneWriteIsAwaited, ReturnedFramesAnswer, TwoWritesAreAwaited, WritesAreAwaitedAlone, WritesFitAFrame};
+ghost use Rattle.hc_events.specs.AnswerLaws.{AnsweredAreOfTheLine, AnswersTheSerial, AwaitedAreAnswered, OneWriteIsAwaited, ProjectsHaveOwnNames, ReturnedFramesAnswer, SendTasksAreProgrammed, TwoWritesAreAwaited, WritesAreAwaitedAlone, WritesFitAFrame};
 ghost use Rattle.hc_events.specs.CallLaws.{FramesFillTheirBytes, PreviewsAreFrames, WriteFramesFillTheirBytes, WritesFillTheirBytes};
 ghost use Rattle.hc_events.specs.DataLaws.{SentDataAreValues};
 ghost use Rattle.hc_events.specs.FaultLaws.{FaultsAreNumbered};
 ghost use Rattle.hc_events.specs.Forgetting.{EventsWithoutForgetting, ForgettingLosesRegistersAlone, ForgottenWritesAreStale, HistoriesWithoutForgetting};
 ghost use Rattle.hc_events.specs.Laws.{AnswersOnce, EditsLeaveNoSlot, EpochsAreCounted, ProposalsAreNumbered, SlotsFit, UnmovedIsOwedAsBefore};
-ghost use Rattle.hc_events.specs.Names.{AddressesAreThoseSent, AnsweredAreNamed};
+ghost use Rattle.hc_events.specs.Names.{AddressesAreThoseSent, AnsweredAreNamed, ProjectsHaveFewDatagrams};
 ghost use Rattle.hc_events.specs.UpdatesLaws.{ChangesAreLegal, ChangesShowAll, LegalChangesAgree, LegalChangesDecide, UpdatesAreOfTheHistory, UpdatesOnlyGrow, SlotsAreLastAnswers};
 ghost use Rattle.hc_events.specs.SendingLaws.{FramesHaveTheirSizes, IndexesComeAgain, ProposalsCarryTheTasks, SendingsHaveSerials, SentFramesAreFound, SentWriteFramesAreFound, SentWritesAreFound, SerialsAscend, SerialsStayBelow};
 ghost use Rattle.hc_events.specs.ViewLaws.{ChangesLeadOn, LegalEpochsFit, LegalJoins, ViewsAreReads};
@@ -17,7 +20,8 @@ ghost use Rattle.hc_events.specs.Stale.{StaleArrivalsCanGo, StaleChangesNothing,
 
 /// A record with an arrival that was stale when it came, and the same record without it, whatever was
 /// recorded since: all later events have the same answers after both, and lead to records that say the
-/// same of the line, the epoch, the next serial, the input images, the output values and the known bytes.
+/// same of the line, the epoch, the next serial, the input images and the serials of their data, the output
+/// values, the known bytes, what the registers may hold, and the slaves that are unplugged.
 pub fn stale_changes_nothing()
     ensures { StaleChangesNothing }
 {}
@@ -92,14 +96,30 @@ pub fn writes_fit_a_frame()
     ensures { WritesFitAFrame }
 {}
 
+/// In a project's line a station address and a number name one register block.
+pub fn projects_have_own_names()
+    ensures { ProjectsHaveOwnNames }
+{}
+
+/// If no task of a project's line has more than 16 datagrams, each datagram has a number from 0 to 15.
+pub fn projects_have_few_datagrams()
+    ensures { ProjectsHaveFewDatagrams }
+{}
+
 /// Where each register write was sent in a frame of its own, in a project's line, at most one is awaited at any time.
 pub fn one_write_is_awaited()
     ensures { OneWriteIsAwaited }
 {}
 
-/// Where a register write is awaited, no frame of tasks is as long as no slave's registers were forgotten.
+/// If a register write is awaited, no frame of tasks is awaited, as long as no slave's registers were forgotten and each
+/// frame of tasks was sent while nothing was owed.
 pub fn writes_are_awaited_alone()
     ensures { WritesAreAwaitedAlone }
+{}
+
+/// Events that do not send ready tasks send each frame of tasks while nothing is owed.
+pub fn send_tasks_are_programmed()
+    ensures { SendTasksAreProgrammed }
 {}
 
 /// A frame of tasks or a register write that comes back, whatever the slaves made of its data and its
@@ -117,7 +137,8 @@ pub fn good_answers_make_known()
 {}
 
 /// In a project's line, after frames of register writes that were each answered well, only those blocks are owed that none
-/// of the frames carried. So nothing is owed once they carried all that was owed.
+/// of the frames carried. So nothing is owed once they carried all that was owed. Posts, reads, frames of tasks, their
+/// answers and stale arrivals may come in between; an edit, another register write and a forgotten slave may not.
 pub fn done_writes_are_known()
     ensures { DoneWritesAreKnown }
 {}
@@ -306,15 +327,15 @@ pub fn epochs_are_counted()
     ensures { EpochsAreCounted }
 {}
 
-/// The faults have the numbers 1 to 29 but 14: 1 to 13 those of edits, 15 to 19 the core's own, 20 to 27
-/// those of frames, 28 `Memory`, 29 `Room`.
+/// The faults have the numbers 1 to 36 without 14: 1 to 13 and 30 to 35 are the numbers of edits' faults, 15 to 19 are
+/// the core's own, 20 to 27 are those of frames, 28 is `Memory`, 29 is `Room`, and 36 is `Waits`.
 pub fn faults_are_numbered()
     ensures { FaultsAreNumbered }
 {}
 
 /// After a slave was forgotten nothing is known of its register blocks, so all of them are owed. Everything else
 /// is as before: line, epoch, next serial, images and their serials, output values, changes, what is known of
-/// other slaves, and the awaited frames of tasks.
+/// other slaves, the awaited frames of tasks, and the awaited writes of other slaves' blocks.
 pub fn forgetting_loses_registers_alone()
     ensures { ForgettingLosesRegistersAlone }
 {}

@@ -60,7 +60,8 @@ impl Sending {
         2 + self.bytes + BESIDE_DATA_BYTES as u16 + length <= MAX_ETHERCAT
     }
 
-    /// A datagram with so many bytes of datajoins, where there is room, the frame after the others.
+    /// Adds a datagram with so many bytes of data, 1 to 1,486, to the frame after its others. The caller has asked
+    /// `has_room` first.
     pub fn join(&mut self, datagram: Named, length: u16)
         requires some { 1 ≤ length }
         requires room { IsTrue (has_room self.old.bytes length) }

@@ -94,7 +94,7 @@ own-byte memory station block r long is plain own low high =
     ap (λ (m : List ℕ). get_or m r 0) (own-after_it memory block long plain (is ∙ sym own))
     ∙ written-inside memory block.block.bytes block.block.register r (omega arith) (omega arith) low high
 
-apart-misses : (a b : LineBlock) (r : ℕ) → AreApart a.block b.block → a.block.register ≤ r → r < a.block.register + length a.block.bytes
+pub apart-misses : (a b : LineBlock) (r : ℕ) → AreApart a.block b.block → a.block.register ≤ r → r < a.block.register + length a.block.bytes
     → Misses b.block.register (length b.block.bytes) r
 apart-misses a b r apart low high = elim (cases_lt r b.block.register) [
   | inl before ↦ inl before

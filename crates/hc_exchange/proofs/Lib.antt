@@ -4,6 +4,8 @@ mod Passing
 mod Packing
 mod Placing
 mod Meaning
+mod Joined
+mod Bare
 mod Alone
 mod Ready
 pub mod Blocks

@@ -1,6 +1,6 @@
 -- What is sent for a task by the packed output values.
 use Rattle.std.proofs.Common.{◌≡◌, ℕ, zero, suc, ◌+◌, ◌*◌, ◌<◌, ◌≤◌, ◌∙◌, Bool, cond, List, [], ◌∷◌, length, length-append, refl, sym, ap, subst, arith}
-use Rattle.std.specs.Prelude.{Some, sum_by, ◌==◌}
+use Rattle.std.specs.Prelude.{None, Some, sum_by, ◌==◌}
 use Rattle.std.specs.Option.{option_map_or}
 use Rattle.std.proofs.lemmas.List.FromFn.{length-map-range_with_len}
 use Rattle.std.proofs.lemmas.List.Sums.{sum_by-cons}
@@ -9,10 +9,11 @@ use Rattle.hc_bits.specs.Bits.{AreBytes, bit_of}
 use Rattle.hc_records.specs.declared.limits.TheConstants.{TASKS}
 use Rattle.hc_records.specs.declared.records.Declared.{Declared}
 use Rattle.hc_records.specs.AddressLaws.{LineHasDatagram}
+use Rattle.hc_records.specs.Edits.{over_limit_task}
 use Rattle.hc_records.specs.Image.{VariablePlace, datagram_count, datagram_length, datagram_offset, expected_counter, task_places}
 use Rattle.hc_records.specs.Laws.{IsDatagramLength}
 use Rattle.hc_records.specs.Line.{Member, State, groups_of, line}
-use Rattle.hc_records.specs.Project.{slaves_of}
+use Rattle.hc_records.specs.Project.{lowest_fault, slaves_of}
 use Rattle.hc_records.specs.TaskList.{task_list}
 use Rattle.hc_records.proofs.lemmas.Addresses.{uncrowded-few}
 use Rattle.hc_records.proofs.lemmas.Lengths.{length-sendable}
@@ -79,6 +80,14 @@ counter-low state task d can =
 
 abbrev pub HoldsPost : State → ℕ → List ℕ → Packed → Type 0
 HoldsPost state task image packed = task < TASKS → HoldsOutputValues (table_of (line state)) (posted_values (table_of (line state)) task image (λ variable k. 0)) packed
+
+-- packed output values by the table of the plan that was read
+abbrev pub can-configure : (state : State) → lowest_fault (groups_of state.groups) ≡ None → over_limit_task (line state) ≡ None → IsConfigurable state
+can-configure state project uncrowded = record { project = project; uncrowded = uncrowded }
+
+pub holds-in : (state : State) (task : ℕ) (image : List ℕ) (packed : Packed) (table : Table) → table ≡ table_of (line state) → (task < TASKS → HoldsOutputValues table (posted_values table task image (λ variable k. 0)) packed)
+    → HoldsPost state task image packed
+holds-in state task image packed table is holds known = subst (λ (t : Table). HoldsOutputValues t (posted_values t task image (λ variable k. 0)) packed) is (holds known)
 
 size-sent : (state : State) (task d : ℕ) (image : List ℕ) (packed : Packed) → IsConfigurable state → HoldsPost state task image packed → LineHasDatagram (line state) task d
     → length (sent_bytes packed task d) ≡ datagram_length (task_places task (line state)) d

@@ -1,8 +1,8 @@
--- A task's frames through the machines of a programmed line.
-use Rattle.std.proofs.Common.{◌≡◌, ℕ, zero, suc, ◌+◌, ◌*◌, ◌%◌, ◌∙◌, List, [], ◌∷◌, length, refl, ap, subst}
+-- A task's frames through the machines of a wire that carries the task.
+use Rattle.std.proofs.Common.{◌≡◌, ℕ, zero, suc, ◌+◌, ◌*◌, ◌%◌, ◌∙◌, List, [], ◌∷◌, length, refl, ap, ap₂, subst, arith}
 use Rattle.std.specs.Prelude.{All, None, Some, map, slice_get}
 use Rattle.std.specs.List.{AllZip}
-use Rattle.std.proofs.lemmas.List.Elements.{All-cons, All-head, All-nil, All-tail}
+use Rattle.std.proofs.lemmas.List.Elements.{All-cons, All-head, All-nil, All-tail, All-weaker}
 use Rattle.hc_records.specs.AddressLaws.{LineHasDatagram}
 use Rattle.hc_records.specs.Image.{datagram_length, expected_counter, logical_address, task_places}
 use Rattle.hc_records.specs.Line.{Member, State, line}
@@ -11,11 +11,14 @@ use Rattle.hc_frames.specs.FrameText.{frame_text, lrw, sent_on_wire}
 use Rattle.hc_frames.specs.Laws.{CanBeCarried}
 use Rattle.hc_segment.specs.Line.{frame_through, frames_through, machines_after}
 use Rattle.hc_exchange.specs.PairLaws.{IsConfigurable}
-use Rattle.hc_exchange.specs.Carrying.{AreProgrammed, count_through, data_through, logical_part, memories_after}
-use Rattle.hc_exchange.specs.Sequences.{Logical, all_after_frames, all_through}
-use Rattle.hc_exchange.proofs.lemmas.Counts.{counts-expected}
+use Rattle.hc_bits.specs.Bits.{AreBytes}
+use Rattle.hc_exchange.specs.Carrying.{AreAsked, IsBitOfTask, count_through, data_through, logical_part}
+use Rattle.hc_exchange.specs.Sequences.{Logical, all_through}
+use Rattle.hc_exchange.specs.Wire.{InLine, Outside, PassesAsked, WireCarriesTask, WireMachine, line_machines, outside_machines, wire_after, wire_after_all, wire_machines}
+use Rattle.hc_exchange.proofs.lemmas.Counts.{task-counts}
 use Rattle.hc_exchange.proofs.lemmas.Frames.{frames-pass}
-use Rattle.hc_exchange.proofs.lemmas.Lines.{IsPlaced, all-are_placed, length-through, line-stays}
+use Rattle.hc_exchange.proofs.lemmas.Lines.{IsCarrier, all-carriers, length-through}
+use Rattle.hc_exchange.proofs.lemmas.Wires.{wire-stays, wires-pass}
 
 -- a datagram of a task with its data, as it is in the process image and in its frame
 
@@ -28,33 +31,59 @@ frame_with serial task bytes d = frame_text (serial + d) (lrw (logical_address t
 pub record IsSendable (line : List Member) (serial task : ℕ) (bytes : ℕ → List ℕ) (d : ℕ) : Type 0 where
   pub datagram : LineHasDatagram line task d
   pub size : length (bytes d) ≡ datagram_length (task_places task line) d
+  pub small : AreBytes (bytes d)
   pub carried : CanBeCarried (serial + d) (sent_on_wire (lrw (logical_address task d) (bytes d)) ∷ [])
 
--- a programmed line has whole memories
+-- its bits are the task's
+pub sendable-asked : (line : List Member) (serial task : ℕ) (bytes : ℕ → List ℕ) (d : ℕ) → IsSendable line serial task bytes d
+    → AreAsked (IsBitOfTask line task) (8 * logical_address task d) (bytes d)
+sendable-asked line serial task bytes d ok bit inside = record { datagram = d; bit = bit; there = ok.datagram; below = omega (arith, inside, ok.size); at = refl }
 
-sizes-of : (line members : List Member) (machines : List (List ℕ)) → AllZip (IsPlaced line) members machines → All (λ m. length m ≡ 12288) machines
-sizes-of line [] [] are_placed = All-nil (λ m. length m ≡ 12288)
-sizes-of line [] (memory ∷ machines) are_placed = absurd are_placed
-sizes-of line (member ∷ members) [] are_placed = absurd are_placed
-sizes-of line (member ∷ members) (memory ∷ machines) are_placed =
-    All-cons (λ m. length m ≡ 12288) memory machines are_placed.0.ready.programmed.machine.size (sizes-of line members machines are_placed.1)
+-- a wire that carries the task has whole memories
 
-sizes : (line : List Member) (machines : List (List ℕ)) → AreProgrammed line machines → All (λ m. length m ≡ 12288) machines
-sizes line machines are = sizes-of line line machines (all-are_placed line machines are)
+sizes-of : (Asked : ℕ → Type 0) (line members : List Member) (machines : List (List ℕ)) → AllZip (IsCarrier Asked line) members machines → All (λ m. length m ≡ 12288) machines
+sizes-of Asked line [] [] are_placed = All-nil (λ m. length m ≡ 12288)
+sizes-of Asked line [] (memory ∷ machines) are_placed = absurd are_placed
+sizes-of Asked line (member ∷ members) [] are_placed = absurd are_placed
+sizes-of Asked line (member ∷ members) (memory ∷ machines) are_placed =
+    All-cons (λ m. length m ≡ 12288) memory machines are_placed.0.own.size (sizes-of Asked line members machines are_placed.1)
 
--- the machines after the frames
+pub wire-sizes : (wire : List WireMachine) → All (λ m. length m ≡ 12288) (line_machines wire) → All (λ m. length m ≡ 12288) (outside_machines wire) → All (λ m. length m ≡ 12288) (wire_machines wire)
+wire-sizes [] line outside = All-nil (λ m. length m ≡ 12288)
+wire-sizes (InLine memory ∷ wire) line outside =
+    All-cons (λ m. length m ≡ 12288) memory (wire_machines wire) (All-head (λ m. length m ≡ 12288) memory (line_machines wire) line)
+    (wire-sizes wire (All-tail (λ m. length m ≡ 12288) memory (line_machines wire) line) outside)
+wire-sizes (Outside memory ∷ wire) line outside =
+    All-cons (λ m. length m ≡ 12288) memory (wire_machines wire) (All-head (λ m. length m ≡ 12288) memory (outside_machines wire) outside)
+    (wire-sizes wire line (All-tail (λ m. length m ≡ 12288) memory (outside_machines wire) outside))
 
-pub passed-machines : (state : State) (machines : List (List ℕ)) (serial task : ℕ) (bytes : ℕ → List ℕ) (ds : List ℕ) → IsConfigurable state → AreProgrammed (line state) machines
+pub sizes : (line : List Member) (task : ℕ) (wire : List WireMachine) → WireCarriesTask line task wire → All (λ m. length m ≡ 12288) (wire_machines wire)
+sizes line task wire carries =
+    let Asked = IsBitOfTask line task in
+    wire-sizes wire (sizes-of Asked line line (line_machines wire) (all-carriers Asked line (line_machines wire) carries.carrying))
+    (All-weaker (PassesAsked Asked) (λ m. length m ≡ 12288) (λ m passes. passes.size) (outside_machines wire) carries.passing)
+
+-- the wire after a datagram
+
+next-carries : (state : State) (wire : List WireMachine) (serial task : ℕ) (bytes : ℕ → List ℕ) (d : ℕ) → IsConfigurable state → WireCarriesTask (line state) task wire
+    → IsSendable (line state) serial task bytes d → WireCarriesTask (line state) task (wire_after wire (8 * logical_address task d) (bytes d))
+next-carries state wire serial task bytes d can carries ok =
+    wire-stays (IsBitOfTask (line state) task) state wire (bytes d) (8 * logical_address task d) can carries (sendable-asked (line state) serial task bytes d ok) ok.small
+
+-- and after the frames
+
+pub passed-machines : (state : State) (wire : List WireMachine) (serial task : ℕ) (bytes : ℕ → List ℕ) (ds : List ℕ) → IsConfigurable state → WireCarriesTask (line state) task wire
     → All (IsSendable (line state) serial task bytes) ds
-    → machines_after machines (map (frame_with serial task bytes) ds) ≡ all_after_frames machines (map (logical_of task bytes) ds)
-passed-machines state machines serial task bytes [] can are ok = refl
-passed-machines state machines serial task bytes (d ∷ ds) can are ok =
+    → machines_after (wire_machines wire) (map (frame_with serial task bytes) ds) ≡ wire_machines (wire_after_all wire (map (logical_of task bytes) ds))
+passed-machines state wire serial task bytes [] can carries ok = refl
+passed-machines state wire serial task bytes (d ∷ ds) can carries ok =
     let members = line state in
+    let from = 8 * logical_address task d in
     let first = All-head (IsSendable members serial task bytes) d ds ok in
-    let passes = frames-pass machines (serial + d) (logical_address task d) (bytes d) (sizes members machines are) first.carried in
-    let next = (line-stays state machines (bytes d) (8 * logical_address task d) can are).programmed in
-    ap (λ (ms : List (List ℕ)). machines_after ms (map (frame_with serial task bytes) ds)) passes.memories
-    ∙ passed-machines state (memories_after machines (8 * logical_address task d) (bytes d)) serial task bytes ds can next (All-tail (IsSendable members serial task bytes) d ds ok)
+    let passes = frames-pass (wire_machines wire) (serial + d) (logical_address task d) (bytes d) (sizes members task wire carries) first.carried in
+    let outsiders = wires-pass (IsBitOfTask members task) state wire (bytes d) from carries (sendable-asked members serial task bytes d first) first.small in
+    ap (λ (ms : List (List ℕ)). machines_after ms (map (frame_with serial task bytes) ds)) (passes.memories ∙ outsiders.all_machines)
+    ∙ passed-machines state (wire_after wire from (bytes d)) serial task bytes ds can (next-carries state wire serial task bytes d can carries first) (All-tail (IsSendable members serial task bytes) d ds ok)
 
 -- the frames as they come back
 
@@ -70,40 +99,50 @@ pub record ReturnedAt (line : List Member) (serial task : ℕ) (ds : List ℕ) (
   pub came_is : slice_get cames n ≡ Some came
   pub returned : Returned line serial task d frame came
 
-returned-one : (state : State) (machines : List (List ℕ)) (serial task : ℕ) (bytes : ℕ → List ℕ) (d : ℕ) → IsConfigurable state → AreProgrammed (line state) machines
+returned-one : (state : State) (wire : List WireMachine) (serial task : ℕ) (bytes : ℕ → List ℕ) (d : ℕ) → IsConfigurable state → WireCarriesTask (line state) task wire
     → IsSendable (line state) serial task bytes d
-    → Returned (line state) serial task d (frame_through machines (frame_with serial task bytes d)) (data_through machines (8 * logical_address task d) (bytes d))
-returned-one state machines serial task bytes d can are ok =
+    → Returned (line state) serial task d (frame_through (wire_machines wire) (frame_with serial task bytes d)) (data_through (line_machines wire) (8 * logical_address task d) (bytes d))
+returned-one state wire serial task bytes d can carries ok =
     let members = line state in
-    let passes = frames-pass machines (serial + d) (logical_address task d) (bytes d) (sizes members machines are) ok.carried in
-    let count : count_through machines (8 * logical_address task d) (length (bytes d)) ≡ expected_counter task d members =
-    ap (count_through machines (8 * logical_address task d)) ok.size ∙ counts-expected state machines task d can are ok.datagram in
+    let from = 8 * logical_address task d in
+    let passes = frames-pass (wire_machines wire) (serial + d) (logical_address task d) (bytes d) (sizes members task wire carries) ok.carried in
+    let outsiders = wires-pass (IsBitOfTask members task) state wire (bytes d) from carries (sendable-asked members serial task bytes d ok) ok.small in
+    let count : count_through (wire_machines wire) from (length (bytes d)) ≡ expected_counter task d members =
+    outsiders.counter ∙ ap (count_through (line_machines wire) from) ok.size ∙ task-counts state (line_machines wire) task d can carries.carrying ok.datagram in
     record {
       readable = passes.readable;
-      answer_given = passes.answer_given ∙ ap (λ (n : ℕ). answer_given-with (n % 65536)) count;
-      size = length-through machines (8 * logical_address task d) (bytes d) ∙ ok.size;
+      answer_given = passes.answer_given ∙ ap₂ answer_given-with outsiders.data_is (ap (λ (n : ℕ). n % 65536) count);
+      size = length-through (line_machines wire) from (bytes d) ∙ ok.size;
     }
   where
-    answer_given-with : ℕ → Reading
-    answer_given-with counter = record { serial = serial + d; parts = logical_part (logical_address task d) (data_through machines (8 * logical_address task d) (bytes d)) counter ∷ [] }
+    answer_given-with : List ℕ → ℕ → Reading
+    answer_given-with came counter = record { serial = serial + d; parts = logical_part (logical_address task d) came counter ∷ [] }
 
-pub passed-frames : (state : State) (machines : List (List ℕ)) (serial task : ℕ) (bytes : ℕ → List ℕ) (ds : List ℕ) → IsConfigurable state → AreProgrammed (line state) machines
-    → All (IsSendable (line state) serial task bytes) ds → (n : ℕ) (frame : List ℕ) → slice_get (frames_through machines (map (frame_with serial task bytes) ds)) n ≡ Some frame
-    → ReturnedAt (line state) serial task ds (all_through machines (map (logical_of task bytes) ds)) n frame
-passed-frames state machines serial task bytes [] can are ok n frame is = cc
-passed-frames state machines serial task bytes (d ∷ ds) can are ok zero frame is =
+pub passed-frames : (state : State) (wire : List WireMachine) (serial task : ℕ) (bytes : ℕ → List ℕ) (ds : List ℕ) → IsConfigurable state → WireCarriesTask (line state) task wire
+    → All (IsSendable (line state) serial task bytes) ds → (n : ℕ) (frame : List ℕ) → slice_get (frames_through (wire_machines wire) (map (frame_with serial task bytes) ds)) n ≡ Some frame
+    → ReturnedAt (line state) serial task ds (all_through (line_machines wire) (map (logical_of task bytes) ds)) n frame
+passed-frames state wire serial task bytes [] can carries ok n frame is = cc
+passed-frames state wire serial task bytes (d ∷ ds) can carries ok zero frame is =
     let members = line state in
-    let one = returned-one state machines serial task bytes d can are (All-head (IsSendable members serial task bytes) d ds ok) in
-    let came = data_through machines (8 * logical_address task d) (bytes d) in
-    let same : frame_through machines (frame_with serial task bytes d) ≡ frame = cc in
+    let one = returned-one state wire serial task bytes d can carries (All-head (IsSendable members serial task bytes) d ds ok) in
+    let came = data_through (line_machines wire) (8 * logical_address task d) (bytes d) in
+    let same : frame_through (wire_machines wire) (frame_with serial task bytes d) ≡ frame = cc in
     record { d = d; came = came; sent = refl; came_is = refl; returned = subst (λ (f : List ℕ). Returned members serial task d f came) same one }
-passed-frames state machines serial task bytes (d ∷ ds) can are ok (suc n) frame is =
+passed-frames state wire serial task bytes (d ∷ ds) can carries ok (suc n) frame is =
     let members = line state in
+    let from = 8 * logical_address task d in
     let first = All-head (IsSendable members serial task bytes) d ds ok in
-    let passes = frames-pass machines (serial + d) (logical_address task d) (bytes d) (sizes members machines are) first.carried in
-    let after_it = memories_after machines (8 * logical_address task d) (bytes d) in
-    let next = (line-stays state machines (bytes d) (8 * logical_address task d) can are).programmed in
-    let later : slice_get (frames_through after_it (map (frame_with serial task bytes) ds)) n ≡ Some frame =
-    subst (λ (ms : List (List ℕ)). slice_get (frames_through ms (map (frame_with serial task bytes) ds)) n ≡ Some frame) passes.memories is in
-    let rest = passed-frames state after_it serial task bytes ds can next (All-tail (IsSendable members serial task bytes) d ds ok) n frame later in
-    record { d = rest.d; came = rest.came; sent = rest.sent; came_is = rest.came_is; returned = rest.returned }
+    let passes = frames-pass (wire_machines wire) (serial + d) (logical_address task d) (bytes d) (sizes members task wire carries) first.carried in
+    let outsiders = wires-pass (IsBitOfTask members task) state wire (bytes d) from carries (sendable-asked members serial task bytes d first) first.small in
+    let next = wire_after wire from (bytes d) in
+    let later : slice_get (frames_through (wire_machines next) (map (frame_with serial task bytes) ds)) n ≡ Some frame =
+    subst (λ (ms : List (List ℕ)). slice_get (frames_through ms (map (frame_with serial task bytes) ds)) n ≡ Some frame) (passes.memories ∙ outsiders.all_machines) is in
+    let rest =
+    passed-frames state next serial task bytes ds can (next-carries state wire serial task bytes d can carries first) (All-tail (IsSendable members serial task bytes) d ds ok) n frame later in
+    record {
+      d = rest.d;
+      came = rest.came;
+      sent = rest.sent;
+      came_is = subst (λ (ms : List (List ℕ)). slice_get (all_through ms (map (logical_of task bytes) ds)) n ≡ Some rest.came) outsiders.of_line rest.came_is;
+      returned = rest.returned;
+    }

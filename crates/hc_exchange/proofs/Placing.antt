@@ -19,7 +19,7 @@ use Rattle.hc_exchange.specs.Pairs.{AreasPair, member_area_key}
 use Rattle.hc_exchange.proofs.lemmas.Listed.{areas-mapped}
 use Rattle.hc_exchange.proofs.lemmas.Members.{KeepsLine, area-inside, stays-line, one-index, one-station}
 use Rattle.hc_exchange.proofs.lemmas.Places.{logical-answer_given, mapped-place}
-use Rattle.hc_exchange.specs.Carrying.{CarriesPair}
+use Rattle.hc_exchange.specs.Carrying.{CarriesPair, IsBitOfTask}
 use Rattle.hc_exchange.proofs.lemmas.Slaves.{one-owner}
 use Rattle.hc_exchange.specs.Exchanged.{IsGapBit, IsOutputBit}
 use Rattle.hc_exchange.proofs.Packing.{datagram-early, length-there}
@@ -51,14 +51,7 @@ same-bit line station other x m n stays p q =
 
 -- an area's bit is in a datagram of the area's task
 
-pub record InDatagram (line : List Member) (task x : ℕ) : Type 0 where
-  pub d : ℕ
-  pub bit : ℕ
-  pub datagram : LineHasDatagram line task d
-  pub below : bit < 8 * datagram_length (task_places task line) d
-  pub at : x ≡ 8 * logical_address task d + bit
-
-pub in-datagram : (line : List Member) (station x m : ℕ) → KeepsLine line → (p : AreasPair line station x m) → InDatagram line p.area.task x
+pub in-datagram : (line : List Member) (station x m : ℕ) → KeepsLine line → (p : AreasPair line station x m) → IsBitOfTask line p.area.task x
 in-datagram line station x m stays p =
     let is = p.is_mapped in
     let place = mapped-place line p.member p.index p.area p.mapping stays is.in_line is.in_record is.mapped in
@@ -70,9 +63,9 @@ in-datagram line station x m stays p =
     let logical : x ≡ 8 * logical_address p.area.task q.datagram + q.bit + p.pair.k =
     subst (λ (at : Mapping). x ≡ 8 * at.address + at.bit + p.pair.k) (sym place.is) p.pair.logical in
     record {
-      d = q.datagram;
+      datagram = q.datagram;
       bit = q.bit + p.pair.k;
-      datagram = record { in_task = (area-inside line p.member p.index p.area stays is.in_line is.in_record).task; counted = omega arith };
+      there = record { in_task = (area-inside line p.member p.index p.area stays is.in_line is.in_record).task; counted = omega arith };
       below = omega (arith, ends, place.bits, p.pair.below);
       at = omega (arith, logical);
     }

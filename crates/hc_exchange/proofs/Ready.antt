@@ -1,6 +1,6 @@
 -- Machines that are ready for a line's slaves are the line's: that they have all their memory, and bytes in it, is known of each machine.
-use Rattle.std.proofs.Common.{◌≡◌, ◌<◌, ◌+◌, ◌*◌, ℕ, List, length, get_or, subst, arith}
-use Rattle.std.specs.Prelude.{All, Some, slice_get}
+use Rattle.std.proofs.Common.{◌≡◌, ℕ, List, length, subst, arith}
+use Rattle.std.specs.Prelude.{All}
 use Rattle.std.proofs.lemmas.Option.{get_or_from_slice_get, slice_get_within}
 use Rattle.hc_bits.specs.Bits.{AreBytes}
 use Rattle.hc_records.specs.Line.{Member}

@@ -1,6 +1,6 @@
 -- A frame that writes a register, through machines: each serves the datagram, which goes on as it came but for its counter.
 use Rattle.std.proofs.Common.{◌≡◌, ℕ, ◌+◌, ◌^◌, ◌<◌, ◌≤◌, ◌∙◌, List, [], ◌∷◌, length, refl, sym, ap, ap₂, subst, arith}
-use Rattle.std.specs.Prelude.{All, map, if◌then◌else◌}
+use Rattle.std.specs.Prelude.{All, map}
 use Rattle.std.proofs.lemmas.List.{append-nil}
 use Rattle.std.proofs.lemmas.List.Elements.{All-cons, All-head, All-map, All-nil, All-tail, All-weaker}
 use Rattle.hc_frames.specs.declared.commands.Command.{Command}

@@ -1,7 +1,6 @@
 -- A frame of several datagrams does to the machines of a line what frames of one of them each do, in the same order.
-use Rattle.std.proofs.Common.{◌≡◌, ℕ, ◌+◌, ◌^◌, ◌<◌, ◌≤◌, List, [], ◌∷◌, ◌++◌, length, map, append-nil, is_none, None, true, cond, refl, sym, ap, ◌∙◌, subst, arith}
+use Rattle.std.proofs.Common.{◌≡◌, ℕ, ◌+◌, ◌^◌, ◌<◌, ◌≤◌, List, [], ◌∷◌, length, map, append-nil, is_none, None, cond, refl, sym, ap, ◌∙◌, subst, arith}
 use Rattle.std.specs.Prelude.{All}
-use Rattle.std.specs.List.{enumerate_from}
 use Rattle.std.proofs.lemmas.List.Elements.{All-nil, All-cons, All-head, All-tail}
 use Rattle.std.proofs.lemmas.List.Sums.{sum_by-cons}
 use Rattle.hc_registers.specs.Blocks.{LineBlock}
@@ -16,7 +15,7 @@ use Rattle.hc_machine.specs.Frames.{all_served, frame_after, memory_after, memor
 use Rattle.hc_machine.proofs.lemmas.Returned.{returned-passes}
 use Rattle.hc_machine.proofs.lemmas.Sizes.{length-unchanged}
 use Rattle.hc_segment.specs.Line.{machines_after, machines_after_frame}
-use Rattle.hc_exchange.specs.TogetherLaws.{JointFramesProgramAlike, joint_frame}
+use Rattle.hc_exchange.specs.TogetherLaws.{JointFramesProgramAlike}
 use Rattle.hc_exchange.specs.Writing.{block_datagram, write_frames}
 
 abbrev AreMachines : List (List ℕ) → Type 0

@@ -1,5 +1,6 @@
 -- What the crates above cite, a file a subject.
 pub mod Decoded
+pub mod Asked
 pub mod Unchanged
 pub mod Listed
 pub mod Members
@@ -14,3 +15,16 @@ pub mod Counts
 pub mod Frames
 pub mod Ready
 pub mod Sequences
+pub mod Wires
+pub mod BlockNumbers
+pub mod Chosen
+pub mod TaskBlocks
+pub mod Contents
+pub mod ReadyTasks
+pub mod SlaveShapes
+pub mod Fronts
+pub mod Registers
+pub mod Frame
+pub mod TakenFrames
+pub mod Runs
+pub mod ReadyFrames

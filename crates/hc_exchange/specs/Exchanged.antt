@@ -11,15 +11,16 @@ use Rattle.hc_records.specs.Line.{Member}
 use Rattle.hc_registers.specs.Blocks.{line_blocks}
 use Rattle.hc_frames.specs.Arrived.{fault_in, reading_of}
 use Rattle.hc_machine.specs.declared.limits.TheConstants.{MEMORY_BITS}
-use Rattle.hc_exchange.specs.Carrying.{logical_part}
+use Rattle.hc_exchange.specs.Carrying.{AreCarryingTask, logical_part}
 use Rattle.hc_exchange.specs.Sent.{IsVariable, task_datagram_count}
+use Rattle.hc_exchange.specs.Wire.{WireCarriesTask, WireMachine, line_machines, outside_machines, wire_machines}
 use Rattle.hc_exchange.specs.Writing.{AreReadyFor}
 
--- the frame of a datagram of a task came back: it is read, with its serial after those of the writes, at its logical address, with these data, and with the expected counter
-pub record DatagramCameBack (line : List Member) (task d : ℕ) (frame bytes : List ℕ) : Type 0 where
+-- the frame of a datagram of a task came back: it is read, with its serial after those of the datagrams before it, at its logical address, with these data, and with the expected counter
+pub record DatagramCameBack (line : List Member) (task serial d : ℕ) (frame bytes : List ℕ) : Type 0 where
   pub readable : fault_in frame ≡ None
   pub answer_given : reading_of frame
-      ≡ record { serial = length (line_blocks line) + d; parts = logical_part (logical_address task d) bytes (expected_counter task d line) ∷ [] }
+      ≡ record { serial = serial + d; parts = logical_part (logical_address task d) bytes (expected_counter task d line) ∷ [] }
   pub size : length bytes ≡ datagram_length (task_places task line) d
 
 -- a variable of so many bits is in the memory of the slave at a position of the line: in an area of its record, from this bit of memory on
@@ -61,11 +62,11 @@ pub record KeepsTheRest (task : ℕ) (member : Member) (memory memory' : List �
   pub gaps : (area : Area) (m k : ℕ) → IsOutputBit task member area m k → IsGapBit area k → bit_of memory' m ≡ 0
   pub rest : (m : ℕ) → 8 * MEMORY_START ≤ m → m < MEMORY_BITS → ((area : Area) (k : ℕ) → ¬ IsOutputBit task member area m k) → bit_of memory' m ≡ bit_of memory m
 
--- an exchange of a task over the machines of a line, with the bytes of the task's output image
-pub record IsExchanged (line : List Member) (task : ℕ) (image : List ℕ) (machines frames machines' : List (List ℕ)) : Type 0 where
+-- an exchange of a task over the machines of a line, with serials from this one on and the bytes of the task's output image
+pub record IsExchanged (line : List Member) (task serial : ℕ) (image : List ℕ) (machines frames machines' : List (List ℕ)) : Type 0 where
   pub came : ℕ → List ℕ
   pub count : length frames ≡ task_datagram_count line task
-  pub back : (d : ℕ) (frame : List ℕ) → slice_get frames d ≡ Some frame → DatagramCameBack line task d frame (came d)
+  pub back : (d : ℕ) (frame : List ℕ) → slice_get frames d ≡ Some frame → DatagramCameBack line task serial d frame (came d)
   pub inputs : (variable : ℕ) (place : VariablePlace) → IsVariable line task In variable place
       → HasInMemory line machines variable place.bits (λ k. bit_of (came place.datagram) (place.bit + k))
   pub outputs : (variable : ℕ) (place : VariablePlace) → IsVariable line task Out variable place
@@ -74,6 +75,23 @@ pub record IsExchanged (line : List Member) (task : ℕ) (image : List ℕ) (mac
   pub rest : (position : ℕ) (member : Member) (memory memory' : List ℕ) → slice_get line position ≡ Some member
       → slice_get machines position ≡ Some memory → slice_get machines' position ≡ Some memory' → KeepsTheRest task member memory memory'
 
--- the machines exchange the values where they are ready for the line
+-- the machines exchange the values where they are ready for the line: after the writes of its blocks
 abbrev pub IsExchangedIfReady : List Member → ℕ → List ℕ → List (List ℕ) → List (List ℕ) → List (List ℕ) → Type 0
-IsExchangedIfReady line task image machines frames machines' = AreReadyFor line machines → IsExchanged line task image machines frames machines'
+IsExchangedIfReady line task image machines frames machines' = AreReadyFor line machines → IsExchanged line task (length (line_blocks line)) image machines frames machines'
+
+-- they exchange the values where they carry the task, whatever other tasks' blocks they have
+abbrev pub IsExchangedByCarriers : List Member → ℕ → ℕ → List ℕ → List (List ℕ) → List (List ℕ) → List (List ℕ) → Type 0
+IsExchangedByCarriers line task serial image machines frames machines' = AreCarryingTask line task machines → IsExchanged line task serial image machines frames machines'
+
+-- so over a wire that carries the task: the line's machines exchange the values, the machines outside the line stay as they were, and the wire carries the task as before
+pub record IsExchangedOnWire (line : List Member) (task serial : ℕ) (image : List ℕ) (wire : List WireMachine) (frames machines' : List (List ℕ)) : Type 0 where
+  pub wire' : List WireMachine
+  pub machines_are : machines' ≡ wire_machines wire'
+  pub exchanged : IsExchanged line task serial image (line_machines wire) frames (line_machines wire')
+  pub outside : outside_machines wire' ≡ outside_machines wire
+  pub carries : WireCarriesTask line task wire'
+
+-- the machines of a wire that carries the task exchange its values
+abbrev pub IsExchangedIfCarrying : List Member → ℕ → ℕ → List ℕ → List (List ℕ) → List (List ℕ) → List (List ℕ) → Type 0
+IsExchangedIfCarrying line task serial image machines frames machines' =
+    (wire : List WireMachine) → machines ≡ wire_machines wire → WireCarriesTask line task wire → IsExchangedOnWire line task serial image wire frames machines'

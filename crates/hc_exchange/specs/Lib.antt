@@ -9,4 +9,11 @@ pub mod Carrying
 pub mod CarryingLaws
 pub mod FrameLaws
 pub mod Sequences
+pub mod AskedLaws
+pub mod Wire
+pub mod WireLaws
+pub mod TaskBlocks
+pub mod Holding
+pub mod Runs
+pub mod ReadyFrames
 pub mod Variables

@@ -36,9 +36,13 @@ pub record IsPacked (line : List Member) (task : ℕ) (image : List ℕ) (d : �
 abbrev pub task_frames : ℕ → ℕ → ℕ → (ℕ → List ℕ) → List (List ℕ)
 task_frames serial task count bytes = map (λ d. frame_text (serial + d) (lrw (logical_address task d) (bytes d) ∷ [])) (range_with_len 0 count)
 
--- after the writes of all blocks of the line these frames go through its machines: what comes back, and what the machines then are
-pub record IsSent (line : List Member) (task : ℕ) (image : List ℕ) (machines frames machines' : List (List ℕ)) : Type 0 where
+-- these frames of a task go through machines, with serials from this one on: what comes back, and what the machines then are
+pub record IsSentOver (line : List Member) (task serial : ℕ) (image : List ℕ) (machines frames machines' : List (List ℕ)) : Type 0 where
   pub bytes : ℕ → List ℕ
   pub packed : (d : ℕ) → d < task_datagram_count line task → IsPacked line task image d (bytes d)
-  pub returned : frames ≡ frames_through (machines_written line machines) (task_frames (length (line_blocks line)) task (task_datagram_count line task) bytes)
-  pub left : machines' ≡ machines_after (machines_written line machines) (task_frames (length (line_blocks line)) task (task_datagram_count line task) bytes)
+  pub returned : frames ≡ frames_through machines (task_frames serial task (task_datagram_count line task) bytes)
+  pub left : machines' ≡ machines_after machines (task_frames serial task (task_datagram_count line task) bytes)
+
+-- after the writes of all blocks of the line these frames go through its machines
+abbrev pub IsSent : List Member → ℕ → List ℕ → List (List ℕ) → List (List ℕ) → List (List ℕ) → Type 0
+IsSent line task image machines frames machines' = IsSentOver line task (length (line_blocks line)) image (machines_written line machines) frames machines'

@@ -1,7 +1,7 @@
 -- Several register writes in one frame do to the machines of a line what frames of one write each do. Each law is the contract of a function of `programmed_laws`.
-use Rattle.std.specs.Prelude.{◌≡◌, ℕ, ◌+◌, ◌^◌, ◌≤◌, All, List, [], ◌∷◌, length, map}
+use Rattle.std.specs.Prelude.{◌≡◌, ℕ, ◌+◌, ◌^◌, ◌≤◌, All, List, length, map}
 use Rattle.hc_registers.specs.Blocks.{LineBlock}
-use Rattle.hc_frames.specs.FrameText.{Datagram, frame_text, sent_on_wire}
+use Rattle.hc_frames.specs.FrameText.{frame_text, sent_on_wire}
 use Rattle.hc_frames.specs.Laws.{CanBeCarried}
 use Rattle.hc_machine.specs.declared.limits.TheConstants.{MEMORY_BYTES}
 use Rattle.hc_segment.specs.Line.{machines_after, machines_after_frame}

@@ -1,11 +1,13 @@
-//! One exchange of a task's process data over a programmed line.
-ghost use Rattle.std.specs.Prelude.{◌≡◌, All, IfOk, OnErr, length, map};
+//! One exchange of a task's process data: over a line that is programmed for it, or over a wire that carries the task.
+ghost use Rattle.std.specs.Prelude.{◌≡◌, ◌+◌, ◌^◌, ◌≤◌, All, IfOk, OnErr, length, map};
 ghost use Rattle.hc_bits.specs.Bits.{AreBytes};
 ghost use Rattle.hc_records.specs.Line.{line};
 ghost use Rattle.hc_segment.specs.Line.{frame_through, frames_through, machines_after, machines_after_frame};
 ghost use Rattle.hc_machine.specs.declared.limits.TheConstants.{MEMORY_BYTES};
-ghost use Rattle.hc_exchange.specs.Exchanged.{IsExchangedIfReady};
-ghost use Rattle.hc_exchange.specs.Sent.{IsSent};
+ghost use Rattle.hc_exchange.specs.Carrying.{AreCarryingTask};
+ghost use Rattle.hc_exchange.specs.Exchanged.{IsExchangedByCarriers, IsExchangedIfCarrying, IsExchangedIfReady};
+ghost use Rattle.hc_exchange.specs.Holding.{IsExchangedWhenReady};
+ghost use Rattle.hc_exchange.specs.Sent.{IsSent, IsSentOver};
 
 use crate::programming::program;
 use crate::sending::{frames_of, packed};
@@ -87,4 +89,46 @@ pub fn exchange(
     program(plan, segment);
     send_all(segment, &mut frames);
     Ok(frames)
+}
+
+/// Sends a task's datagrams through the segment, each an LRW (ETG.1000.4, 5.4) in a frame of its own, and writes no register:
+/// for a task whose own FMMU blocks are written while blocks of other tasks are not. The first frame has the serial `serial`,
+/// at most 2^40 - 16, and each next frame the serial after. `outputs` is the task's image of output bytes: each output
+/// variable is sent as it is there, bits after its end being 0, and its other bits are ignored. Returns the frames as they
+/// come back, in their order; none for a task that has no datagrams, and for any task but 0 to 7.
+///
+/// The machines may be the line's alone, or others may stand anywhere between them. If each machine of the line has the
+/// FMMU blocks of its areas in the task, and no other FMMU on the wire pairs a logical bit of the task's datagrams, then each
+/// frame is read, with the expected counter; each input variable comes back as it was in its slave's memory; each output
+/// variable is in its slave's memory as in `outputs`; of the rest of the slaves' process memory nothing is changed but the
+/// gaps of the task's output areas, which are 0; the machines outside the line stay as they were; and the wire carries the
+/// task after the exchange as before. No station address and no sync manager has a part in this: LRW names no slave. So it is
+/// for each task that is ready (`SendReady` of the core) over machines that hold what the record says of their registers: see
+/// the laws of [`holding_laws`](crate::holding_laws).
+///
+/// # Errors
+///
+/// `AllocError` if an allocation was refused: no frame was sent then, and the machines are as they were.
+pub fn exchange_ready(
+    alloc: Global,
+    plan: &Plan,
+    segment: &mut Segment,
+    serial: u64,
+    task: u8,
+    outputs: &[u8],
+) -> Result<Vec<Vec<u8>>, AllocError>
+    requires serials { serial + 16 ≤ 2 ^ 40 }
+    ensures sent { IfOk result (λ frames. IsSentOver (line plan.now) task serial outputs.now segment.old (map (λ frame. frame.items) frames.items) segment.new) }
+    ensures meant { IfOk result (λ frames. IsExchangedByCarriers (line plan.now) task serial outputs.now segment.old (map (λ frame. frame.items) frames.items) segment.new) }
+    ensures wire { IfOk result (λ frames. IsExchangedIfCarrying (line plan.now) task serial outputs.now segment.old (map (λ frame. frame.items) frames.items) segment.new) }
+    ensures ready { IfOk result (λ frames. IsExchangedWhenReady (line plan.now) task serial outputs.now segment.old (map (λ frame. frame.items) frames.items) segment.new) }
+    ensures stays { IfOk result (λ frames. AreCarryingTask (line plan.now) task segment.old → AreCarryingTask (line plan.now) task segment.new) }
+    ensures unchanged { OnErr result (segment.new ≡ segment.old) }
+{
+    let places = plan.places();
+    let packed = packed(alloc, places, task, outputs)?;
+    let count = places.datagrams(task).len();
+    let mut returned = frames_of(alloc, serial, task, count, &packed)?;
+    send_all(segment, &mut returned);
+    Ok(returned)
 }

@@ -69,7 +69,7 @@ pub(crate) fn frames_of(
     count: usize,
     packed: &Outputs,
 ) -> Result<Vec<Vec<u8>>, AllocError>
-    requires serial { serial < 2 ^ 32 }
+    requires serial { serial + 16 ≤ 2 ^ 40 }
     requires few { count ≤ MOST_DATAGRAMS }
     requires task { 0 < count → task < TASKS }
     requires sizes { (d : ℕ) → d < count → IsDatagramLength (length (sent_bytes packed.now task d)) }

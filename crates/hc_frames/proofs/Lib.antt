@@ -6,3 +6,4 @@ pub mod Spelled
 pub mod Steps
 pub mod Surveys
 pub mod lemmas
+mod Zeros

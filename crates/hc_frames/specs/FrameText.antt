@@ -2,6 +2,7 @@
 -- The EtherType and the serial are high byte first, all other numbers low byte first.
 use Rattle.std.specs.Prelude.{ℕ, ◌+◌, ◌-◌, ◌*◌, ◌%◌, Bool, true, false, List, [], ◌∷◌, ◌++◌, length, map, replicate, if◌then◌else◌}
 use Rattle.std.specs.Int.{w16, w32, to_le_bytes, bytes_high_first}
+use Rattle.hc_registers.specs.declared.registers.TheConstants.{FMMU_BLOCKS, FMMU_BLOCK_BYTES}
 use Rattle.hc_frames.specs.declared.commands.Command.{Command}
 use Rattle.hc_frames.specs.declared.commands.Command.TheVariants.{Aprd, Apwr, Fpwr, Lrw}
 use Rattle.hc_frames.specs.declared.limits.TheConstants.{ALIAS_REGISTER, LEAST_FRAME, STATION_REGISTER}
@@ -109,3 +110,7 @@ station_write position station = record { command = Apwr; address = position_add
 -- a read of the configured station alias
 abbrev pub alias_read : ℕ → Datagram
 alias_read position = record { command = Aprd; address = position_address position ALIAS_REGISTER; bytes = 0 ∷ 0 ∷ [] }
+
+-- a write of zeros to the first FMMUs of the slave at a station address, as many as `count`: a slave with no other FMMU in use takes no part in process data after it
+abbrev pub fmmu_off : ℕ → ℕ → Datagram
+fmmu_off station count = block_write station FMMU_BLOCKS (replicate (FMMU_BLOCK_BYTES * count) 0)

@@ -12,3 +12,4 @@ pub mod OpenDatagrams
 pub mod Regions
 pub mod Returned
 pub mod Survey
+pub mod WorkedLimits

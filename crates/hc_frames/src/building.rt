@@ -12,7 +12,8 @@ pub use datagrams::{
     add_datagram_of, build_blank_datagram, build_datagram_of, build_write_datagram,
 };
 pub use frames::{
-    build_alias_read, build_blank_frame, build_blank_lrw, build_station, build_write, frame_size,
+    build_alias_read, build_blank_frame, build_blank_lrw, build_fmmu_off, build_station,
+    build_write, frame_size,
 };
 pub use heads::{add_head, build_head};
 pub use loans::{build_datagram, build_lrw};

@@ -33,6 +33,9 @@ pub const STATION_REGISTER: u16 = 0x0010;
 /// The register of the configured station alias (ETG.1000.4, station address registers).
 pub const ALIAS_REGISTER: u16 = 0x0012;
 
+/// The most FMMUs of a slave (ETG.1000.4, 6.6).
+pub const MOST_FMMUS: u8 = 16;
+
 /// Bytes of the datagrams of a frame at most: what may follow the Ethernet header, without the EtherCAT header.
 pub const MAX_DATAGRAMS: u16 = MAX_ETHERCAT - 2;
 

@@ -29,3 +29,7 @@ abbrev pub Renews : DatagramImage → DatagramImage → ℕ → ℕ → List ℕ
 Renews old new task d bytes =
     (t e : ℕ) → e < MOST_DATAGRAMS
     → data_of new t e ≡ (if (task == t) && (d == e) then Some bytes else data_of old t e)
+
+-- no datagram of a task has data from then on, and each of another task keeps what it had
+abbrev pub Empties : DatagramImage → DatagramImage → ℕ → Type 0
+Empties old new task = (t e : ℕ) → e < MOST_DATAGRAMS → data_of new t e ≡ (if task == t then None else data_of old t e)

@@ -17,6 +17,8 @@ fn clear_slots(slots: &mut [Slot], from: usize, count: usize)
     ensures size { length slots.new ≡ length slots.old }
     ensures cleared { (n : ℕ) → from ≤ n → n < from + count → slice_index_or slots.new n None ≡ None }
     ensures others { (n : ℕ) → slice_index_or slots.old n None ≡ None → slice_index_or slots.new n None ≡ None }
+    ensures before { (n : ℕ) → n < from → slice_index_or slots.new n None ≡ slice_index_or slots.old n None }
+    ensures after_it { (n : ℕ) → from + count ≤ n → slice_index_or slots.new n None ≡ slice_index_or slots.old n None }
 {
     for i in from..from + count {
         slots[i].clear();
@@ -70,7 +72,7 @@ impl Inputs {
     ghost use Rattle.std.specs.Prelude.{◌≡◌, ◌<◌, ◌≤◌, IfOk, length};
     ghost use Rattle.hc_records.specs.declared.limits.TheConstants.{MOST_DATAGRAMS, MOST_DATAGRAM_BYTES};
     ghost use Rattle.std.specs.Option.{option_copied};
-    ghost use Rattle.hc_images.specs.Image.{HasNone, Renews, data_of, data_of_first};
+    ghost use Rattle.hc_images.specs.Image.{Empties, HasNone, Renews, data_of, data_of_first};
 
     /// An image where no datagram has data. `AllocError` where the growth was refused; no other call
     /// but `read` takes memory.
@@ -93,6 +95,17 @@ impl Inputs {
         ensures { HasNone self.new }
     {
         clear_used(self.slots.as_mut_slice(), &mut self.used);
+    }
+
+    /// A task's datagrams have no data from now on, and those of every other task keep theirs. It needs no allocation, and goes
+    /// no further than the last datagram of the task that had data.
+    pub fn clear_task(&mut self, task: Task)
+        ensures { Empties self.old self.new task }
+    {
+        let at = task.as_index();
+        let count = usize::from(self.used[at]).min(MOST_DATAGRAMS);
+        clear_slots(self.slots.as_mut_slice(), MOST_DATAGRAMS * at, count);
+        self.used[at] = 0;
     }
 
     /// A datagram has these data from now on, those of a good answer: at most 1,486 bytes. Its number in the

@@ -15,6 +15,10 @@ numbered_parts first lengths bytes = enumerate_from first (parts_of lengths byte
 abbrev pub worked_parts : (ℕ → List ℕ → List ℕ) → ℕ → List ℕ → List ℕ → List (List ℕ)
 worked_parts leaves first lengths bytes = map (λ part. leaves part.0 part.1) (numbered_parts first lengths bytes)
 
+-- the part with this number and these bytes may be worked on once its worker has passed the gate: work before it isn't allowed
+abbrev pub CanWorkOnceBegun : (ℕ → Type 0) → (ℕ → List ℕ → Type 0) → ℕ → List ℕ → Type 0
+CanWorkOnceBegun passed can part bytes = passed part → can part bytes
+
 -- whether each part may be worked on, by its number and its bytes
 abbrev pub CanWorkOnEach : (ℕ → List ℕ → Type 0) → ℕ → List ℕ → List ℕ → Type 0
 CanWorkOnEach can first lengths bytes = All (λ part. can part.0 part.1) (numbered_parts first lengths bytes)

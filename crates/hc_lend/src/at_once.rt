@@ -3,7 +3,7 @@
 ghost use Rattle.std.specs.Prelude.{◌≡◌, ◌+◌, ◌<◌, ◌^◌, length, sum, List, ℕ};
 ghost use Rattle.std.specs.List.{concat};
 ghost use Rattle.std.specs.Thread.{IsSync};
-ghost use Rattle.hc_lend.specs.Work.{parts_of, worked_parts, CanWorkOnEach, HavePassed, AreWorked, CanWorkOnAll};
+ghost use Rattle.hc_lend.specs.Work.{parts_of, worked_parts, CanWorkOnEach, CanWorkOnceBegun, HavePassed, AreWorked, CanWorkOnAll};
 
 use crate::parts::Parts;
 use std::thread::{Threads, join_mut};
@@ -35,8 +35,9 @@ pub trait Gate {
 }
 
 /// Works on all parts at once, with one worker for each: this thread for the last part, and a thread of its own
-/// for every other. Each worker calls the gate once, with its part's number, and then does its work. It returns
-/// once all workers are done. It takes no memory and is never refused. With no part it does nothing.
+/// for every other. Each worker calls the gate once, with its part's number, and then does its work: a part has to be fit for
+/// its work only once the gate is passed with its number. It returns once all workers are done. It takes no memory and is never
+/// refused. With no part it does nothing.
 ///
 /// A part is worked on in this thread, after the parts that follow it, where the system makes no thread for it.
 /// No clause says that the workers run at once, or that a worker calls the gate no second time.
@@ -46,7 +47,7 @@ pub fn each_at_once<R: Threads + Sync, W: PartWork + Sync, G: Gate + Sync>(
     work: &W,
     gate: &G,
 )
-    requires { CanWorkOnEach (W.can_work work.now) 0 parts.lengths.now parts.bytes.now }
+    requires { CanWorkOnEach (CanWorkOnceBegun (G.passed gate.now) (W.can_work work.now)) 0 parts.lengths.now parts.bytes.now }
     ensures each { parts_of parts.entry.lengths.now parts.exit.0.now
         ≡ worked_parts (W.leaves work.now) 0 parts.entry.lengths.now parts.entry.bytes.now }
     ensures whole { parts.exit.0.now
@@ -68,7 +69,7 @@ fn rest_at_once<R: Threads + Sync, W: PartWork + Sync, G: Gate + Sync>(
 )
     requires all { sum lengths.now ≡ length bytes.old }
     requires numbers { first + length lengths.now < 2 ^ 64 }
-    requires can { CanWorkOnEach (W.can_work work.now) first lengths.now bytes.old }
+    requires can { CanWorkOnEach (CanWorkOnceBegun (G.passed gate.now) (W.can_work work.now)) first lengths.now bytes.old }
     ensures left { parts_of lengths.now bytes.new
         ≡ worked_parts (W.leaves work.now) first lengths.now bytes.old }
     ensures passed { HavePassed (G.passed gate.now) first (length lengths.now) }
@@ -84,11 +85,11 @@ fn rest_at_once<R: Threads + Sync, W: PartWork + Sync, G: Gate + Sync>(
     join_mut(
         rt,
         &mut ||
-            requires { W.can_work work.now first part.now }
+            requires { CanWorkOnceBegun (G.passed gate.now) (W.can_work work.now) first part.now }
             ensures { (part.exit.now ≡ W.leaves work.entry.now first part.entry.now) × G.passed gate.entry.now first }
         { work_alone(first, part, work, gate) },
         &mut ||
-            requires { IsSync R.row × IsSync W.row × IsSync G.row × CanWorkOnAll (W.can_work work.now) (first + 1) lengths.now rest.now }
+            requires { IsSync R.row × IsSync W.row × IsSync G.row × CanWorkOnAll (CanWorkOnceBegun (G.passed gate.now) (W.can_work work.now)) (first + 1) lengths.now rest.now }
             ensures { AreWorked (W.leaves work.entry.now) (G.passed gate.entry.now) (first + 1) lengths.entry.now rest.entry.now rest.exit.now }
         { rest_at_once(rt, rest, lengths, first + 1, work, gate) },
     );
@@ -96,7 +97,7 @@ fn rest_at_once<R: Threads + Sync, W: PartWork + Sync, G: Gate + Sync>(
 
 /// Passes the gate as the worker of this part, and then works on its bytes.
 fn work_alone<W: PartWork, G: Gate>(part: usize, bytes: &mut [u8], work: &W, gate: &G)
-    requires { W.can_work work.now part bytes.old }
+    requires { CanWorkOnceBegun (G.passed gate.now) (W.can_work work.now) part bytes.old }
     ensures left { bytes.new ≡ W.leaves work.now part bytes.old }
     ensures passed { G.passed gate.now part }
 {

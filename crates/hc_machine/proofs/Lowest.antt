@@ -96,7 +96,7 @@ pub chosen-small : (b : Bool) (m n : ℕ) → m < 2 → n < 2 → (if b then m e
 chosen-small true m n p q = p
 chosen-small false m n p q = q
 
-read-small : (fs : List Fmmu) (memory : ℕ → ℕ) (x was : ℕ) → ((k : ℕ) → memory k < 2) → was < 2 → bit_read fs memory x was < 2
+pub read-small : (fs : List Fmmu) (memory : ℕ → ℕ) (x was : ℕ) → ((k : ℕ) → memory k < 2) → was < 2 → bit_read fs memory x was < 2
 unfolding bit_read
 read-small [] memory x was small low = low
 read-small (f ∷ fs) memory x was small low = chosen-small (reads-at f x) _ _ (small (memory_bit f x)) (read-small fs memory x was small low)

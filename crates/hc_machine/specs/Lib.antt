@@ -6,3 +6,4 @@ pub mod Frames
 pub mod Rewriting
 pub mod Lending
 pub mod Laws
+pub mod WorkedLimits

@@ -127,7 +127,7 @@ module _ (register_state : RegisterState) (gone : Gone) (moved : List RankedBloc
   known-stays : (n : ℕ) (w z : Option LineBlock) → slice_get olds n ≡ Some w → slice_get updates n ≡ Some z → (IsGone gone n → ⊥) → known_in is.known w ≡ known_in over z
   known-stays n w z stood at out = search (rules, came, stayed-known)
 
-  owed-stays : (n : ℕ) (w z : Option LineBlock) → slice_get olds n ≡ Some w → slice_get updates n ≡ Some z → (IsGone gone n → ⊥) → All (λ m. block_place m ≢ n) moved → owed_in is.known w ≡ owed_in over z
+  pub owed-stays : (n : ℕ) (w z : Option LineBlock) → slice_get olds n ≡ Some w → slice_get updates n ≡ Some z → (IsGone gone n → ⊥) → All (λ m. block_place m ≢ n) moved → owed_in is.known w ≡ owed_in over z
   owed-stays n None None stood at out others = refl
   owed-stays n None (Some block) stood at out others =
       let was = is.differ.names.others n block at others in
@@ -140,7 +140,7 @@ module _ (register_state : RegisterState) (gone : Gone) (moved : List RankedBloc
       let bytes : before.block.bytes ≡ block.block.bytes = ap (λ (b : LineBlock). b.block.bytes) (sym (same_Some was.before before one)) ∙ ap (λ (b : RegisterBlock). b.bytes) was.same in
       ap (λ (list : List ℕ). differs list (is.known before.station before.number)) bytes ∙ ap (differs block.block.bytes) (stayed-known n before block stood at)
 
-  blocks-stay : (n : ℕ) (w z : Option LineBlock) → slice_get olds n ≡ Some w → slice_get updates n ≡ Some z → (IsGone gone n → ⊥) → All (λ m. block_place m ≢ n) moved → block_in w ≡ block_in z
+  pub blocks-stay : (n : ℕ) (w z : Option LineBlock) → slice_get olds n ≡ Some w → slice_get updates n ≡ Some z → (IsGone gone n → ⊥) → All (λ m. block_place m ≢ n) moved → block_in w ≡ block_in z
   blocks-stay n None None stood at out others = refl
   blocks-stay n None (Some block) stood at out others =
       let was = is.differ.names.others n block at others in

@@ -1,8 +1,24 @@
+mod AreaChanges
+mod AreaPlaces
+mod AreaTasks
 mod Changing
+mod Counting
 mod Entering
 mod FlagLists
 mod Forgetting
+mod HoldingUp
+mod Picked
+mod JudgedAreas
 mod Lists
 mod Opened
+mod ReadyChanging
+mod ReadyEntering
+mod ReadyOpening
+mod ReadyTurns
+mod ReadyWriting
 mod Saying
+mod TaskLists
+mod Waits
+mod WaitsOutside
 mod Writing
+pub mod lemmas

@@ -21,7 +21,7 @@ use Rattle.hc_owed.proofs.Opened.{register_state_from}
 
 -- a block has its own name, and no block at another place has
 
-same-itself : (m n : ℕ) → same_name (m, n) (m, n) ≡ true
+pub same-itself : (m n : ℕ) → same_name (m, n) (m, n) ≡ true
 same-itself m n = ap (λ (b : Bool). b && (n == n)) (eq-eqb m m refl) ∙ eq-eqb n n refl
 
 other-name : (state : State) (n i : ℕ) (block b : LineBlock) → lowest_fault (groups_of state.groups) ≡ None → slice_get (places state) n ≡ Some (Some block) → slice_get (places state) i ≡ Some (Some b)
@@ -59,10 +59,10 @@ module _ (known : Knowledge) (state : State) (n : ℕ) (block : LineBlock) (byte
   abbrev pub after : Knowledge
   after = known_with (found_name block) bytes known
 
-  here : after block.station block.number ≡ bytes
+  pub here : after block.station block.number ≡ bytes
   here = ap (λ (b : Bool). cond b bytes (known block.station block.number)) (same-itself block.station block.number)
 
-  elsewhere : (i : ℕ) (b : LineBlock) → n ≢ i → slice_get (places state) i ≡ Some (Some b) → known b.station b.number ≡ after b.station b.number
+  pub elsewhere : (i : ℕ) (b : LineBlock) → n ≢ i → slice_get (places state) i ≡ Some (Some b) → known b.station b.number ≡ after b.station b.number
   elsewhere i b apart is_placed = ap (λ (t : Bool). cond t bytes (known b.station b.number)) (sym (other-name state n i block b project at is_placed apart))
 
   pub write-known : changed_at n (λ _. bytes) (map (known_in known) (places state)) ≡ map (known_in after) (places state)

@@ -4,3 +4,11 @@ pub mod Flags
 pub mod Steps
 pub mod Opening
 pub mod Room
+pub mod TaskSets
+pub mod Areas
+pub mod Readiness
+pub mod Waiting
+pub mod ReadinessSteps
+pub mod ReadinessRoom
+pub mod Holders
+pub mod ReadinessLaws

@@ -86,6 +86,22 @@ impl Owed {
         self.owed.count() as u32
     }
 
+    /// How many slaves are declared, present or not.
+    pub fn slaves(&self) -> usize
+        ensures count { result ≡ length self.now.stations }
+        ensures few { result < 65536 }
+    {
+        self.stations.len()
+    }
+
+    /// Whether the block at a place is owed; false for a place without a block.
+    pub fn is_owed(&self, place: usize) -> bool
+        requires { place < length self.now.owed }
+        ensures { slice_get self.now.owed place ≡ Some result }
+    {
+        self.owed.get(place)
+    }
+
     /// The line's block at a place; none where the place is empty.
     fn block_at(&self, place: usize) -> Option<Block>
         requires { place < length self.now.known }

@@ -156,6 +156,8 @@ one_of_edit (answer.Written outcomes) is session_edited refused = is
 one_of_edit answer.Stale is session_edited refused = is
 one_of_edit (answer.Image epoch slots) is session_edited refused = is
 one_of_edit answer.Forgotten is session_edited refused = is
+one_of_edit answer.Cleared is session_edited refused = is
+one_of_edit answer.Unplugged is session_edited refused = is
 
 -- the answers to an arrival that can be read: refused only with `Memory`
 abbrev pub IsOfArrival : Answer → Type 0
@@ -208,6 +210,8 @@ one_of_arrival (answer.WriteSent frame) is answered done missed stale written re
 one_of_arrival (answer.WritesSent frame) is answered done missed stale written refused = is
 one_of_arrival (answer.Image epoch slots) is answered done missed stale written refused = is
 one_of_arrival answer.Forgotten is answered done missed stale written refused = is
+one_of_arrival answer.Cleared is answered done missed stale written refused = is
+one_of_arrival answer.Unplugged is answered done missed stale written refused = is
 
 -- an arrival is something for no more datagrams than it has
 

@@ -64,7 +64,7 @@ slots_text number (slot ∷ slots) = slot_text number slot ++ slots_text (number
 unfoldable pub image_text : ℕ → List (Option (List ℕ)) → List ℕ
 image_text epoch slots = codes "epoch " ++ decimal epoch ++ codes "\n" ++ slots_text 0 slots
 
--- an answer; of frames that it sends the first has this serial. The program forgets no slave, and writes each register block in a frame of its own, so the answers to those have no text
+-- an answer; of frames that it sends the first has this serial. The program forgets, clears and unplugs no slave, and writes each register block in a frame of its own, so the answers to those have no text
 abbrev pub answer_text : ℕ → Answer → List ℕ
 answer_text serial (answer.Edited epoch recut moved) = report_text epoch recut moved
 answer_text serial answer.Posted = codes "posted\n"
@@ -78,6 +78,8 @@ answer_text serial (answer.Written outcomes) = []
 answer_text serial answer.Stale = codes "stale\n"
 answer_text serial (answer.Image epoch slots) = image_text epoch slots
 answer_text serial answer.Forgotten = []
+answer_text serial answer.Cleared = []
+answer_text serial answer.Unplugged = []
 answer_text serial (answer.Refused fault) = refusal_text fault
 
 -- what an event prints: the answer to it, its frames having the next serials

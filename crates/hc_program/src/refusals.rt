@@ -116,6 +116,11 @@ fn push_core_fault_name(fault: CoreFault, out: &mut String) -> Result<(), AllocE
         CoreFault::VariableTaken => out.push_str("VariableTaken"),
         CoreFault::TooManyGroups => out.push_str("TooManyGroups"),
         CoreFault::TooManySlaves => out.push_str("TooManySlaves"),
+        CoreFault::Waits {
+            task,
+            blocks,
+            outside,
+        } => write!(out, "Waits {task} {blocks} {outside}"),
     }
 }
 

@@ -20,3 +20,4 @@ pub mod ImageLaws
 pub mod AddressLaws
 pub mod ProjectLaws
 pub mod SpanLaws
+pub mod WorkedLimits

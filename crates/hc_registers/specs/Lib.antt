@@ -7,3 +7,4 @@ pub mod Ranked
 pub mod RankPlaces
 pub mod RankDifferences
 pub mod RankLaws
+pub mod WorkedLimits

@@ -7,3 +7,4 @@ pub mod Finished
 pub mod Laws
 pub mod Frames
 pub mod Faults
+pub mod WorkedLimits

@@ -141,7 +141,8 @@ impl WriteFrame {
         2 + self.bytes + BESIDE_DATA_BYTES as u16 + length <= MAX_ETHERCAT
     }
 
-    /// A block of 8 bytes at leastjoins, where there is room, the frame after the others. It takes no memory.
+    /// Adds a block of at least 8 bytes to the frame after its others. The caller has asked `has_room` first. It
+    /// allocates nothing.
     pub fn join(&mut self, block: PlacedBlock)
         requires least { LEAST_BLOCK ≤ length block.block.block.bytes }
         requires room { has_room self.old.bytes (length block.block.block.bytes) ≡ true }

@@ -36,6 +36,8 @@ mod posting;
 #[cfg(test)]
 mod posts;
 #[cfg(test)]
+mod ready;
+#[cfg(test)]
 mod rows;
 #[cfg(test)]
 mod scopes;

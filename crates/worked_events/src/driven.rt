@@ -28,7 +28,7 @@ fn is_asked(event: Event<'_>) -> bool
     ensures { IsTrue result → IsAsked (step_of event.entry) }
 {
     match event {
-        Event::SendTasks(tasks) => are_sent_together(tasks),
+        Event::SendTasks(tasks) | Event::SendReady(tasks) => are_sent_together(tasks),
         _ => true,
     }
 }

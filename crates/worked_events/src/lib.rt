@@ -9,6 +9,8 @@ mod answers;
 #[cfg(test)]
 mod asked;
 #[cfg(test)]
+mod buffers;
+#[cfg(test)]
 mod changed;
 #[cfg(test)]
 mod changed_writes;

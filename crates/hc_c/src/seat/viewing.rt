@@ -2,7 +2,7 @@
 ghost use Rattle.std.specs.Prelude.{◌≡◌, ◌≢◌, ◌+◌, ◌*◌, ◌^◌, ◌<◌, ◌≤◌, ◌++◌, if◌then◌else◌, IfSome, None, Option, drop, is_some, length, map};
 ghost use Rattle.hc_records.specs.declared.limits.TheConstants.{MOST_DATAGRAMS};
 ghost use Rattle.hc_c.specs.Lists.{put_first};
-ghost use Rattle.hc_c.specs.Reads.{fit_number, mask_of};
+ghost use Rattle.hc_c.specs.Reads.{fit_number, bit_mask};
 ghost use Rattle.hc_c.specs.SeatRoom.{image_room};
 ghost use Rattle.hc_c.specs.Seats.{LooksOn, GivesImage, at_hand, mask_from, serials_answered};
 ghost use Rattle.hc_c.specs.declared.numbers.TheConstants.{CLOSED};
@@ -68,7 +68,7 @@ fn put_serials(serials: &[Option<u64>], out: &mut [u64], bit: u32, has: u32) -> 
 fn give_serials(serials: &[Option<u64>], out: &mut [u64]) -> u16
     requires { length serials.now ≤ MOST_DATAGRAMS }
     ensures serials { out.new ≡ put_first (serials_answered serials.now) out.old }
-    ensures mask { result ≡ mask_of (map is_some serials.now) }
+    ensures mask { result ≡ bit_mask (map is_some serials.now) }
 {
     put_serials(serials, out, 1, 0) as u16
 }

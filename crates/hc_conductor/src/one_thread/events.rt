@@ -1,14 +1,15 @@
 //! The events of the core: the conductor's own, which shows and posts nothing.
 ghost use Rattle.std.specs.Prelude.{◌≡◌, ◌≢◌, ◌∷◌, Err, IfErr, IfOk, IfSome, None, OnErr, OnOk, Some, length};
 ghost use Rattle.hc_records.specs.Lists.{lowest};
-ghost use Rattle.hc_core.specs.Early.{ShowsEarly};
+ghost use Rattle.hc_core.specs.Early.{ShowsEarly, early_ready_faults};
 ghost use Rattle.hc_core.specs.Proposed.{IsProposal};
 ghost use Rattle.hc_core.specs.Written.{HoldsWrite, HoldsWrites};
-ghost use Rattle.hc_events.specs.Calls.{AreSentTogether, MayAnswer, send_into_faults, write_all_into_faults, write_into_faults, arena_sent};
+ghost use Rattle.hc_events.specs.Calls.{AreSentTogether, MayAnswer, arena_sent, ready_into_faults, send_into_faults, write_all_into_faults, write_into_faults};
 ghost use Rattle.hc_events.specs.declared.faults.CoreFault.TheVariants.{Memory};
-ghost use Rattle.hc_events.specs.Entries.{Forgot};
+ghost use Rattle.hc_events.specs.Entries.{Forgot, Unplugged};
 ghost use Rattle.hc_events.specs.Owed.{owed_blocks};
-ghost use Rattle.hc_events.specs.Steps.{Arrives, Edits, SendsTasks, SendsWrite, SendsWrites, entries_after, forget_faults, proposal, with_sent};
+ghost use Rattle.hc_events.specs.Ready.{with_cleared};
+ghost use Rattle.hc_events.specs.Steps.{Arrives, Edits, SendsReady, SendsTasks, SendsWrite, SendsWrites, clear_faults, entries_after, forget_faults, proposal, unplug_faults, with_sent};
 ghost use Rattle.hc_sendings.specs.Refusals.{early_faults};
 ghost use Rattle.hc_conductor.specs.Conducting.{IsConducting};
 ghost use Rattle.hc_conductor.specs.Mastering.{SameTasks, master_history};
@@ -126,5 +127,54 @@ impl Master {
         ensures tasks { SameTasks self.old self.new }
     {
         self.conductor.commit(frames);
+    }
+
+    /// Sends 1 to 8 distinct ready tasks, while register blocks of other tasks may be owed: the frames are in the arena one after
+    /// another, each of its own size, and are returned in that order. After them the arena is as it was. The faults are those of
+    /// the conductor's `send_ready`; after one nothing is sent, nothing has changed, and the arena is as it was.
+    pub fn send_ready(
+        &mut self,
+        alloc: Global,
+        tasks: &[u8],
+        arena: &mut [u8],
+    ) -> Result<Vec<Sending>, CoreFault>
+        requires { AreSentTogether tasks.now }
+        ensures frames { IfOk result (λ frames. frames.items ≡ proposal (master_history self.old) tasks.now) }
+        ensures sent { OnOk result (arena.new ≡ arena_sent (master_history self.old) tasks.now arena.old) }
+        ensures accepted { OnOk result (lowest (ready_into_faults (master_history self.old) tasks.now (length arena.old)) ≡ None) }
+        ensures entries { OnOk result (master_history self.new ≡ entries_after (master_history self.old) (SendsReady tasks.now)) }
+        ensures tasks { SameTasks self.old self.new }
+        ensures refused { IfErr result (λ fault. fault ≢ Memory → lowest (ready_into_faults (master_history self.old) tasks.now (length arena.old)) ≡ Some fault) }
+        ensures early { IfSome (lowest (early_ready_faults (master_history self.old) tasks.now)) (λ fault. result ≡ Err fault) }
+        ensures unchanged { OnErr result (self.new ≡ self.old) }
+        ensures untouched { OnErr result (arena.new ≡ arena.old) }
+    {
+        self.conductor.send_ready(alloc, tasks, arena)
+    }
+
+    /// The FMMUs of the declared slave with this station address are zero now, and no write of them that was sent earlier will
+    /// still pass it, as the core's `cleared` says. A slave of the line is forgotten too. Fails with
+    /// `UnknownStation` if no declared slave has the address; nothing has changed then. It needs no allocation.
+    pub fn cleared(&mut self, station: u16) -> Result<(), CoreFault>
+        ensures accepted { OnOk result (lowest (clear_faults (master_history self.old) station) ≡ None) }
+        ensures entries { OnOk result (master_history self.new ≡ with_cleared (master_history self.old) station) }
+        ensures tasks { SameTasks self.old self.new }
+        ensures refused { IfErr result (λ fault. lowest (clear_faults (master_history self.old) station) ≡ Some fault) }
+        ensures unchanged { OnErr result (self.new ≡ self.old) }
+    {
+        self.conductor.cleared(station)
+    }
+
+    /// The declared slave with this station address, which is outside the line, is off the wire, as the core's `unplugged` says.
+    /// Fails with `UnknownStation` if no declared slave has the address, else with `AlreadyPresent`
+    /// if the slave is in the line; nothing has changed then. It needs no allocation.
+    pub fn unplugged(&mut self, station: u16) -> Result<(), CoreFault>
+        ensures accepted { OnOk result (lowest (unplug_faults (master_history self.old) station) ≡ None) }
+        ensures entries { OnOk result (master_history self.new ≡ Unplugged station ∷ master_history self.old) }
+        ensures tasks { SameTasks self.old self.new }
+        ensures refused { IfErr result (λ fault. lowest (unplug_faults (master_history self.old) station) ≡ Some fault) }
+        ensures unchanged { OnErr result (self.new ≡ self.old) }
+    {
+        self.conductor.unplugged(station)
     }
 }

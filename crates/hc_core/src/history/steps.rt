@@ -2,7 +2,7 @@
 ghost use Rattle.std.specs.Prelude.{◌≡◌, ◌∷◌, map};
 ghost use Rattle.hc_events.specs.Accepted.{just_opened};
 ghost use Rattle.hc_events.specs.Arrivals.{arrival_in};
-ghost use Rattle.hc_events.specs.Entries.{Edited, Forgot, Posted, Sent, Wrote};
+ghost use Rattle.hc_events.specs.Entries.{Cleared, Edited, Forgot, Posted, Sent, Unplugged, Wrote};
 ghost use Rattle.hc_events.specs.Steps.{with_arrival, with_sent};
 ghost use Rattle.hc_sendings.specs.WriteFrames.{block_of};
 ghost use Rattle.hc_core.specs.Records.{history_read};
@@ -65,6 +65,20 @@ impl HistoryGhost {
         ensures { history_read result ≡ Forgot station ∷ history_read self.now }
     {
         HistoryGhost::Forgot(Snapshot::of(self), Snapshot::of(&station))
+    }
+
+    /// With a cleared slave after it.
+    pub fn cleared(&self, station: u16) -> HistoryGhost
+        ensures { history_read result ≡ Cleared station ∷ history_read self.now }
+    {
+        HistoryGhost::Cleared(Snapshot::of(self), Snapshot::of(&station))
+    }
+
+    /// With an unplugged slave after it.
+    pub fn unplugged(&self, station: u16) -> HistoryGhost
+        ensures { history_read result ≡ Unplugged station ∷ history_read self.now }
+    {
+        HistoryGhost::Unplugged(Snapshot::of(self), Snapshot::of(&station))
     }
 
     /// Frames of tasks come after it, one after another.

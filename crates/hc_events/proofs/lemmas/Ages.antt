@@ -2,7 +2,7 @@
 use Rattle.std.proofs.Common.{◌≡◌, ℕ, List, [], ◌∷◌, refl, Option}
 use Rattle.std.specs.Prelude.{fold, is_some}
 use Rattle.hc_records.proofs.lemmas.Choices.{by_bool}
-use Rattle.hc_events.specs.Entries.{History, Opened, Edited, Posted, Sent, Wrote, Came, Forgot}
+use Rattle.hc_events.specs.Entries.{History, Opened, Edited, Posted, Sent, Wrote, Came, Forgot, Cleared, Unplugged}
 use Rattle.hc_events.specs.Images.{NewAnswer, new_answer_by, is_for, renewed, slot_of}
 use Rattle.hc_events.specs.Ages.{data_serial, dated}
 
@@ -22,6 +22,8 @@ serials-of_data (Opened groups ∷ history) task d = refl
 serials-of_data (Edited edit ∷ history) task d = refl
 serials-of_data (Posted t bytes ∷ history) task d = serials-of_data history task d
 serials-of_data (Forgot station ∷ history) task d = serials-of_data history task d
+serials-of_data (Cleared station ∷ history) task d = serials-of_data history task d
+serials-of_data (Unplugged station ∷ history) task d = serials-of_data history task d
 serials-of_data (Sent frame ∷ history) task d = serials-of_data history task d
 serials-of_data (Wrote blocks ∷ history) task d = serials-of_data history task d
 serials-of_data (Came arrival ∷ history) task d = all_more arrival.serial task d (new_answer_by history arrival) (data_serial history task d) (slot_of history task d) (serials-of_data history task d)

@@ -11,7 +11,7 @@ use Rattle.hc_registers.specs.Blocks.{LineBlock, line_blocks}
 use Rattle.hc_records.proofs.lemmas.Lists.{All-passing}
 use Rattle.hc_records.proofs.lemmas.Choices.{by_bool}
 use Rattle.hc_events.specs.Arrivals.{Arrival}
-use Rattle.hc_events.specs.Entries.{HistoryEntry, History, Opened, Edited, Posted, Sent, Wrote, Came, Forgot}
+use Rattle.hc_events.specs.Entries.{HistoryEntry, History, Opened, Edited, Posted, Sent, Wrote, Came, Forgot, Cleared, Unplugged}
 use Rattle.hc_events.specs.Points.{line_of}
 use Rattle.hc_events.specs.Sendings.{Named}
 use Rattle.hc_events.specs.Heads.{Head, data_head, data_heads, write_head, write_heads}
@@ -38,6 +38,8 @@ still_open serial heads (Opened groups ∷ since) running none = cc
 still_open serial heads (Edited edit ∷ since) running none = cc
 still_open serial heads (Posted task bytes ∷ since) running none = All-cons (LeavesAwaited serial heads) (Posted task bytes) since tt (still_open serial heads since running none)
 still_open serial heads (Forgot station ∷ since) running none = All-cons (LeavesAwaited serial heads) (Forgot station) since tt (still_open serial heads since running none)
+still_open serial heads (Cleared station ∷ since) running none = All-cons (LeavesAwaited serial heads) (Cleared station) since tt (still_open serial heads since running none)
+still_open serial heads (Unplugged station ∷ since) running none = All-cons (LeavesAwaited serial heads) (Unplugged station) since tt (still_open serial heads since running none)
 still_open serial heads (Sent frame ∷ since) running none = All-cons (LeavesAwaited serial heads) (Sent frame) since tt (still_open serial heads since running none)
 still_open serial heads (Wrote blocks ∷ since) running none = All-cons (LeavesAwaited serial heads) (Wrote blocks) since tt (still_open serial heads since running none)
 still_open serial heads (Came other ∷ since) running none =
@@ -56,6 +58,8 @@ none-ends serial heads (Opened groups ∷ since) all = absurd (All-head (LeavesA
 none-ends serial heads (Edited edit ∷ since) all = absurd (All-head (LeavesAwaited serial heads) (Edited edit) since all)
 none-ends serial heads (Posted task bytes ∷ since) all = none-ends serial heads since (All-tail (LeavesAwaited serial heads) (Posted task bytes) since all)
 none-ends serial heads (Forgot station ∷ since) all = none-ends serial heads since (All-tail (LeavesAwaited serial heads) (Forgot station) since all)
+none-ends serial heads (Cleared station ∷ since) all = none-ends serial heads since (All-tail (LeavesAwaited serial heads) (Cleared station) since all)
+none-ends serial heads (Unplugged station ∷ since) all = none-ends serial heads since (All-tail (LeavesAwaited serial heads) (Unplugged station) since all)
 none-ends serial heads (Sent frame ∷ since) all = none-ends serial heads since (All-tail (LeavesAwaited serial heads) (Sent frame) since all)
 none-ends serial heads (Wrote blocks ∷ since) all = none-ends serial heads since (All-tail (LeavesAwaited serial heads) (Wrote blocks) since all)
 none-ends serial heads (Came other ∷ since) all =
@@ -68,6 +72,8 @@ none-opened serial heads (Opened groups ∷ since) all = absurd (All-head (Leave
 none-opened serial heads (Edited edit ∷ since) all = none-opened serial heads since (All-tail (LeavesAwaited serial heads) (Edited edit) since all)
 none-opened serial heads (Posted task bytes ∷ since) all = none-opened serial heads since (All-tail (LeavesAwaited serial heads) (Posted task bytes) since all)
 none-opened serial heads (Forgot station ∷ since) all = none-opened serial heads since (All-tail (LeavesAwaited serial heads) (Forgot station) since all)
+none-opened serial heads (Cleared station ∷ since) all = none-opened serial heads since (All-tail (LeavesAwaited serial heads) (Cleared station) since all)
+none-opened serial heads (Unplugged station ∷ since) all = none-opened serial heads since (All-tail (LeavesAwaited serial heads) (Unplugged station) since all)
 none-opened serial heads (Sent frame ∷ since) all = none-opened serial heads since (All-tail (LeavesAwaited serial heads) (Sent frame) since all)
 none-opened serial heads (Wrote blocks ∷ since) all = none-opened serial heads since (All-tail (LeavesAwaited serial heads) (Wrote blocks) since all)
 none-opened serial heads (Came other ∷ since) all = none-opened serial heads since (All-tail (LeavesAwaited serial heads) (Came other) since all)
@@ -107,6 +113,8 @@ same_line serial heads (Opened groups ∷ since) history all = absurd (All-head 
 same_line serial heads (Edited edit ∷ since) history all = absurd (All-head (LeavesAwaited serial heads) (Edited edit) since all)
 same_line serial heads (Posted task bytes ∷ since) history all = same_line serial heads since history (All-tail (LeavesAwaited serial heads) (Posted task bytes) since all)
 same_line serial heads (Forgot station ∷ since) history all = same_line serial heads since history (All-tail (LeavesAwaited serial heads) (Forgot station) since all)
+same_line serial heads (Cleared station ∷ since) history all = same_line serial heads since history (All-tail (LeavesAwaited serial heads) (Cleared station) since all)
+same_line serial heads (Unplugged station ∷ since) history all = same_line serial heads since history (All-tail (LeavesAwaited serial heads) (Unplugged station) since all)
 same_line serial heads (Sent frame ∷ since) history all = same_line serial heads since history (All-tail (LeavesAwaited serial heads) (Sent frame) since all)
 same_line serial heads (Wrote blocks ∷ since) history all = same_line serial heads since history (All-tail (LeavesAwaited serial heads) (Wrote blocks) since all)
 same_line serial heads (Came other ∷ since) history all = same_line serial heads since history (All-tail (LeavesAwaited serial heads) (Came other) since all)
@@ -116,6 +124,8 @@ same_sent before (Opened groups) sends = cc
 same_sent before (Edited edit) sends = cc
 same_sent before (Posted task bytes) sends = cc
 same_sent before (Forgot station) sends = cc
+same_sent before (Cleared station) sends = cc
+same_sent before (Unplugged station) sends = cc
 same_sent before (Came arrival) sends = cc
 same_sent before (Sent frame) sends = refl
 same_sent before (Wrote blocks) sends = refl
@@ -126,6 +136,8 @@ accepted-at [] before (Opened groups) running sends all = cc
 accepted-at [] before (Edited edit) running sends all = cc
 accepted-at [] before (Posted task bytes) running sends all = cc
 accepted-at [] before (Forgot station) running sends all = cc
+accepted-at [] before (Cleared station) running sends all = cc
+accepted-at [] before (Unplugged station) running sends all = cc
 accepted-at [] before (Came arrival) running sends all = cc
 accepted-at [] before (Sent frame) running sends all = all.0
 accepted-at [] before (Wrote blocks) running sends all = all.0
@@ -133,6 +145,8 @@ accepted-at (Opened groups ∷ since) before entry running sends all = cc
 accepted-at (Edited edit ∷ since) before entry running sends all = accepted-at since before entry running sends all.1
 accepted-at (Posted task bytes ∷ since) before entry running sends all = accepted-at since before entry running sends all.1
 accepted-at (Forgot station ∷ since) before entry running sends all = accepted-at since before entry running sends all.1
+accepted-at (Cleared station ∷ since) before entry running sends all = accepted-at since before entry running sends all.1
+accepted-at (Unplugged station ∷ since) before entry running sends all = accepted-at since before entry running sends all.1
 accepted-at (Sent frame ∷ since) before entry running sends all = accepted-at since before entry running sends all.1
 accepted-at (Wrote blocks ∷ since) before entry running sends all = accepted-at since before entry running sends all.1
 accepted-at (Came arrival ∷ since) before entry running sends all = accepted-at since before entry running sends all.1
@@ -173,6 +187,8 @@ heads_of_line before (Opened groups) sends accepted = cc
 heads_of_line before (Edited edit) sends accepted = cc
 heads_of_line before (Posted task bytes) sends accepted = cc
 heads_of_line before (Forgot station) sends accepted = cc
+heads_of_line before (Cleared station) sends accepted = cc
+heads_of_line before (Unplugged station) sends accepted = cc
 heads_of_line before (Came arrival) sends accepted = cc
 heads_of_line before (Sent frame) sends accepted = frame_of_line (line_of before) frame accepted.is_placed
 heads_of_line before (Wrote blocks) sends accepted =

@@ -9,7 +9,7 @@ use Rattle.std.proofs.lemmas.Option.{none-some, same_Some}
 use Rattle.hc_records.specs.declared.edit.Edit.{Edit}
 use Rattle.hc_records.proofs.lemmas.Choices.{by_bool}
 use Rattle.hc_events.specs.Arrivals.{Arrival, Part}
-use Rattle.hc_events.specs.Entries.{HistoryEntry, History, Opened, Edited, Posted, Sent, Wrote, Came, Forgot}
+use Rattle.hc_events.specs.Entries.{HistoryEntry, History, Opened, Edited, Posted, Sent, Wrote, Came, Forgot, Cleared, Unplugged}
 use Rattle.hc_events.specs.Points.{line_of, next_serial}
 use Rattle.hc_events.specs.Heads.{Head, Item, Datagram, Block, data_heads, is_block, write_heads}
 use Rattle.hc_events.specs.Answering.{Sending, Judged, Good, Wrong, Stale, sending_of_heads, followed_by, sending_of, has_heads, fits_sending, ends, is_answer, only_if, sends, is_forgetting, forgets, starts_over, is_dropped, is_outdated, is_stale, judge, judged, judged_by, is_current}
@@ -257,6 +257,8 @@ awaited-grows a b serial (Opened groups) n l same = refl
 awaited-grows a b serial (Edited edit) n l same = awaited_edited serial edit (sending_of a serial) ∙ sym (awaited_edited serial edit (sending_of b serial))
 awaited-grows a b serial (Posted task bytes) n l same = other_grows a b serial (Posted task bytes) (λ heads. refl) refl same
 awaited-grows a b serial (Forgot station) n l same = other_grows a b serial (Forgot station) (λ heads. refl) refl same
+awaited-grows a b serial (Cleared station) n l same = other_grows a b serial (Cleared station) (λ heads. refl) refl same
+awaited-grows a b serial (Unplugged station) n l same = other_grows a b serial (Unplugged station) (λ heads. refl) refl same
 awaited-grows a b serial (Came arrival) n l same = awaited_came serial arrival (sending_of a serial) ∙ ap (option_and_then (unless_fits serial arrival)) same ∙ sym (awaited_came serial arrival (sending_of b serial))
 awaited-grows a b serial (Sent frame) n l same =
     ap (λ m. option_and_then (still_awaited serial) (cond (m == serial) (Some (sending_of_heads (data_heads (line_of a) frame))) (option_map (followed_by (Sent frame)) (sending_of a serial)))) n

@@ -1,5 +1,5 @@
 -- Beside an awaited register write no frame of tasks is awaited, as long as no slave was forgotten: something is owed where a write is awaited, and nothing where a frame of tasks is.
-use Rattle.std.proofs.Common.{◌≡◌, ℕ, ◌<◌, ◌≤◌, ◌==◌, nat_lt, true, false, List, [], ◌∷◌, ◌++◌, length, refl, sym, ap, ◌∙◌, subst, arith, Some}
+use Rattle.std.proofs.Common.{◌≡◌, ℕ, suc, ◌<◌, ◌≤◌, ◌==◌, nat_lt, true, false, List, [], ◌∷◌, ◌++◌, length, refl, sym, ap, ◌∙◌, subst, arith, Some}
 use Rattle.std.specs.List.{list_all, list_any}
 use Rattle.std.proofs.lemmas.Bool.Decides.{nat_tests}
 use Rattle.std.proofs.lemmas.Bool.{and_parts, eqb-true}
@@ -9,14 +9,14 @@ use Rattle.hc_records.specs.declared.records.Group.{Group}
 use Rattle.hc_records.proofs.lemmas.Choices.{by_bool}
 use Rattle.hc_registers.specs.Blocks.{LineBlock, line_blocks}
 use Rattle.hc_events.specs.declared.sending.TheConstants.{FRAME_BLOCKS}
-use Rattle.hc_events.specs.Entries.{HistoryEntry, History, Opened, Edited, Posted, Sent, Wrote, Came, Forgot}
+use Rattle.hc_events.specs.Entries.{HistoryEntry, History, Opened, Edited, Posted, Sent, Wrote, Came, Forgot, Cleared, Unplugged}
 use Rattle.hc_events.specs.Points.{line_of, next_serial}
 use Rattle.hc_events.specs.Heads.{block_item, is_block, write_head, write_heads}
 use Rattle.hc_events.specs.Answering.{Sending, ends, is_forgetting, sending_of}
 use Rattle.hc_events.specs.Awaited.{all_outdated, awaited, is_write_sending}
 use Rattle.hc_events.specs.Owed.{is_owed, owed_blocks}
 use Rattle.hc_events.specs.Accepted.{AreAccepted, IsWrite, just_opened}
-use Rattle.hc_events.specs.AnswerLaws.{HasOwnNames}
+use Rattle.hc_events.specs.AnswerLaws.{HasOwnNames, sent_programmed}
 use Rattle.hc_events.specs.Forgetting.{writes_one}
 use Rattle.hc_events.proofs.lemmas.Accepted.{StaysTrue, held-of_accepted}
 use Rattle.hc_events.proofs.lemmas.Answers.{accepted-at, still_awaited-is, written-inside}
@@ -58,12 +58,12 @@ none_named history one none =
 -- where a frame of tasks is awaited nothing is owed
 
 record TasksOweNothing (history : History) : Type 0 where
-  holds : (serial : ℕ) (now : Sending) → awaited history serial ≡ Some now → is_write_sending now ≡ false → list_any is_forgetting history ≡ false → owed_blocks history ≡ []
+  holds : (serial : ℕ) (now : Sending) → awaited history serial ≡ Some now → is_write_sending now ≡ false → list_any is_forgetting history ≡ false → sent_programmed history ≡ true → owed_blocks history ≡ []
 
 older_tasks : (history : History) (entry : HistoryEntry) (serial : ℕ) (now : Sending) → TasksOweNothing history → owed_blocks (entry ∷ history) ≡ owed_blocks history → NotAgain history serial entry now → is_write_sending now ≡ false
-    → list_any is_forgetting history ≡ false → owed_blocks (entry ∷ history) ≡ []
-older_tasks history entry serial now before same still w none =
-    same ∙ before.holds serial still.was.before still.was.there (write_was now still.was.before still.was.heads ∙ w) none
+    → list_any is_forgetting history ≡ false → sent_programmed history ≡ true → owed_blocks (entry ∷ history) ≡ []
+older_tasks history entry serial now before same still w none programmed =
+    same ∙ before.holds serial still.was.before still.was.there (write_was now still.was.before still.was.heads ∙ w) none programmed
 
 below-true : (a b : ℕ) → nat_lt a b ≡ true → a < b
 below-true a b t = grind (arith, nat_tests)
@@ -83,39 +83,47 @@ heads_are [] some = absurd (omega arith)
 heads_are (block ∷ blocks) some = refl
 
 wrote_tasks : (history : History) (blocks : List LineBlock) (serial : ℕ) (now : Sending) → TasksOweNothing history → IsWrite (owed_blocks history) blocks → awaited (Wrote blocks ∷ history) serial ≡ Some now → is_write_sending now ≡ false
-    → list_any is_forgetting history ≡ false → ⊥
-wrote_tasks history blocks serial now before write e w none =
+    → list_any is_forgetting history ≡ false → sent_programmed history ≡ true → ⊥
+wrote_tasks history blocks serial now before write e w none programmed =
     by_bool (next_serial history == serial)
     (λ t. let never : true ≡ false = sym (heads_are blocks write.some) ∙ sym (ap (list_any (λ head. is_block head.item)) (new_wrote history blocks serial now e t)) ∙ w in cc)
     (λ t. let was = (older_wrote history blocks serial now e t).was in
-    nothing_written history blocks write (before.holds serial was.before was.there (write_was now was.before was.heads ∙ w) none))
+    nothing_written history blocks write (before.holds serial was.before was.there (write_was now was.before was.heads ∙ w) none programmed))
+
+none_left : (blocks : List LineBlock) → (length blocks == 0) ≡ true → blocks ≡ []
+none_left [] e = refl
+none_left (block ∷ blocks) e = let never : suc (length blocks) ≡ 0 = eqb-true (suc (length blocks)) 0 e in cc
 
 tasks-grow : StaysTrue TasksOweNothing
 tasks-grow history (Opened groups) accepted before = absurd accepted
-tasks-grow history (Edited edit) accepted before = record { holds = λ serial now e w none. absurd (none-some now (sym (awaited_edited serial edit (sending_of history serial)) ∙ e)) }
+tasks-grow history (Edited edit) accepted before = record { holds = λ serial now e w none programmed. absurd (none-some now (sym (awaited_edited serial edit (sending_of history serial)) ∙ e)) }
 tasks-grow history (Posted task bytes) accepted before =
-    record { holds = λ serial now e w none. older_tasks history (Posted task bytes) serial now before refl (still_other history serial (Posted task bytes) now (λ heads. refl) refl e) w none }
-tasks-grow history (Sent frame) accepted before = record { holds = λ serial now e w none. accepted.programmed }
-tasks-grow history (Wrote blocks) accepted before = record { holds = λ serial now e w none. absurd (wrote_tasks history blocks serial now before accepted e w none) }
+    record { holds = λ serial now e w none programmed. older_tasks history (Posted task bytes) serial now before refl (still_other history serial (Posted task bytes) now (λ heads. refl) refl e) w none programmed }
+tasks-grow history (Sent frame) accepted before = record { holds = λ serial now e w none programmed. none_left (owed_blocks history) (and_parts (length (owed_blocks history) == 0) (sent_programmed history) programmed).0 }
+tasks-grow history (Wrote blocks) accepted before = record { holds = λ serial now e w none programmed. absurd (wrote_tasks history blocks serial now before accepted e w none programmed) }
 tasks-grow history (Came arrival) accepted before = record {
-  holds = λ serial now e w none.
+  holds = λ serial now e w none programmed.
       let was = (still_came history serial arrival now e).was in
-      filter_none (is_owed history) (is_owed (Came arrival ∷ history)) (not-owed_stays history arrival) (line_blocks (line_of history)) (before.holds serial was.before was.there (write_was now was.before was.heads ∙ w) none);
+      filter_none (is_owed history) (is_owed (Came arrival ∷ history)) (not-owed_stays history arrival) (line_blocks (line_of history)) (before.holds serial was.before was.there (write_was now was.before was.heads ∙ w) none programmed);
 }
-tasks-grow history (Forgot station) accepted before = record { holds = λ serial now e w none. let never : true ≡ false = none in cc }
+tasks-grow history (Forgot station) accepted before = record { holds = λ serial now e w none programmed. let never : true ≡ false = none in cc }
+tasks-grow history (Cleared other) accepted before =
+    record { holds = λ serial now e w none programmed. older_tasks history (Cleared other) serial now before refl (still_other history serial (Cleared other) now (λ heads. refl) refl e) w none programmed }
+tasks-grow history (Unplugged other) accepted before =
+    record { holds = λ serial now e w none programmed. older_tasks history (Unplugged other) serial now before refl (still_other history serial (Unplugged other) now (λ heads. refl) refl e) w none programmed }
 
 just_tasks : (groups : List Group) → TasksOweNothing (just_opened groups)
-just_tasks groups = record { holds = λ serial now e w none. absurd (none-some now e) }
+just_tasks groups = record { holds = λ serial now e w none programmed. absurd (none-some now e) }
 
-pub tasks-owe_nothing : (history : History) (serial : ℕ) (now : Sending) → AreAccepted history → awaited history serial ≡ Some now → is_write_sending now ≡ false → list_any is_forgetting history ≡ false → owed_blocks history ≡ []
-tasks-owe_nothing history serial now all e w none = (held-of_accepted TasksOweNothing tasks-grow just_tasks history all).holds serial now e w none
+pub tasks-owe_nothing : (history : History) (serial : ℕ) (now : Sending) → AreAccepted history → awaited history serial ≡ Some now → is_write_sending now ≡ false → list_any is_forgetting history ≡ false → sent_programmed history ≡ true → owed_blocks history ≡ []
+tasks-owe_nothing history serial now all e w none programmed = (held-of_accepted TasksOweNothing tasks-grow just_tasks history all).holds serial now e w none programmed
 
-pub writes-alone : (history : History) (serial other : ℕ) (write sending : Sending) → AreAccepted history → list_any is_forgetting history ≡ false → awaited history serial ≡ Some write → is_write_sending write ≡ true
+pub writes-alone : (history : History) (serial other : ℕ) (write sending : Sending) → AreAccepted history → list_any is_forgetting history ≡ false → sent_programmed history ≡ true → awaited history serial ≡ Some write → is_write_sending write ≡ true
     → awaited history other ≡ Some sending → is_write_sending sending ≡ true
-writes-alone history serial other write sending all none there w e =
+writes-alone history serial other write sending all none programmed there w e =
     by_bool (is_write_sending sending)
     (λ t. t)
-    (λ t. absurd (none_named history (awaited-owes history serial write all there w) (tasks-owe_nothing history other sending all e t none)))
+    (λ t. absurd (none_named history (awaited-owes history serial write all there w) (tasks-owe_nothing history other sending all e t none programmed)))
 
 -- the blocks of a frame of writes
 

@@ -15,7 +15,7 @@ use Rattle.hc_records.specs.Edits.{changed, edit_faults, edited, refused_by, sta
 use Rattle.hc_places.specs.Table.{table_of}
 use Rattle.hc_events.specs.declared.change.Change.{Change}
 use Rattle.hc_events.specs.declared.change.Change.TheVariants as change
-use Rattle.hc_events.specs.Entries.{History, Opened, Edited, Posted, Sent, Wrote, Came, Forgot}
+use Rattle.hc_events.specs.Entries.{History, Opened, Edited, Posted, Sent, Wrote, Came, Forgot, Cleared, Unplugged}
 use Rattle.hc_events.specs.Points.{epoch_of, opened_with, state_of}
 use Rattle.hc_events.specs.Images.{NewAnswer, new_answer_by, is_for, renewed, slot_of}
 use Rattle.hc_events.specs.Changes.{AreChangesOf, AreLegalFrom, IsAnswerIn, Update, Swapped, Answered, SwapsLeadFrom, epoch_after, updates_of, slot_after, table_after, update_in}
@@ -88,6 +88,8 @@ follows_grows groups history (Edited edit) accepted follows = record {
 }
 follows_grows groups history (Posted task bytes) accepted follows = record { slots = follows.slots; state = follows.state; epoch = follows.epoch }
 follows_grows groups history (Forgot station) accepted follows = record { slots = follows.slots; state = follows.state; epoch = follows.epoch }
+follows_grows groups history (Cleared station) accepted follows = record { slots = follows.slots; state = follows.state; epoch = follows.epoch }
+follows_grows groups history (Unplugged station) accepted follows = record { slots = follows.slots; state = follows.state; epoch = follows.epoch }
 follows_grows groups history (Sent frame) accepted follows = record { slots = follows.slots; state = follows.state; epoch = follows.epoch }
 follows_grows groups history (Wrote blocks) accepted follows = record { slots = follows.slots; state = follows.state; epoch = follows.epoch }
 follows_grows groups history (Came arrival) accepted follows = record {
@@ -108,6 +110,8 @@ follows_more history (Opened others) accepted follows = absurd accepted
 follows_more history (Edited edit) accepted follows = follows_grows (opened_with history) history (Edited edit) accepted follows
 follows_more history (Posted task bytes) accepted follows = follows_grows (opened_with history) history (Posted task bytes) accepted follows
 follows_more history (Forgot station) accepted follows = follows_grows (opened_with history) history (Forgot station) accepted follows
+follows_more history (Cleared station) accepted follows = follows_grows (opened_with history) history (Cleared station) accepted follows
+follows_more history (Unplugged station) accepted follows = follows_grows (opened_with history) history (Unplugged station) accepted follows
 follows_more history (Sent frame) accepted follows = follows_grows (opened_with history) history (Sent frame) accepted follows
 follows_more history (Wrote blocks) accepted follows = follows_grows (opened_with history) history (Wrote blocks) accepted follows
 follows_more history (Came arrival) accepted follows = follows_grows (opened_with history) history (Came arrival) accepted follows
@@ -237,6 +241,8 @@ slot_updates task d (Opened groups ∷ history) = refl
 slot_updates task d (Edited edit ∷ history) = sym (slot_joined task d None (updates_of history) (Swapped edit ∷ []))
 slot_updates task d (Posted t bytes ∷ history) = slot_updates task d history
 slot_updates task d (Forgot station ∷ history) = slot_updates task d history
+slot_updates task d (Cleared station ∷ history) = slot_updates task d history
+slot_updates task d (Unplugged station ∷ history) = slot_updates task d history
 slot_updates task d (Sent frame ∷ history) = slot_updates task d history
 slot_updates task d (Wrote blocks ∷ history) = slot_updates task d history
 slot_updates task d (Came arrival ∷ history) =
@@ -328,6 +334,10 @@ legal_grows groups history (Posted task bytes) accepted before =
     record { follows = follows_grows groups history (Posted task bytes) accepted before.follows; sent = before.sent; legal = before.legal }
 legal_grows groups history (Forgot station) accepted before =
     record { follows = follows_grows groups history (Forgot station) accepted before.follows; sent = before.sent; legal = before.legal }
+legal_grows groups history (Cleared station) accepted before =
+    record { follows = follows_grows groups history (Cleared station) accepted before.follows; sent = before.sent; legal = before.legal }
+legal_grows groups history (Unplugged station) accepted before =
+    record { follows = follows_grows groups history (Unplugged station) accepted before.follows; sent = before.sent; legal = before.legal }
 legal_grows groups history (Sent frame) accepted before =
     record { follows = follows_grows groups history (Sent frame) accepted before.follows; sent = (accepted.is_placed, before.sent); legal = before.legal }
 legal_grows groups history (Wrote blocks) accepted before =
@@ -354,6 +364,8 @@ legal_more history (Opened others) accepted before = absurd accepted
 legal_more history (Edited edit) accepted before = legal_grows (opened_with history) history (Edited edit) accepted before
 legal_more history (Posted task bytes) accepted before = legal_grows (opened_with history) history (Posted task bytes) accepted before
 legal_more history (Forgot station) accepted before = legal_grows (opened_with history) history (Forgot station) accepted before
+legal_more history (Cleared station) accepted before = legal_grows (opened_with history) history (Cleared station) accepted before
+legal_more history (Unplugged station) accepted before = legal_grows (opened_with history) history (Unplugged station) accepted before
 legal_more history (Sent frame) accepted before = legal_grows (opened_with history) history (Sent frame) accepted before
 legal_more history (Wrote blocks) accepted before = legal_grows (opened_with history) history (Wrote blocks) accepted before
 legal_more history (Came arrival) accepted before = legal_grows (opened_with history) history (Came arrival) accepted before

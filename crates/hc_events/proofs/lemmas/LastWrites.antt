@@ -102,8 +102,8 @@ some_among : (blocks : List LineBlock) (station number : ℕ) (block : LineBlock
 some_among [] station number block e = cc
 some_among (other ∷ blocks) station number block e = refl
 
-not_frame : (sending : Sending) (station number : ℕ) → IsWriteOf station number sending → is_write_sending sending ≡ true
-not_frame sending station number of = ap (list_any (λ head. is_block head.item)) of.heads ∙ some_among of.blocks station number of.block of.among
+pub not-frame : (sending : Sending) (station number : ℕ) → IsWriteOf station number sending → is_write_sending sending ≡ true
+not-frame sending station number of = ap (list_any (λ head. is_block head.item)) of.heads ∙ some_among of.blocks station number of.block of.among
 
 pub known-framed : (history : History) (arrival : Arrival) (sending : Sending) → awaited history arrival.serial ≡ Some sending → is_write_sending sending ≡ false
     → (station number : ℕ) → known_bytes (Came arrival ∷ history) station number ≡ known_bytes history station number
@@ -111,6 +111,6 @@ known-framed history arrival sending there frame station number =
     came-same history arrival (last_write history station number)
     (λ write e. by_bool (arrival.serial == write.0)
     (λ t. let of = awaited-last history station number write sending e (sym (ap (awaited history) (eqb-true arrival.serial write.0 t)) ∙ there) in
-    let never : true ≡ false = sym (not_frame sending station number of) ∙ frame in cc)
+    let never : true ≡ false = sym (not-frame sending station number of) ∙ frame in cc)
     (λ t. t))
     (Block station number)

@@ -9,7 +9,7 @@ use Rattle.std.proofs.lemmas.Bool.{or_parts}
 use Rattle.hc_records.proofs.lemmas.Choices.{by_bool}
 use Rattle.hc_registers.specs.Blocks.{LineBlock}
 use Rattle.hc_events.specs.Arrivals.{Arrival}
-use Rattle.hc_events.specs.Entries.{HistoryEntry, History, Opened, Edited, Posted, Sent, Wrote, Came, Forgot}
+use Rattle.hc_events.specs.Entries.{HistoryEntry, History, Opened, Edited, Posted, Sent, Wrote, Came, Forgot, Cleared, Unplugged}
 use Rattle.hc_events.specs.Points.{next_serial}
 use Rattle.hc_events.specs.Heads.{Block, Head, Item, block_item, same_item, write_heads}
 use Rattle.hc_events.specs.Answering.{Sending, ends, fits_sending, forgets, is_answer, is_outdated, judged, judged_by, only_if, sending_of, sends}
@@ -35,6 +35,8 @@ unconfirmed (Opened groups ∷ history) serial item above = refl
 unconfirmed (Edited edit ∷ history) serial item above = unconfirmed history serial item above
 unconfirmed (Posted task bytes ∷ history) serial item above = unconfirmed history serial item above
 unconfirmed (Forgot station ∷ history) serial item above = unconfirmed history serial item above
+unconfirmed (Cleared station ∷ history) serial item above = unconfirmed history serial item above
+unconfirmed (Unplugged station ∷ history) serial item above = unconfirmed history serial item above
 unconfirmed (Sent frame ∷ history) serial item above = unconfirmed history serial item (omega arith)
 unconfirmed (Wrote blocks ∷ history) serial item above = unconfirmed history serial item (omega arith)
 unconfirmed (Came arrival ∷ history) serial item above =
@@ -107,6 +109,8 @@ last-stays (Came arrival ∷ since) history serial heads station number running 
 last-stays (Forgot other ∷ since) history serial heads station number running going unchanged again =
     let parts = or_parts (station == other) _ unchanged in
     ap (λ b. cond b None (last_write (since ++ history) station number)) parts.0 ∙ last-stays since history serial heads station number running going parts.1 again
+last-stays (Cleared other ∷ since) history serial heads station number running going unchanged again = last-stays since history serial heads station number running going unchanged again
+last-stays (Unplugged other ∷ since) history serial heads station number running going unchanged again = last-stays since history serial heads station number running going unchanged again
 last-stays (Wrote blocks ∷ since) history serial heads station number running going unchanged again =
     let parts = or_parts (sends (Block station number) (Wrote blocks)) _ again in
     ap (λ found. option_or (option_map (write_of (next_serial (since ++ history))) found) (last_write (since ++ history) station number)) (among-none blocks station number parts.0)
@@ -132,6 +136,8 @@ stays-unconfirmed (Posted task bytes ∷ since) before blocks item running going
 stays-unconfirmed (Sent frame ∷ since) before blocks item running going = stays-unconfirmed since before blocks item running going
 stays-unconfirmed (Wrote others ∷ since) before blocks item running going = stays-unconfirmed since before blocks item running going
 stays-unconfirmed (Forgot station ∷ since) before blocks item running going = stays-unconfirmed since before blocks item running going
+stays-unconfirmed (Cleared station ∷ since) before blocks item running going = stays-unconfirmed since before blocks item running going
+stays-unconfirmed (Unplugged station ∷ since) before blocks item running going = stays-unconfirmed since before blocks item running going
 stays-unconfirmed (Came arrival ∷ since) before blocks item running going =
     let parts = or_parts (fits_sending (next_serial before) (write_heads blocks) arrival) _ going in
     let rest = stays-unconfirmed since before blocks item running parts.1 in

@@ -13,7 +13,7 @@ use Rattle.hc_frames.specs.Commands.{code_of}
 use Rattle.hc_events.specs.declared.answer.Answer.TheVariants as answer
 use Rattle.hc_events.specs.declared.answer.Outcome.{Outcome}
 use Rattle.hc_events.specs.Arrivals.{Arrival, Part}
-use Rattle.hc_events.specs.Entries.{HistoryEntry, History, Opened, Edited, Posted, Sent, Wrote, Came, Forgot}
+use Rattle.hc_events.specs.Entries.{HistoryEntry, History, Opened, Edited, Posted, Sent, Wrote, Came, Forgot, Cleared, Unplugged}
 use Rattle.hc_events.specs.Points.{line_of}
 use Rattle.hc_events.specs.Sendings.{Named}
 use Rattle.hc_events.specs.Heads.{Head, Item, Datagram, Block, is_block, write_heads}
@@ -114,6 +114,8 @@ plain_by before (Opened groups) since heads parts outcomes sends is answer_given
 plain_by before (Edited edit) since heads parts outcomes sends is answer_given = cc
 plain_by before (Posted task bytes) since heads parts outcomes sends is answer_given = cc
 plain_by before (Forgot station) since heads parts outcomes sends is answer_given = cc
+plain_by before (Cleared station) since heads parts outcomes sends is answer_given = cc
+plain_by before (Unplugged station) since heads parts outcomes sends is answer_given = cc
 plain_by before (Came arrival) since heads parts outcomes sends is answer_given = cc
 plain_by before (Sent frame) since heads parts outcomes sends is answer_given = ap (list_any (λ (head : Head). is_block head.item)) is ∙ no_blocks (line_of before) frame
 plain_by before (Wrote blocks) since heads parts outcomes sends is answer_given =

@@ -7,7 +7,7 @@ use Rattle.std.proofs.lemmas.Bool.{and_right, not_from_true, or_right}
 use Rattle.std.proofs.lemmas.Grind.{common_steps}
 use Rattle.hc_records.proofs.lemmas.Choices.{by_bool, is_other}
 use Rattle.hc_events.specs.Arrivals.{Arrival}
-use Rattle.hc_events.specs.Entries.{HistoryEntry, History, Opened, Edited, Posted, Sent, Wrote, Came, Forgot}
+use Rattle.hc_events.specs.Entries.{HistoryEntry, History, Opened, Edited, Posted, Sent, Wrote, Came, Forgot, Cleared, Unplugged}
 use Rattle.hc_events.specs.Points.{line_of, next_serial}
 use Rattle.hc_events.specs.Heads.{data_heads, write_heads}
 use Rattle.hc_events.specs.Answering.{Sending, sending_of_heads, followed_by, sending_of, fits_sending, ends, is_answer, only_if, answered_by}
@@ -47,6 +47,8 @@ serial-made (Opened groups ∷ history) serial = none_below serial
 serial-made (Edited edit ∷ history) serial = mapped_some (Edited edit) (sending_of history serial) ∙ serial-made history serial
 serial-made (Posted task bytes ∷ history) serial = mapped_some (Posted task bytes) (sending_of history serial) ∙ serial-made history serial
 serial-made (Forgot station ∷ history) serial = mapped_some (Forgot station) (sending_of history serial) ∙ serial-made history serial
+serial-made (Cleared station ∷ history) serial = mapped_some (Cleared station) (sending_of history serial) ∙ serial-made history serial
+serial-made (Unplugged station ∷ history) serial = mapped_some (Unplugged station) (sending_of history serial) ∙ serial-made history serial
 serial-made (Came arrival ∷ history) serial = mapped_some (Came arrival) (sending_of history serial) ∙ serial-made history serial
 serial-made (Sent frame ∷ history) serial =
     one_of (next_serial history == serial) (Some (sending_of_heads (data_heads (line_of history) frame))) (option_map (followed_by (Sent frame)) (sending_of history serial)) refl
@@ -89,6 +91,8 @@ ended_grows serial history (Opened groups) accepted over = absurd accepted
 ended_grows serial history (Edited edit) accepted over = record { made = over.made; over = ended_still serial (Edited edit) (sending_of history serial) over.over }
 ended_grows serial history (Posted task bytes) accepted over = record { made = over.made; over = ended_still serial (Posted task bytes) (sending_of history serial) over.over }
 ended_grows serial history (Forgot station) accepted over = record { made = over.made; over = ended_still serial (Forgot station) (sending_of history serial) over.over }
+ended_grows serial history (Cleared station) accepted over = record { made = over.made; over = ended_still serial (Cleared station) (sending_of history serial) over.over }
+ended_grows serial history (Unplugged station) accepted over = record { made = over.made; over = ended_still serial (Unplugged station) (sending_of history serial) over.over }
 ended_grows serial history (Came arrival) accepted over = record { made = over.made; over = ended_still serial (Came arrival) (sending_of history serial) over.over }
 ended_grows serial history (Sent frame) accepted over = record {
   made = below_more serial (next_serial history) over.made;

@@ -4,7 +4,7 @@ use Rattle.std.specs.Prelude.{option_map}
 use Rattle.std.specs.List.{list_any}
 use Rattle.std.proofs.lemmas.Bool.{eqb-true}
 use Rattle.hc_records.proofs.lemmas.Choices.{is_other}
-use Rattle.hc_events.specs.Entries.{HistoryEntry, History, Opened, Edited, Posted, Sent, Wrote, Came, Forgot}
+use Rattle.hc_events.specs.Entries.{HistoryEntry, History, Opened, Edited, Posted, Sent, Wrote, Came, Forgot, Cleared, Unplugged}
 use Rattle.hc_events.specs.Points.{line_of, next_serial}
 use Rattle.hc_events.specs.Heads.{data_heads, write_heads}
 use Rattle.hc_events.specs.Answering.{Sending, sending_of_heads, followed_by, sending_of}
@@ -47,6 +47,8 @@ is_placed-at (Opened groups ∷ history) serial = λ sending e. cc
 is_placed-at (Edited edit ∷ history) serial = moved_on (Edited edit) refl history serial (sending_of history serial) (is_placed-at history serial)
 is_placed-at (Posted task bytes ∷ history) serial = moved_on (Posted task bytes) refl history serial (sending_of history serial) (is_placed-at history serial)
 is_placed-at (Forgot station ∷ history) serial = moved_on (Forgot station) refl history serial (sending_of history serial) (is_placed-at history serial)
+is_placed-at (Cleared station ∷ history) serial = moved_on (Cleared station) refl history serial (sending_of history serial) (is_placed-at history serial)
+is_placed-at (Unplugged station ∷ history) serial = moved_on (Unplugged station) refl history serial (sending_of history serial) (is_placed-at history serial)
 is_placed-at (Came arrival ∷ history) serial = moved_on (Came arrival) refl history serial (sending_of history serial) (is_placed-at history serial)
 is_placed-at (Sent frame ∷ history) serial =
     is_placed_either (Sent frame ∷ history) serial (next_serial history == serial) (Some (sending_of_heads (data_heads (line_of history) frame))) (option_map (followed_by (Sent frame)) (sending_of history serial))
@@ -67,6 +69,8 @@ sent_counts before (Opened groups) sends = cc
 sent_counts before (Edited edit) sends = cc
 sent_counts before (Posted task bytes) sends = cc
 sent_counts before (Forgot station) sends = cc
+sent_counts before (Cleared station) sends = cc
+sent_counts before (Unplugged station) sends = cc
 sent_counts before (Came arrival) sends = cc
 sent_counts before (Sent frame) sends = one_more (next_serial before)
 sent_counts before (Wrote blocks) sends = one_more (next_serial before)
@@ -78,6 +82,8 @@ serial-above (Opened groups ∷ since) before entry sends running = cc
 serial-above (Edited edit ∷ since) before entry sends running = serial-above since before entry sends running
 serial-above (Posted task bytes ∷ since) before entry sends running = serial-above since before entry sends running
 serial-above (Forgot station ∷ since) before entry sends running = serial-above since before entry sends running
+serial-above (Cleared station ∷ since) before entry sends running = serial-above since before entry sends running
+serial-above (Unplugged station ∷ since) before entry sends running = serial-above since before entry sends running
 serial-above (Came arrival ∷ since) before entry sends running = serial-above since before entry sends running
 serial-above (Sent frame ∷ since) before entry sends running = below_more _ _ (serial-above since before entry sends running)
 serial-above (Wrote blocks ∷ since) before entry sends running = below_more _ _ (serial-above since before entry sends running)
@@ -87,6 +93,8 @@ found_now before (Opened groups) sends = cc
 found_now before (Edited edit) sends = cc
 found_now before (Posted task bytes) sends = cc
 found_now before (Forgot station) sends = cc
+found_now before (Cleared station) sends = cc
+found_now before (Unplugged station) sends = cc
 found_now before (Came arrival) sends = cc
 found_now before (Sent frame) sends = rw (same_is (next_serial before)) refl
 found_now before (Wrote blocks) sends = rw (same_is (next_serial before)) refl
@@ -104,6 +112,8 @@ found-under (Opened groups ∷ since) before entry sends running = cc
 found-under (Edited edit ∷ since) before entry sends running = ap (option_map (followed_by (Edited edit))) (found-under since before entry sends running)
 found-under (Posted task bytes ∷ since) before entry sends running = ap (option_map (followed_by (Posted task bytes))) (found-under since before entry sends running)
 found-under (Forgot station ∷ since) before entry sends running = ap (option_map (followed_by (Forgot station))) (found-under since before entry sends running)
+found-under (Cleared station ∷ since) before entry sends running = ap (option_map (followed_by (Cleared station))) (found-under since before entry sends running)
+found-under (Unplugged station ∷ since) before entry sends running = ap (option_map (followed_by (Unplugged station))) (found-under since before entry sends running)
 found-under (Came arrival ∷ since) before entry sends running = ap (option_map (followed_by (Came arrival))) (found-under since before entry sends running)
 found-under (Sent frame ∷ since) before entry sends running =
     passed_by (next_serial before) (next_serial (since ++ entry ∷ before)) _ (Sent frame) (sending_of (since ++ entry ∷ before) (next_serial before)) (sent_at since before entry)

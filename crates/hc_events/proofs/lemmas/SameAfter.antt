@@ -1,7 +1,7 @@
 -- Records that are the same without their stale arrivals: no event distinguishes them, and no event parts
 -- them.
-use Rattle.std.proofs.Common.{◌≡◌, ℕ, ◌+◌, ◌-◌, ◌*◌, ◌==◌, nat_lt, Bool, true, false, cond, not, List, [], ◌∷◌, ◌++◌, length, filter, map, refl, sym, ap, ◌∙◌, Option, Some, None}
-use Rattle.std.specs.Prelude.{find, is_none, option_map, Result, Ok, Err}
+use Rattle.std.proofs.Common.{◌≡◌, ℕ, ◌+◌, ◌-◌, ◌*◌, ◌==◌, ◌&&◌, ◌||◌, nat_lt, Bool, true, false, cond, not, List, [], ◌∷◌, ◌++◌, length, filter, map, refl, sym, ap, ◌∙◌, Option, Some, None}
+use Rattle.std.specs.Prelude.{find, is_none, is_some, option_map, Result, Ok, Err}
 use Rattle.std.specs.Option.{option_map_or}
 use Rattle.std.specs.List.{list_any, range_with_len}
 use Rattle.std.specs.Str.{bytes_eq}
@@ -17,22 +17,26 @@ use Rattle.hc_frames.specs.FrameText.{frame_text, lrw}
 use Rattle.hc_frames.specs.declared.reading.faults.FrameFault.{FrameFault}
 use Rattle.hc_events.specs.declared.answer.Answer.TheVariants as answer
 use Rattle.hc_events.specs.declared.faults.CoreFault.{CoreFault}
-use Rattle.hc_events.specs.declared.faults.CoreFault.TheVariants.{Absent, NoSuchTask, NothingOwed, PostLength, SerialsSpent, StalePost, UnknownStation, Unprogrammed}
+use Rattle.hc_events.specs.declared.faults.CoreFault.TheVariants.{Absent, AlreadyPresent, NoSuchTask, NothingOwed, PostLength, SerialsSpent, StalePost, UnknownStation, Unprogrammed, Waits}
 use Rattle.hc_events.specs.Faults.{edit_refusal}
 use Rattle.hc_events.specs.Arrivals.{Arrival, arrival_in}
-use Rattle.hc_events.specs.Entries.{HistoryEntry, History, Opened, Edited, Posted, Sent, Wrote, Came, Forgot}
+use Rattle.hc_events.specs.Entries.{HistoryEntry, History, Opened, Edited, Posted, Sent, Wrote, Came, Forgot, Cleared, Unplugged}
 use Rattle.hc_events.specs.Points.{epoch_of, line_of, next_serial, state_of}
 use Rattle.hc_events.specs.Sendings.{Frame, sendings_of}
 use Rattle.hc_events.specs.Answering.{Judged, Verdict, Good, Wrong, Stale, is_current, is_stale, is_stale_to, judged_by}
 use Rattle.hc_events.specs.Images.{slot_of, slots_of}
 use Rattle.hc_events.specs.Outputs.{byte_of, bytes_of_bits, has_bit, outputs_in, sent_bit, sent_data, value_bit}
-use Rattle.hc_events.specs.Owed.{is_owed, known_bytes, owed_blocks}
-use Rattle.hc_events.specs.Steps.{Step, Edits, Posts, SendsTasks, SendsWrite, Arrives, Reads, Forgets, unless, unless_fault, forget_faults, edit_refused, edit_answer, is_no_task, post_faults, has_serials, serials_left, proposal, task_faults, sent_datagram, sent_text, with_sent, write_faults, sent_write_answer, with_write, write_answer, judged_answer, arrival_answer, with_arrival, read_faults, answer_to, entries_after, answers_to, entries_after_all, SendsWrites, writes_answer, with_writes, judged_blocks_answer}
+use Rattle.hc_events.specs.Owed.{is_in_line, is_owed, known_bytes, owed_blocks}
+use Rattle.hc_events.specs.Ages.{data_serial}
+use Rattle.hc_events.specs.Steady.{steady_data, task_epoch}
+use Rattle.hc_events.specs.Holding.{is_unplugged, may_hold}
+use Rattle.hc_events.specs.Ready.{concerns, concerns_outside, is_ready, may_name, names_among, registers_outside, serves_task, waited_for, waited_for_outside, with_cleared}
+use Rattle.hc_events.specs.Steps.{Step, Edits, Posts, SendsTasks, SendsWrite, Arrives, Reads, Forgets, SendsReady, Clears, Unplugs, wait_fault, ready_faults, clear_faults, unplug_faults, unless, unless_fault, forget_faults, edit_refused, edit_answer, is_no_task, post_faults, has_serials, serials_left, proposal, task_faults, sent_datagram, sent_text, with_sent, write_faults, sent_write_answer, with_write, write_answer, judged_answer, arrival_answer, with_arrival, read_faults, answer_to, entries_after, answers_to, entries_after_all, SendsWrites, writes_answer, with_writes, judged_blocks_answer}
 use Rattle.hc_events.specs.Heads.{is_block}
 use Rattle.hc_events.specs.Changes.{updates_of}
 use Rattle.hc_events.specs.Stale.{SameAfter, SaysTheSame, without_stale}
 use Rattle.hc_events.proofs.lemmas.Awaited.{updates}
-use Rattle.hc_events.proofs.lemmas.WithoutStale.{without-epoch, without-known, without-updates, without-serial, without-slot, without-stale, without-state, without-answer_given, without-value}
+use Rattle.hc_events.proofs.lemmas.WithoutStale.{without-date, without-steady, without-task_epoch, without-held, without-unplugged, without-epoch, without-known, without-updates, without-serial, without-slot, without-stale, without-state, without-answer_given, without-value}
 use Rattle.hc_events.specs.WriteFrames.{frame_blocks}
 
 abbrev pub SameWithout : History → History → Type 0
@@ -46,6 +50,11 @@ same-says a b same = record {
   slots = λ task d. sym (without-slot a task d) ∙ ap (λ history. slot_of history task d) same ∙ without-slot b task d;
   values = λ variable k. sym (without-value a variable k) ∙ ap (λ history. value_bit history variable k) same ∙ without-value b variable k;
   known = λ station number. sym (without-known a station number) ∙ ap (λ history. known_bytes history station number) same ∙ without-known b station number;
+  dates = λ task d. sym (without-date a task d) ∙ ap (λ history. data_serial history task d) same ∙ without-date b task d;
+  held = λ station number. sym (without-held a station number) ∙ ap (λ history. may_hold history station number) same ∙ without-held b station number;
+  unplugged = λ station. sym (without-unplugged a station) ∙ ap (λ history. is_unplugged history station) same ∙ without-unplugged b station;
+  epochs = λ task. sym (without-task_epoch a task) ∙ ap (λ history. task_epoch history task) same ∙ without-task_epoch b task;
+  steady = λ task d. sym (without-steady a task d) ∙ ap (λ history. steady_data history task d) same ∙ without-steady b task d;
   updates = sym (without-answer_given a) ∙ ap updates_of same ∙ without-answer_given b;
 }
 
@@ -59,6 +68,8 @@ same-grows (Opened groups) a b same = ap (λ history. Opened groups ∷ history)
 same-grows (Edited edit) a b same = ap (λ history. Edited edit ∷ history) same
 same-grows (Posted task bytes) a b same = ap (λ history. Posted task bytes ∷ history) same
 same-grows (Forgot station) a b same = ap (λ history. Forgot station ∷ history) same
+same-grows (Cleared station) a b same = ap (λ history. Cleared station ∷ history) same
+same-grows (Unplugged station) a b same = ap (λ history. Unplugged station ∷ history) same
 same-grows (Sent frame) a b same = ap (λ history. Sent frame ∷ history) same
 same-grows (Wrote blocks) a b same = ap (λ history. Wrote blocks ∷ history) same
 same-grows (Came arrival) a b same =
@@ -86,6 +97,8 @@ same-without (Opened groups ∷ history) = ap (λ unchanged. Opened groups ∷ u
 same-without (Edited edit ∷ history) = ap (λ unchanged. Edited edit ∷ unchanged) (same-without history)
 same-without (Posted task bytes ∷ history) = ap (λ unchanged. Posted task bytes ∷ unchanged) (same-without history)
 same-without (Forgot station ∷ history) = ap (λ unchanged. Forgot station ∷ unchanged) (same-without history)
+same-without (Cleared station ∷ history) = ap (λ unchanged. Cleared station ∷ unchanged) (same-without history)
+same-without (Unplugged station ∷ history) = ap (λ unchanged. Unplugged station ∷ unchanged) (same-without history)
 same-without (Sent frame ∷ history) = ap (λ unchanged. Sent frame ∷ unchanged) (same-without history)
 same-without (Wrote blocks ∷ history) = ap (λ unchanged. Wrote blocks ∷ unchanged) (same-without history)
 same-without (Came arrival ∷ history) = sym (unchanged_either (is_stale_to history arrival) arrival history refl (same-without history))
@@ -116,13 +129,13 @@ found_alike : (a b : History) (k : ℕ) → SaysTheSame a b → (found : Option 
 found_alike a b k says None = refl
 found_alike a b k says (Some pair) = says.values pair.0 (k - pair.1.bit)
 
-bytes_alike : (bit other : ℕ → ℕ) → ((k : ℕ) → bit k ≡ other k) → (size : ℕ) → bytes_of_bits bit size ≡ bytes_of_bits other size
-bytes_alike bit other alike size =
+pub bytes-alike : (bit other : ℕ → ℕ) → ((k : ℕ) → bit k ≡ other k) → (size : ℕ) → bytes_of_bits bit size ≡ bytes_of_bits other size
+bytes-alike bit other alike size =
     map_alike (byte_of bit) (byte_of other) (λ n. ap number_of (map_alike (λ k. bit (8 * n + k)) (λ k. other (8 * n + k)) (λ k. alike (8 * n + k)) (range_with_len 0 8))) (range_with_len 0 size)
 
 same-data : (a b : History) (task d : ℕ) → SaysTheSame a b → sent_data a task d ≡ sent_data b task d
 same-data a b task d says =
-    bytes_alike (sent_bit a (outputs_in (line_of a) task d)) (sent_bit b (outputs_in (line_of a) task d)) (λ k. found_alike a b k says (find (has_bit k) (outputs_in (line_of a) task d))) (datagram_length (task_places task (line_of a)) d)
+    bytes-alike (sent_bit a (outputs_in (line_of a) task d)) (sent_bit b (outputs_in (line_of a) task d)) (λ k. found_alike a b k says (find (has_bit k) (outputs_in (line_of a) task d))) (datagram_length (task_places task (line_of a)) d)
     ∙ ap (λ members. bytes_of_bits (sent_bit b (outputs_in members task d)) (datagram_length (task_places task members) d)) (same-line a b says)
 
 same-text : (a b : History) (sending : Frame) → SaysTheSame a b → sent_text a sending ≡ sent_text b sending
@@ -148,6 +161,51 @@ same_post_faults a b task epoch bytes says =
 same_forget_faults : (a b : History) (station : ℕ) → SaysTheSame a b → lowest (forget_faults a station) ≡ lowest (forget_faults b station)
 same_forget_faults a b station says =
     ap (λ state. lowest ((not (is_declared_station state station), UnknownStation) ∷ (is_none (slave_at state station), Absent) ∷ [])) says.state
+
+-- and which tasks are ready
+
+same_concerns : (a b : History) (task : ℕ) (block : LineBlock) → SaysTheSame a b → concerns a task block ≡ concerns b task block
+same_concerns a b task block says =
+    ap (λ state. serves_task state task block || may_name task block.number (may_hold a block.station block.number)) says.state
+    ∙ ap (λ held. serves_task (state_of b) task block || may_name task block.number held) (says.held block.station block.number)
+
+same_waited : (a b : History) (task : ℕ) → SaysTheSame a b → waited_for a task ≡ waited_for b task
+same_waited a b task says =
+    filter_alike (concerns a task) (concerns b task) (λ block. same_concerns a b task block says) (owed_blocks a)
+    ∙ ap (filter (concerns b task)) (same-owed a b says)
+
+same_outside : (a b : History) (task : ℕ) → SaysTheSame a b → waited_for_outside a task ≡ waited_for_outside b task
+same_outside a b task says =
+    filter_alike (concerns_outside a task) (concerns_outside b task)
+    (λ register. ap (λ gone. not gone && names_among task (may_hold a register.0 register.1)) (says.unplugged register.0)
+    ∙ ap (λ held. not (is_unplugged b register.0) && names_among task held) (says.held register.0 register.1)) (registers_outside (state_of a))
+    ∙ ap (λ state. filter (concerns_outside b task) (registers_outside state)) says.state
+
+abbrev waits_with : ℕ → List LineBlock → List (ℕ × ℕ) → Bool × CoreFault
+waits_with task blocks registers = (not ((length blocks == 0) && (length registers == 0)), Waits task (length blocks) (length registers))
+
+same_wait : (a b : History) → SaysTheSame a b → (task : ℕ) → wait_fault a task ≡ wait_fault b task
+same_wait a b says task =
+    ap (λ blocks. waits_with task blocks (waited_for_outside a task)) (same_waited a b task says)
+    ∙ ap (λ registers. waits_with task (waited_for b task) registers) (same_outside a b task says)
+
+pub same-ready : (a b : History) (task : ℕ) → SaysTheSame a b → is_ready a task ≡ is_ready b task
+same-ready a b task says =
+    ap (λ blocks. (length blocks == 0) && (length (waited_for_outside a task) == 0)) (same_waited a b task says)
+    ∙ ap (λ registers. (length (waited_for b task) == 0) && (length registers == 0)) (same_outside a b task says)
+
+same_ready_faults : (a b : History) (tasks : List ℕ) → SaysTheSame a b → lowest (ready_faults a tasks) ≡ lowest (ready_faults b tasks)
+same_ready_faults a b tasks says =
+    ap (λ waits. lowest ((list_any is_no_task tasks, NoSuchTask) ∷ waits ++ (not (has_serials a (length (proposal a tasks))), SerialsSpent) ∷ [])) (map_alike (wait_fault a) (wait_fault b) (same_wait a b says) tasks)
+    ∙ ap (λ frames. lowest ((list_any is_no_task tasks, NoSuchTask) ∷ map (wait_fault b) tasks ++ (not (has_serials a (length frames)), SerialsSpent) ∷ [])) (same-proposal a b tasks says)
+    ∙ ap (λ n. lowest ((list_any is_no_task tasks, NoSuchTask) ∷ map (wait_fault b) tasks ++ (not (serials_left n (length (proposal b tasks))), SerialsSpent) ∷ [])) says.serial
+
+same_clear_faults : (a b : History) (station : ℕ) → SaysTheSame a b → lowest (clear_faults a station) ≡ lowest (clear_faults b station)
+same_clear_faults a b station says = ap (λ state. lowest ((not (is_declared_station state station), UnknownStation) ∷ [])) says.state
+
+same_unplug_faults : (a b : History) (station : ℕ) → SaysTheSame a b → lowest (unplug_faults a station) ≡ lowest (unplug_faults b station)
+same_unplug_faults a b station says =
+    ap (λ state. lowest ((not (is_declared_station state station), UnknownStation) ∷ (is_some (slave_at state station), AlreadyPresent) ∷ [])) says.state
 
 -- arrivals
 
@@ -211,6 +269,13 @@ same-answer a b (Reads task) same =
     ∙ ap (λ members. unless (lowest (read_faults task)) (answer.Image (epoch_of b) (map (slot_of a task) (range_with_len 0 (datagram_count (task_places task members)))))) (same-line a b says)
     ∙ ap (λ slots. unless (lowest (read_faults task)) (answer.Image (epoch_of b) slots)) (map_alike (slot_of a task) (slot_of b task) (says.slots task) (range_with_len 0 (datagram_count (task_places task (line_of b)))))
 same-answer a b (Forgets station) same = ap (λ refused. unless refused answer.Forgotten) (same_forget_faults a b station (same-says a b same))
+same-answer a b (SendsReady tasks) same =
+    let says = same-says a b same in
+    ap (λ refused. unless refused (answer.Sent (map (sent_text a) (proposal a tasks)))) (same_ready_faults a b tasks says)
+    ∙ ap (λ frames. unless (lowest (ready_faults b tasks)) (answer.Sent (map (sent_text a) frames))) (same-proposal a b tasks says)
+    ∙ ap (λ texts. unless (lowest (ready_faults b tasks)) (answer.Sent texts)) (map_alike (sent_text a) (sent_text b) (λ sending. same-text a b sending says) (proposal b tasks))
+same-answer a b (Clears station) same = ap (λ refused. unless refused answer.Cleared) (same_clear_faults a b station (same-says a b same))
+same-answer a b (Unplugs station) same = ap (λ refused. unless refused answer.Unplugged) (same_unplug_faults a b station (same-says a b same))
 
 same_unchanged : (refused : Option CoreFault) (a b c d : History) → SameWithout a b → SameWithout c d → SameWithout (unless_fault refused a c) (unless_fault refused b d)
 same_unchanged None a b c d same next = next
@@ -231,6 +296,16 @@ same_writes (block ∷ blocks) a b same = same-grows (Wrote (block ∷ blocks)) 
 same_arrival : (read : Result Arrival FrameFault) (a b : History) → SameWithout a b → SameWithout (with_arrival a read) (with_arrival b read)
 same_arrival (Err fault) a b same = same
 same_arrival (Ok arrival) a b same = same-grows (Came arrival) a b same
+
+same_either : (x : Bool) (a b c d : History) → SameWithout a b → SameWithout c d → SameWithout (cond x a c) (cond x b d)
+same_either true a b c d first second = first
+same_either false a b c d first second = second
+
+same_cleared : (a b : History) (station : ℕ) → SameWithout a b → SameWithout (with_cleared a station) (with_cleared b station)
+same_cleared a b station same =
+    ap (λ state. without_stale (cond (is_some (slave_at state station)) (Cleared station ∷ Forgot station ∷ a) (Cleared station ∷ a))) (same-says a b same).state
+    ∙ same_either (is_in_line b station) (Cleared station ∷ Forgot station ∷ a) (Cleared station ∷ Forgot station ∷ b) (Cleared station ∷ a) (Cleared station ∷ b)
+    (same-grows (Cleared station) (Forgot station ∷ a) (Forgot station ∷ b) (same-grows (Forgot station) a b same)) (same-grows (Cleared station) a b same)
 
 pub same-after : (a b : History) (step : Step) → SameWithout a b → SameWithout (entries_after a step) (entries_after b step)
 same-after a b (Edits edit) same =
@@ -260,6 +335,17 @@ same-after a b (Reads task) same = same
 same-after a b (Forgets station) same =
     ap (λ refused. without_stale (unless_fault refused a (Forgot station ∷ a))) (same_forget_faults a b station (same-says a b same))
     ∙ same_unchanged (lowest (forget_faults b station)) a b (Forgot station ∷ a) (Forgot station ∷ b) same (same-grows (Forgot station) a b same)
+same-after a b (SendsReady tasks) same =
+    let says = same-says a b same in
+    ap (λ refused. without_stale (unless_fault refused a (with_sent a (proposal a tasks)))) (same_ready_faults a b tasks says)
+    ∙ ap (λ frames. without_stale (unless_fault (lowest (ready_faults b tasks)) a (with_sent a frames))) (same-proposal a b tasks says)
+    ∙ same_unchanged (lowest (ready_faults b tasks)) a b (with_sent a (proposal b tasks)) (with_sent b (proposal b tasks)) same (same_sent (proposal b tasks) a b same)
+same-after a b (Clears station) same =
+    ap (λ refused. without_stale (unless_fault refused a (with_cleared a station))) (same_clear_faults a b station (same-says a b same))
+    ∙ same_unchanged (lowest (clear_faults b station)) a b (with_cleared a station) (with_cleared b station) same (same_cleared a b station same)
+same-after a b (Unplugs station) same =
+    ap (λ refused. without_stale (unless_fault refused a (Unplugged station ∷ a))) (same_unplug_faults a b station (same-says a b same))
+    ∙ same_unchanged (lowest (unplug_faults b station)) a b (Unplugged station ∷ a) (Unplugged station ∷ b) same (same-grows (Unplugged station) a b same)
 
 -- lists of events
 

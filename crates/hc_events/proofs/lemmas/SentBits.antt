@@ -1,15 +1,15 @@
 -- The bits of sent data.
-use Rattle.std.proofs.Common.{◌≡◌, ℕ, zero, suc, ◌+◌, ◌-◌, ◌*◌, ◌/◌, ◌%◌, ◌<◌, Bool, true, false, cond, get_or, List, [], ◌∷◌, length, map, ap, ◌∙◌, arith, Option, Some, None}
+use Rattle.std.proofs.Common.{◌≡◌, ℕ, zero, suc, ◌+◌, ◌-◌, ◌*◌, ◌/◌, ◌%◌, ◌<◌, Bool, true, false, cond, get_or, List, [], ◌∷◌, length, map, sym, ap, ◌∙◌, subst, arith, Option, Some, None}
 use Rattle.std.specs.Prelude.{find, is_some}
 use Rattle.std.specs.Option.{option_map_or}
 use Rattle.std.specs.Int.{bit_at}
 use Rattle.std.specs.List.{range_with_len}
 use Rattle.std.proofs.lemmas.List.FromFn.{get_or-map-range_with_len, length-map-range_with_len}
-use Rattle.hc_bits.specs.Bits.{bit_of}
+use Rattle.hc_bits.specs.Bits.{AreBytes, bit_of, number_of}
 use Rattle.hc_bits.proofs.lemmas.Bits.{bit_of-lt, bit_at-number_of}
 use Rattle.hc_records.specs.Line.{Member}
 use Rattle.hc_records.specs.Image.{VariablePlace, variable_place}
-use Rattle.hc_events.specs.Entries.{History, Opened, Edited, Posted, Sent, Wrote, Came, Forgot}
+use Rattle.hc_events.specs.Entries.{History, Opened, Edited, Posted, Sent, Wrote, Came, Forgot, Cleared, Unplugged}
 use Rattle.hc_events.specs.Points.{line_of}
 use Rattle.hc_events.specs.Sendings.{line_data_length}
 use Rattle.hc_events.specs.Outputs.{byte_of, bytes_of_bits, has_bit, image_bit, is_posted, outputs_in, posted_bit, sent_bit, sent_data, value_bit}
@@ -36,6 +36,8 @@ value_small (Edited edit ∷ history) variable k =
 value_small (Posted task bytes ∷ history) variable k =
     posted_small (line_of history) task bytes k (variable_place variable (line_of history)) (value_bit history variable k) (value_small history variable k)
 value_small (Forgot station ∷ history) variable k = value_small history variable k
+value_small (Cleared station ∷ history) variable k = value_small history variable k
+value_small (Unplugged station ∷ history) variable k = value_small history variable k
 value_small (Sent frame ∷ history) variable k = value_small history variable k
 value_small (Wrote blocks ∷ history) variable k = value_small history variable k
 value_small (Came arrival ∷ history) variable k = value_small history variable k
@@ -82,3 +84,25 @@ sent-data history task d =
       size = length-map-range_with_len (byte_of (sent_bit history outputs)) 0 size;
       bits = λ k below. made_bit (sent_bit history outputs) (sent_small history outputs) size k below;
     }
+
+-- each of them is a byte
+
+number_small : (bit : ℕ → ℕ) → ((k : ℕ) → bit k < 2) → (n : ℕ) → byte_of bit n < 256
+unfolding number_of
+number_small bit small n =
+    let b0 = small (8 * n + 0) in
+    let b1 = small (8 * n + 1) in
+    let b2 = small (8 * n + 2) in
+    let b3 = small (8 * n + 3) in
+    let b4 = small (8 * n + 4) in
+    let b5 = small (8 * n + 5) in
+    let b6 = small (8 * n + 6) in
+    let b7 = small (8 * n + 7) in
+    omega arith
+
+pub sent-bytes : (history : History) (task d : ℕ) → AreBytes (sent_data history task d)
+sent-bytes history task d i within =
+    let bit = sent_bit history (outputs_in (line_of history) task d) in
+    let size = line_data_length (line_of history) (task, d) in
+    let low : i < size = omega (arith, within, length-map-range_with_len (byte_of bit) 0 size) in
+    subst (λ (n : ℕ). n < 256) (sym (get_or-map-range_with_len (byte_of bit) 0 size i i 0 low (omega arith))) (number_small bit (sent_small history (outputs_in (line_of history) task d)) i)

@@ -59,7 +59,7 @@ found_before rows ascend = λ k d within.
 
 -- a variable of a project's line has the place of its row
 
-abbrev IsPlaced : List Member → VariableRow → Type 0
+abbrev pub IsPlaced : List Member → VariableRow → Type 0
 IsPlaced line row = variable_place row.0 line ≡ Some row.1
 
 all_placed : (history : History) → lowest_fault (groups_of (state_of history).groups) ≡ None → All (IsPlaced (line_of history)) (flat_map (task_variables (line_of history)) tasks)
@@ -73,37 +73,37 @@ each_flat Q f [] all = All-nil (λ n. All Q (f n))
 each_flat Q f (n ∷ numbers) all =
     All-cons (λ m. All Q (f m)) n numbers (All-append_left Q (f n) (flat_map f numbers) all) (each_flat Q f numbers (All-append_right Q (f n) (flat_map f numbers) all))
 
-task_placed : (history : History) → lowest_fault (groups_of (state_of history).groups) ≡ None → (task : ℕ) → task < TASKS → All (IsPlaced (line_of history)) (task_variables (line_of history) task)
-task_placed history none task low =
+pub task-placed : (history : History) → lowest_fault (groups_of (state_of history).groups) ≡ None → (task : ℕ) → task < TASKS → All (IsPlaced (line_of history)) (task_variables (line_of history) task)
+task-placed history none task low =
     each-task (λ t. All (IsPlaced (line_of history)) (task_variables (line_of history) t))
     (each_flat (IsPlaced (line_of history)) (task_variables (line_of history)) tasks (all_placed history none)) task low
 
-of_task : (line : List Member) (task : ℕ) → All (λ (row : VariableRow). row.1.task ≡ task) (task_variables line task)
-of_task line task =
+pub of-task : (line : List Member) (task : ℕ) → All (λ (row : VariableRow). row.1.task ≡ task) (task_variables line task)
+of-task line task =
     All-flat_map (λ (row : VariableRow). row.1.task ≡ task) (area_variables task) (task_pairs line task)
     (λ k d within. let pair = get_or (task_pairs line task) k d in
     All-map (λ (row : VariableRow). row.1.task ≡ task) (λ found. (found.0, place_of task pair found)) (variables_from pair.1.bit (assigned_entries pair.0.area)) (λ i e inside. refl))
 
 -- rows of a datagram's outputs
 
-record IsRow (line : List Member) (task d : ℕ) (row : VariableRow) : Type 0 where
-  there : IsPlaced line row
-  task_is : row.1.task ≡ task
-  output : is_output_in d row ≡ true
+pub record IsRow (line : List Member) (task d : ℕ) (row : VariableRow) : Type 0 where
+  pub there : IsPlaced line row
+  pub task_is : row.1.task ≡ task
+  pub output : is_output_in d row ≡ true
 
-outputs_are : (line : List Member) (task d : ℕ) → All (IsPlaced line) (task_variables line task) → All (IsRow line task d) (outputs_in line task d)
-outputs_are line task d placed =
+pub outputs-are : (line : List Member) (task d : ℕ) → All (IsPlaced line) (task_variables line task) → All (IsRow line task d) (outputs_in line task d)
+outputs-are line task d placed =
     All-passing (IsRow line task d) (is_output_in d) (task_variables line task)
-    (λ k e within passes. record { there = placed k e within; task_is = of_task line task k e within; output = passes })
+    (λ k e within passes. record { there = placed k e within; task_is = of-task line task k e within; output = passes })
 
-datagram_of : (d : ℕ) (row : VariableRow) → is_output_in d row ≡ true → row.1.datagram ≡ d
-datagram_of d row output = eqb-true row.1.datagram d (and_parts (same_dir row.1.dir Out) (row.1.datagram == d) output).1
+pub datagram-of : (d : ℕ) (row : VariableRow) → is_output_in d row ≡ true → row.1.datagram ≡ d
+datagram-of d row output = eqb-true row.1.datagram d (and_parts (same_dir row.1.dir Out) (row.1.datagram == d) output).1
 
 is_least : (m n : ℕ) → nat_le m n ≡ true → m ≤ n
 is_least m n e = grind (arith, nat_tests)
 
-from_bit : (k : ℕ) (row : VariableRow) → has_bit k row ≡ true → LiesIn row.1 k
-from_bit k row has =
+pub from-bit : (k : ℕ) (row : VariableRow) → has_bit k row ≡ true → LiesIn row.1 k
+from-bit k row has =
     let parts = and_parts (nat_le row.1.bit k) (nat_lt k (row.1.bit + row.1.bits)) has in
     let low = parts.0 in
     let high = parts.1 in
@@ -120,8 +120,8 @@ same_row line task d k a b is is' has has' =
     (λ t. let names : a.0 ≡ b.0 = eqb-true a.0 b.0 t in
     let places : a.1 ≡ b.1 = same_Some a.1 b.1 (sym is.there ∙ ap (λ v. variable_place v line) names ∙ is'.there) in
     ap₂ (λ (n : ℕ) (place : VariablePlace). (n, place)) names places)
-    (λ t. absurd (two_apart a.1 b.1 k (from_bit k a has) (from_bit k b has')
-    (variables-apart line a.0 b.0 a.1 b.1 (eqb-false a.0 b.0 t) is.there is'.there (is.task_is ∙ sym is'.task_is) (datagram_of d a is.output ∙ sym (datagram_of d b is'.output)))))
+    (λ t. absurd (two_apart a.1 b.1 k (from-bit k a has) (from-bit k b has')
+    (variables-apart line a.0 b.0 a.1 b.1 (eqb-false a.0 b.0 t) is.there is'.there (is.task_is ∙ sym is'.task_is) (datagram-of d a is.output ∙ sym (datagram-of d b is'.output)))))
 
 -- so the row with a bit is the one that is found by it
 
@@ -138,7 +138,7 @@ IsFoundBy line task d row = (k : ℕ) → row.1.task ≡ task → is_output_in d
 found_own : (line : List Member) (task d : ℕ) → All (IsPlaced line) (task_variables line task) → All (IsFoundBy line task d) (task_variables line task)
 found_own line task d placed = λ i e within k same output has.
     let row = get_or (task_variables line task) i e in
-    chosen_row line task d k row (record { there = placed i e within; task_is = same; output = output }) has (outputs_are line task d placed)
+    chosen_row line task d k row (record { there = placed i e within; task_is = same; output = output }) has (outputs-are line task d placed)
     (λ none. let lacks : has_bit k row ≡ false = All-from_filter (λ (other : VariableRow). has_bit k other ≡ false) (is_output_in d) (task_variables line task) none i e within output in
     let never : true ≡ false = sym has ∙ lacks in cc)
     (find (has_bit k) (outputs_in line task d)) refl
@@ -150,9 +150,9 @@ found_any history none task d =
     (all-tasks (λ t. All (IsFoundBy line task d) (task_variables line t))
     (λ t low i e within k same output has.
     let row = get_or (task_variables line t) i e in
-    let own : row.1.task ≡ t = of_task line t i e within in
+    let own : row.1.task ≡ t = of-task line t i e within in
     subst (λ u. find (has_bit k) (outputs_in line u d) ≡ Some row) (sym own ∙ same)
-    (found_own line t d (task_placed history none t low) i e within k own output has)))
+    (found_own line t d (task-placed history none t low) i e within k own output has)))
 
 -- the bits of sent data
 
@@ -171,9 +171,9 @@ rest_of bit j = omega arith
 out_is : (place : VariablePlace) (n d : ℕ) → place.dir ≡ Out → place.datagram ≡ d → is_output_in d (n, place) ≡ true
 out_is place n d dir datagram = and_from _ _ (ap (λ x. same_dir x Out) dir) (eq-eqb place.datagram d datagram)
 
-found_variable : (history : History) → lowest_fault (groups_of (state_of history).groups) ≡ None → (task d variable j : ℕ) (place : VariablePlace) → IsOutputOf (line_of history) task d variable place → j < place.bits
+pub found-variable : (history : History) → lowest_fault (groups_of (state_of history).groups) ≡ None → (task d variable j : ℕ) (place : VariablePlace) → IsOutputOf (line_of history) task d variable place → j < place.bits
     → find (has_bit (place.bit + j)) (outputs_in (line_of history) task d) ≡ Some (variable, place)
-found_variable history none task d variable j place is low =
+found-variable history none task d variable j place is low =
     let rows = flat_map (task_variables (line_of history)) tasks in
     let row = mapped-some (λ (r : VariableRow). r.1) (find (λ r. r.0 == variable) rows) place is.there in
     let holds = find-holds (IsFoundBy (line_of history) task d) (λ r. r.0 == variable) rows row.0 row.1 (found_any history none task d) in
@@ -193,8 +193,8 @@ no_variable history task d k all none (Some row) e =
     let holds = find-holds (IsRow (line_of history) task d) (has_bit k) (outputs_in (line_of history) task d) row e all in
     let is = holds.0 in
     absurd (none row.0 row.1
-    (record { there = is.there; task_is = is.task_is; datagram = datagram_of d row is.output; output = same_dir-same row.1.dir Out (and_parts (same_dir row.1.dir Out) (row.1.datagram == d) is.output).0 })
-    (from_bit k row holds.1))
+    (record { there = is.there; task_is = is.task_is; datagram = datagram-of d row is.output; output = same_dir-same row.1.dir Out (and_parts (same_dir row.1.dir Out) (row.1.datagram == d) is.output).0 })
+    (from-bit k row holds.1))
 
 inside : (end size bit bits j : ℕ) → bit + bits ≤ end → end ≡ size → j < bits → bit + j < size
 inside end size bit bits j within same low = omega arith
@@ -208,8 +208,8 @@ sent-values history task d none low =
           has.bits (place.bit + k)
           (inside (8 * datagram_length (task_places place.task (line_of history)) place.datagram) _ place.bit place.bits k (variables-lie (state_of history) variable place none is.there).within
           (ap₂ (λ t e. 8 * datagram_length (task_places t (line_of history)) e) is.task_is is.datagram) few)
-          ∙ variable_bit history (outputs_in (line_of history) task d) variable k place (found_variable history none task d variable k place is few);
+          ∙ variable_bit history (outputs_in (line_of history) task d) variable k place (found-variable history none task d variable k place is few);
       others = λ k below free.
           has.bits k (subst (λ n. k < 8 * n) has.size below)
-          ∙ no_variable history task d k (outputs_are (line_of history) task d (task_placed history none task low)) free (find (has_bit k) (outputs_in (line_of history) task d)) refl;
+          ∙ no_variable history task d k (outputs-are (line_of history) task d (task-placed history none task low)) free (find (has_bit k) (outputs_in (line_of history) task d)) refl;
     }

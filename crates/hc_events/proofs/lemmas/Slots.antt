@@ -10,7 +10,7 @@ use Rattle.hc_records.proofs.lemmas.Lists.{All-flat_map}
 use Rattle.hc_records.proofs.lemmas.Choices.{by_bool}
 use Rattle.hc_frames.specs.Commands.{code_of}
 use Rattle.hc_events.specs.Arrivals.{Arrival, Part}
-use Rattle.hc_events.specs.Entries.{HistoryEntry, History, Opened, Edited, Posted, Sent, Wrote, Came, Forgot}
+use Rattle.hc_events.specs.Entries.{HistoryEntry, History, Opened, Edited, Posted, Sent, Wrote, Came, Forgot, Cleared, Unplugged}
 use Rattle.hc_events.specs.Points.{line_of, next_serial}
 use Rattle.hc_events.specs.Sendings.{Named, line_data_length}
 use Rattle.hc_events.specs.Heads.{Head, Item, Datagram, Block, data_head, data_heads, write_head, write_heads}
@@ -26,22 +26,24 @@ AllSent P (Opened groups ∷ history) = Unit {0}
 AllSent P (Sent frame ∷ history) = All (P (line_of history)) frame × AllSent P history
 AllSent P (entry ∷ history) = AllSent P history
 
-abbrev Any : List Member → Named → Type 0
+abbrev pub Any : List Member → Named → Type 0
 Any line named = Unit {0}
 
 any_frame : (line : List Member) (frame : List Named) → All (Any line) frame
 any_frame line [] = All-nil (Any line)
 any_frame line (named ∷ frame) = All-cons (Any line) named frame tt (any_frame line frame)
 
-any_sent : (history : History) → AllSent Any history
-any_sent [] = tt
-any_sent (Opened groups ∷ history) = tt
-any_sent (Edited edit ∷ history) = any_sent history
-any_sent (Posted task bytes ∷ history) = any_sent history
-any_sent (Forgot station ∷ history) = any_sent history
-any_sent (Sent frame ∷ history) = (any_frame (line_of history) frame, any_sent history)
-any_sent (Wrote blocks ∷ history) = any_sent history
-any_sent (Came arrival ∷ history) = any_sent history
+pub any-sent : (history : History) → AllSent Any history
+any-sent [] = tt
+any-sent (Opened groups ∷ history) = tt
+any-sent (Edited edit ∷ history) = any-sent history
+any-sent (Posted task bytes ∷ history) = any-sent history
+any-sent (Forgot station ∷ history) = any-sent history
+any-sent (Cleared station ∷ history) = any-sent history
+any-sent (Unplugged station ∷ history) = any-sent history
+any-sent (Sent frame ∷ history) = (any_frame (line_of history) frame, any-sent history)
+any-sent (Wrote blocks ∷ history) = any-sent history
+any-sent (Came arrival ∷ history) = any-sent history
 
 -- a head of a task's datagram says the length that the datagram has in a line
 
@@ -86,6 +88,8 @@ sent_fit P (Opened groups ∷ history) serial sent = tt
 sent_fit P (Edited edit ∷ history) serial sent = fits_edited P (line_of (Edited edit ∷ history)) serial (Edited edit) (λ heads. refl) (sending_of history serial)
 sent_fit P (Posted task bytes ∷ history) serial sent = fits_more P (line_of history) serial (Posted task bytes) (sending_of history serial) (sent_fit P history serial sent)
 sent_fit P (Forgot station ∷ history) serial sent = fits_more P (line_of history) serial (Forgot station) (sending_of history serial) (sent_fit P history serial sent)
+sent_fit P (Cleared station ∷ history) serial sent = fits_more P (line_of history) serial (Cleared station) (sending_of history serial) (sent_fit P history serial sent)
+sent_fit P (Unplugged station ∷ history) serial sent = fits_more P (line_of history) serial (Unplugged station) (sending_of history serial) (sent_fit P history serial sent)
 sent_fit P (Came arrival ∷ history) serial sent = fits_more P (line_of history) serial (Came arrival) (sending_of history serial) (sent_fit P history serial sent)
 sent_fit P (Sent frame ∷ history) serial sent =
     fits_either P (line_of history) serial (next_serial history == serial) (Some (sending_of_heads (data_heads (line_of history) frame))) (option_map (followed_by (Sent frame)) (sending_of history serial))
@@ -160,9 +164,11 @@ slot_sized (Opened groups ∷ history) task d = tt
 slot_sized (Edited edit ∷ history) task d = tt
 slot_sized (Posted t bytes ∷ history) task d = slot_sized history task d
 slot_sized (Forgot station ∷ history) task d = slot_sized history task d
+slot_sized (Cleared station ∷ history) task d = slot_sized history task d
+slot_sized (Unplugged station ∷ history) task d = slot_sized history task d
 slot_sized (Sent frame ∷ history) task d = slot_sized history task d
 slot_sized (Wrote blocks ∷ history) task d = slot_sized history task d
-slot_sized (Came arrival ∷ history) task d = all_fit (line_of history) task d (new_answer_by history arrival) (slot_of history task d) (new_answer-fits Any history arrival (any_sent history)) (slot_sized history task d)
+slot_sized (Came arrival ∷ history) task d = all_fit (line_of history) task d (new_answer_by history arrival) (slot_of history task d) (new_answer-fits Any history arrival (any-sent history)) (slot_sized history task d)
 
 pub slots-fit : (history : History) (task d : ℕ) (bytes : List ℕ) → slot_of history task d ≡ Some bytes → length bytes ≡ line_data_length (line_of history) (task, d)
 slots-fit history task d bytes e = subst (Sized (line_data_length (line_of history) (task, d))) e (slot_sized history task d)

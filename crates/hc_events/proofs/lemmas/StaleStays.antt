@@ -5,7 +5,7 @@ use Rattle.std.specs.List.{list_any}
 use Rattle.std.proofs.lemmas.Bool.{not-false, not-true}
 use Rattle.hc_records.proofs.lemmas.Choices.{by_bool, is_other}
 use Rattle.hc_events.specs.Arrivals.{Arrival}
-use Rattle.hc_events.specs.Entries.{HistoryEntry, History, Opened, Edited, Posted, Sent, Wrote, Came, Forgot}
+use Rattle.hc_events.specs.Entries.{HistoryEntry, History, Opened, Edited, Posted, Sent, Wrote, Came, Forgot, Cleared, Unplugged}
 use Rattle.hc_events.specs.Points.{line_of, next_serial}
 use Rattle.hc_events.specs.Heads.{data_heads, write_heads}
 use Rattle.hc_events.specs.Answering.{Sending, sending_of_heads, followed_by, sending_of, has_heads, fits_sending, is_current, is_stale_to, judged_by}
@@ -38,6 +38,8 @@ quiet_grows history (Edited edit) arrival below q = subst (quiet arrival) (sym (
 quiet_grows history (Came other) arrival below q = subst (quiet arrival) (sym (awaited_came arrival.serial other (sending_of history arrival.serial))) (quiet_came arrival.serial other arrival (awaited history arrival.serial) q)
 quiet_grows history (Posted task bytes) arrival below q = subst (quiet arrival) (sym (awaited_other arrival.serial (Posted task bytes) (λ heads. refl) refl (sending_of history arrival.serial))) (quiet_other (Posted task bytes) arrival (awaited history arrival.serial) q)
 quiet_grows history (Forgot station) arrival below q = subst (quiet arrival) (sym (awaited_other arrival.serial (Forgot station) (λ heads. refl) refl (sending_of history arrival.serial))) (quiet_other (Forgot station) arrival (awaited history arrival.serial) q)
+quiet_grows history (Cleared station) arrival below q = subst (quiet arrival) (sym (awaited_other arrival.serial (Cleared station) (λ heads. refl) refl (sending_of history arrival.serial))) (quiet_other (Cleared station) arrival (awaited history arrival.serial) q)
+quiet_grows history (Unplugged station) arrival below q = subst (quiet arrival) (sym (awaited_other arrival.serial (Unplugged station) (λ heads. refl) refl (sending_of history arrival.serial))) (quiet_other (Unplugged station) arrival (awaited history arrival.serial) q)
 quiet_grows history (Sent frame) arrival below q =
     subst (quiet arrival) (sym
     (ap (λ b. option_and_then (still_awaited arrival.serial) (cond b (Some (sending_of_heads (data_heads (line_of history) frame))) (option_map (followed_by (Sent frame)) (sending_of history arrival.serial)))) (is_other arrival.serial (next_serial history) below)
@@ -58,6 +60,8 @@ over_grows arrival history (Opened groups) accepted over = absurd accepted
 over_grows arrival history (Edited edit) accepted over = record { made = over.made; quiet_now = quiet_grows history (Edited edit) arrival over.made over.quiet_now }
 over_grows arrival history (Posted task bytes) accepted over = record { made = over.made; quiet_now = quiet_grows history (Posted task bytes) arrival over.made over.quiet_now }
 over_grows arrival history (Forgot station) accepted over = record { made = over.made; quiet_now = quiet_grows history (Forgot station) arrival over.made over.quiet_now }
+over_grows arrival history (Cleared station) accepted over = record { made = over.made; quiet_now = quiet_grows history (Cleared station) arrival over.made over.quiet_now }
+over_grows arrival history (Unplugged station) accepted over = record { made = over.made; quiet_now = quiet_grows history (Unplugged station) arrival over.made over.quiet_now }
 over_grows arrival history (Sent frame) accepted over =
     record { made = below_more arrival.serial (next_serial history) over.made; quiet_now = quiet_grows history (Sent frame) arrival over.made over.quiet_now }
 over_grows arrival history (Wrote blocks) accepted over =

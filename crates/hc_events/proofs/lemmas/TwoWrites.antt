@@ -12,7 +12,7 @@ use Rattle.hc_records.specs.Line.{Member}
 use Rattle.hc_records.proofs.lemmas.Choices.{by_bool}
 use Rattle.hc_registers.specs.Blocks.{LineBlock, line_blocks}
 use Rattle.hc_events.specs.Arrivals.{Arrival}
-use Rattle.hc_events.specs.Entries.{HistoryEntry, History, Opened, Edited, Posted, Sent, Wrote, Came, Forgot}
+use Rattle.hc_events.specs.Entries.{HistoryEntry, History, Opened, Edited, Posted, Sent, Wrote, Came, Forgot, Cleared, Unplugged}
 use Rattle.hc_events.specs.Points.{line_of, next_serial}
 use Rattle.hc_events.specs.Heads.{Head, Item, block_item, is_block, same_item, write_head, write_heads}
 use Rattle.hc_events.specs.Answering.{Sending, ends, fits_sending, followed_by, forgets, is_forgetting, is_outdated, sending_of, sends, starts_over}
@@ -41,6 +41,8 @@ passed-on (Edited edit ∷ since) history serial sending running there = ap (opt
 passed-on (Posted task bytes ∷ since) history serial sending running there = ap (option_map (followed_by (Posted task bytes))) (passed-on since history serial sending running there)
 passed-on (Came arrival ∷ since) history serial sending running there = ap (option_map (followed_by (Came arrival))) (passed-on since history serial sending running there)
 passed-on (Forgot station ∷ since) history serial sending running there = ap (option_map (followed_by (Forgot station))) (passed-on since history serial sending running there)
+passed-on (Cleared station ∷ since) history serial sending running there = ap (option_map (followed_by (Cleared station))) (passed-on since history serial sending running there)
+passed-on (Unplugged station ∷ since) history serial sending running there = ap (option_map (followed_by (Unplugged station))) (passed-on since history serial sending running there)
 passed-on (Sent frame ∷ since) history serial sending running there =
     let found = passed-on since history serial sending running there in
     passed_by serial (next_serial (since ++ history)) _ (Sent frame) (sending_of (since ++ history) serial) (record { heads = sending.heads; since = since ++ sending.since })
@@ -67,6 +69,8 @@ wrote_by history serial made before (Edited edit) split sends number heads runni
 wrote_by history serial made before (Posted task bytes) split sends number heads running write = cc
 wrote_by history serial made before (Came arrival) split sends number heads running write = cc
 wrote_by history serial made before (Forgot station) split sends number heads running write = cc
+wrote_by history serial made before (Cleared station) split sends number heads running write = cc
+wrote_by history serial made before (Unplugged station) split sends number heads running write = cc
 wrote_by history serial made before (Sent frame) split sends number heads running write =
     let never : false ≡ true = sym (no_blocks (line_of before) frame) ∙ sym (ap (list_any (λ head. is_block head.item)) heads) ∙ write in cc
 wrote_by history serial made before (Wrote blocks) split sends number heads running write =
@@ -86,6 +90,8 @@ accepted-after_it (Edited edit ∷ since) history running all = accepted-after_i
 accepted-after_it (Posted task bytes ∷ since) history running all = accepted-after_it since history running all.1
 accepted-after_it (Came arrival ∷ since) history running all = accepted-after_it since history running all.1
 accepted-after_it (Forgot station ∷ since) history running all = accepted-after_it since history running all.1
+accepted-after_it (Cleared station ∷ since) history running all = accepted-after_it since history running all.1
+accepted-after_it (Unplugged station ∷ since) history running all = accepted-after_it since history running all.1
 accepted-after_it (Sent frame ∷ since) history running all = accepted-after_it since history running all.1
 accepted-after_it (Wrote blocks ∷ since) history running all = accepted-after_it since history running all.1
 
@@ -97,7 +103,7 @@ line-stays since history serial heads running going = same_line serial heads sin
 abbrev pub InLine : List Member → LineBlock → Type 0
 InLine line block = Contains (line_blocks line) block
 
-owed_all : (history : History) (blocks : List LineBlock) → IsWrite (owed_blocks history) blocks → All (λ block. is_owed history block ≡ true) blocks
+pub owed_all : (history : History) (blocks : List LineBlock) → IsWrite (owed_blocks history) blocks → All (λ block. is_owed history block ≡ true) blocks
 owed_all history blocks write =
     let front = write-front (owed_blocks history) blocks write in
     front-all (λ block. is_owed history block ≡ true) blocks front.rest (subst (All (λ (block : LineBlock). is_owed history block ≡ true)) front.joined (filter_passes (is_owed history) (line_blocks (line_of history))))
@@ -133,6 +139,8 @@ owed-shrinks [] history serial heads other names running going none all known ow
 owed-shrinks (Opened groups ∷ since) history serial heads other names running going none all known owed = cc
 owed-shrinks (Edited edit ∷ since) history serial heads other names running going none all known owed = cc
 owed-shrinks (Forgot station ∷ since) history serial heads other names running going none all known owed = cc
+owed-shrinks (Cleared station ∷ since) history serial heads other names running going none all known owed = owed-shrinks since history serial heads other names running going none all.1 known owed
+owed-shrinks (Unplugged station ∷ since) history serial heads other names running going none all known owed = owed-shrinks since history serial heads other names running going none all.1 known owed
 owed-shrinks (Posted task bytes ∷ since) history serial heads other names running going none all known owed = owed-shrinks since history serial heads other names running going none all.1 known owed
 owed-shrinks (Sent frame ∷ since) history serial heads other names running going none all known owed = owed-shrinks since history serial heads other names running going none all.1 known owed
 owed-shrinks (Came arrival ∷ since) history serial heads other names running going none all known owed =
@@ -206,6 +214,8 @@ starts_after (Posted task bytes ∷ since) more none = starts_after since more n
 starts_after (Sent frame ∷ since) more none = starts_after since more none
 starts_after (Came arrival ∷ since) more none = starts_after since more none
 starts_after (Forgot station ∷ since) more none = starts_after since more none
+starts_after (Cleared other ∷ since) more none = starts_after since more none
+starts_after (Unplugged other ∷ since) more none = starts_after since more none
 
 last_part : (test : HistoryEntry → Bool) (since more : List HistoryEntry) → list_any test (since ++ more) ≡ false → list_any test more ≡ false
 last_part test since more none = (or_parts (list_any test since) (list_any test more) (sym (list_any-append test since more) ∙ none)).1

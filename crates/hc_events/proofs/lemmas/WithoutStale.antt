@@ -7,7 +7,7 @@ use Rattle.std.proofs.lemmas.Bool.{and_right, not-true, or_parts}
 use Rattle.hc_records.specs.Image.{variable_place}
 use Rattle.hc_records.specs.Edits.{state_after, slave_at}
 use Rattle.hc_events.specs.Arrivals.{Arrival}
-use Rattle.hc_events.specs.Entries.{History, Opened, Edited, Posted, Sent, Wrote, Came, Forgot}
+use Rattle.hc_events.specs.Entries.{History, Opened, Edited, Posted, Sent, Wrote, Came, Forgot, Cleared, Unplugged}
 use Rattle.hc_events.specs.Points.{epoch_of, line_of, next_serial, state_of}
 use Rattle.hc_records.specs.Line.{line}
 use Rattle.hc_records.proofs.lemmas.Choices.{by_bool}
@@ -19,6 +19,10 @@ use Rattle.hc_events.specs.Outputs.{posted_bit, value_bit}
 use Rattle.hc_events.specs.Owed.{if_confirmed, is_in_line, known_bytes, last_write, was_confirmed, block_among, confirms, write_of}
 use Rattle.hc_events.specs.Changes.{Answered, Swapped, updates_of}
 use Rattle.hc_events.specs.Stale.{without_stale}
+use Rattle.hc_records.specs.declared.edit.Edit.{Edit}
+use Rattle.hc_events.specs.Ages.{data_serial, dated}
+use Rattle.hc_events.specs.Steady.{changes_task, edit_changes, steadied, steady_data, task_epoch}
+use Rattle.hc_events.specs.Holding.{cleared_register, comes, held_after_answer, held_after_coming, held_after_write, is_unplugged, may_hold}
 use Rattle.hc_events.proofs.lemmas.Awaited.{updates, updates_from, awaited-any, awaited-grows, awaited-updates, awaited-stale}
 use Rattle.std.specs.Option.{option_or}
 
@@ -34,6 +38,8 @@ without-state (Opened groups ∷ history) = refl
 without-state (Edited edit ∷ history) = ap (λ state. state_after state edit) (without-state history)
 without-state (Posted task bytes ∷ history) = without-state history
 without-state (Forgot station ∷ history) = without-state history
+without-state (Cleared station ∷ history) = without-state history
+without-state (Unplugged station ∷ history) = without-state history
 without-state (Sent frame ∷ history) = without-state history
 without-state (Wrote blocks ∷ history) = without-state history
 without-state (Came arrival ∷ history) = came_skips state_of (is_stale_to history arrival) arrival (without_stale history) refl ∙ without-state history
@@ -47,6 +53,8 @@ without-epoch (Opened groups ∷ history) = refl
 without-epoch (Edited edit ∷ history) = ap (λ n. n + 1) (without-epoch history)
 without-epoch (Posted task bytes ∷ history) = without-epoch history
 without-epoch (Forgot station ∷ history) = without-epoch history
+without-epoch (Cleared station ∷ history) = without-epoch history
+without-epoch (Unplugged station ∷ history) = without-epoch history
 without-epoch (Sent frame ∷ history) = without-epoch history
 without-epoch (Wrote blocks ∷ history) = without-epoch history
 without-epoch (Came arrival ∷ history) = came_skips epoch_of (is_stale_to history arrival) arrival (without_stale history) refl ∙ without-epoch history
@@ -57,6 +65,8 @@ without-serial (Opened groups ∷ history) = refl
 without-serial (Edited edit ∷ history) = without-serial history
 without-serial (Posted task bytes ∷ history) = without-serial history
 without-serial (Forgot station ∷ history) = without-serial history
+without-serial (Cleared station ∷ history) = without-serial history
+without-serial (Unplugged station ∷ history) = without-serial history
 without-serial (Sent frame ∷ history) = ap (λ n. n + 1) (without-serial history)
 without-serial (Wrote blocks ∷ history) = ap (λ n. n + 1) (without-serial history)
 without-serial (Came arrival ∷ history) = came_skips next_serial (is_stale_to history arrival) arrival (without_stale history) refl ∙ without-serial history
@@ -71,6 +81,8 @@ without-value (Posted task bytes ∷ history) variable k =
     ap (λ line. posted_bit line task bytes k (variable_place variable line) (value_bit (without_stale history) variable k)) (without-line history)
     ∙ ap (λ bit. posted_bit (line_of history) task bytes k (variable_place variable (line_of history)) bit) (without-value history variable k)
 without-value (Forgot station ∷ history) variable k = without-value history variable k
+without-value (Cleared station ∷ history) variable k = without-value history variable k
+without-value (Unplugged station ∷ history) variable k = without-value history variable k
 without-value (Sent frame ∷ history) variable k = without-value history variable k
 without-value (Wrote blocks ∷ history) variable k = without-value history variable k
 without-value (Came arrival ∷ history) variable k =
@@ -88,6 +100,8 @@ without-write (Wrote blocks ∷ history) station number =
     ap (λ n. option_or (option_map (write_of n) (block_among station number blocks)) (last_write (without_stale history) station number)) (without-serial history)
     ∙ ap (option_or (option_map (write_of (next_serial history)) (block_among station number blocks))) (without-write history station number)
 without-write (Forgot other ∷ history) station number = ap (λ found. cond (station == other) None found) (without-write history station number)
+without-write (Cleared other ∷ history) station number = without-write history station number
+without-write (Unplugged other ∷ history) station number = without-write history station number
 without-write (Came arrival ∷ history) station number =
     came_skips (λ record'. last_write record' station number) (is_stale_to history arrival) arrival (without_stale history) refl ∙ without-write history station number
 
@@ -107,6 +121,8 @@ without-awaited (Opened groups ∷ history) serial = refl
 without-awaited (Edited edit ∷ history) serial = awaited-grows (without_stale history) history serial (Edited edit) (without-serial history) (without-line history) (without-awaited history serial)
 without-awaited (Posted task bytes ∷ history) serial = awaited-grows (without_stale history) history serial (Posted task bytes) (without-serial history) (without-line history) (without-awaited history serial)
 without-awaited (Forgot station ∷ history) serial = awaited-grows (without_stale history) history serial (Forgot station) (without-serial history) (without-line history) (without-awaited history serial)
+without-awaited (Cleared station ∷ history) serial = awaited-grows (without_stale history) history serial (Cleared station) (without-serial history) (without-line history) (without-awaited history serial)
+without-awaited (Unplugged station ∷ history) serial = awaited-grows (without_stale history) history serial (Unplugged station) (without-serial history) (without-line history) (without-awaited history serial)
 without-awaited (Sent frame ∷ history) serial = awaited-grows (without_stale history) history serial (Sent frame) (without-serial history) (without-line history) (without-awaited history serial)
 without-awaited (Wrote blocks ∷ history) serial = awaited-grows (without_stale history) history serial (Wrote blocks) (without-serial history) (without-line history) (without-awaited history serial)
 without-awaited (Came arrival ∷ history) serial =
@@ -179,6 +195,8 @@ without-slot (Opened groups ∷ history) task d = refl
 without-slot (Edited edit ∷ history) task d = refl
 without-slot (Posted t bytes ∷ history) task d = without-slot history task d
 without-slot (Forgot station ∷ history) task d = without-slot history task d
+without-slot (Cleared station ∷ history) task d = without-slot history task d
+without-slot (Unplugged station ∷ history) task d = without-slot history task d
 without-slot (Sent frame ∷ history) task d = without-slot history task d
 without-slot (Wrote blocks ∷ history) task d = without-slot history task d
 without-slot (Came arrival ∷ history) task d =
@@ -187,12 +205,30 @@ without-slot (Came arrival ∷ history) task d =
     (ap (λ slot. fold (renewed task d) slot (new_answer_by (without_stale history) arrival)) (without-slot history task d)
     ∙ ap (λ good_answers. fold (renewed task d) (slot_of history task d) good_answers) (without-new_answer history arrival))
 
+pub without-date : (history : History) (task d : ℕ) → data_serial (without_stale history) task d ≡ data_serial history task d
+without-date [] task d = refl
+without-date (Opened groups ∷ history) task d = refl
+without-date (Edited edit ∷ history) task d = refl
+without-date (Posted t bytes ∷ history) task d = without-date history task d
+without-date (Forgot station ∷ history) task d = without-date history task d
+without-date (Cleared station ∷ history) task d = without-date history task d
+without-date (Unplugged station ∷ history) task d = without-date history task d
+without-date (Sent frame ∷ history) task d = without-date history task d
+without-date (Wrote blocks ∷ history) task d = without-date history task d
+without-date (Came arrival ∷ history) task d =
+    came_either (λ record'. data_serial record' task d) history (without_stale history) arrival (is_stale_to history arrival) refl
+    (λ none. without-date history task d ∙ sym (ap (λ good_answers. fold (dated arrival.serial task d) (data_serial history task d) good_answers) (good_answers_none (judged_by history arrival) none)))
+    (ap (λ date. fold (dated arrival.serial task d) date (new_answer_by (without_stale history) arrival)) (without-date history task d)
+    ∙ ap (λ good_answers. fold (dated arrival.serial task d) (data_serial history task d) good_answers) (without-new_answer history arrival))
+
 pub without-answer_given : (history : History) → updates_of (without_stale history) ≡ updates_of history
 without-answer_given [] = refl
 without-answer_given (Opened groups ∷ history) = refl
 without-answer_given (Edited edit ∷ history) = ap (λ answer_given. answer_given ++ Swapped edit ∷ []) (without-answer_given history)
 without-answer_given (Posted task bytes ∷ history) = without-answer_given history
 without-answer_given (Forgot station ∷ history) = without-answer_given history
+without-answer_given (Cleared station ∷ history) = without-answer_given history
+without-answer_given (Unplugged station ∷ history) = without-answer_given history
 without-answer_given (Sent frame ∷ history) = without-answer_given history
 without-answer_given (Wrote blocks ∷ history) = without-answer_given history
 without-answer_given (Came arrival ∷ history) =
@@ -207,6 +243,8 @@ without-confirmed (Opened groups ∷ history) serial item = refl
 without-confirmed (Edited edit ∷ history) serial item = without-confirmed history serial item
 without-confirmed (Posted task bytes ∷ history) serial item = without-confirmed history serial item
 without-confirmed (Forgot station ∷ history) serial item = without-confirmed history serial item
+without-confirmed (Cleared station ∷ history) serial item = without-confirmed history serial item
+without-confirmed (Unplugged station ∷ history) serial item = without-confirmed history serial item
 without-confirmed (Sent frame ∷ history) serial item = without-confirmed history serial item
 without-confirmed (Wrote blocks ∷ history) serial item = without-confirmed history serial item
 without-confirmed (Came arrival ∷ history) serial item =
@@ -224,3 +262,77 @@ known_either history item (Some write) = ap (λ b. cond b (Some write.1) None) (
 pub without-known : (history : History) (station number : ℕ) → known_bytes (without_stale history) station number ≡ known_bytes history station number
 without-known history station number =
     ap (option_and_then (if_confirmed (without_stale history) (Block station number))) (without-write history station number) ∙ known_either history (Block station number) (last_write history station number)
+
+pub without-task_epoch : (history : History) (task : ℕ) → task_epoch (without_stale history) task ≡ task_epoch history task
+without-task_epoch [] task = refl
+without-task_epoch (Opened groups ∷ history) task = refl
+without-task_epoch (Edited edit ∷ history) task =
+    ap (λ state. cond (changes_task state (state_after state edit) task) (epoch_of (without_stale history) + 1) (task_epoch (without_stale history) task)) (without-state history)
+    ∙ ap (λ n. cond (edit_changes history edit task) (n + 1) (task_epoch (without_stale history) task)) (without-epoch history)
+    ∙ ap (λ n. cond (edit_changes history edit task) (epoch_of history + 1) n) (without-task_epoch history task)
+without-task_epoch (Posted t bytes ∷ history) task = without-task_epoch history task
+without-task_epoch (Forgot station ∷ history) task = without-task_epoch history task
+without-task_epoch (Cleared station ∷ history) task = without-task_epoch history task
+without-task_epoch (Unplugged station ∷ history) task = without-task_epoch history task
+without-task_epoch (Sent frame ∷ history) task = without-task_epoch history task
+without-task_epoch (Wrote blocks ∷ history) task = without-task_epoch history task
+without-task_epoch (Came arrival ∷ history) task =
+    came_skips (λ record'. task_epoch record' task) (is_stale_to history arrival) arrival (without_stale history) refl ∙ without-task_epoch history task
+
+pub without-steady : (history : History) (task d : ℕ) → steady_data (without_stale history) task d ≡ steady_data history task d
+without-steady [] task d = refl
+without-steady (Opened groups ∷ history) task d = refl
+without-steady (Edited edit ∷ history) task d =
+    ap (λ state. cond (changes_task state (state_after state edit) task) None (steady_data (without_stale history) task d)) (without-state history)
+    ∙ ap (cond (edit_changes history edit task) None) (without-steady history task d)
+without-steady (Posted t bytes ∷ history) task d = without-steady history task d
+without-steady (Forgot station ∷ history) task d = without-steady history task d
+without-steady (Cleared station ∷ history) task d = without-steady history task d
+without-steady (Unplugged station ∷ history) task d = without-steady history task d
+without-steady (Sent frame ∷ history) task d = without-steady history task d
+without-steady (Wrote blocks ∷ history) task d = without-steady history task d
+without-steady (Came arrival ∷ history) task d =
+    came_either (λ record'. steady_data record' task d) history (without_stale history) arrival (is_stale_to history arrival) refl
+    (λ none. without-steady history task d
+    ∙ sym (ap (λ good_answers. fold (steadied arrival.serial (epoch_of history) task d) (steady_data history task d) good_answers) (good_answers_none (judged_by history arrival) none)))
+    (ap (λ n. fold (steadied arrival.serial n task d) (steady_data (without_stale history) task d) (new_answer_by (without_stale history) arrival)) (without-epoch history)
+    ∙ ap (λ found. fold (steadied arrival.serial (epoch_of history) task d) found (new_answer_by (without_stale history) arrival)) (without-steady history task d)
+    ∙ ap (λ good_answers. fold (steadied arrival.serial (epoch_of history) task d) (steady_data history task d) good_answers) (without-new_answer history arrival))
+
+comes_without : (history : History) (edit : Edit) (station : ℕ) → comes (without_stale history) edit station ≡ comes history edit station
+comes_without history edit station = ap (λ state. not (is_some (slave_at state station)) && is_some (slave_at (state_after state edit) station)) (without-state history)
+
+pub without-held : (history : History) (station number : ℕ) → may_hold (without_stale history) station number ≡ may_hold history station number
+without-held [] station number = refl
+without-held (Opened groups ∷ history) station number = refl
+without-held (Edited edit ∷ history) station number =
+    ap (λ b. held_after_coming b (may_hold (without_stale history) station number)) (comes_without history edit station)
+    ∙ ap (held_after_coming (comes history edit station)) (without-held history station number)
+without-held (Posted task bytes ∷ history) station number = without-held history station number
+without-held (Forgot other ∷ history) station number = without-held history station number
+without-held (Cleared other ∷ history) station number = ap (λ held. cond (station == other) cleared_register held) (without-held history station number)
+without-held (Unplugged other ∷ history) station number = without-held history station number
+without-held (Sent frame ∷ history) station number = without-held history station number
+without-held (Wrote blocks ∷ history) station number = ap (held_after_write (block_among station number blocks)) (without-held history station number)
+without-held (Came arrival ∷ history) station number =
+    came_either (λ record'. may_hold record' station number) history (without_stale history) arrival (is_stale_to history arrival) refl
+    (λ none. without-held history station number
+    ∙ sym (ap (λ b. held_after_answer b (last_write history station number) (may_hold history station number)) (any_none (Block station number) (judged_by history arrival) none)))
+    (ap (λ b. held_after_answer b (last_write (without_stale history) station number) (may_hold (without_stale history) station number)) (without-good history arrival (Block station number))
+    ∙ ap (λ write. held_after_answer (list_any (confirms (Block station number)) (judged_by history arrival)) write (may_hold (without_stale history) station number)) (without-write history station number)
+    ∙ ap (held_after_answer (list_any (confirms (Block station number)) (judged_by history arrival)) (last_write history station number)) (without-held history station number))
+
+pub without-unplugged : (history : History) (station : ℕ) → is_unplugged (without_stale history) station ≡ is_unplugged history station
+without-unplugged [] station = refl
+without-unplugged (Opened groups ∷ history) station = refl
+without-unplugged (Edited edit ∷ history) station =
+    ap (λ b. b && not (is_in_line (Edited edit ∷ without_stale history) station)) (without-unplugged history station)
+    ∙ ap (λ state. is_unplugged history station && not (is_some (slave_at (state_after state edit) station))) (without-state history)
+without-unplugged (Posted task bytes ∷ history) station = without-unplugged history station
+without-unplugged (Forgot other ∷ history) station = without-unplugged history station
+without-unplugged (Cleared other ∷ history) station = without-unplugged history station
+without-unplugged (Unplugged other ∷ history) station = ap (λ b. (station == other) || b) (without-unplugged history station)
+without-unplugged (Sent frame ∷ history) station = without-unplugged history station
+without-unplugged (Wrote blocks ∷ history) station = without-unplugged history station
+without-unplugged (Came arrival ∷ history) station =
+    came_skips (λ record'. is_unplugged record' station) (is_stale_to history arrival) arrival (without_stale history) refl ∙ without-unplugged history station

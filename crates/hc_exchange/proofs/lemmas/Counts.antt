@@ -1,5 +1,5 @@
--- What a programmed line adds to the working counter of a datagram of a task.
-use Rattle.std.proofs.Common.{◌≡◌, ℕ, ◌+◌, ◌-◌, ◌*◌, ◌<◌, ◌≤◌, ◌⊎◌, ◌∙◌, inl, inr, Bool, true, List, [], ◌∷◌, refl, sym, ap, ap₂, subst, arith}
+-- What machines that carry a task add to the working counter of one of its datagrams.
+use Rattle.std.proofs.Common.{◌≡◌, ℕ, ◌+◌, ◌*◌, ◌<◌, ◌≤◌, ◌⊎◌, ◌∙◌, inl, inr, Bool, true, List, [], ◌∷◌, refl, sym, ap, ap₂, subst, arith}
 use Rattle.std.specs.Prelude.{Contains, map, sum_by, ◌==◌, if◌then◌else◌}
 use Rattle.std.specs.List.{AllZip, list_any}
 use Rattle.std.proofs.lemmas.Bool.{eqb-true, and_from, and_parts, eq-eqb}
@@ -32,15 +32,16 @@ use Rattle.hc_machine.specs.Logical.{logical_count}
 use Rattle.hc_machine.proofs.lemmas.Logical.{counts-say}
 use Rattle.hc_exchange.specs.PairLaws.{IsConfigurable}
 use Rattle.hc_exchange.specs.Pairs.{member_area_key}
-use Rattle.hc_exchange.specs.Writing.{IsProgrammed}
 use Rattle.hc_plan.proofs.lemmas.AreaKeys.{HasArea, one-key, one-rank, placed-areas}
 use Rattle.hc_plan.proofs.lemmas.Elements.{contains-unchanged, contains-mapped, contains-unkept, contains-unmapped, some-passes, which-passes}
 use Rattle.hc_exchange.proofs.lemmas.Listed.{areas-mapped}
 use Rattle.hc_exchange.proofs.lemmas.Members.{IsGoodPlace, area-inside, stays-line, one-station}
 use Rattle.hc_exchange.proofs.lemmas.Places.{logical-answer_given, mapped-place, place-widths}
-use Rattle.hc_exchange.specs.Carrying.{CarriesPair, count_through}
+use Rattle.hc_exchange.specs.AskedLaws.{TaskCountersAreExpected}
+use Rattle.hc_exchange.specs.Carrying.{CarriesAsked, CarriesPair, IsBitOfTask, count_through}
 use Rattle.hc_exchange.specs.FrameLaws.{CountersAreExpected}
-use Rattle.hc_exchange.proofs.lemmas.Lines.{IsPlaced, all-are_placed}
+use Rattle.hc_exchange.proofs.lemmas.Asked.{programmed-carry}
+use Rattle.hc_exchange.proofs.lemmas.Lines.{IsCarrier, all-carriers}
 use Rattle.hc_exchange.proofs.lemmas.Slaves.{carried-reads, carried-writes, reads-carried, writes-carried}
 
 -- an area of the line that has a bit in the datagram says that its slave counts there
@@ -149,49 +150,54 @@ share-by : (one r : ℕ) (b : Bool) (P : Type 0) → ((r ≡ one) × P) ⊎ ((r 
 share-by one r b P h4 to from = grind (arith, common_steps)
 
 slave-counts : (state : State) (task datagram : ℕ) (member : Member) (memory : List ℕ) → IsConfigurable state → LineHasDatagram (line state) task datagram → Contains (line state) member
-    → IsProgrammed (line state) member memory
+    → CarriesAsked (IsBitOfTask (line state) task) (line state) member memory
     → logical_count memory (8 * logical_address task datagram) (datagram_length (task_places task (line state)) datagram)
     ≡ counter_share (map (λ (area : Placed). area.key) (inside datagram (task_places task (line state)))) member.rank
-slave-counts state task datagram member memory can is has programmed =
+slave-counts state task datagram member memory can is has carrying =
     let members = line state in
     let stays = stays-line state can in
     let from = 8 * logical_address task datagram in
     let n = datagram_length (task_places task members) datagram in
     let keys = map (λ (area : Placed). area.key) (inside datagram (task_places task members)) in
+    let asked : (bit : ℕ) → bit < 8 * n → IsBitOfTask members task (from + bit) = λ bit below. record { datagram = datagram; bit = bit; there = is; below = below; at = refl } in
     let answer_given = counts-say memory from n in
     let read : answer_given.0 ≡ (if list_any (area_is_of member.rank In) keys then 1 else 0) =
     share-by 1 answer_given.0 (list_any (area_is_of member.rank In) keys) (IsRead memory from n) answer_given.3
-    (λ reads. in-datagram state task datagram member In reads.1 reads.2 can is has reads.4 (reads-carried members member memory reads.0 (from + reads.1) reads.2 stays has programmed reads.3 reads.5))
+    (λ reads. in-datagram state task datagram member In reads.1 reads.2 can is has reads.4 (reads-carried members member memory reads.0 (from + reads.1) reads.2 stays has carrying reads.3 (asked reads.1 reads.4) reads.5))
     (λ some.
     let bit = has-bit state task datagram member In can has some in
-    let serves = carried-reads members member memory (from + bit.bit) bit.m stays has programmed bit.carries in
+    let serves = carried-reads members member memory (from + bit.bit) bit.m stays has carrying (asked bit.bit bit.below) bit.carries in
     (serves.fmmu, bit.bit, bit.m, serves.below, bit.below, (serves.turned, serves.pair))) in
     let written : answer_given.1 ≡ (if list_any (area_is_of member.rank Out) keys then 2 else 0) =
     share-by 2 answer_given.1 (list_any (area_is_of member.rank Out) keys) (IsPairedForWriting memory from n) answer_given.4
-    (λ writes. in-datagram state task datagram member Out writes.1 writes.2 can is has writes.4 (writes-carried members member memory writes.0 (from + writes.1) writes.2 stays has programmed writes.3 writes.5))
+    (λ writes. in-datagram state task datagram member Out writes.1 writes.2 can is has writes.4 (writes-carried members member memory writes.0 (from + writes.1) writes.2 stays has carrying writes.3 (asked writes.1 writes.4) writes.5))
     (λ some.
     let bit = has-bit state task datagram member Out can has some in
-    let serves = carried-writes members member memory (from + bit.bit) bit.m stays has programmed bit.carries in
+    let serves = carried-writes members member memory (from + bit.bit) bit.m stays has carrying (asked bit.bit bit.below) bit.carries in
     (serves.fmmu, bit.bit, bit.m, serves.below, bit.below, (serves.turned, serves.pair))) in
     answer_given.2 ∙ ap₂ (λ (a b : ℕ). a + b) read written ∙ turned (if list_any (area_is_of member.rank In) keys then 1 else 0) (if list_any (area_is_of member.rank Out) keys then 2 else 0)
   where
     turned : (a b : ℕ) → a + b ≡ b + a
     turned a b = omega arith
 
-all-count : (line members : List Member) (machines : List (List ℕ)) (from n : ℕ) (keys : List Key)
-    → ((member : Member) (memory : List ℕ) → IsPlaced line member memory → logical_count memory from n ≡ counter_share keys member.rank)
-    → AllZip (IsPlaced line) members machines → count_through machines from n ≡ sum_by (counter_share keys) (map (λ (member : Member). member.rank) members)
-all-count line [] [] from n keys each are_placed = refl
-all-count line [] (memory ∷ machines) from n keys each are_placed = absurd are_placed
-all-count line (member ∷ members) [] from n keys each are_placed = absurd are_placed
-all-count line (member ∷ members) (memory ∷ machines) from n keys each are_placed =
-    ap₂ (λ (a b : ℕ). a + b) (each member memory are_placed.0) (all-count line members machines from n keys each are_placed.1)
+all-count : (Asked : ℕ → Type 0) (line members : List Member) (machines : List (List ℕ)) (from n : ℕ) (keys : List Key)
+    → ((member : Member) (memory : List ℕ) → IsCarrier Asked line member memory → logical_count memory from n ≡ counter_share keys member.rank)
+    → AllZip (IsCarrier Asked line) members machines → count_through machines from n ≡ sum_by (counter_share keys) (map (λ (member : Member). member.rank) members)
+all-count Asked line [] [] from n keys each are_placed = refl
+all-count Asked line [] (memory ∷ machines) from n keys each are_placed = absurd are_placed
+all-count Asked line (member ∷ members) [] from n keys each are_placed = absurd are_placed
+all-count Asked line (member ∷ members) (memory ∷ machines) from n keys each are_placed =
+    ap₂ (λ (a b : ℕ). a + b) (each member memory are_placed.0) (all-count Asked line members machines from n keys each are_placed.1)
     ∙ sym (sum_by-cons (counter_share keys) member.rank (map (λ (m : Member). m.rank) members))
 
-pub counts-expected : CountersAreExpected
-counts-expected state machines task datagram can are is =
+pub task-counts : TaskCountersAreExpected
+task-counts state machines task datagram can are is =
     let members = line state in
-    all-count members members machines (8 * logical_address task datagram) (datagram_length (task_places task members) datagram)
+    let Asked = IsBitOfTask members task in
+    all-count Asked members members machines (8 * logical_address task datagram) (datagram_length (task_places task members) datagram)
     (map (λ (area : Placed). area.key) (inside datagram (task_places task members)))
-    (λ member memory is_placed. slave-counts state task datagram member memory can is is_placed.in_line is_placed.ready.programmed)
-    (all-are_placed members machines are)
+    (λ member memory is_placed. slave-counts state task datagram member memory can is is_placed.in_line is_placed.own)
+    (all-carriers Asked members machines are)
+
+pub counts-expected : CountersAreExpected
+counts-expected state machines task datagram can are is = task-counts state machines task datagram can (programmed-carry (IsBitOfTask (line state) task) state machines can are) is

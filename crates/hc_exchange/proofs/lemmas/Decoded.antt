@@ -16,7 +16,7 @@ use Rattle.hc_machine.specs.Fmmus.{is_active}
 use Rattle.hc_machine.specs.Laws.{IsPair}
 use Rattle.hc_exchange.specs.PairLaws.{BlocksGoOneWay, BlocksPairTheirAreas, PairsAreOneToOne, UnmappedAreasPairNothing}
 
-fields : (area : Area) (mapping : Mapping) → area.phys < 2 ^ 16 → IsMappable area mapping → FmmuFields area mapping
+pub fields : (area : Area) (mapping : Mapping) → area.phys < 2 ^ 16 → IsMappable area mapping → FmmuFields area mapping
 fields area mapping phys fits =
     let some : 0 < width area = fits.some in
     let inside : mapping.bit + width area ≤ 11888 = fits.inside in

@@ -181,13 +181,33 @@ carried-items : (ds : List Addressed) → map (λ (d : Addressed). sent_on_wire 
 carried-items [] = refl
 carried-items (d ∷ ds) = ap (λ (ps : List WireDatagram). part_of (item_of d) ∷ ps) (carried-items ds)
 
-pub shared-pass : SharedFramesPass
-shared-pass machines serial ds long can =
+passed-all : (machines : List (List ℕ)) (serial : ℕ) (ds : List Addressed) → All (λ m. length m ≡ 12288) machines → CanBeCarried serial (map (λ (d : Addressed). sent_on_wire (lrw d.address d.bytes)) ds)
+    → Passed machines serial (map (λ (d : Addressed). lrw d.address d.bytes) ds) (map item_of ds) (frame_text serial (map (λ (d : Addressed). lrw d.address d.bytes) ds))
+passed-all machines serial ds long can =
     let ws = map (λ (d : Addressed). lrw d.address d.bytes) ds in
     let sent_back : IsReturned serial ws (map sent_on_wire ws) (frame_text serial ws) = subst (IsReturned serial ws (map sent_on_wire ws)) (append-nil (frame_text serial ws)) (sent-returned serial ws []) in
     let back = subst (λ (ps : List WireDatagram). IsReturned serial ws ps (frame_text serial ws)) (sent-items ds) sent_back in
-    let carried = subst (CanBeCarried serial) (carried-items ds) can in
-    let passed = passes machines serial ws (map item_of ds) (frame_text serial ws) long back carried in
+    passes machines serial ws (map item_of ds) (frame_text serial ws) long back (subst (CanBeCarried serial) (carried-items ds) can)
+
+-- as a returned text of the sending
+pub record IsReturnedBy (machines : List (List ℕ)) (serial : ℕ) (ds : List Addressed) : Type 0 where
+  pub back : IsReturned serial (map (λ d. lrw d.address d.bytes) ds) (datagrams_after_machines machines ds) (frame_through machines (frame_text serial (map (λ d. lrw d.address d.bytes) ds)))
+  pub carried : CanBeCarried serial (datagrams_after_machines machines ds)
+
+pub shared-returned : (machines : List (List ℕ)) (serial : ℕ) (ds : List Addressed) → All (λ m. length m ≡ 12288) machines → CanBeCarried serial (map (λ (d : Addressed). sent_on_wire (lrw d.address d.bytes)) ds)
+    → IsReturnedBy machines serial ds
+shared-returned machines serial ds long can =
+    let ws = map (λ (d : Addressed). lrw d.address d.bytes) ds in
+    let passed = passed-all machines serial ds long can in
+    record {
+      back = subst (λ (ps : List WireDatagram). IsReturned serial ws ps (frame_through machines (frame_text serial ws))) (parts-through machines ds) passed.back;
+      carried = subst (CanBeCarried serial) (parts-through machines ds) passed.carried;
+    }
+
+pub shared-pass : SharedFramesPass
+shared-pass machines serial ds long can =
+    let ws = map (λ (d : Addressed). lrw d.address d.bytes) ds in
+    let passed = passed-all machines serial ds long can in
     let read = returned-read serial ws (map part_of (through machines (map item_of ds))) (frame_through machines (frame_text serial ws)) passed.back passed.carried in
     record {
       readable = read.0;

@@ -48,7 +48,7 @@ source-sized line member block stays_so has (inr source) =
     let sized : IsSized (own_fmmu line member source.index source.area) = record { from = omega arith; to = omega arith; some = omega arith; few = omega arith } in
     subst IsSized (sym source.is) sized
 
-all-plain : (line : List Member) → KeepsLine line → All (λ member. member.slave.station < 65536) line → All IsPlain (line_blocks line)
+pub all-plain : (line : List Member) → KeepsLine line → All (λ member. member.slave.station < 65536) line → All IsPlain (line_blocks line)
 all-plain line stays_so low =
     All-weaker (IsOfLine line) IsPlain
     (λ block own.
@@ -72,7 +72,7 @@ own-share line stays_so member other a b has has' own own' (inr lower) stations 
     let ranks : member.rank ≡ other.rank = ap (λ (m : Member). m.rank) one in
     absurd (omega arith)
 
-all-own : (line : List Member) → KeepsLine line → AllPairs OwnApart (line_blocks line)
+pub all-own : (line : List Member) → KeepsLine line → AllPairs OwnApart (line_blocks line)
 all-own line stays_so = all-share OwnApart line stays_so (own-share line stays_so)
 
 -- a line has few blocks
@@ -90,7 +90,7 @@ length-numbered : {X : Type 0} (n : ℕ) (xs : List X) → length (enumerate_fro
 length-numbered n [] = refl
 length-numbered n (x ∷ xs) = ap suc (length-numbered (n + 1) xs)
 
-few-blocks : (state : State) → IsConfigurable state → 0 + length (line_blocks (line state)) ≤ 2 ^ 40
+pub few-blocks : (state : State) → IsConfigurable state → 0 + length (line_blocks (line state)) ≤ 2 ^ 40
 few-blocks state can =
     let stays_so = stays-line state can in
     let members = line state in
@@ -116,7 +116,7 @@ few-blocks state can =
 -- one slave's memory after all writes
 
 -- bytes from a place of a memory on, each of them reported
-range-is : (memory bytes : List ℕ) (from : ℕ) → from + length bytes ≤ length memory → ((i : ℕ) → i < length bytes → get_or memory (from + i) 0 ≡ get_or bytes i 0)
+pub range-is : (memory bytes : List ℕ) (from : ℕ) → from + length bytes ≤ length memory → ((i : ℕ) → i < length bytes → get_or memory (from + i) 0 ≡ get_or bytes i 0)
     → slice_range memory from (from + length bytes) ≡ bytes
 range-is memory bytes from within same =
     let size : from + length bytes - from ≡ length bytes = omega arith in
@@ -163,7 +163,7 @@ changed-alone line member memory stays_so has plain machine r outside =
     misses sized (inl low) = let from = sized.from in inl (omega arith)
     misses sized (inr high) = let to = sized.to in inr (omega arith)
 
-history-areas : (line : List Member) (member : Member) (i r : ℕ) (block : RegisterBlock) → length member.slave.areas ≤ i → 1536 + 16 * i ≤ r → r < 1536 + 16 * 16 → Source line member block
+pub history-areas : (line : List Member) (member : Member) (i r : ℕ) (block : RegisterBlock) → length member.slave.areas ≤ i → 1536 + 16 * i ≤ r → r < 1536 + 16 * 16 → Source line member block
     → Misses block.register (length block.bytes) r
 history-areas line member i r block history low high (inl manager) =
     let register : block.register ≡ 2048 + 8 * manager.area.sm = ap (λ (b : RegisterBlock). b.register) manager.is in
@@ -248,7 +248,7 @@ writing-bytes state machines can are small =
 
 -- what the FMMUs of a slave pair that is programmed
 
-none-zero : (x m : ℕ) → ¬ (IsPair (replicate 16 0) x m)
+pub none-zero : (x m : ℕ) → ¬ (IsPair (replicate 16 0) x m)
 none-zero x m pair = let active = pair.active in cc
 
 fmmu-is_placed : (line : List Member) (member : Member) (memory : List ℕ) (index : ℕ) (area : Area) → IsProgrammed line member memory → slice_get member.slave.areas index ≡ Some area

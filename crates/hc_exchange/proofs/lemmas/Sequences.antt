@@ -1,4 +1,4 @@
--- Logical datagrams one after another through a programmed line.
+-- Logical datagrams one after another through machines that carry each of their bits.
 use Rattle.std.proofs.Common.{◌≡◌, ℕ, zero, suc, ◌+◌, ◌*◌, ◌<◌, ◌∙◌, List, [], ◌∷◌, length, get_or, refl, sym, ap, ap₂, subst, arith}
 use Rattle.std.specs.Prelude.{Contains, Some, slice_get}
 use Rattle.std.proofs.lemmas.List.Elements.{All-contains}
@@ -12,10 +12,10 @@ use Rattle.hc_registers.specs.declared.fmmu.Mapping.{Mapping}
 use Rattle.hc_registers.specs.Blocks.{mapping_of}
 use Rattle.hc_exchange.specs.Pairs.{AreasPair, member_area_key}
 use Rattle.hc_exchange.proofs.lemmas.Members.{KeepsLine, area-in-memory, area-inside, area-width, stays-line, one-index, one-station}
-use Rattle.hc_exchange.specs.Carrying.{CarriesPair, data_through, memories_after}
-use Rattle.hc_exchange.specs.CarryingLaws.{Meets}
+use Rattle.hc_exchange.specs.Carrying.{AreAsked, CarriesPair, data_through, memories_after}
+use Rattle.hc_exchange.specs.AskedLaws.{AllAreAsked, AllAskedInputsAreBroughtBack, AllAskedOutputsArrive, MeetsCarrying, MemoryBesideAllAskedStays, SequencesKeepCarrying}
 use Rattle.hc_exchange.specs.Sequences.{AllInputsAreBroughtBack, AllOtherMemoryStays, AllOutputsArrive, LogicalsAreApart, Logical, SequencesKeepTheLine}
-use Rattle.hc_exchange.proofs.lemmas.Lines.{inputs-brought, length-after_it, line-stays, others-stay, outputs-arrive}
+use Rattle.hc_exchange.proofs.lemmas.Lines.{AnyBit, asked-inputs, asked-memory, asked-outputs, carrying-stays, length-after_it, line-stays, meets-any}
 
 -- a memory bit of a slave has one area, and so one logical bit and one direction
 
@@ -65,74 +65,105 @@ bit-inside line station x m stays p =
 
 -- the machine of a slave after the first datagram
 
-after_it-first : (state : State) (machines : List (List ℕ)) (k : ℕ) (member : Member) (memory : List ℕ) (d : Logical) → Meets state machines k member memory
+pub first-asked : (Asked : ℕ → Type 0) (first : Logical) (ds : List Logical) → AllAreAsked Asked (first ∷ ds) → AreAsked Asked first.from first.bytes
+first-asked Asked first ds asked bit inside = asked 0 first bit (record { is = refl; below = inside })
+
+pub rest-asked : (Asked : ℕ → Type 0) (first : Logical) (ds : List Logical) → AllAreAsked Asked (first ∷ ds) → AllAreAsked Asked ds
+rest-asked Asked first ds asked n d bit has = asked (suc n) d bit (record { is = has.is; below = has.below })
+
+after_it-first : (Asked : ℕ → Type 0) (state : State) (machines : List (List ℕ)) (k : ℕ) (member : Member) (memory : List ℕ) (d : Logical) → MeetsCarrying Asked state machines k member memory
     → slice_get (memories_after machines d.from d.bytes) k ≡ Some (get_or (memories_after machines d.from d.bytes) k memory)
-after_it-first state machines k member memory d meets =
+after_it-first Asked state machines k member memory d meets =
     let within = slice_get_within machines k memory meets.memory_is in
     slice_get-get_or (memories_after machines d.from d.bytes) k memory (omega (arith, within, length-after_it machines d.from d.bytes))
 
-meets-next : (state : State) (machines : List (List ℕ)) (k : ℕ) (member : Member) (memory : List ℕ) (d : Logical) → Meets state machines k member memory
-    → Meets state (memories_after machines d.from d.bytes) k member (get_or (memories_after machines d.from d.bytes) k memory)
-meets-next state machines k member memory d meets = record {
+meets-next : (Asked : ℕ → Type 0) (state : State) (machines : List (List ℕ)) (k : ℕ) (member : Member) (memory : List ℕ) (d : Logical) → AreAsked Asked d.from d.bytes
+    → MeetsCarrying Asked state machines k member memory
+    → MeetsCarrying Asked state (memories_after machines d.from d.bytes) k member (get_or (memories_after machines d.from d.bytes) k memory)
+meets-next Asked state machines k member memory d asked meets = record {
   configurable = meets.configurable;
-  programmed = (line-stays state machines d.bytes d.from meets.configurable meets.programmed).programmed;
+  carrying = (carrying-stays Asked state machines d.bytes d.from meets.configurable meets.carrying asked).carrying;
   member_is = meets.member_is;
-  memory_is = after_it-first state machines k member memory d meets;
+  memory_is = after_it-first Asked state machines k member memory d meets;
 }
 
-pub all-inputs : AllInputsAreBroughtBack
-all-inputs state machines k member memory [] n d bit m came meets has input is = let none = has.is in cc
-all-inputs state machines k member memory (first ∷ ds) zero d bit m came meets has input is =
+pub asked-all-inputs : (Asked : ℕ → Type 0) (state : State) → AllAskedInputsAreBroughtBack Asked state
+asked-all-inputs Asked state machines k member memory [] n d bit m came meets asked has input is = let none = has.is in cc
+asked-all-inputs Asked state machines k member memory (first ∷ ds) zero d bit m came meets asked has input is =
     let at : Some first ≡ Some d = has.is in
     let one : first ≡ d = cc in
     let same : data_through machines first.from first.bytes ≡ came = cc in
     ap (λ (xs : List ℕ). bit_of xs bit) (sym same) ∙ ap (λ (x : Logical). bit_of (data_through machines x.from x.bytes) bit) one
-    ∙ inputs-brought state machines k member memory d.bytes d.from bit m meets has.below input
-all-inputs state machines k member memory (first ∷ ds) (suc n) d bit m came meets has input is =
+    ∙ asked-inputs Asked state machines k member memory d.bytes d.from bit m meets (subst (λ (x : Logical). AreAsked Asked x.from x.bytes) one (first-asked Asked first ds asked)) has.below input
+asked-all-inputs Asked state machines k member memory (first ∷ ds) (suc n) d bit m came meets asked has input is =
     let members = line state in
     let stays = stays-line state meets.configurable in
+    let now = first-asked Asked first ds asked in
     let memory1 = get_or (memories_after machines first.from first.bytes) k memory in
-    all-inputs state (memories_after machines first.from first.bytes) k member memory1 ds n d bit m came (meets-next state machines k member memory first meets)
-    (record { is = has.is; below = has.below }) input is
-    ∙ others-stay state machines k member memory memory1 first.bytes first.from m meets (after_it-first state machines k member memory first meets)
+    asked-all-inputs Asked state (memories_after machines first.from first.bytes) k member memory1 ds n d bit m came (meets-next Asked state machines k member memory first now meets)
+    (rest-asked Asked first ds asked) (record { is = has.is; below = has.below }) input is
+    ∙ asked-memory Asked state machines k member memory memory1 first.bytes first.from m meets now (after_it-first Asked state machines k member memory first meets)
     (bit-inside members member.slave.station (d.from + bit) m stays input.areas)
     (λ l inside output. no-two-uses members member.slave.station (d.from + bit) (first.from + l) m stays input output)
 
-pub all-others : AllOtherMemoryStays
-all-others state machines k member memory memory' [] m meets low none is =
+pub asked-all-memory : (Asked : ℕ → Type 0) (state : State) → MemoryBesideAllAskedStays Asked state
+asked-all-memory Asked state machines k member memory memory' [] m meets asked low none is =
     let equal : Some memory ≡ Some memory' = sym meets.memory_is ∙ is in
     let same : memory ≡ memory' = cc in
     ap (λ (xs : List ℕ). bit_of xs m) (sym same)
-all-others state machines k member memory memory' (first ∷ ds) m meets low none is =
+asked-all-memory Asked state machines k member memory memory' (first ∷ ds) m meets asked low none is =
+    let now = first-asked Asked first ds asked in
     let memory1 = get_or (memories_after machines first.from first.bytes) k memory in
-    all-others state (memories_after machines first.from first.bytes) k member memory1 memory' ds m (meets-next state machines k member memory first meets) low
+    asked-all-memory Asked state (memories_after machines first.from first.bytes) k member memory1 memory' ds m (meets-next Asked state machines k member memory first now meets)
+    (rest-asked Asked first ds asked) low
     (λ n d bit has. none (suc n) d bit (record { is = has.is; below = has.below })) is
-    ∙ others-stay state machines k member memory memory1 first.bytes first.from m meets (after_it-first state machines k member memory first meets) low
+    ∙ asked-memory Asked state machines k member memory memory1 first.bytes first.from m meets now (after_it-first Asked state machines k member memory first meets) low
     (λ bit inside. none 0 first bit (record { is = refl; below = inside }))
 
-pub all-outputs : AllOutputsArrive
-all-outputs state machines k member memory memory' [] n d bit m meets apart has output is = let none = has.is in cc
-all-outputs state machines k member memory memory' (first ∷ ds) zero d bit m meets apart has output is =
+pub asked-all-outputs : (Asked : ℕ → Type 0) (state : State) → AllAskedOutputsArrive Asked state
+asked-all-outputs Asked state machines k member memory memory' [] n d bit m meets asked apart has output is = let none = has.is in cc
+asked-all-outputs Asked state machines k member memory memory' (first ∷ ds) zero d bit m meets asked apart has output is =
     let members = line state in
     let stays = stays-line state meets.configurable in
+    let now = first-asked Asked first ds asked in
     let at : Some first ≡ Some d = has.is in
     let one : d ≡ first = cc in
     let below : bit < 8 * length first.bytes = subst (λ (x : Logical). bit < 8 * length x.bytes) one has.below in
     let own : CarriesPair members Out member.slave.station (first.from + bit) m = subst (λ (x : Logical). CarriesPair members Out member.slave.station (x.from + bit) m) one output in
     let memory1 = get_or (memories_after machines first.from first.bytes) k memory in
-    all-others state (memories_after machines first.from first.bytes) k member memory1 memory' ds m (meets-next state machines k member memory first meets)
-    (bit-inside members member.slave.station (first.from + bit) m stays own.areas)
+    asked-all-memory Asked state (memories_after machines first.from first.bytes) k member memory1 memory' ds m (meets-next Asked state machines k member memory first now meets)
+    (rest-asked Asked first ds asked) (bit-inside members member.slave.station (first.from + bit) m stays own.areas)
     (λ i e l within other.
     let later : Contains ds e = (i, slice_get_within ds i e within.is, get_or_from_slice_get ds i e e within.is) in
     let away = All-contains (LogicalsAreApart first) ds e (AllPairs-head LogicalsAreApart first ds apart) later in
     away bit l below within.below (same-pair members member.slave.station (first.from + bit) (e.from + l) m stays own.areas other.areas).logical)
     is
-    ∙ outputs-arrive state machines k member memory memory1 first.bytes first.from bit m meets (after_it-first state machines k member memory first meets) below own
+    ∙ asked-outputs Asked state machines k member memory memory1 first.bytes first.from bit m meets now (after_it-first Asked state machines k member memory first meets) below own
     ∙ ap (λ (x : Logical). bit_of x.bytes bit) (sym one)
-all-outputs state machines k member memory memory' (first ∷ ds) (suc n) d bit m meets apart has output is =
+asked-all-outputs Asked state machines k member memory memory' (first ∷ ds) (suc n) d bit m meets asked apart has output is =
     let memory1 = get_or (memories_after machines first.from first.bytes) k memory in
-    all-outputs state (memories_after machines first.from first.bytes) k member memory1 memory' ds n d bit m (meets-next state machines k member memory first meets)
-    (AllPairs-tail LogicalsAreApart first ds apart) (record { is = has.is; below = has.below }) output is
+    asked-all-outputs Asked state (memories_after machines first.from first.bytes) k member memory1 memory' ds n d bit m
+    (meets-next Asked state machines k member memory first (first-asked Asked first ds asked) meets)
+    (rest-asked Asked first ds asked) (AllPairs-tail LogicalsAreApart first ds apart) (record { is = has.is; below = has.below }) output is
+
+pub asked-all-keep : (Asked : ℕ → Type 0) (state : State) → SequencesKeepCarrying Asked state
+asked-all-keep Asked state machines [] can asked are = are
+asked-all-keep Asked state machines (d ∷ ds) can asked are =
+    asked-all-keep Asked state (memories_after machines d.from d.bytes) ds can (rest-asked Asked d ds asked) (carrying-stays Asked state machines d.bytes d.from can are (first-asked Asked d ds asked)).carrying
+
+-- the laws of programmed lines
+
+pub all-inputs : AllInputsAreBroughtBack
+all-inputs state machines k member memory ds n d bit m came meets has input is =
+    asked-all-inputs AnyBit state machines k member memory ds n d bit m came (meets-any state machines k member memory meets) (λ i e b inside. tt) has input is
+
+pub all-others : AllOtherMemoryStays
+all-others state machines k member memory memory' ds m meets low none is =
+    asked-all-memory AnyBit state machines k member memory memory' ds m (meets-any state machines k member memory meets) (λ i e b inside. tt) low none is
+
+pub all-outputs : AllOutputsArrive
+all-outputs state machines k member memory memory' ds n d bit m meets apart has output is =
+    asked-all-outputs AnyBit state machines k member memory memory' ds n d bit m (meets-any state machines k member memory meets) (λ i e b inside. tt) apart has output is
 
 pub all-keep : SequencesKeepTheLine
 all-keep state machines [] can are = are

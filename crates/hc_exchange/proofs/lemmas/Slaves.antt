@@ -1,5 +1,5 @@
--- What a programmed slave makes of a logical datagram.
-use Rattle.std.proofs.Common.{◌≡◌, ℕ, ◌+◌, ◌*◌, ◌<◌, ◌≤◌, ◌∙◌, inr, Bool, true, List, length, refl, sym, ap, ap₂, subst, arith}
+-- What a slave makes of a logical datagram if it carries each of the bits.
+use Rattle.std.proofs.Common.{◌≡◌, ℕ, ◌+◌, ◌*◌, ◌<◌, ◌≤◌, ◌∙◌, inr, Bool, true, List, length, get_or, refl, sym, ap, ap₂, subst, arith}
 use Rattle.std.specs.Prelude.{Contains, Some, slice_get}
 use Rattle.hc_places.proofs.lemmas.DatagramUses.{dir-in}
 use Rattle.hc_bits.specs.Bits.{bit_of}
@@ -15,14 +15,14 @@ use Rattle.hc_machine.specs.Logical.{logical_data, logical_memory}
 use Rattle.hc_machine.proofs.lemmas.Logical.{read-from-memory, unread-stays, unwritten-stays, written-from-data}
 use Rattle.hc_plan.proofs.lemmas.AreaKeys.{one-rank}
 use Rattle.hc_exchange.specs.Pairs.{AreasPair}
-use Rattle.hc_exchange.specs.Writing.{IsProgrammed}
 use Rattle.hc_exchange.proofs.lemmas.Decoded.{block-way}
 use Rattle.hc_exchange.proofs.lemmas.Unchanged.{programmed-unchanged}
 use Rattle.hc_exchange.proofs.lemmas.Members.{KeepsLine, area-inside, one-index}
 use Rattle.hc_exchange.proofs.lemmas.Places.{mapped-place, one-area}
-use Rattle.hc_exchange.proofs.lemmas.Programmed.{SlaveFmmu, area-is_placed, slave-fmmu}
+use Rattle.hc_exchange.proofs.lemmas.Asked.{asked-area, asked-fmmu, carrying-unchanged, ready-carries}
+use Rattle.hc_exchange.proofs.lemmas.Programmed.{SlaveFmmu}
 use Rattle.hc_exchange.proofs.lemmas.Sources.{mapped-area}
-use Rattle.hc_exchange.specs.Carrying.{CarriesPair, IsReadyMachine}
+use Rattle.hc_exchange.specs.Carrying.{AreAsked, CarriesAsked, CarriesPair, IsReadyMachine}
 use Rattle.hc_machine.proofs.lemmas.Memories.{length-memory, memory-bytes, same-byte}
 
 -- a logical bit has one area of one slave
@@ -62,19 +62,19 @@ out-way In is = cc
 abbrev areas-of : (line : List Member) (member : Member) (memory : List ℕ) (i x m : ℕ) → SlaveFmmu line member memory i x m → AreasPair line member.slave.station x m
 areas-of line member memory i x m fmmu = record { member = member; index = i; area = fmmu.area; mapping = fmmu.mapping; station_is = refl; is_mapped = fmmu.is; pair = fmmu.pair }
 
-pub reads-carried : (line : List Member) (member : Member) (memory : List ℕ) (i x m : ℕ) → KeepsLine line → Contains line member → IsProgrammed line member memory → i < 16 → Reads memory i x m
-    → CarriesPair line In member.slave.station x m
-reads-carried line member memory i x m stays has programmed low reads =
-    let fmmu = slave-fmmu line member memory i x m stays has programmed low reads.1 in
+pub reads-carried : {Asked : ℕ → Type 0} (line : List Member) (member : Member) (memory : List ℕ) (i x m : ℕ) → KeepsLine line → Contains line member → CarriesAsked Asked line member memory → i < 16
+    → Asked x → Reads memory i x m → CarriesPair line In member.slave.station x m
+reads-carried line member memory i x m stays has carrying low asked reads =
+    let fmmu = asked-fmmu line member memory i x m stays has carrying low asked reads.1 in
     record {
       areas = areas-of line member memory i x m fmmu;
       direction = dir-in fmmu.area.dir (sym (block-way fmmu.area fmmu.mapping).0 ∙ ap is_read (sym fmmu.is_placed) ∙ reads.0);
     }
 
-pub writes-carried : (line : List Member) (member : Member) (memory : List ℕ) (i x m : ℕ) → KeepsLine line → Contains line member → IsProgrammed line member memory → i < 16 → FmmuWrites memory i x m
-    → CarriesPair line Out member.slave.station x m
-writes-carried line member memory i x m stays has programmed low writes =
-    let fmmu = slave-fmmu line member memory i x m stays has programmed low writes.1 in
+pub writes-carried : {Asked : ℕ → Type 0} (line : List Member) (member : Member) (memory : List ℕ) (i x m : ℕ) → KeepsLine line → Contains line member → CarriesAsked Asked line member memory → i < 16
+    → Asked x → FmmuWrites memory i x m → CarriesPair line Out member.slave.station x m
+writes-carried line member memory i x m stays has carrying low asked writes =
+    let fmmu = asked-fmmu line member memory i x m stays has carrying low asked writes.1 in
     record {
       areas = areas-of line member memory i x m fmmu;
       direction = out-way fmmu.area.dir (sym (block-way fmmu.area fmmu.mapping).1 ∙ ap is_write_fmmu (sym fmmu.is_placed) ∙ writes.0);
@@ -88,10 +88,10 @@ pub record Serves (memory : List ℕ) (x m : ℕ) (way : List ℕ → Bool) : Ty
   pub turned : way (fmmu_block_at memory fmmu) ≡ true
   pub pair : IsPair (fmmu_block_at memory fmmu) x m
 
-serves : (line : List Member) (member : Member) (memory : List ℕ) (x m : ℕ) (way : List ℕ → Bool) → KeepsLine line → Contains line member → IsProgrammed line member memory
-    → (pairs : AreasPair line member.slave.station x m) → way (mapped_bytes pairs.area pairs.mapping) ≡ true → Serves memory x m way
-serves line member memory x m way stays has programmed pairs turned =
-    let answer_given = area-is_placed line member memory x m stays has programmed pairs in
+serves : {Asked : ℕ → Type 0} (line : List Member) (member : Member) (memory : List ℕ) (x m : ℕ) (way : List ℕ → Bool) → KeepsLine line → Contains line member → CarriesAsked Asked line member memory
+    → Asked x → (pairs : AreasPair line member.slave.station x m) → way (mapped_bytes pairs.area pairs.mapping) ≡ true → Serves memory x m way
+serves line member memory x m way stays has carrying asked pairs turned =
+    let answer_given = asked-area line member memory x m stays has carrying asked pairs in
     record {
       fmmu = pairs.index;
       below = answer_given.below;
@@ -99,51 +99,52 @@ serves line member memory x m way stays has programmed pairs turned =
       pair = subst (λ (block : List ℕ). IsPair block x m) (sym answer_given.is_placed) (mapped-area line pairs.member pairs.index pairs.area pairs.mapping x m stays pairs.is_mapped pairs.pair);
     }
 
-pub carried-reads : (line : List Member) (member : Member) (memory : List ℕ) (x m : ℕ) → KeepsLine line → Contains line member → IsProgrammed line member memory
-    → CarriesPair line In member.slave.station x m → Serves memory x m is_read
-carried-reads line member memory x m stays has programmed input =
+pub carried-reads : {Asked : ℕ → Type 0} (line : List Member) (member : Member) (memory : List ℕ) (x m : ℕ) → KeepsLine line → Contains line member → CarriesAsked Asked line member memory
+    → Asked x → CarriesPair line In member.slave.station x m → Serves memory x m is_read
+carried-reads line member memory x m stays has carrying asked input =
     let pairs = input.areas in
-    serves line member memory x m is_read stays has programmed pairs ((block-way pairs.area pairs.mapping).0 ∙ ap (λ (dir : Dir). same_dir dir In) input.direction)
+    serves line member memory x m is_read stays has carrying asked pairs ((block-way pairs.area pairs.mapping).0 ∙ ap (λ (dir : Dir). same_dir dir In) input.direction)
 
-pub carried-writes : (line : List Member) (member : Member) (memory : List ℕ) (x m : ℕ) → KeepsLine line → Contains line member → IsProgrammed line member memory
-    → CarriesPair line Out member.slave.station x m → Serves memory x m is_write_fmmu
-carried-writes line member memory x m stays has programmed output =
+pub carried-writes : {Asked : ℕ → Type 0} (line : List Member) (member : Member) (memory : List ℕ) (x m : ℕ) → KeepsLine line → Contains line member → CarriesAsked Asked line member memory
+    → Asked x → CarriesPair line Out member.slave.station x m → Serves memory x m is_write_fmmu
+carried-writes line member memory x m stays has carrying asked output =
     let pairs = output.areas in
-    serves line member memory x m is_write_fmmu stays has programmed pairs ((block-way pairs.area pairs.mapping).1 ∙ ap (λ (dir : Dir). same_dir dir Out) output.direction)
+    serves line member memory x m is_write_fmmu stays has carrying asked pairs ((block-way pairs.area pairs.mapping).1 ∙ ap (λ (dir : Dir). same_dir dir Out) output.direction)
 
 -- of a slave's FMMUs one alone pairs a logical bit, and one alone a memory bit
 
-one-reader : (line : List Member) (member : Member) (memory : List ℕ) (i j x m n : ℕ) → KeepsLine line → Contains line member → IsProgrammed line member memory → i < 16 → j < 16
-    → IsPair (fmmu_block_at memory i) x m → IsPair (fmmu_block_at memory j) x n → i ≡ j
-one-reader line member memory i j x m n stays has programmed low low' pair pair' =
-    let p = slave-fmmu line member memory i x m stays has programmed low pair in
-    let q = slave-fmmu line member memory j x n stays has programmed low' pair' in
+one-reader : {Asked : ℕ → Type 0} (line : List Member) (member : Member) (memory : List ℕ) (i j x m n : ℕ) → KeepsLine line → Contains line member → CarriesAsked Asked line member memory → i < 16
+    → j < 16 → Asked x → IsPair (fmmu_block_at memory i) x m → IsPair (fmmu_block_at memory j) x n → i ≡ j
+one-reader line member memory i j x m n stays has carrying low low' asked pair pair' =
+    let p = asked-fmmu line member memory i x m stays has carrying low asked pair in
+    let q = asked-fmmu line member memory j x n stays has carrying low' asked pair' in
     (one-area line member member i j p.area q.area p.mapping q.mapping x p.pair.k q.pair.k (mapped-place line member i p.area p.mapping stays has p.is.in_record p.is.mapped)
     (mapped-place line member j q.area q.mapping stays has q.is.in_record q.is.mapped) p.pair.below p.pair.logical q.pair.below q.pair.logical).1
 
-one-writer : (line : List Member) (member : Member) (memory : List ℕ) (i j x y m : ℕ) → KeepsLine line → Contains line member → IsProgrammed line member memory → i < 16 → j < 16
-    → IsPair (fmmu_block_at memory i) x m → IsPair (fmmu_block_at memory j) y m → i ≡ j
-one-writer line member memory i j x y m stays has programmed low low' pair pair' =
-    let p = slave-fmmu line member memory i x m stays has programmed low pair in
-    let q = slave-fmmu line member memory j y m stays has programmed low' pair' in
+one-writer : {Asked : ℕ → Type 0} (line : List Member) (member : Member) (memory : List ℕ) (i j x y m : ℕ) → KeepsLine line → Contains line member → CarriesAsked Asked line member memory → i < 16
+    → j < 16 → Asked x → Asked y → IsPair (fmmu_block_at memory i) x m → IsPair (fmmu_block_at memory j) y m → i ≡ j
+one-writer line member memory i j x y m stays has carrying low low' asked asked' pair pair' =
+    let p = asked-fmmu line member memory i x m stays has carrying low asked pair in
+    let q = asked-fmmu line member memory j y m stays has carrying low' asked' pair' in
     one-index line member i j p.area q.area m p.pair.k q.pair.k stays has p.is.in_record q.is.in_record p.pair.below p.pair.memory q.pair.below q.pair.memory
 
 -- so each bit of the data, and each of memory, is given by the areas
 
-pub bit-brought : (line : List Member) (member : Member) (memory bytes : List ℕ) (from bit m : ℕ) → KeepsLine line → Contains line member → IsProgrammed line member memory
-    → bit < 8 * length bytes → CarriesPair line In member.slave.station (from + bit) m → bit_of (logical_data memory from bytes) bit ≡ bit_of memory m
-bit-brought line member memory bytes from bit m stays has programmed low input =
-    let reader = carried-reads line member memory (from + bit) m stays has programmed input in
+pub bit-brought : {Asked : ℕ → Type 0} (line : List Member) (member : Member) (memory bytes : List ℕ) (from bit m : ℕ) → KeepsLine line → Contains line member → CarriesAsked Asked line member memory
+    → AreAsked Asked from bytes → bit < 8 * length bytes → CarriesPair line In member.slave.station (from + bit) m → bit_of (logical_data memory from bytes) bit ≡ bit_of memory m
+bit-brought line member memory bytes from bit m stays has carrying asked low input =
+    let reader = carried-reads line member memory (from + bit) m stays has carrying (asked bit low) input in
     let below = reader.below in
     read-from-memory memory bytes from bit reader.fmmu m low reader.below (reader.turned, reader.pair)
     (λ j n lower reads.
-    let same = one-reader line member memory reader.fmmu j (from + bit) m n stays has programmed reader.below (omega arith) reader.pair reads.1 in
+    let same = one-reader line member memory reader.fmmu j (from + bit) m n stays has carrying reader.below (omega arith) (asked bit low) reader.pair reads.1 in
     omega arith)
 
-pub bit-left : (line : List Member) (member : Member) (memory bytes : List ℕ) (from bit : ℕ) → KeepsLine line → Contains line member → IsProgrammed line member memory
-    → bit < 8 * length bytes → ((m : ℕ) → ¬ (CarriesPair line In member.slave.station (from + bit) m)) → bit_of (logical_data memory from bytes) bit ≡ bit_of bytes bit
-bit-left line member memory bytes from bit stays has programmed low none =
-    unread-stays memory bytes from bit low (λ j n below reads. none n (reads-carried line member memory j (from + bit) n stays has programmed below reads))
+pub bit-left : {Asked : ℕ → Type 0} (line : List Member) (member : Member) (memory bytes : List ℕ) (from bit : ℕ) → KeepsLine line → Contains line member → CarriesAsked Asked line member memory
+    → AreAsked Asked from bytes → bit < 8 * length bytes → ((m : ℕ) → ¬ (CarriesPair line In member.slave.station (from + bit) m))
+    → bit_of (logical_data memory from bytes) bit ≡ bit_of bytes bit
+bit-left line member memory bytes from bit stays has carrying asked low none =
+    unread-stays memory bytes from bit low (λ j n below reads. none n (reads-carried line member memory j (from + bit) n stays has carrying below (asked bit low) reads))
 
 -- the memory of an area is process memory
 pub output-high : (line : List Member) (station x m : ℕ) → KeepsLine line → (pairs : AreasPair line station x m) → 32768 ≤ m
@@ -153,41 +154,54 @@ output-high line station x m stays pairs =
     let memory = pairs.pair.memory in
     omega arith
 
-pub bit-arrived : (line : List Member) (member : Member) (memory bytes : List ℕ) (from bit m : ℕ) → KeepsLine line → Contains line member → IsProgrammed line member memory
-    → bit < 8 * length bytes → CarriesPair line Out member.slave.station (from + bit) m → bit_of (logical_memory memory from bytes) m ≡ bit_of bytes bit
-bit-arrived line member memory bytes from bit m stays has programmed low output =
-    let writer = carried-writes line member memory (from + bit) m stays has programmed output in
+pub bit-arrived : {Asked : ℕ → Type 0} (line : List Member) (member : Member) (memory bytes : List ℕ) (from bit m : ℕ) → KeepsLine line → Contains line member → CarriesAsked Asked line member memory
+    → AreAsked Asked from bytes → bit < 8 * length bytes → CarriesPair line Out member.slave.station (from + bit) m → bit_of (logical_memory memory from bytes) m ≡ bit_of bytes bit
+bit-arrived line member memory bytes from bit m stays has carrying asked low output =
+    let writer = carried-writes line member memory (from + bit) m stays has carrying (asked bit low) output in
     let high = output-high line member.slave.station (from + bit) m stays output.areas in
     let below = writer.below in
-    written-from-data memory bytes from bit writer.fmmu m programmed.machine.size (inr (omega arith)) low writer.below (writer.turned, writer.pair)
+    written-from-data memory bytes from bit writer.fmmu m carrying.size (inr (omega arith)) low writer.below (writer.turned, writer.pair)
     (λ j n lower inside writes.
-    let same = one-writer line member memory writer.fmmu j (from + bit) (from + n) m stays has programmed writer.below (omega arith) writer.pair writes.1 in
+    let same = one-writer line member memory writer.fmmu j (from + bit) (from + n) m stays has carrying writer.below (omega arith) (asked bit low) (asked n inside) writer.pair writes.1 in
     omega arith)
 
-pub bit-unchanged : (line : List Member) (member : Member) (memory bytes : List ℕ) (from m : ℕ) → KeepsLine line → Contains line member → IsProgrammed line member memory → m < 98304
+pub bit-unchanged : {Asked : ℕ → Type 0} (line : List Member) (member : Member) (memory bytes : List ℕ) (from m : ℕ) → KeepsLine line → Contains line member → CarriesAsked Asked line member memory
+    → AreAsked Asked from bytes → m < 98304
     → ((bit : ℕ) → bit < 8 * length bytes → ¬ (CarriesPair line Out member.slave.station (from + bit) m)) → bit_of (logical_memory memory from bytes) m ≡ bit_of memory m
-bit-unchanged line member memory bytes from m stays has programmed low none =
-    unwritten-stays memory bytes from m programmed.machine.size low
-    (λ j n below inside writes. none n inside (writes-carried line member memory j (from + n) m stays has programmed below writes))
+bit-unchanged line member memory bytes from m stays has carrying asked low none =
+    unwritten-stays memory bytes from m carrying.size low
+    (λ j n below inside writes. none n inside (writes-carried line member memory j (from + n) m stays has carrying below (asked n inside) writes))
 
 -- and the registers stay
+
+pub registers-stay : {Asked : ℕ → Type 0} (line : List Member) (member : Member) (memory bytes : List ℕ) (from r : ℕ) → KeepsLine line → Contains line member → CarriesAsked Asked line member memory
+    → AreAsked Asked from bytes → r < 4096 → get_or (logical_memory memory from bytes) r 0 ≡ get_or memory r 0
+registers-stay line member memory bytes from r stays has carrying asked low =
+    let long = carrying.size in
+    let memory' = logical_memory memory from bytes in
+    let long' : length memory' ≡ 12288 = length-memory memory bytes from ∙ long in
+    let all_bytes = memory-bytes memory bytes from long carrying.all_bytes in
+    same-byte memory' memory r (all_bytes r (omega arith)) (carrying.all_bytes r (omega arith))
+    (λ j below.
+    bit-unchanged line member memory bytes from (8 * r + j) stays has carrying asked (omega arith)
+    (λ bit inside output.
+    let high = output-high line member.slave.station (from + bit) (8 * r + j) stays output.areas in
+    omega arith))
+
+pub stays-carrying : {Asked : ℕ → Type 0} (line : List Member) (member : Member) (memory bytes : List ℕ) (from : ℕ) → KeepsLine line → Contains line member → CarriesAsked Asked line member memory
+    → AreAsked Asked from bytes → CarriesAsked Asked line member (logical_memory memory from bytes)
+stays-carrying line member memory bytes from stays has carrying asked =
+    let long = carrying.size in
+    carrying-unchanged line member memory (logical_memory memory from bytes) stays has carrying (length-memory memory bytes from ∙ long) (memory-bytes memory bytes from long carrying.all_bytes)
+    (λ r low. registers-stay line member memory bytes from r stays has carrying asked low)
 
 pub stays-ready : (line : List Member) (member : Member) (memory bytes : List ℕ) (from : ℕ) → KeepsLine line → Contains line member → IsReadyMachine line member memory
     → IsReadyMachine line member (logical_memory memory from bytes)
 stays-ready line member memory bytes from stays has ready =
-    let programmed = ready.programmed in
-    let memory' = logical_memory memory from bytes in
-    let long = programmed.machine.size in
-    let long' : length memory' ≡ 12288 = length-memory memory bytes from ∙ long in
-    let all_bytes = memory-bytes memory bytes from long ready.all_bytes in
+    let long = ready.programmed.machine.size in
+    let carrying = ready-carries {Asked = λ x. Unit {0}} line member memory stays has ready in
     record {
-      programmed = programmed-unchanged line member memory memory' stays has programmed long'
-          (λ r low.
-          same-byte memory' memory r (all_bytes r (omega arith)) (ready.all_bytes r (omega arith))
-          (λ j below.
-          bit-unchanged line member memory bytes from (8 * r + j) stays has programmed (omega arith)
-          (λ bit inside output.
-          let high = output-high line member.slave.station (from + bit) (8 * r + j) stays output.areas in
-          omega arith)));
-      all_bytes = all_bytes;
+      programmed = programmed-unchanged line member memory (logical_memory memory from bytes) stays has ready.programmed (length-memory memory bytes from ∙ long)
+          (λ r low. registers-stay line member memory bytes from r stays has carrying (λ bit inside. tt) low);
+      all_bytes = memory-bytes memory bytes from long ready.all_bytes;
     }

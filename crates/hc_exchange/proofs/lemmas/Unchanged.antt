@@ -14,7 +14,7 @@ range-length : (bytes : List ℕ) (from n : ℕ) → from + n ≤ length bytes �
 range-length bytes from n within = length-take (from + n - from) (drop from bytes) ∙ omega (arith, length-drop from bytes)
 
 -- bytes that are the same from a place on
-same-range : (a b : List ℕ) (from n : ℕ) → from + n ≤ length a → from + n ≤ length b → ((i : ℕ) → i < n → get_or a (from + i) 0 ≡ get_or b (from + i) 0)
+pub same-range : (a b : List ℕ) (from n : ℕ) → from + n ≤ length a → from + n ≤ length b → ((i : ℕ) → i < n → get_or a (from + i) 0 ≡ get_or b (from + i) 0)
     → slice_range a from (from + n) ≡ slice_range b from (from + n)
 same-range a b from n within within' same =
     let long = range-length a from n within in

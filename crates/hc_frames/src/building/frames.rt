@@ -1,7 +1,7 @@
 //! Whole frames of one datagram.
-ghost use Rattle.std.specs.Prelude.{◌≡◌, ◌+◌, ◌-◌, ◌*◌, ◌%◌, ◌^◌, ◌<◌, ◌≤◌, [], ◌∷◌, length, map};
+ghost use Rattle.std.specs.Prelude.{◌≡◌, ◌+◌, ◌-◌, ◌*◌, ◌%◌, ◌^◌, ◌<◌, ◌≤◌, [], ◌∷◌, length, map, replicate};
 ghost use Rattle.hc_frames.specs.Builds.{Builds};
-ghost use Rattle.hc_frames.specs.FrameText.{frame_text, blank_lrw, block_write, station_write, alias_read};
+ghost use Rattle.hc_frames.specs.FrameText.{frame_text, blank_lrw, block_write, station_write, alias_read, fmmu_off};
 ghost use Rattle.hc_frames.specs.Sizes.{ShareFrame, datagrams_size, frame_bytes, frame_size};
 
 use super::Room;
@@ -9,9 +9,10 @@ use super::datagrams::{station_address, write_blank_datagrams, write_datagram};
 use super::heads::build_head;
 use crate::commands::Command;
 use crate::limits::{
-    ALIAS_REGISTER, BESIDE_DATA_BYTES, HEAD_BYTES, LEAST_FRAME, MAX_DATA, MAX_ETHERCAT,
+    ALIAS_REGISTER, BESIDE_DATA_BYTES, HEAD_BYTES, LEAST_FRAME, MAX_DATA, MAX_ETHERCAT, MOST_FMMUS,
     SETUP_SERIAL, STATION_REGISTER,
 };
+use hc_registers::registers::{FMMU_BLOCK_BYTES, FMMU_BLOCKS};
 
 /// The bytes of a frame with `size` bytes of datagrams: 16 more, and 60 at least.
 pub(crate) fn frame_bytes(size: usize) -> usize
@@ -113,6 +114,30 @@ pub fn build_alias_read(out: &mut [u8], position: u16) -> Result<usize, Room>
 {
     let address = position_address(position, ALIAS_REGISTER);
     build_single(out, SETUP_SERIAL, Command::Aprd, address, &[0, 0])
+}
+
+/// The first bytes of zeros, as many as `size`.
+fn zeros_of(zeros: &[u8; 256], size: usize) -> &[u8]
+    requires zeros { zeros.now ≡ replicate 256 0 }
+    requires few { size ≤ 256 }
+    ensures { result.now ≡ replicate size 0 }
+{
+    &zeros[..size]
+}
+
+/// Writes the frame that writes zeros to the first `count` FMMUs of the slave at a station address (FPWR, ETG.1000.4, 6.6)
+/// to the front of `out`, and returns the frame's size in bytes: 28 bytes and 16 for each FMMU, and 60 at least. `count` is
+/// 1 to 16. The frame bears the setup serial. After it a slave with at most `count` FMMUs in use takes no part in process
+/// data until its FMMUs are written again; it came back with working counter 1 if the slave took the zeros. Fails with
+/// `Room`, which has the size needed, if `out` is shorter; `out` is then as it was.
+pub fn build_fmmu_off(out: &mut [u8], station: u16, count: u8) -> Result<usize, Room>
+    requires some { 1 ≤ count }
+    requires few { count ≤ MOST_FMMUS }
+    ensures { Builds out.old out.new result (frame_text SETUP_SERIAL (fmmu_off station count ∷ [])) (frame_size (FMMU_BLOCK_BYTES * count)) }
+{
+    let zeros = [0; MOST_FMMUS as usize * FMMU_BLOCK_BYTES as usize];
+    let written = zeros_of(&zeros, usize::from(FMMU_BLOCK_BYTES) * usize::from(count));
+    build_write(out, SETUP_SERIAL, station, FMMU_BLOCKS, written)
 }
 
 /// Writes a frame of LRW datagrams, given by address and number of data bytes, whose data bytes are 0, to the front of

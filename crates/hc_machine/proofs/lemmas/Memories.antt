@@ -7,10 +7,10 @@ use Rattle.std.proofs.lemmas.List.FromFn.{get_or-map-range_with_len}
 use Rattle.hc_bits.specs.Bits.{AreBytes, bit_of}
 use Rattle.hc_bits.proofs.lemmas.Bits.{bit_of-lt, bit_of-byte}
 use Rattle.hc_machine.specs.Fmmus.{fmmus_of}
-use Rattle.hc_machine.specs.Logical.{bit_written, logical_data, logical_memory}
+use Rattle.hc_machine.specs.Logical.{bit_read, bit_written, logical_data, logical_memory}
 use Rattle.hc_machine.specs.Memory.{byte_with, bytes_with, with_alias_of}
 use Rattle.hc_machine.proofs.Bytes.{byte-bits}
-use Rattle.hc_machine.proofs.Lowest.{length-bytes_with, chosen-small, write-small}
+use Rattle.hc_machine.proofs.Lowest.{length-bytes_with, read-small, write-small}
 
 pub length-data : (memory bytes : List ℕ) (from : ℕ) → length (logical_data memory from bytes) ≡ length bytes
 unfolding logical_data
@@ -62,6 +62,14 @@ memory-bytes memory bytes from long small i within =
     let count = length-bytes_with (length memory) bit in
     let inside : i < length memory = omega (arith, within, length-memory memory bytes from) in
     alias-small memory (bytes_with (length memory) bit) i (omega arith) (small 18 (omega arith)) (small 19 (omega arith)) (spelled-small (length memory) bit i inside low)
+
+-- so is each number of the data
+pub data-bytes : (memory bytes : List ℕ) (from : ℕ) → AreBytes (logical_data memory from bytes)
+unfolding logical_data
+data-bytes memory bytes from i within =
+    let bit : ℕ → ℕ = λ k. bit_read (fmmus_of memory) (bit_of memory) (from + k) (bit_of bytes k) in
+    let count = length-bytes_with (length bytes) bit in
+    spelled-small (length bytes) bit i (omega (arith, within, count)) (λ k. read-small (fmmus_of memory) (bit_of memory) (from + k) (bit_of bytes k) (bit_of-lt memory) (bit_of-lt bytes k))
 
 -- bytes are the same where their bits are
 

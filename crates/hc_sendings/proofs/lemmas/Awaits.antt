@@ -1,5 +1,5 @@
 -- What is kept as awaited stays what the record awaits: at the opening, after edits, stale arrivals, posts, register writes and forgotten slaves.
-use Rattle.std.proofs.Common.{◌≡◌, ◌≢◌, ℕ, ◌+◌, ◌==◌, ◌<◌, Bool, true, false, cond, not, ◌||◌, List, [], ◌∷◌, ◌++◌, filter, length, map, refl, sym, ap, ◌∙◌, arith, Option, Some, None}
+use Rattle.std.proofs.Common.{◌≡◌, ◌≢◌, ℕ, ◌+◌, ◌==◌, ◌<◌, Bool, true, false, cond, not, ◌||◌, ◌&&◌, List, [], ◌∷◌, ◌++◌, filter, length, map, refl, sym, ap, ◌∙◌, arith, Option, Some, None}
 use Rattle.std.specs.Prelude.{All, AllPairs, find, option_and_then, option_map}
 use Rattle.std.specs.Option.{option_or}
 use Rattle.std.specs.List.{list_any}
@@ -13,12 +13,12 @@ use Rattle.hc_records.proofs.lemmas.Choices.{by_bool}
 use Rattle.hc_registers.specs.Blocks.{LineBlock}
 use Rattle.hc_events.specs.Arrivals.{Arrival}
 use Rattle.hc_events.specs.Accepted.{IsInLine, just_opened}
-use Rattle.hc_events.specs.Entries.{HistoryEntry, History, Edited, Posted, Wrote, Came, Forgot}
+use Rattle.hc_events.specs.Entries.{HistoryEntry, History, Edited, Posted, Wrote, Came, Forgot, Cleared, Unplugged}
 use Rattle.hc_events.specs.Points.{line_of, next_serial}
-use Rattle.hc_events.specs.Heads.{Datagram, Head, write_heads}
-use Rattle.hc_events.specs.Answering.{Sending, followed_by, is_current, is_stale_to, judged_by, sending_of_heads, sending_of, sends}
+use Rattle.hc_events.specs.Heads.{Block, Datagram, Head, Item, write_heads}
+use Rattle.hc_events.specs.Answering.{Sending, ends, followed_by, is_current, is_outdated, is_stale_to, judged_by, sending_of_heads, sending_of, sends}
 use Rattle.hc_events.specs.Awaited.{still_awaited, all_outdated, awaited, is_ended, is_no_arrival}
-use Rattle.hc_events.proofs.lemmas.Awaited.{awaited_edited, awaited_other, all-posted, awaited-stale, outdated-posted, unless_again}
+use Rattle.hc_events.proofs.lemmas.Awaited.{awaited_edited, awaited_other, awaited-stale, outdated-posted, unless_again}
 use Rattle.hc_events.proofs.lemmas.Once.{below_more}
 use Rattle.hc_sendings.specs.declared.write_frames.PlacedBlock.{PlacedBlock}
 use Rattle.hc_sendings.specs.declared.writes.AwaitedBlock.{AwaitedBlock}
@@ -63,39 +63,94 @@ waits-stale history stored arrival stale waits = record {
   forgotten = waits.forgotten;
 }
 
--- nor does a post
+-- nor does an entry that concerns no sending: a post, or what is said of a slave's registers
 
-dues_posted : (task : ℕ) (bytes : List ℕ) (heads : List Head) (since : List HistoryEntry) → map (due_in (Posted task bytes ∷ since)) heads ≡ map (due_in since) heads
-dues_posted task bytes [] since = refl
-dues_posted task bytes (head ∷ heads) since =
-    ap (λ b. let due : Due = record { head = head; last_sent = not b } in due ∷ map (due_in (Posted task bytes ∷ since)) heads) (outdated-posted task bytes head.item since)
-    ∙ ap (λ dues. due_in since head ∷ dues) (dues_posted task bytes heads since)
+pub record IsBeside (entry : HistoryEntry) : Type 0 where
+  outdated : (item : Item) (since : List HistoryEntry) → is_outdated item (entry ∷ since) ≡ is_outdated item since
+  going : (serial : ℕ) (heads : List Head) → ends serial heads entry ≡ false
+  stays : is_no_arrival entry ≡ true
+
+dues_beside : (entry : HistoryEntry) → IsBeside entry → (heads : List Head) (since : List HistoryEntry) → map (due_in (entry ∷ since)) heads ≡ map (due_in since) heads
+dues_beside entry beside [] since = refl
+dues_beside entry beside (head ∷ heads) since =
+    ap (λ b. let due : Due = record { head = head; last_sent = not b } in due ∷ map (due_in (entry ∷ since)) heads) (beside.outdated head.item since)
+    ∙ ap (λ dues. due_in since head ∷ dues) (dues_beside entry beside heads since)
+
+all_beside : (entry : HistoryEntry) → IsBeside entry → (heads : List Head) (since : List HistoryEntry) → all_outdated (entry ∷ since) heads ≡ all_outdated since heads
+all_beside entry beside [] since = refl
+all_beside entry beside (head ∷ heads) since =
+    ap (λ b. b && all_outdated (entry ∷ since) heads) (beside.outdated head.item since) ∙ ap (λ b. is_outdated head.item since && b) (all_beside entry beside heads since)
 
 due_if : (over : Bool) (a b : Sending) → dues_of a ≡ dues_of b → option_map dues_of (cond over None (Some a)) ≡ option_map dues_of (cond over None (Some b))
 due_if true a b same = refl
 due_if false a b same = ap (λ dues. Some dues) same
 
-due_posted : (task : ℕ) (bytes : List ℕ) (serial : ℕ) (found : Option Sending)
-    → option_map dues_of (option_and_then (still_awaited serial) (option_map (followed_by (Posted task bytes)) found)) ≡ option_map dues_of (option_and_then (still_awaited serial) found)
-due_posted task bytes serial None = refl
-due_posted task bytes serial (Some sending) =
+due_beside : (entry : HistoryEntry) → IsBeside entry → (serial : ℕ) (found : Option Sending)
+    → option_map dues_of (option_and_then (still_awaited serial) (option_map (followed_by entry) found)) ≡ option_map dues_of (option_and_then (still_awaited serial) found)
+due_beside entry beside serial None = refl
+due_beside entry beside serial (Some sending) =
     let slim : List HistoryEntry = filter is_no_arrival sending.since in
-    ap (λ b. option_map dues_of (cond (is_ended serial sending || b) None (Some (record { heads = sending.heads; since = Posted task bytes ∷ slim })))) (all-posted task bytes sending.heads sending.since)
+    let after : Bool → Bool → List HistoryEntry → Option (List Due) =
+    λ ended over since. option_map dues_of (cond ((ended || is_ended serial sending) || over) None (Some (record { heads = sending.heads; since = since }))) in
+    ap (λ b. after b (all_outdated (entry ∷ sending.since) sending.heads) (filter is_no_arrival (entry ∷ sending.since))) (beside.going serial sending.heads)
+    ∙ ap (λ b. after false b (filter is_no_arrival (entry ∷ sending.since))) (all_beside entry beside sending.heads sending.since)
+    ∙ ap (λ b. after false (all_outdated sending.since sending.heads) (cond b (entry ∷ slim) slim)) beside.stays
     ∙ due_if (is_ended serial sending || all_outdated sending.since sending.heads)
-    (record { heads = sending.heads; since = Posted task bytes ∷ slim })
-    (record { heads = sending.heads; since = slim }) (dues_posted task bytes sending.heads slim)
+    (record { heads = sending.heads; since = entry ∷ slim })
+    (record { heads = sending.heads; since = slim }) (dues_beside entry beside sending.heads slim)
+
+posted_beside : (task : ℕ) (bytes : List ℕ) → IsBeside (Posted task bytes)
+posted_beside task bytes = record { outdated = outdated-posted task bytes; going = λ serial heads. refl; stays = refl }
+
+outdated-cleared : (station : ℕ) (item : Item) (since : List HistoryEntry) → is_outdated item (Cleared station ∷ since) ≡ is_outdated item since
+outdated-cleared station (Datagram t d) since = refl
+outdated-cleared station (Block other number) since = refl
+
+outdated-unplugged : (station : ℕ) (item : Item) (since : List HistoryEntry) → is_outdated item (Unplugged station ∷ since) ≡ is_outdated item since
+outdated-unplugged station (Datagram t d) since = refl
+outdated-unplugged station (Block other number) since = refl
 
 pub waits-posted : (history : History) (stored : Waiting) (task : ℕ) (bytes : List ℕ) → KeepsAwaited history stored → KeepsAwaited (Posted task bytes ∷ history) stored
-waits-posted history stored task bytes waits = record {
-  due = λ serial. waits.due serial ∙ sym (due_posted task bytes serial (sending_of history serial));
-  ascend = waits.ascend;
-  below = waits.below;
-  is_placed = waits.is_placed;
-  in_order = waits.in_order;
-  given = waits.given;
-  apart = waits.apart;
-  forgotten = waits.forgotten;
-}
+waits-posted history stored task bytes waits =
+    record {
+      due = λ serial. waits.due serial ∙ sym (due_beside (Posted task bytes) (posted_beside task bytes) serial (sending_of history serial));
+      ascend = waits.ascend;
+      below = waits.below;
+      is_placed = waits.is_placed;
+      in_order = waits.in_order;
+      given = waits.given;
+      apart = waits.apart;
+      forgotten = waits.forgotten;
+    }
+
+-- a slave is cleared, or unplugged
+pub waits-cleared : (history : History) (stored : Waiting) (station : ℕ) → KeepsAwaited history stored → KeepsAwaited (Cleared station ∷ history) stored
+waits-cleared history stored station waits =
+    let beside : IsBeside (Cleared station) = record { outdated = outdated-cleared station; going = λ serial heads. refl; stays = refl } in
+    record {
+      due = λ serial. waits.due serial ∙ sym (due_beside (Cleared station) beside serial (sending_of history serial));
+      ascend = waits.ascend;
+      below = waits.below;
+      is_placed = waits.is_placed;
+      in_order = waits.in_order;
+      given = waits.given;
+      apart = waits.apart;
+      forgotten = waits.forgotten;
+    }
+
+pub waits-unplugged : (history : History) (stored : Waiting) (station : ℕ) → KeepsAwaited history stored → KeepsAwaited (Unplugged station ∷ history) stored
+waits-unplugged history stored station waits =
+    let beside : IsBeside (Unplugged station) = record { outdated = outdated-unplugged station; going = λ serial heads. refl; stays = refl } in
+    record {
+      due = λ serial. waits.due serial ∙ sym (due_beside (Unplugged station) beside serial (sending_of history serial));
+      ascend = waits.ascend;
+      below = waits.below;
+      is_placed = waits.is_placed;
+      in_order = waits.in_order;
+      given = waits.given;
+      apart = waits.apart;
+      forgotten = waits.forgotten;
+    }
 
 -- register blocks are written in one frame
 

@@ -4,7 +4,7 @@ use Rattle.std.specs.Prelude.{option_and_then, option_map}
 use Rattle.std.specs.List.{list_any}
 use Rattle.hc_records.specs.Line.{Member}
 use Rattle.hc_records.proofs.lemmas.Choices.{by_bool}
-use Rattle.hc_events.specs.Entries.{HistoryEntry, History, Opened, Edited, Posted, Sent, Wrote, Came, Forgot}
+use Rattle.hc_events.specs.Entries.{HistoryEntry, History, Opened, Edited, Sent, Wrote, Came, Forgot}
 use Rattle.hc_events.specs.Points.{line_of, next_serial}
 use Rattle.hc_events.specs.Sendings.{Named}
 use Rattle.hc_events.specs.Heads.{Head, data_heads, is_block, write_heads}
@@ -47,10 +47,6 @@ since (Opened groups ∷ history) serial sending e going = cc
 since (Edited edit ∷ history) serial sending e going =
     let one = followed (Edited edit) (sending_of history serial) sending e in
     let never : true ≡ false = sym (ap (is_ended serial) one.is) ∙ going.0 in cc
-since (Posted task bytes ∷ history) serial sending e going =
-    let one = followed (Posted task bytes) (sending_of history serial) sending e in
-    let before : IsOpen serial one.before = subst (IsOpen serial) one.is going in
-    ap (λ (s : Sending). list_any is_forgetting s.since) one.is ∙ since history serial one.before one.there before
 since (Sent frame ∷ history) serial sending e going =
     by_bool (next_serial history == serial)
     (λ t. let is : sending_of_heads (data_heads (line_of history) frame) ≡ sending =
@@ -77,6 +73,10 @@ since (Came arrival ∷ history) serial sending e going =
 since (Forgot station ∷ history) serial sending e going =
     let one = followed (Forgot station) (sending_of history serial) sending e in
     ap (λ (s : Sending). list_any is_forgetting s.since) one.is
+since (entry ∷ history) serial sending e going =
+    let one = followed entry (sending_of history serial) sending e in
+    let before : IsOpen serial one.before = subst (IsOpen serial) one.is going in
+    ap (λ (s : Sending). list_any is_forgetting s.since) one.is ∙ since history serial one.before one.there before
 
 -- what is awaited is such a sending without the arrivals since
 

@@ -1,3 +1,5 @@
+use denote.Param.Send.{sendable}
+use Rattle.std.proofs.Crossing.{crosses}
 use Rattle.std.proofs.Common.{rules, ◌≡◌, List, None, length, sum, sum_by, ap, subst, sym, ◌∙◌, arith}
 use Rattle.std.specs.List.{concat, flat_map}
 use Rattle.std.proofs.lemmas.List.{length-map}
@@ -8,6 +10,7 @@ use Rattle.hc_events.specs.Sendings.{Frame, sent_frame_size}
 use Rattle.hc_events.specs.Steps.{sent_text}
 use Rattle.hc_lend.specs.Work.{worked_parts}
 use Rattle.hc_sendings.specs.Parts.{part_size}
+use Rattle.hc_core.proofs.lemmas.Crossing.{core_field_sync, core_sync}
 use Rattle.hc_core.proofs.lemmas.Parts.{proposal-few}
 use Rattle.hc_conductor.specs.AtOnce.{part_written_at, sizes_of}
 use Rattle.hc_conductor.proofs.AtOnce.{parts-fillable, parts-joined, sizes-whole}
@@ -33,8 +36,8 @@ of-requires g c =
     ∙ (sizes-whole history tasks c.requires.together ∙ (ap (sum_by sent_frame_size) (sym c.requires.proposal) ∙ sym c.requires.exact)))
 
 pub each_at_once-requires-after_bounds : goal.each_at_once-requires-after_bounds
-each_at_once-requires-after_bounds g c κs within =
-    parts-fillable c.args.core.now.history c.args.frames.now c.args.tasks.now c.of.result.lengths.now c.of.result.bytes.now c.requires.can (c.of.ensures.lengths ∙ c.put_sizes.ensures) c.of.result.all
+each_at_once-requires-after_bounds g c κs within = λ k d less passed.
+    parts-fillable c.args.core.now.history c.args.frames.now c.args.tasks.now c.of.result.lengths.now c.of.result.bytes.now c.requires.can (c.of.ensures.lengths ∙ c.put_sizes.ensures) c.of.result.all k d less
 
 pub returns : goal.returns
 returns g c =
@@ -45,3 +48,6 @@ returns g c =
     (search rules ∙ c.each_at_once.ensures.whole)
     ∙ subst (λ (frames : List Frame). concat (worked_parts (λ part b. part_written_at history frames tasks part) 0 lengths c.of.result.bytes.now) ≡ flat_map (sent_text history) frames) (sym c.requires.proposal)
     (parts-joined history tasks lengths c.of.result.bytes.now c.requires.together long)
+
+pub each_at_once-requires-sync-W : goal.each_at_once-requires-sync-W
+each_at_once-requires-sync-W g c κs within = search (sendable, crosses, core_field_sync, core_sync) depth 100 fits 100000

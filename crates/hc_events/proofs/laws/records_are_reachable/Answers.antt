@@ -1,6 +1,6 @@
 use Rattle.std.proofs.Common.{◌≡◌, List, refl}
 use Rattle.hc_records.specs.declared.records.Group.{Group}
-use Rattle.hc_events.specs.Entries.{History, Opened, Edited, Posted, Sent, Wrote, Came, Forgot}
+use Rattle.hc_events.specs.Entries.{History, Opened, Edited, Posted, Sent, Wrote, Came, Forgot, Cleared, Unplugged}
 use Rattle.hc_events.specs.Points.{opened_with}
 use Rattle.hc_events.specs.Accepted.{AreAccepted, just_opened}
 use Rattle.hc_events.proofs.lemmas.Accepted.{StaysTrue, accepted-more, unchanged-after_all}
@@ -15,6 +15,8 @@ opened_more groups history (Opened others) accepted before = absurd accepted
 opened_more groups history (Edited edit) accepted before = before
 opened_more groups history (Posted task bytes) accepted before = before
 opened_more groups history (Forgot station) accepted before = before
+opened_more groups history (Cleared station) accepted before = before
+opened_more groups history (Unplugged station) accepted before = before
 opened_more groups history (Sent frame) accepted before = before
 opened_more groups history (Wrote blocks) accepted before = before
 opened_more groups history (Came arrival) accepted before = before

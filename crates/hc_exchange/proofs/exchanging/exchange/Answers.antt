@@ -1,30 +1,24 @@
-use Rattle.std.proofs.Common.{◌≡◌, ℕ, ◌<◌, ◌∙◌, List, None, length, sym, ap, ap₂, subst, arith}
-use Rattle.hc_records.specs.declared.limits.TheConstants.{TASKS}
-use Rattle.hc_records.specs.Edits.{over_limit_task}
-use Rattle.hc_records.specs.Line.{State, groups_of, line}
-use Rattle.hc_records.specs.Project.{lowest_fault}
+use Rattle.std.proofs.Common.{ℕ, ◌<◌, ◌∙◌, length, sym, ap, ap₂, subst, arith}
+use Rattle.hc_records.specs.Line.{line}
 use Rattle.hc_segment.specs.Line.{frames_through, machines_after}
-use Rattle.hc_places.specs.Table.{Table, datagrams_in, table_of}
-use Rattle.hc_images.specs.Packed.{HoldsOutputValues, IsLaidOut, Packed, sent_bytes}
-use Rattle.hc_images.specs.Values.{posted_values}
+use Rattle.hc_places.specs.Table.{Table, datagrams_in}
+use Rattle.hc_images.specs.Packed.{IsLaidOut, sent_bytes}
 use Rattle.hc_images.proofs.lemmas.LaidOut.{line-laid_out}
-use Rattle.hc_exchange.specs.PairLaws.{IsConfigurable}
 use Rattle.hc_exchange.specs.Sent.{task_frames}
-use Rattle.hc_exchange.proofs.Meaning.{exchanged}
-use Rattle.hc_exchange.proofs.Packing.{HoldsPost, lengths-sent, packed-data}
+use Rattle.hc_registers.specs.Blocks.{line_blocks}
+use Rattle.hc_exchange.specs.Carrying.{IsBitOfTask}
+use Rattle.hc_exchange.specs.WritingLaws.{machines_written}
+use Rattle.hc_exchange.proofs.Bare.{exchanged-alone}
+use Rattle.hc_exchange.proofs.Joined.{joined}
+use Rattle.hc_exchange.proofs.Packing.{can-configure, holds-in, lengths-sent, packed-data}
 use Rattle.hc_exchange.proofs.Ready.{machines-of}
+use Rattle.hc_exchange.proofs.lemmas.Asked.{programmed-carry}
+use Rattle.hc_exchange.proofs.lemmas.Ready.{written-programmed}
 use Rattle.hc_exchange.proofs.exchanging.exchange.Goals as goal
 
 pub packed-requires : goal.packed-requires
 packed-requires c =
     subst IsLaidOut (sym c.places-places.ensures.table) (line-laid_out c.args.plan.now c.places-places.ensures.unchanged c.places-places.ensures.uncrowded)
-
-abbrev can-configure : (state : State) → lowest_fault (groups_of state.groups) ≡ None → over_limit_task (line state) ≡ None → IsConfigurable state
-can-configure state project uncrowded = record { project = project; uncrowded = uncrowded }
-
-holds-in : (state : State) (task : ℕ) (image : List ℕ) (packed : Packed) (table : Table) → table ≡ table_of (line state) → (task < TASKS → HoldsOutputValues table (posted_values table task image (λ variable k. 0)) packed)
-    → HoldsPost state task image packed
-holds-in state task image packed table is holds known = subst (λ (t : Table). HoldsOutputValues t (posted_values t task image (λ variable k. 0)) packed) is (holds known)
 
 pub frames_of-requires-clause-sizes : goal.frames_of-requires-clause-sizes
 frames_of-requires-clause-sizes c d low =
@@ -54,11 +48,15 @@ pub returns-clause-meant : goal.returns-clause-meant
 returns-clause-meant c ready =
     let state = c.args.plan.now in
     let places = c.places-places.ensures in
-    exchanged state c.args.task c.args.outputs.now c.args.segment.now _ c.send_all.new.segment
+    let can = can-configure state places.unchanged places.uncrowded in
+    let bytes = c.hold_bytes.ensures.bytes in
+    let of_line = machines-of (line state) c.args.segment.now bytes c.hold_bytes.ensures.sizes ready in
+    let written = machines_written (line state) c.args.segment.now in
+    joined state c.args.task (length (line_blocks (line state))) c.args.outputs.now c.args.segment.now _ c.send_all.new.segment can of_line
+    (exchanged-alone state c.args.task (length (line_blocks (line state))) c.args.outputs.now written _ c.send_all.new.segment
     (record {
-      can = can-configure state places.unchanged places.uncrowded;
-      small = c.hold_bytes.ensures.bytes;
+      can = can;
       few = omega (arith, c.blocks-2.type_inv, c.blocks-2.ensures);
       sent = returns-clause-sent c;
-      of_line = machines-of (line state) c.args.segment.now c.hold_bytes.ensures.bytes c.hold_bytes.ensures.sizes ready;
-    })
+      carrying = programmed-carry (IsBitOfTask (line state) c.args.task) state written can (written-programmed state c.args.segment.now can of_line bytes);
+    }))

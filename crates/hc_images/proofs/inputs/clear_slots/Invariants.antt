@@ -7,4 +7,6 @@ invariant-loop-i l = record {
   size : length l.slots ≡ length l.fn.slots;
   cleared : (n : ℕ) → l.from ≤ n → n < l.i → get_or l.slots n None ≡ None;
   others : (n : ℕ) → get_or l.fn.slots n None ≡ None → get_or l.slots n None ≡ None;
+  before : (n : ℕ) → n < l.from → get_or l.slots n None ≡ get_or l.fn.slots n None;
+  after_it : (n : ℕ) → l.i ≤ n → get_or l.slots n None ≡ get_or l.fn.slots n None;
 }

@@ -1,8 +1,11 @@
-use Rattle.std.proofs.Common.{length, sym, ◌∙◌, ap, subst}
+use Rattle.std.proofs.Common.{List, length, replicate, sym, ◌∙◌, ap, subst}
+use Rattle.hc_records.specs.declared.limits.TheConstants.{TASKS}
+use Rattle.hc_rings.specs.declared.posts.PostReceiver.{PostReceiver}
+use Rattle.hc_rings.specs.declared.posts.TheConstants.{POSTS_WAITING}
 use Rattle.hc_events.specs.Changes.{updates_of}
 use Rattle.hc_events.specs.Points.{opened_with, state_of}
 use Rattle.hc_conductor.specs.Conducting.{Conducting}
-use Rattle.hc_conductor.specs.Taking.{events_of_all}
+use Rattle.hc_conductor.specs.Taking.{EachTakesWaiting, events_of_all}
 use Rattle.hc_conductor.specs.Together.{AreJoined, EachRing}
 use Rattle.hc_conductor.proofs.lemmas.Joined.{taken-joined}
 use Rattle.hc_conductor.proofs.Kept.{opened-after_all}
@@ -31,3 +34,13 @@ returns-clause-joined c =
     let all = whole-list c.take_all.new.rings _ _ (many ∙ sym c.self.inside.rings.ok.0) in
     let same = sym (ap (λ (x : Conducting). x.rings) c.self.view_is) ∙ sym c.deref_mut.ensures.value in
     λ seats joined. subst (EachRing AreJoined seats) (sym all) (taken-joined seats _ c.take_all.new.rings took.posts (subst (EachRing AreJoined seats) same joined) took.rings)
+
+pub returns-clause-waiting : goal.returns-clause-waiting
+returns-clause-waiting c =
+    let took = c.take_all.ensures.taken in
+    let counts = replicate TASKS POSTS_WAITING in
+    let many = as-many-rings _ _ took.posts took.rings ∙ ap length c.deref_mut.ensures.value in
+    let all = whole-list c.take_all.new.rings _ _ (many ∙ sym c.self.inside.rings.ok.0) in
+    let same = sym (ap (λ (x : Conducting). x.rings) c.self.view_is) ∙ sym c.deref_mut.ensures.value in
+    subst (EachTakesWaiting counts c.args.self.now.rings) (sym all)
+    (subst (λ (rings : List PostReceiver). EachTakesWaiting counts rings c.take_all.new.rings) (sym same) c.take_all.ensures.waiting)

@@ -73,17 +73,17 @@ invariant_of-self c =
     let taken = history_read inside.taken.value in
     let edit = c.args.edit in
     let prepared = core_edit.prepared in
-    let known = c.follow.ensures (can-follow (core_parts inside) history taken edit c.args.moves c.args.slaves c.args.room.items (vec_capacity c.args.room) core_edit c.self.invariant) in
+    let followed = can-follow (core_parts inside) history taken edit c.args.moves c.args.slaves c.args.room.items (vec_capacity c.args.room) core_edit c.self.invariant in
     let swap = ap (λ (report : Report). report.swap) c.carry_out-report.ensures.report in
     let changes = c.add_swap.ensures ∙ ap (λ (one : Swap). inside.changes.items ++ change.Swapped one ∷ []) swap in
     let grows = c.edited.ensures ∙ ap (λ asked. Edited asked ∷ history) (c.edit.ensures ∙ ap (λ (one : Swap). one.edit) swap) in
-    let unchanged : State → Waiting → List Change → CoreParts = λ plan awaited changes. record { plan = plan; serial = inside.serial; awaited = awaited; inputs = c.clear-2.new.self; serials = c.clear-3.new.self; outputs = c.change.new.self; owed = c.follow.new.owed; changes = changes } in
+    let unchanged : State → Waiting → List Change → CoreParts = λ plan awaited changes. record { plan = plan; serial = inside.serial; awaited = awaited; inputs = c.clear-2.new.self; serials = c.clear-3.new.self; outputs = c.change.new.self; owed = c.follow.new.owed; readiness = c.follow.new.readiness; changes = changes } in
     subst (λ (after_it : History). Agree (unchanged c.carry_out-report.new.self c.clear.new.self c.add_swap.new.changes.items) after_it taken) (sym grows)
     (subst (λ (plan : State). Agree (unchanged plan c.clear.new.self c.add_swap.new.changes.items) (Edited edit.report.swap.edit ∷ history) taken) (sym c.carry_out-report.ensures.plan)
     (subst (λ (waiting : Waiting). Agree (unchanged edit.new waiting c.add_swap.new.changes.items) (Edited edit.report.swap.edit ∷ history) taken) (sym c.clear.ensures)
     (subst (λ (answer_given : List Change). Agree (unchanged edit.new nothing answer_given) (Edited edit.report.swap.edit ∷ history) taken) (sym changes)
-    (agree-carried (core_parts inside) history taken edit c.args.moves c.args.slaves c.args.room.items (vec_capacity c.args.room) c.clear-2.new.self c.clear-3.new.self c.change.new.self c.follow.new.owed
-    core_edit prepared c.clear-2.ensures c.clear-3.ensures known c.change.ensures c.self.invariant))))
+    (agree-carried (core_parts inside) history taken edit c.args.moves c.args.slaves c.args.room.items (vec_capacity c.args.room) c.clear-2.new.self c.clear-3.new.self c.change.new.self c.follow.new.owed c.follow.new.readiness
+    core_edit prepared c.clear-2.ensures c.clear-3.ensures (c.follow.ensures.known followed) (c.follow.ensures.ready followed) c.change.ensures c.self.invariant))))
 
 pub returns-clause-answer : goal.returns-clause-answer
 returns-clause-answer c =

@@ -9,19 +9,22 @@ use Rattle.hc_plan.specs.declared.report.Report.{Report}
 use Rattle.hc_owed.specs.RegisterState.{RegisterState}
 use Rattle.hc_events.specs.Points.{state_of}
 use Rattle.hc_core.specs.Records.{history_read}
-use Rattle.hc_core.specs.Agreement.{state_in}
+use Rattle.hc_core.specs.Agreement.{core_parts, state_in}
 use Rattle.hc_core.specs.Prepared.{CanBeCarriedOut}
 use Rattle.hc_core.specs.State.{CoreState}
-use Rattle.hc_core.proofs.Edits.{accepted-own, after-is, count-waiting, with-memory}
+use Rattle.hc_core.proofs.Edits.{accepted-own, after-is, areas-declared, count-waiting, with-memory}
 use Rattle.hc_core.proofs.Followed.{few-declared}
 use Rattle.hc_core.proofs.keeping.Core.prepare.Goals as goal
 
-pub edit_memory-requires : goal.edit_memory-requires
-edit_memory-requires c =
+pub edit_memory-requires-clause-few : goal.edit_memory-requires-clause-few
+edit_memory-requires-clause-few c =
     let inside = c.self.inside in
     few-declared (state_of (history_read inside.history)) c.in_ok-prepared.prepared.new c.args.edit.now (length inside.owed.stations) c.self.invariant.project
     (subst (λ (state : State). edited state c.args.edit.now ≡ Ok c.in_ok-prepared.prepared.new) c.self.invariant.state c.in_ok-prepared.ensures.accepted)
     (ap (λ (register_state : RegisterState). length register_state.stations) c.self.invariant.known)
+
+pub edit_memory-requires-clause-areas : goal.edit_memory-requires-clause-areas
+edit_memory-requires-clause-areas c = areas-declared (core_parts c.self.inside) (history_read c.self.inside.history) (history_read c.self.inside.taken.value) c.self.invariant
 
 pub returns-in_err-moves-clause-own : goal.returns-in_err-moves-clause-own
 returns-in_err-moves-clause-own c =

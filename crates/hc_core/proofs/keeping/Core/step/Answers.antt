@@ -25,3 +25,12 @@ returns-in-Post-clause-stale c = search (rules, stale-leaves)
 
 pub returns-in-Forget-clause-stale : goal.returns-in-Forget-clause-stale
 returns-in-Forget-clause-stale c = search (rules, stale-leaves)
+
+pub returns-in-SendReady-clause-stale : goal.returns-in-SendReady-clause-stale
+returns-in-SendReady-clause-stale c = search (rules, stale-leaves)
+
+pub returns-in-Cleared-clause-stale : goal.returns-in-Cleared-clause-stale
+returns-in-Cleared-clause-stale c = search (rules, stale-leaves)
+
+pub returns-in-Unplugged-clause-stale : goal.returns-in-Unplugged-clause-stale
+returns-in-Unplugged-clause-stale c = search (rules, stale-leaves)

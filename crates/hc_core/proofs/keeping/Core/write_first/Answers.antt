@@ -8,22 +8,25 @@ use Rattle.hc_events.specs.declared.faults.CoreFault.TheVariants.{Room}
 use Rattle.hc_events.specs.Accepted.{IsWrite}
 use Rattle.hc_events.specs.Calls.{room_faults}
 use Rattle.hc_events.specs.Entries.{History, Wrote}
+use Rattle.hc_events.specs.Holding.{is_unplugged, may_hold}
 use Rattle.hc_events.specs.Owed.{known_bytes, owed_blocks}
 use Rattle.hc_events.specs.Points.{next_serial, state_of}
 use Rattle.hc_events.specs.Steps.{write_faults}
 use Rattle.hc_events.specs.WriteFrames.{writes_size, writes_text}
+use Rattle.hc_owed.specs.Readiness.{readiness_of}
 use Rattle.hc_owed.specs.RegisterState.{register_state_of}
 use Rattle.hc_sendings.specs.declared.awaited.TheConstants.{AWAITED_WRITES}
 use Rattle.hc_sendings.specs.declared.write_frames.PlacedBlock.{PlacedBlock}
 use Rattle.hc_sendings.specs.Waiting.{Waiting, awaited_block, older_writes, wrote}
 use Rattle.hc_sendings.specs.WriteFrames.{block_of}
-use Rattle.hc_core.proofs.FirstBlocks.{are-first, can-mark, stays-blocks, placed-text, room-enough, room-short}
+use Rattle.hc_core.proofs.FirstBlocks.{are-first, can-mark, can-mark_areas, stays-blocks, placed-text, room-enough, room-short}
 use Rattle.hc_core.proofs.Lowest.{lowest-after_it}
 use Rattle.hc_core.proofs.Rooms.{older-few, same-length}
 use Rattle.hc_core.proofs.Sendings.{agree-wrote}
 use Rattle.hc_core.proofs.Writes.{first-write, serial-left}
 use Rattle.hc_core.specs.Agreement.{Agree, core_parts}
 use Rattle.hc_core.specs.Chosen.{known_sent}
+use Rattle.hc_core.specs.Held.{held_sent}
 use Rattle.hc_core.specs.Records.{history_read}
 use Rattle.hc_core.specs.State.{CoreState}
 use Rattle.hc_core.specs.Written.{HoldsBlocks, first_blocks, first_into_faults}
@@ -52,6 +55,17 @@ mark_sent-requires c =
     let write : IsWrite (owed_blocks history) (map block_of frame.blocks) = subst (IsWrite (owed_blocks history)) (sym first.blocks) (first-write history c.args.most c.requires none) in
     can-mark (core_parts inside) history taken frame.blocks c.blocks-3.result.now c.blocks-3.ensures.blocks c.self.invariant write first.placed
 
+pub mark_areas-requires : goal.mark_areas-requires
+mark_areas-requires c =
+    let inside = c.self.inside in
+    let history = history_read inside.history in
+    let taken = history_read inside.taken.value in
+    let frame = c.choose_first.new.frame in
+    let none = subst (λ (state : CoreState). lowest (write_faults state.history (owed_blocks state.history)) ≡ None) (sym c.self.view_is) c.in_ok-can_write.ensures.accepted in
+    let first = are-first (core_parts inside) history taken c.args.most c.clear.new.self frame c.self.invariant c.clear.ensures (c.choose_first.ensures (stays-blocks (core_parts inside) history taken c.self.invariant)) in
+    let write : IsWrite (owed_blocks history) (map block_of frame.blocks) = subst (IsWrite (owed_blocks history)) (sym first.blocks) (first-write history c.args.most c.requires none) in
+    can-mark_areas (core_parts inside) history taken frame.blocks c.blocks-4.result.now c.blocks-4.ensures.blocks c.self.invariant write first.placed
+
 pub invariant_of-self-2 : goal.invariant_of-self-2
 invariant_of-self-2 c =
     let inside = c.self.inside in
@@ -67,10 +81,12 @@ invariant_of-self-2 c =
     let left : inside.serial < SETUP_SERIAL = subst (λ (n : ℕ). n < SETUP_SERIAL) (sym c.self.invariant.serial) (serial-left history none) in
     let sent = c.mark_sent.ensures (can-mark unchanged history taken frame.blocks c.blocks-3.result.now c.blocks-3.ensures.blocks c.self.invariant write first.placed)
     ∙ ap (λ (placed : List PlacedBlock). register_state_of (known_sent placed (known_bytes history)) (state_of history)) c.blocks-3.ensures.blocks in
+    let areas = c.mark_areas.ensures (can-mark_areas unchanged history taken frame.blocks c.blocks-4.result.now c.blocks-4.ensures.blocks c.self.invariant write first.placed)
+    ∙ ap (λ (placed : List PlacedBlock). readiness_of (known_sent placed (known_bytes history)) (held_sent placed (may_hold history)) (is_unplugged history) (state_of history)) c.blocks-4.ensures.blocks in
     let awaited = c.write.ensures ∙ ap (λ (placed : List PlacedBlock). wrote inside.serial (map awaited_block placed) inside.awaited) c.blocks-2.ensures.blocks in
-    subst (λ (grows : History). Agree (record unchanged { awaited = c.write.new.self; owed = owed; serial = serial }) grows taken) (sym c.wrote.ensures)
-    (subst (λ (waiting : Waiting). Agree (record unchanged { awaited = waiting; owed = owed; serial = serial }) (Wrote (map block_of frame.blocks) ∷ history) taken) (sym awaited)
-    (agree-wrote unchanged history taken frame.blocks owed write first.placed left sent c.self.invariant))
+    subst (λ (grows : History). Agree (record unchanged { awaited = c.write.new.self; owed = owed; readiness = c.mark_areas.new.readiness; serial = serial }) grows taken) (sym c.wrote.ensures)
+    (subst (λ (waiting : Waiting). Agree (record unchanged { awaited = waiting; owed = owed; readiness = c.mark_areas.new.readiness; serial = serial }) (Wrote (map block_of frame.blocks) ∷ history) taken) (sym awaited)
+    (agree-wrote unchanged history taken frame.blocks owed c.mark_areas.new.readiness write first.placed left sent areas c.self.invariant))
 
 pub returns-clause-written : goal.returns-clause-written
 returns-clause-written c =
@@ -81,10 +97,10 @@ returns-clause-written c =
     let out = c.args.out.now in
     let first = are-first (core_parts inside) history taken c.args.most c.clear.new.self frame c.self.invariant c.clear.ensures (c.choose_first.ensures (stays-blocks (core_parts inside) history taken c.self.invariant)) in
     let counted : c.in_ok-size.size ≡ frame_bytes frame.bytes = c.in_ok-size.ensures.counted in
-    subst (λ (state : CoreState). HoldsBlocks state.history (first_blocks c.args.most state.history) out c.write_into.new.out (record { size = c.in_ok-size.size; blocks = length c.blocks-4.result.now })) c.self.view_is
+    subst (λ (state : CoreState). HoldsBlocks state.history (first_blocks c.args.most state.history) out c.write_into.new.out (record { size = c.in_ok-size.size; blocks = length c.blocks-5.result.now })) c.self.view_is
     (record {
       size = counted ∙ ap frame_bytes first.bytes;
-      count = ap length c.blocks-4.ensures.blocks ∙ sym (same-length frame.blocks) ∙ ap length first.blocks;
+      count = ap length c.blocks-5.ensures.blocks ∙ sym (same-length frame.blocks) ∙ ap length first.blocks;
       holds = c.in_ok-size.ensures.written
           ∙ ap (λ (text : List ℕ). text ++ drop (frame_bytes frame.bytes) out)
           (placed-text inside.serial frame.blocks ∙ ap (writes_text inside.serial) first.blocks ∙ ap (λ (n : ℕ). writes_text n (first_blocks c.args.most history)) c.self.invariant.serial)

@@ -1,0 +1,7 @@
+use Rattle.hc_records.specs.Line.{line}
+use Rattle.hc_exchange.specs.Carrying.{IsBitOfTask}
+use Rattle.hc_exchange.proofs.lemmas.Sequences.{asked-all-memory}
+use Rattle.hc_exchange.proofs.task_laws.memory_beside_all_asked_stays.Goals as goal
+
+pub returns : goal.returns
+returns c state task = asked-all-memory (IsBitOfTask (line state) task) state

@@ -1,0 +1,7 @@
+use Rattle.hc_records.specs.Line.{line}
+use Rattle.hc_exchange.specs.Carrying.{IsBitOfTask}
+use Rattle.hc_exchange.proofs.lemmas.Wires.{wire-stays}
+use Rattle.hc_exchange.proofs.task_laws.wires_stay_carrying.Goals as goal
+
+pub returns : goal.returns
+returns c state task = wire-stays (IsBitOfTask (line state) task) state

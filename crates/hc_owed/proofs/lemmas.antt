@@ -1,0 +1,2 @@
+-- What the crates above cite, a file a subject.
+pub mod Alike

@@ -1,0 +1,11 @@
+use Rattle.std.proofs.Common.{List, sum_by, ap, ◌∙◌}
+use Rattle.std.specs.Prelude.{slice_index}
+use Rattle.hc_owed.specs.declared.area.JudgedArea.{JudgedArea}
+use Rattle.hc_owed.specs.Areas.{registers_waited}
+use Rattle.hc_owed.proofs.WaitsOutside.{outside-right}
+use Rattle.hc_owed.proofs.readiness.Readiness.outside.Goals as goal
+
+pub returns : goal.returns
+returns c = λ known held unplugged state is.
+    ap (slice_index c.self.inside.registers) c.from.ensures ∙ c.self.invariant.1 c.args.task c.requires ∙ ap (λ (l : List JudgedArea). sum_by (registers_waited c.args.task) l) c.self.view_is
+    ∙ outside-right known held unplugged state c.args.self.now c.args.task c.requires is

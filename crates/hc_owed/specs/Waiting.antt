@@ -1,0 +1,24 @@
+-- How many blocks and registers a task waits for, counted area by area.
+use Rattle.std.specs.Prelude.{◌≡◌, ◌≤◌, ℕ, ◌+◌, ◌==◌, ◌&&◌, ◌<◌, Bool, List, slice_index, sum_by}
+use Rattle.hc_records.specs.declared.limits.TheConstants.{TASKS}
+use Rattle.hc_owed.specs.declared.area.JudgedArea.{JudgedArea}
+use Rattle.hc_owed.specs.declared.task_set.TaskSet.{TaskSet}
+use Rattle.hc_owed.specs.Areas.{blocks_waited, registers_waited}
+use Rattle.hc_owed.specs.Flags.{one}
+use Rattle.hc_owed.specs.TaskSets.{has_task}
+
+-- of each task a number is the sum over the areas
+abbrev pub AreCounted : (ℕ → JudgedArea → ℕ) → List JudgedArea → List ℕ → Type 0
+AreCounted waited areas counts = (task : ℕ) → task < TASKS → slice_index counts task ≡ sum_by (waited task) areas
+
+-- the tasks of a set can be taken out of counts, and those of another counted
+abbrev pub CanRecount : List ℕ → TaskSet → Type 0
+CanRecount counts was = (task : ℕ) → task < TASKS → (one (has_task task was) ≤ slice_index counts task) × (slice_index counts task < 4294967295)
+
+-- the tasks of one set were taken out of counts, and those of another were counted
+abbrev pub Recounts : List ℕ → List ℕ → TaskSet → TaskSet → Type 0
+Recounts old new was now = (task : ℕ) → task < TASKS → slice_index new task + one (has_task task was) ≡ slice_index old task + one (has_task task now)
+
+-- no area keeps a task waiting
+abbrev pub waits_for_none : List JudgedArea → ℕ → Bool
+waits_for_none areas task = (sum_by (blocks_waited task) areas == 0) && (sum_by (registers_waited task) areas == 0)

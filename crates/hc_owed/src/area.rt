@@ -1,0 +1,322 @@
+//! `JudgedArea`: what is kept of an area so that tasks are known to be ready.
+ghost use Rattle.std.specs.Prelude.{◌≡◌};
+ghost use Rattle.hc_owed.specs.Areas.{set_if};
+
+use crate::task_set::TaskSet;
+
+/// What the FMMU register of an area is: its slave is in the line or not, on the wire or not, and it is unknown or not.
+#[derive(Clone, Copy, Debug)]
+pub enum RegisterStatus {
+    /// The slave is outside the line or has no such area: the register holds zeros or one of its contents.
+    Outside,
+    /// The slave is outside the line and off the wire.
+    Unplugged,
+    /// The slave is in the line, and the register may hold anything.
+    Unknown,
+    /// The slave is in the line, and the register holds zeros or one of its contents.
+    Sure,
+}
+
+/// What happens to all areas of a slave.
+#[derive(Clone, Copy, Debug)]
+pub enum Turn {
+    /// The slave leaves the line.
+    Left,
+    /// Nothing is known of its registers any more.
+    Forgotten,
+    /// Its FMMU registers are zeros.
+    Cleared,
+    /// It is outside the line, and is taken off the wire.
+    Unplugs,
+}
+
+/// Which of an area's two blocks are owed.
+#[derive(Clone, Copy, Debug)]
+pub enum OwedPair {
+    /// No block.
+    Neither,
+    /// The block of the sync manager.
+    SyncManager,
+    /// The block of the FMMU.
+    Fmmu,
+    /// The blocks of the sync manager and of the FMMU.
+    Both,
+}
+
+/// What is kept of an area of a declared slave.
+#[derive(Clone, Copy, Debug)]
+pub struct JudgedArea {
+    /// The task that the line's block of its FMMU names, if it names one.
+    pub own: TaskSet,
+    /// The tasks that the contents of its FMMU's register name.
+    pub held: TaskSet,
+    /// Which of its blocks are owed.
+    pub owed: OwedPair,
+    /// The status of its FMMU's register.
+    pub standing: RegisterStatus,
+}
+
+impl OwedPair {
+    ghost use Rattle.std.specs.Prelude.{◌≡◌};
+    ghost use Rattle.hc_owed.specs.Areas.{owes_fmmu, owes_sync_manager, pair_of};
+
+    /// Which of these two blocks are owed.
+    pub fn of(sync_manager: bool, fmmu: bool) -> OwedPair
+        ensures { result ≡ pair_of sync_manager fmmu }
+    {
+        match (sync_manager, fmmu) {
+            (false, false) => OwedPair::Neither,
+            (true, false) => OwedPair::SyncManager,
+            (false, true) => OwedPair::Fmmu,
+            (true, true) => OwedPair::Both,
+        }
+    }
+
+    /// Whether the block of the sync manager is owed.
+    pub fn sync_manager(self) -> bool
+        ensures { result ≡ owes_sync_manager self }
+    {
+        match self {
+            OwedPair::Neither | OwedPair::Fmmu => false,
+            OwedPair::SyncManager | OwedPair::Both => true,
+        }
+    }
+
+    /// Whether the block of the FMMU is owed.
+    pub fn fmmu(self) -> bool
+        ensures { result ≡ owes_fmmu self }
+    {
+        match self {
+            OwedPair::Neither | OwedPair::SyncManager => false,
+            OwedPair::Fmmu | OwedPair::Both => true,
+        }
+    }
+}
+
+impl RegisterStatus {
+    ghost use Rattle.std.specs.Prelude.{◌≡◌};
+    ghost use Rattle.hc_owed.specs.Areas.{is_apart, is_inside, is_register_unknown, standing_cleared, standing_come, standing_left, standing_unplugged};
+
+    /// The status once its slave has left the line.
+    fn left(self) -> RegisterStatus
+        ensures { result ≡ standing_left self }
+    {
+        match self {
+            RegisterStatus::Unplugged => RegisterStatus::Unplugged,
+            RegisterStatus::Outside | RegisterStatus::Unknown | RegisterStatus::Sure =>
+                RegisterStatus::Outside,
+        }
+    }
+
+    /// The status once its slave is in the line: unknown if the slave came.
+    fn come(self) -> RegisterStatus
+        ensures { result ≡ standing_come self }
+    {
+        match self {
+            RegisterStatus::Outside | RegisterStatus::Unplugged | RegisterStatus::Unknown =>
+                RegisterStatus::Unknown,
+            RegisterStatus::Sure => RegisterStatus::Sure,
+        }
+    }
+
+    /// The status once the register is cleared.
+    fn cleared(self) -> RegisterStatus
+        ensures { result ≡ standing_cleared self }
+    {
+        match self {
+            RegisterStatus::Outside | RegisterStatus::Unplugged => RegisterStatus::Outside,
+            RegisterStatus::Unknown | RegisterStatus::Sure => RegisterStatus::Sure,
+        }
+    }
+
+    /// The status once its slave, if outside the line, is off the wire; `names` says whether the register's contents
+    /// name a task.
+    fn unplugged(self, names: bool) -> RegisterStatus
+        ensures { result ≡ standing_unplugged names self }
+    {
+        match self {
+            RegisterStatus::Outside if names => RegisterStatus::Unplugged,
+            other => other,
+        }
+    }
+
+    /// Whether the slave is in the line and the register may hold anything.
+    pub fn is_unknown(self) -> bool
+        ensures { result ≡ is_register_unknown self }
+    {
+        match self {
+            RegisterStatus::Unknown => true,
+            RegisterStatus::Outside | RegisterStatus::Unplugged | RegisterStatus::Sure => false,
+        }
+    }
+
+    /// Whether the slave is outside the line and may be on the wire.
+    pub fn is_apart(self) -> bool
+        ensures { result ≡ is_apart self }
+    {
+        match self {
+            RegisterStatus::Outside => true,
+            RegisterStatus::Unplugged | RegisterStatus::Unknown | RegisterStatus::Sure => false,
+        }
+    }
+
+    /// Whether the slave is in the line.
+    pub fn is_inside(self) -> bool
+        ensures { result ≡ is_inside self }
+    {
+        match self {
+            RegisterStatus::Unknown | RegisterStatus::Sure => true,
+            RegisterStatus::Outside | RegisterStatus::Unplugged => false,
+        }
+    }
+}
+
+/// A set of tasks where it counts, else no task.
+fn set_if(counts: bool, set: TaskSet) -> TaskSet
+    ensures { result ≡ set_if counts set }
+{
+    if counts { set } else { TaskSet::none() }
+}
+
+impl JudgedArea {
+    ghost use Rattle.std.specs.Prelude.{◌≡◌};
+    ghost use Rattle.hc_owed.specs.Readiness.{no_area};
+    ghost use Rattle.hc_owed.specs.Areas.{area_after, area_written, fmmu_concerns, fmmu_confirmed, fmmu_moved, named_set, pair_forgotten, register_concerns, sync_manager_concerns, sync_manager_confirmed, sync_manager_moved};
+
+    /// What is kept of an area whose register names no task and whose slave is outside the line, or where there is no area.
+    pub fn outside() -> JudgedArea
+        ensures { result ≡ no_area }
+    {
+        JudgedArea {
+            own: TaskSet::none(),
+            held: TaskSet::none(),
+            owed: OwedPair::Neither,
+            standing: RegisterStatus::Outside,
+        }
+    }
+
+    /// The tasks that its register may name.
+    fn named(self) -> TaskSet
+        ensures { result ≡ named_set self.standing self.held }
+    {
+        if self.standing.is_unknown() {
+            TaskSet::all()
+        } else {
+            self.held
+        }
+    }
+
+    /// The tasks that the owed block of its sync manager concerns.
+    pub fn sync_manager_concerns(self) -> TaskSet
+        ensures { result ≡ sync_manager_concerns self }
+    {
+        set_if(self.owed.sync_manager(), self.own)
+    }
+
+    /// The tasks that the owed block of its FMMU concerns.
+    pub fn fmmu_concerns(self) -> TaskSet
+        ensures { result ≡ fmmu_concerns self }
+    {
+        set_if(self.owed.fmmu(), self.own.with(self.named()))
+    }
+
+    /// The tasks that its register concerns while its slave is outside the line.
+    pub fn register_concerns(self) -> TaskSet
+        ensures { result ≡ register_concerns self }
+    {
+        set_if(self.standing.is_apart(), self.held)
+    }
+
+    /// Its owed blocks once nothing is known of them.
+    fn forgotten(self) -> OwedPair
+        ensures { result ≡ pair_forgotten self.standing self.owed }
+    {
+        if self.standing.is_inside() {
+            OwedPair::Both
+        } else {
+            self.owed
+        }
+    }
+
+    /// The area once this happened to its slave.
+    pub fn after(self, turn: Turn) -> JudgedArea
+        ensures { result ≡ area_after turn self }
+    {
+        match turn {
+            Turn::Left => JudgedArea {
+                own: TaskSet::none(),
+                held: self.held,
+                owed: OwedPair::Neither,
+                standing: self.standing.left(),
+            },
+            Turn::Forgotten => JudgedArea {
+                owed: self.forgotten(),
+                ..self
+            },
+            Turn::Cleared => JudgedArea {
+                held: TaskSet::none(),
+                standing: self.standing.cleared(),
+                ..self
+            },
+            Turn::Unplugs => JudgedArea {
+                standing: self.standing.unplugged(!self.held.is_empty()),
+                ..self
+            },
+        }
+    }
+
+    /// The area once a write of its FMMU's block was sent.
+    pub fn written(self) -> JudgedArea
+        ensures { result ≡ area_written self }
+    {
+        JudgedArea {
+            held: self.own.with(self.held),
+            ..self
+        }
+    }
+
+    /// The area once a write of its FMMU's block was answered well.
+    pub fn fmmu_confirmed(self) -> JudgedArea
+        ensures { result ≡ fmmu_confirmed self }
+    {
+        JudgedArea {
+            own: self.own,
+            held: self.own,
+            owed: OwedPair::of(self.owed.sync_manager(), false),
+            standing: RegisterStatus::Sure,
+        }
+    }
+
+    /// The area once a write of its sync manager's block was answered well.
+    pub fn sync_manager_confirmed(self) -> JudgedArea
+        ensures { result ≡ sync_manager_confirmed self }
+    {
+        JudgedArea {
+            owed: OwedPair::of(false, self.owed.fmmu()),
+            ..self
+        }
+    }
+
+    /// The area once an edit moved its sync manager's block, which is now owed or not.
+    pub fn sync_manager_moved(self, owed: bool) -> JudgedArea
+        ensures { result ≡ sync_manager_moved owed self }
+    {
+        JudgedArea {
+            owed: OwedPair::of(owed, self.owed.fmmu()),
+            standing: self.standing.come(),
+            ..self
+        }
+    }
+
+    /// The area once an edit moved its FMMU's block, which now names these tasks and is owed or not.
+    pub fn fmmu_moved(self, own: TaskSet, owed: bool) -> JudgedArea
+        ensures { result ≡ fmmu_moved own owed self }
+    {
+        JudgedArea {
+            own,
+            held: self.held,
+            owed: OwedPair::of(self.owed.sync_manager(), owed),
+            standing: self.standing.come(),
+        }
+    }
+}

@@ -1,0 +1,352 @@
+//! `Readiness`: which tasks can be sent while register blocks are owed.
+ghost use Rattle.std.specs.Prelude.{◌≡◌, ℕ, ◌+◌, ◌*◌, ◌==◌, ◌<◌, IfSome, None, false, length};
+ghost use Rattle.std.specs.Option.{option_map_or};
+ghost use Rattle.hc_records.specs.declared.limits.TheConstants.{TASKS};
+ghost use Rattle.hc_records.specs.Line.{groups_of};
+ghost use Rattle.hc_records.specs.Project.{lowest_fault};
+ghost use Rattle.hc_registers.specs.RankPlaces.{places};
+ghost use Rattle.hc_events.specs.Ready.{names_task};
+ghost use Rattle.hc_owed.specs.Flags.{one};
+ghost use Rattle.hc_owed.specs.Readiness.{judged_at, none_unplugged, unknown_registers};
+ghost use Rattle.hc_owed.specs.RegisterState.{nothing_known};
+ghost use Rattle.hc_owed.specs.TaskSets.{has_task};
+ghost use Rattle.hc_owed.specs.Waiting.{CanRecount, Recounts};
+
+use crate::area::{JudgedArea, OwedPair, RegisterStatus, Turn};
+use crate::owed::Owed;
+use crate::task_set::TaskSet;
+use hc_plan::plan::Plan;
+use hc_records::limits::TASKS;
+use hc_registers::blocks::Block;
+use hc_registers::ranked::{Gone, RankedBlock};
+use std::alloc::{AllocError, Global};
+use std::marker::Model;
+
+/// 1 for a task that is in a set.
+fn one(set: TaskSet, task: u8) -> u32
+    requires { task < TASKS }
+    ensures { result ≡ one (has_task task set) }
+{
+    if set.has(task) { 1 } else { 0 }
+}
+
+/// Takes the tasks of one set out of counts, and counts those of another.
+fn recount(counts: &mut [u32; 8], was: TaskSet, now: TaskSet)
+    requires { CanRecount counts.old was }
+    ensures { Recounts counts.old counts.new was now }
+{
+    if was == now {
+        return;
+    }
+    for task in 0..TASKS {
+        let at = usize::from(task);
+        counts[at] = counts[at] - one(was, task) + one(now, task);
+    }
+}
+
+/// The logical addresses that a task has (this project's profile).
+const TASK_SPAN: u32 = 0x0100_0000;
+
+/// The task, 0 to 7, in whose logical addresses a block's FMMU begins, if the block is an active FMMU's. None for the block of a
+/// sync manager, for an FMMU that is not active, and for addresses of no task (ETG.1000.4, 6.6).
+fn named_task(block: &Block) -> Option<u8>
+    ensures named { (task : ℕ) → task < TASKS → names_task task block.now.bytes ≡ option_map_or (λ own. own == task) result false }
+    ensures low { IfSome result (λ task. task < TASKS) }
+{
+    let [a, b, c, d, _, _, _, _, _, _, _, _, active, _, _, _] = *block.bytes() else {
+        return None;
+    };
+    let span = u32::from_le_bytes([a, b, c, d]) / TASK_SPAN;
+    if active != 1 || span == 0 || span > u32::from(TASKS) {
+        return None;
+    }
+    Some((span - 1) as u8)
+}
+
+/// What is kept first of the area with an index: of an area in the line, that both of its blocks are owed and that its register is
+/// unknown.
+fn opened_area(plan: &Plan, n: usize) -> JudgedArea
+    requires inside { 2 * n + 1 < length (places plan.now) }
+    requires low { n < 8 * 65535 }
+    requires project { lowest_fault (groups_of plan.now.groups) ≡ None }
+    ensures { result ≡ judged_at nothing_known unknown_registers none_unplugged plan.now n }
+{
+    let rank = (n / 8 + 1) as u16;
+    let number = (2 * (n % 8) + 1) as u8;
+    match plan.block_of_rank(rank, number) {
+        Some(found) => JudgedArea {
+            own: TaskSet::of(named_task(&found.block)),
+            held: TaskSet::none(),
+            owed: OwedPair::Both,
+            standing: RegisterStatus::Unknown,
+        },
+        None => JudgedArea::outside(),
+    }
+}
+
+/// What is kept of the areas of all declared slaves, eight for each slave by rank, present or not: which tasks each area's
+/// blocks and its register keep waiting. Contracts see the list of the areas.
+#[derive(Debug, Drop)]
+pub struct Readiness {
+    pub(crate) areas: Vec<JudgedArea>,
+    // of each task how many owed blocks concern it
+    blocks: [u32; 8],
+    // of each task how many registers of slaves outside the line concern it
+    registers: [u32; 8],
+}
+
+impl Model for Readiness {
+    ghost use Rattle.std.specs.Prelude.{◌*◌, ◌<◌, List, length};
+    ghost use Rattle.hc_owed.specs.declared.area.JudgedArea.{JudgedArea};
+    ghost use Rattle.hc_owed.specs.Areas.{blocks_waited, registers_waited};
+    ghost use Rattle.hc_owed.specs.Waiting.{AreCounted};
+
+    ghost Value = { List JudgedArea };
+
+    ghost view = { λ readiness. readiness.areas.items };
+
+    ghost invariant = { λ readiness. AreCounted blocks_waited readiness.areas.items readiness.blocks × AreCounted registers_waited readiness.areas.items readiness.registers × (length readiness.areas.items < 8 * 65536) };
+}
+
+impl Readiness {
+    ghost use Rattle.std.specs.Prelude.{◌≡◌, ℕ, ◌+◌, ◌-◌, ◌*◌, ◌/◌, ◌<◌, ◌≤◌, ◌++◌, [], ◌∷◌, All, Bool, true, false, IfOk, OnOk, is_some, length, slice_get, None, Some};
+    ghost use Rattle.hc_records.specs.declared.limits.TheConstants.{TASKS};
+    ghost use Rattle.hc_records.specs.Edits.{slave_at};
+    ghost use Rattle.hc_records.specs.Line.{State, groups_of};
+    ghost use Rattle.hc_records.specs.Lists.{changed_at};
+    ghost use Rattle.hc_records.specs.Project.{lowest_fault};
+    ghost use Rattle.hc_registers.specs.Blocks.{LineBlock};
+    ghost use Rattle.hc_registers.specs.RankDifferences.{block_place};
+    ghost use Rattle.hc_registers.specs.RankPlaces.{stations};
+    ghost use Rattle.hc_plan.specs.Reports.{found_name};
+    ghost use Rattle.hc_owed.specs.Areas.{area_after};
+    ghost use Rattle.hc_owed.specs.Laws.{known_over, known_with, known_without};
+    ghost use Rattle.hc_owed.specs.Readiness.{none_unplugged, readiness_of, unknown_registers};
+    ghost use Rattle.hc_owed.specs.ReadinessLaws.{AreReady, ClearsSlave, ConfirmsAt, FollowsEdit, ForgetsSlave, SendsAt, TellsReady, UnplugsSlave, WaitsForBlocks, WaitsForRegisters};
+    ghost use Rattle.hc_owed.specs.ReadinessSteps.{IsReadinessAt, IsReadinessFor, ReadinessIsEdited, area_moved, areas_moved, changed_from, held_over, held_with, held_without, only_contents, unplugged_over, unplugged_with, with_contents};
+    ghost use Rattle.hc_owed.specs.RegisterState.{Knowledge, lacks, nothing_known, register_state_of};
+    ghost use Rattle.hc_owed.specs.TaskSets.{tasks_where};
+    ghost use Rattle.hc_owed.specs.Waiting.{waits_for_none};
+
+    /// What is kept of a line whose slaves were just connected: each block of the line is owed, and each FMMU's register is unknown;
+    /// `owed` is what is kept of its blocks. `AllocError` where a growth was refused; of the later calls `room_for` alone takes
+    /// memory.
+    pub fn new(alloc: Global, plan: &Plan, owed: &Owed) -> Result<Readiness, AllocError>
+        requires owed { owed.now ≡ register_state_of nothing_known plan.now }
+        requires project { lowest_fault (groups_of plan.now.groups) ≡ None }
+        ensures { IfOk result (λ readiness. readiness ≡ readiness_of nothing_known unknown_registers none_unplugged plan.now) }
+    {
+        let count = 8 * owed.slaves();
+        let mut readiness = Readiness {
+            areas: Vec::with_capacity(alloc, count)?,
+            blocks: [0; 8],
+            registers: [0; 8],
+        };
+        for n in 0..count {
+            readiness.push(opened_area(plan, n))?;
+        }
+        Ok(readiness)
+    }
+
+    /// Adds an area after the others. `AllocError` where a growth was refused.
+    fn push(&mut self, area: JudgedArea) -> Result<(), AllocError>
+        requires { length self.old + 1 < 8 * 65536 }
+        ensures { OnOk result (self.new ≡ self.old ++ area ∷ []) }
+    {
+        self.areas.push(area)?;
+        recount(
+            &mut self.blocks,
+            TaskSet::none(),
+            area.sync_manager_concerns(),
+        );
+        recount(&mut self.blocks, TaskSet::none(), area.fmmu_concerns());
+        recount(
+            &mut self.registers,
+            TaskSet::none(),
+            area.register_concerns(),
+        );
+        Ok(())
+    }
+
+    /// What is kept of the area with an index.
+    fn area(&self, n: usize) -> JudgedArea
+        requires { n < length self.now }
+        ensures { slice_get self.now n ≡ Some result }
+    {
+        self.areas[n]
+    }
+
+    /// Sets what is kept of the area with an index, and judges both of its blocks and its register again.
+    fn set_area(&mut self, n: usize, now: JudgedArea)
+        requires { n < length self.old }
+        ensures { self.new ≡ changed_at n (λ _. now) self.old }
+    {
+        let was = self.areas[n];
+        recount(
+            &mut self.blocks,
+            was.sync_manager_concerns(),
+            now.sync_manager_concerns(),
+        );
+        recount(&mut self.blocks, was.fmmu_concerns(), now.fmmu_concerns());
+        recount(
+            &mut self.registers,
+            was.register_concerns(),
+            now.register_concerns(),
+        );
+        self.areas[n] = now;
+    }
+
+    /// This happens to the slaves of the areas from an index on, before another one.
+    fn turn(&mut self, from: usize, end: usize, turn: Turn)
+        requires order { from ≤ end }
+        requires inside { end ≤ length self.old }
+        ensures { self.new ≡ changed_from (area_after turn) from (end - from) self.old }
+    {
+        for n in from..end {
+            let area = self.area(n);
+            self.set_area(n, area.after(turn));
+        }
+    }
+
+    /// The write of the block at a place was sent: an FMMU's register may hold what the line configures from now on.
+    pub fn sent(&mut self, place: u32)
+        requires { place < 2 * length self.old }
+        ensures { SendsAt self.old self.new place }
+    {
+        if place % 2 == 1 {
+            let n = place as usize / 2;
+            let area = self.area(n);
+            self.set_area(n, area.written());
+        }
+    }
+
+    /// The write of the block at a place was answered well, with the bytes that the present line configures: the block is not
+    /// owed, and an FMMU's register holds these bytes alone.
+    pub fn confirmed(&mut self, place: u32)
+        requires { place < 2 * length self.old }
+        ensures { ConfirmsAt self.old self.new place }
+    {
+        let n = place as usize / 2;
+        let area = self.area(n);
+        if place % 2 == 1 {
+            self.set_area(n, area.fmmu_confirmed());
+        } else {
+            self.set_area(n, area.sync_manager_confirmed());
+        }
+    }
+
+    /// The slave with an index by rank, from 0, may have lost its registers: each of its blocks is owed, if it is in the line. What its
+    /// FMMUs' registers may hold stays.
+    pub fn forget(&mut self, index: u16)
+        requires { 8 * index + 8 ≤ length self.old }
+        ensures { ForgetsSlave self.old self.new index }
+    {
+        let from = 8 * usize::from(index);
+        self.turn(from, from + 8, Turn::Forgotten);
+    }
+
+    /// The FMMUs' registers of the slave with an index by rank, from 0, hold zeros: they name no task, and are not unknown.
+    pub fn clear(&mut self, index: u16)
+        requires { 8 * index + 8 ≤ length self.old }
+        ensures { ClearsSlave self.old self.new index }
+    {
+        let from = 8 * usize::from(index);
+        self.turn(from, from + 8, Turn::Cleared);
+    }
+
+    /// The slave with an index by rank, from 0, which is outside the line, is off the wire: its registers concern no task until it is in the
+    /// line again.
+    pub fn unplug(&mut self, index: u16)
+        requires { 8 * index + 8 ≤ length self.old }
+        ensures { UnplugsSlave self.old self.new index }
+    {
+        let from = 8 * usize::from(index);
+        self.turn(from, from + 8, Turn::Unplugs);
+    }
+
+    /// A block of the line moved with an edit. `owed` is what is kept of the blocks after it.
+    fn move_block(&mut self, owed: &Owed, moved: &RankedBlock)
+        requires rank { 1 ≤ moved.now.rank }
+        requires area { block_place moved.now < 2 * length self.old }
+        requires owed { block_place moved.now < length owed.now.owed }
+        ensures { self.new ≡ changed_at (block_place moved.now / 2) (area_moved owed.now.owed moved.now) self.old }
+    {
+        let place = moved.place();
+        let owes = owed.is_owed(place);
+        let area = self.area(place / 2);
+        if place % 2 == 1 {
+            let own = TaskSet::of(named_task(&moved.found.block));
+            self.set_area(place / 2, area.fmmu_moved(own, owes));
+        } else {
+            self.set_area(place / 2, area.sync_manager_moved(owes));
+        }
+    }
+
+    /// Blocks of the line moved with an edit, one after another.
+    fn move_blocks(&mut self, owed: &Owed, moved: &[RankedBlock])
+        requires ranks { All (λ block. 1 ≤ block.rank) moved.now }
+        requires areas { All (λ block. block_place block < 2 * length self.old) moved.now }
+        requires owed { All (λ block. block_place block < length owed.now.owed) moved.now }
+        ensures { self.new ≡ areas_moved owed.now.owed moved.now self.old }
+    {
+        for block in moved {
+            self.move_block(owed, block);
+        }
+    }
+
+    /// An edit that declares nothing was accepted: these slaves left the line, and these are its moved blocks; `owed` is what is kept
+    /// of the blocks after it. The registers of slaves that came are unknown. What registers may hold stays, and those of slaves that
+    /// left concern the tasks that they name from now on. It takes the time of the blocks that left and moved, and no memory.
+    pub fn change(&mut self, owed: &Owed, gone: Gone, moved: &[RankedBlock])
+        requires { ReadinessIsEdited self.old owed.now gone moved.now }
+        ensures { FollowsEdit self.old self.new owed.now gone moved.now }
+    {
+        let from = gone.first_place() / 2;
+        self.turn(from, from + 8 * usize::from(gone.slaves), Turn::Left);
+        self.move_blocks(owed, moved);
+    }
+
+    /// How many owed blocks a task, 0 to 7, waits for: those that concern it. It takes no time.
+    pub fn waiting(&self, task: u8) -> u32
+        requires { task < TASKS }
+        ensures { WaitsForBlocks self.now task result }
+    {
+        self.blocks[usize::from(task)]
+    }
+
+    /// How many registers of slaves outside the line a task, 0 to 7, waits for: those with contents that name it. It takes no time.
+    pub fn outside(&self, task: u8) -> u32
+        requires { task < TASKS }
+        ensures { WaitsForRegisters self.now task result }
+    {
+        self.registers[usize::from(task)]
+    }
+
+    /// Whether no area keeps a task, 0 to 7, waiting.
+    fn is_free(&self, task: u8) -> bool
+        requires { task < TASKS }
+        ensures { result ≡ waits_for_none self.now task }
+    {
+        let at = usize::from(task);
+        self.blocks[at] == 0 && self.registers[at] == 0
+    }
+
+    /// Whether a task, 0 to 7, waits for nothing, so that it can be sent. It takes no time.
+    pub fn is_ready(&self, task: u8) -> bool
+        requires { task < TASKS }
+        ensures { TellsReady self.now task result }
+    {
+        self.is_free(task)
+    }
+
+    /// The tasks that wait for nothing. It takes the time of eight tasks.
+    pub fn ready(&self) -> TaskSet
+        ensures { AreReady self.now result }
+    {
+        let mut set = TaskSet::none();
+        for task in 0..TASKS {
+            set = set.with_task(task, self.is_free(task));
+        }
+        set
+    }
+}
