@@ -94,12 +94,13 @@ pub one-waiting : (n : ℕ) (old mid back new : PostReceiver) (post : Post) → 
 one-waiting n old mid back new post first one after_it still others =
     let front = front_prefix (suc n) (left old) (post ∷ left mid) first in
     let begun : taken old ++ (post ∷ take n (left mid)) ≡ taken back ++ take n (left back) =
-        sym (append_assoc (taken old) (post ∷ []) (take n (left mid)))
-        ∙ (ap (λ ps. ps ++ take n (left mid)) (sym (after_it ∙ one)) ∙ ap (λ l. taken back ++ take n l) (sym still)) in
-    (front.0 ++ others.0,
+    sym (append_assoc (taken old) (post ∷ []) (take n (left mid)))
+    ∙ (ap (λ ps. ps ++ take n (left mid)) (sym (after_it ∙ one)) ∙ ap (λ l. taken back ++ take n l) (sym still)) in (
+      front.0 ++ others.0,
       sym (append_assoc (taken old ++ take (suc n) (left old)) front.0 others.0)
-      ∙ (ap (λ ps. ps ++ others.0) (append_assoc (taken old) (take (suc n) (left old)) front.0 ∙ (ap (λ ps. taken old ++ ps) front.1 ∙ begun))
-      ∙ others.1))
+          ∙ (ap (λ ps. ps ++ others.0) (append_assoc (taken old) (take (suc n) (left old)) front.0 ∙ (ap (λ ps. taken old ++ ps) front.1 ∙ begun))
+          ∙ others.1),
+    )
 
 take-nothing : {X : Type 0} (n : ℕ) → take {A = X} n [] ≡ []
 take-nothing zero = refl

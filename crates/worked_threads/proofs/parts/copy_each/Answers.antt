@@ -11,8 +11,8 @@ words_fit lengths bytes words all twos enough k d below =
     (omega (arith, number-numbered_parts 0 lengths bytes k d inside, enough), length-numbered_part 0 lengths bytes k d all inside ∙ twos k inside)
 
 pub each_at_once-requires-after_bounds : goal.each_at_once-requires-after_bounds
-each_at_once-requires-after_bounds g c κs within =
+each_at_once-requires-after_bounds g c κs within = λ k d less passed.
     let parts = c.of.result in
     let same : parts.lengths.now ≡ c.args.lengths.now = c.of.ensures.lengths in
     let twos = subst (λ (ls : List ℕ). (k : ℕ) → k < length ls → slice_index ls k ≡ 2) (sym same) c.requires.fits in
-    words_fit parts.lengths.now parts.bytes.now (length c.args.words.now) parts.all twos (omega (arith, ap length same, c.requires.words))
+    words_fit parts.lengths.now parts.bytes.now (length c.args.words.now) parts.all twos (omega (arith, ap length same, c.requires.words)) k d less
