@@ -67,12 +67,13 @@ sweep_test() {
     done
 }
 
-# sweep_steady CRATE FEW MANY: the same test with few cycles and with many; these have to meet as many growths, and no more.
+# sweep_steady CRATE FEW MANY [MORE]: the same test with few cycles and with many. The many have to meet so many growths more, by
+# hand; 0 unless MORE is given.
 sweep_steady() {
     sweep_test "$1" "$2"
     few=$number
     refuse_each "$1 $3" test_ended_well alone /dev/null "crates/$1/out/$1_tests" "$3"
-    if [ "$number" -eq "$few" ]; then
+    if [ "$number" -eq "$((few + ${4:-0}))" ]; then
         passed=$((passed + 1))
     else
         echo "sweep: $1 $2 met $((few - 1)) growths, and $3 met $((number - 1))"
@@ -287,6 +288,7 @@ sweep_test worked_lines lines::a_list_of_edits_is_answered_in_its_order
 sweep_test worked_lines found::a_group_is_found_by_its_alias
 sweep_test worked_lines declared::a_declared_group_comes_when_it_is_connected
 sweep_test worked_events values::values_are_sent_where_their_variables_are
+sweep_steady worked_events buffers::four_sendings buffers::ten_sendings 12
 sweep_test worked_threads buffers::a_buffer_begins_anew
 sweep_test worked_threads posts::posts_come_as_they_were_posted
 sweep_test worked_threads frames::frames_go_in_order

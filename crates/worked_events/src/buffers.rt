@@ -1,4 +1,5 @@
-//! Buffers of good answers that come back to a core: they hold the data of later answers, and 128 are kept.
+//! Memory that a core uses again: the buffers of good answers that come back hold the data of later answers, and 128 are kept; a
+//! list that is handed in holds the next changes; and one list holds the frames of each sending.
 use crate::driven::Driven;
 use crate::lines::{opened_axis, write_all};
 use hc_events::answer::{Answer, Outcome};
@@ -108,5 +109,36 @@ fn changes_use_the_list_that_was_handed_in(rt: HostRuntime) -> Result<(), Fail> 
         (is_good, changes.len(), changes.capacity() >= 200),
         (true, 1, true)
     );
+    Ok(())
+}
+
+/// Sends the axis's task so many times, and returns whether each sending was answered with its frame.
+fn send_often(driven: &mut Driven, alloc: Global, times: usize) -> Result<bool, AllocError> {
+    for _ in 0..times {
+        if !matches!(driven.put(alloc, Event::SendTasks(&[0]))?, Answer::Sent(_)) {
+            return Ok(false);
+        }
+    }
+    Ok(true)
+}
+
+/// Each sending allocates twice: the list of its texts and the text of its frame. The list of its frames is that of the sending
+/// before. `tools/sweep.sh` compares the allocations of four sendings with those of ten.
+#[test]
+fn four_sendings(rt: HostRuntime) -> Result<(), Fail> {
+    let alloc = rt.alloc();
+    let mut driven = opened_axis(alloc)?;
+    write_all(&mut driven, alloc)?;
+    assert!(rt; send_often(&mut driven, alloc, 4)?);
+    Ok(())
+}
+
+/// Ten sendings, whose allocations `tools/sweep.sh` compares with those of four: twelve more.
+#[test]
+fn ten_sendings(rt: HostRuntime) -> Result<(), Fail> {
+    let alloc = rt.alloc();
+    let mut driven = opened_axis(alloc)?;
+    write_all(&mut driven, alloc)?;
+    assert!(rt; send_often(&mut driven, alloc, 10)?);
     Ok(())
 }
