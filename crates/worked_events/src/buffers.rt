@@ -122,8 +122,8 @@ fn send_often(driven: &mut Driven, alloc: Global, times: usize) -> Result<bool, 
     Ok(true)
 }
 
-/// Each sending allocates twice: the list of its texts and the text of its frame. The list of its frames is that of the sending
-/// before. `tools/sweep.sh` compares the allocations of four sendings with those of ten.
+/// Each sending allocates twice: the list of its texts and the text of its frame. All sendings use one list of frames.
+/// `tools/sweep.sh` compares the allocations of four sendings with those of ten.
 #[test]
 fn four_sendings(rt: HostRuntime) -> Result<(), Fail> {
     let alloc = rt.alloc();
