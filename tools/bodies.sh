@@ -1,5 +1,5 @@
 #!/bin/sh
-# Judges each wrong body of the must-fail edits, by hand: the gate sees an edit refused as a whole.
+# Judges each wrong body of the joined must-fail edits, by hand: the gate sees an edit refused as a whole.
 #   tools/bodies.sh CRATE..        has the prover judge the function of each body in these crates, lists the bodies that their
 #                                  contracts don't refuse, and keeps in tools/bodies/refused.txt the checksums of those that they
 #                                  refuse, with a checksum of the crate

@@ -170,7 +170,7 @@ def keep(crate, sums, is_whole):
     """Notes bodies that were refused by their contracts; with those that were noted before unless the run was of all."""
     lines = kept_lines()
     rule, crate_sum, others = lines.get(crate, (RULE, sum_of_crate(crate), set()))
-    present = {found for edit in edits_of(crate) for found in sums_of_bodies(edit).values()}
+    present = {found for edit in edits_of(crate) for found in sums_of_bodies(edit).values() if len(sums_of_bodies(edit)) > 1}
     if is_whole:
         rule, crate_sum, others = RULE, sum_of_crate(crate), set()
     lines[crate] = (rule, crate_sum, (others | sums) & present)
@@ -218,8 +218,9 @@ def unnoted(crate, edit):
 
 
 def try_crate(crate, new_alone):
-    """Tries each edit of a crate, or the bodies that weren't noted, over what checks here have kept."""
-    tried = [(edit, unnoted(crate, edit) if new_alone else None) for edit in edits_of(crate)]
+    """Tries each joined edit of a crate, or its bodies that weren't noted, over what checks here have kept."""
+    joined = [edit for edit in edits_of(crate) if len(sums_of_bodies(edit)) > 1]
+    tried = [(edit, unnoted(crate, edit) if new_alone else None) for edit in joined]
     if new_alone:
         tried = [(edit, only) for edit, only in tried if only]
     if not tried:
