@@ -1,6 +1,6 @@
 -- What is kept of the register blocks and of the areas after an edit that is prepared.
 use Rattle.std.proofs.Common.{◌≡◌, ℕ, ◌+◌, ◌*◌, ◌<◌, ◌≤◌, Bool, false, List, length, map, sym, ap, ◌∙◌, subst, length-append, Option, Some, None, arith}
-use Rattle.std.specs.Prelude.{Contains, Ok}
+use Rattle.std.specs.Prelude.{AllPairs, Contains, Ok}
 use Rattle.std.proofs.lemmas.List.{length-map}
 use Rattle.std.proofs.lemmas.List.Elements.{All-contains}
 use Rattle.std.proofs.lemmas.List.FromFn.{length-map-range_with_len}
@@ -9,7 +9,7 @@ use Rattle.hc_records.specs.declared.edit.Edit.TheVariants.{Declare}
 use Rattle.hc_records.specs.declared.records.Group.{Group}
 use Rattle.hc_records.specs.declared.records.Slave.{Slave}
 use Rattle.hc_records.specs.Edits.{changed, declares, edit_faults, edited, is_declared_station}
-use Rattle.hc_records.specs.Line.{State, groups_of}
+use Rattle.hc_records.specs.Line.{State, groups_of, line}
 use Rattle.hc_records.specs.Project.{lowest_fault, slaves_of}
 use Rattle.hc_records.specs.declared.faults.EditFault.TheVariants.{EpochsSpent}
 use Rattle.hc_records.specs.Lists.{lowest}
@@ -18,11 +18,12 @@ use Rattle.hc_records.proofs.lemmas.Projects.{project-few}
 use Rattle.hc_groups.proofs.lemmas.Accepted.{accepted-project, accepted-state}
 use Rattle.hc_registers.specs.declared.ranked.Gone.{Gone}
 use Rattle.hc_registers.specs.Ranked.{RankedBlock}
-use Rattle.hc_registers.specs.RankDifferences.{Differ}
+use Rattle.hc_registers.specs.RankDifferences.{Differ, block_place}
 use Rattle.hc_registers.specs.RankPlaces.{places, stations}
 use Rattle.hc_registers.proofs.lemmas.RanksDeclared.{declared-stations}
 use Rattle.hc_plan.specs.Prepared.{IsPrepared, PreparedEdit}
 use Rattle.hc_owed.specs.declared.area.JudgedArea.{JudgedArea}
+use Rattle.hc_owed.specs.EditWaits.{ReadinessWillBeEdited}
 use Rattle.hc_owed.specs.Readiness.{Holdings, judged_at, readiness_of}
 use Rattle.hc_owed.specs.ReadinessRoom.{IsReadinessRoomFor, ReadinessCanAdmit}
 use Rattle.hc_owed.specs.ReadinessSteps.{ReadinessIsEdited}
@@ -32,6 +33,7 @@ use Rattle.hc_owed.specs.Room.{RegistersCanAdmit}
 use Rattle.hc_core.specs.declared.declaring.SlaveRoom.{SlaveRoom}
 use Rattle.hc_core.proofs.Serves.{accepted_edit}
 use Rattle.hc_core.specs.Prepared.{CanFollow, DeclaresWith, HasSlaveRoom}
+use Rattle.hc_core.proofs.MovedPlaces.{moved-ascend}
 
 -- a group that is declared
 
@@ -126,6 +128,25 @@ can-change_areas owed readiness edit slaves now gone blocks can is left moved fl
   differ = subst (λ (span : Gone). Differ (places edit.old) (places edit.new) span blocks) (sym left)
       (subst (λ (list : List RankedBlock). Differ (places edit.old) (places edit.new) edit.gone list) (sym moved) can.prepared.differ);
   flags = flags;
+}
+
+abbrev pub can-foretell : (owed : RegisterState) (readiness : List JudgedArea) (edit : PreparedEdit) (slaves : Option SlaveRoom) (gone : Gone) (blocks : List RankedBlock) (can : CanFollow owed readiness edit slaves) → slaves ≡ None
+    → gone ≡ edit.gone → blocks ≡ edit.blocks → ReadinessWillBeEdited readiness owed gone blocks
+can-foretell owed readiness edit slaves gone blocks can is left moved = record {
+  known = can.known;
+  held = can.held;
+  unplugged = can.unplugged;
+  old = edit.old;
+  edit = edit.report.swap.edit;
+  new = edit.new;
+  right = can.areas;
+  accepted = can.prepared.accepted;
+  same = none-declared (length (stations edit.old)) edit.report.swap.edit slaves can.slaves is;
+  differ = subst (λ (span : Gone). Differ (places edit.old) (places edit.new) span blocks) (sym left)
+      (subst (λ (list : List RankedBlock). Differ (places edit.old) (places edit.new) edit.gone list) (sym moved) can.prepared.differ);
+  blocks = can.right;
+  ascend = subst (AllPairs (λ a b. block_place a < block_place b)) (sym (moved ∙ can.prepared.blocks))
+      (moved-ascend (line edit.old) edit.new (accepted-project edit.old edit.new edit.report.swap.edit can.prepared.project can.prepared.accepted));
 }
 
 -- the slaves that are declared then are few

@@ -8,11 +8,13 @@ pub mod Awaits
 pub mod Commits
 pub mod Edits
 pub mod Followed
+pub mod Foretold
 pub mod Firsts
 pub mod Forgotten
 pub mod GoodAnswersSteps
 pub mod Known
 pub mod Lowest
+pub mod MovedPlaces
 pub mod Names
 pub mod Update
 pub mod Sendings

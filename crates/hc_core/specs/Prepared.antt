@@ -9,6 +9,7 @@ use Rattle.hc_registers.specs.RankPlaces.{stations}
 use Rattle.hc_places.specs.Table.{table_of}
 use Rattle.hc_images.specs.Moves.{Moves}
 use Rattle.hc_owed.specs.declared.area.JudgedArea.{JudgedArea}
+use Rattle.hc_owed.specs.EditWaits.{areas_cleared}
 use Rattle.hc_owed.specs.Readiness.{Holdings, readiness_of}
 use Rattle.hc_owed.specs.ReadinessRoom.{IsReadinessRoomFor}
 use Rattle.hc_owed.specs.ReadinessSteps.{IsReadinessFor, held_over, unplugged_over}
@@ -53,6 +54,10 @@ pub record CanFollow (owed : RegisterState) (readiness : List JudgedArea) (edit 
 -- what is kept of the areas after it
 abbrev pub areas_followed : {owed : RegisterState} {readiness : List JudgedArea} {edit : PreparedEdit} {memory : Option SlaveRoom} → CanFollow owed readiness edit memory → List JudgedArea
 areas_followed {owed} {readiness} {edit} {memory} can = readiness_of (known_over edit.old can.known) (held_over edit.old edit.new can.held) (unplugged_over edit.new can.unplugged) edit.new
+
+-- what will be kept of the areas after it, once each slave that came is cleared
+abbrev pub areas_foretold : {owed : RegisterState} {readiness : List JudgedArea} {edit : PreparedEdit} {memory : Option SlaveRoom} → CanFollow owed readiness edit memory → List JudgedArea
+areas_foretold {owed} {readiness} {edit} {memory} can = areas_cleared can.known can.held can.unplugged edit.old edit.new
 
 -- the edit is one of the core's line, output values are to move as it says, there is memory for the slaves that it declares, and memory without a change in it has room for the changes that nobody took and one more
 pub record CanBeCarriedOut (core : CoreState) (edit : PreparedEdit) (moves : Moves) (memory : Option SlaveRoom) (room : List Change) (capacity : ℕ) : Type 0 where

@@ -1,16 +1,18 @@
 //! What is kept of the register blocks and of the areas after an edit: the slaves that it declares are taken in, in memory that was
-//! taken before, or they lose the slaves that left and compare what moved.
+//! taken before, or they lose the slaves that left and compare what moved. Before that: which tasks will wait.
 ghost use Rattle.std.specs.Prelude.{◌≡◌, ◌+◌, ◌*◌, ◌<◌, IfOk, length};
 ghost use Rattle.hc_records.specs.declared.edit.Edit.TheVariants.{Declare};
 ghost use Rattle.hc_records.specs.declared.records.Group.{Group};
 ghost use Rattle.hc_owed.specs.RegisterState.{register_state_of};
 ghost use Rattle.hc_owed.specs.Laws.{known_over};
-ghost use Rattle.hc_core.specs.Prepared.{CanFollow, HasSlaveRoom, areas_followed};
+ghost use Rattle.hc_owed.specs.ReadinessLaws.{AreWaiting};
+ghost use Rattle.hc_core.specs.Prepared.{CanFollow, HasSlaveRoom, areas_followed, areas_foretold};
 
 use hc_owed::owed::Owed;
 use hc_owed::readiness::Readiness;
 use hc_owed::readiness_room::ReadinessRoom;
 use hc_owed::room::OwedRoom;
+use hc_owed::task_set::TaskSet;
 use hc_plan::prepared::PreparedEdit;
 use hc_records::edit::Edit;
 use std::alloc::{AllocError, Global};
@@ -62,5 +64,21 @@ pub(crate) fn follow(
             owed.change(edit.gone(), edit.blocks());
             readiness.change(owed, edit.gone(), edit.blocks());
         }
+    }
+}
+
+/// The tasks that will wait once a prepared edit is carried out and each slave that came with it is cleared. Nothing changes.
+pub(crate) fn foretell(
+    owed: &Owed,
+    readiness: &Readiness,
+    edit: &PreparedEdit,
+    slaves: &Option<SlaveRoom>,
+) -> TaskSet
+    requires { CanFollow owed.now readiness.now edit.now slaves.now }
+    ensures { (can : CanFollow owed.now readiness.now edit.now slaves.now) → AreWaiting (areas_foretold can) result }
+{
+    match slaves {
+        Some(_) => readiness.waiting_tasks(),
+        None => readiness.will_wait(owed, edit.gone(), edit.blocks()),
     }
 }

@@ -9,7 +9,7 @@ ghost use Rattle.hc_events.specs.Points.{state_of};
 ghost use Rattle.hc_events.specs.Steps.{edit_answer};
 ghost use Rattle.hc_core.specs.Prepared.{CanBeCarriedOut};
 
-use crate::declaring::{SlaveRoom, follow};
+use crate::declaring::{SlaveRoom, follow, foretell};
 use crate::keeping::Core;
 use crate::prepared::{CoreEdit, add_swap, edit_memory};
 use hc_events::answer::Answer;
@@ -35,7 +35,7 @@ fn judged_answer(report: &Report) -> Answer
 
 impl Core {
     /// Works out what an edit would make of the core; nothing changes. What is answered says what the edit would
-    /// cost, and `carry_out` carries it out as long as nothing else was accepted and no change was taken. The
+    /// cost and which tasks will wait, and `carry_out` carries it out as long as nothing else was accepted and no change was taken. The
     /// faults are those of `edit`, the lowest whose condition holds, or `Memory` where a growth was refused: all
     /// memory of the edit is taken here. A fault that the edit has by itself, of the faults 1 to 11, is reported
     /// whatever memory does.
@@ -57,12 +57,14 @@ impl Core {
             edit,
             &prepared.report().swap,
         )?;
+        let waiting = foretell(&self.owed, &self.readiness, &prepared, &slaves);
         let core = Snapshot::of(&*self);
         Ok(CoreEdit {
             edit: prepared,
             moves,
             slaves,
             room,
+            will_wait: waiting.bits(),
             core,
         })
     }
@@ -81,6 +83,7 @@ impl Core {
             moves,
             slaves,
             room,
+            will_wait: _,
             core: _,
         } = core_edit;
         self.carry(edit, moves, slaves, room)

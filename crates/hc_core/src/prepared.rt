@@ -30,23 +30,27 @@ pub struct CoreEdit {
     pub(crate) slaves: Option<SlaveRoom>,
     // has room for the changes that nobody took, and for the swap after them
     pub(crate) room: Vec<Change>,
+    // the tasks that will wait, as a number
+    pub(crate) will_wait: u8,
     pub(crate) core: Snapshot<Core>,
 }
 
 impl Model for CoreEdit {
-    ghost use Rattle.std.specs.Prelude.{vec_capacity};
+    ghost use Rattle.std.specs.Prelude.{◌≡◌, vec_capacity};
+    ghost use Rattle.hc_events.specs.Ready.{waiting_after};
     ghost use Rattle.hc_core.specs.Prepared.{CoreEdit, CanBeCarriedOut};
 
     ghost Value = { CoreEdit };
 
     ghost view = { λ it. record { core = it.core.value; edit = it.edit } };
 
-    ghost invariant = { λ it. CanBeCarriedOut it.core.value it.edit it.moves it.slaves it.room.items (vec_capacity it.room) };
+    ghost invariant = { λ it. CanBeCarriedOut it.core.value it.edit it.moves it.slaves it.room.items (vec_capacity it.room) × (it.will_wait ≡ waiting_after it.core.value.history it.edit.report.swap.edit) };
 }
 
 impl CoreEdit {
     ghost use Rattle.std.specs.Prelude.{◌≡◌};
     ghost use Rattle.hc_events.specs.Points.{state_of};
+    ghost use Rattle.hc_events.specs.Ready.{waiting_after};
 
     /// What the edit makes of the line: the report that carrying it out will give, the blocks that would have
     /// to be written, with their bytes, and the slaves that would leave.
@@ -55,6 +59,14 @@ impl CoreEdit {
         ensures made { result.now.old ≡ state_of self.now.core.history }
     {
         &self.edit
+    }
+
+    /// The tasks that will wait once the edit is carried out and each slave that came with it is cleared (`cleared`), as a number:
+    /// bit t is 1 if task t waits, so that `send_ready_into` will refuse it. It takes no time (this project's profile).
+    pub fn will_wait(&self) -> u8
+        ensures { result ≡ waiting_after self.now.core.history self.now.edit.report.swap.edit }
+    {
+        self.will_wait
     }
 }
 

@@ -124,7 +124,7 @@ module _ (register_state : RegisterState) (gone : Gone) (moved : List RankedBloc
       let name = same-name is.old is.new is.edit n before block is.accepted stood at in
       search (rules, is_placed-on)
 
-  known-stays : (n : ℕ) (w z : Option LineBlock) → slice_get olds n ≡ Some w → slice_get updates n ≡ Some z → (IsGone gone n → ⊥) → known_in is.known w ≡ known_in over z
+  pub known-stays : (n : ℕ) (w z : Option LineBlock) → slice_get olds n ≡ Some w → slice_get updates n ≡ Some z → (IsGone gone n → ⊥) → known_in is.known w ≡ known_in over z
   known-stays n w z stood at out = search (rules, came, stayed-known)
 
   pub owed-stays : (n : ℕ) (w z : Option LineBlock) → slice_get olds n ≡ Some w → slice_get updates n ≡ Some z → (IsGone gone n → ⊥) → All (λ m. block_place m ≢ n) moved → owed_in is.known w ≡ owed_in over z

@@ -1,17 +1,19 @@
 -- How many blocks and registers tasks wait for, counted area by area.
 use Rattle.std.proofs.Common.{◌≡◌, ℕ, zero, suc, ◌+◌, ◌*◌, ◌<◌, ◌≤◌, Bool, true, false, List, [], ◌∷◌, ◌++◌, length, sum_by, sym, ap, ◌∙◌, arith}
-use Rattle.std.specs.Prelude.{Some, replicate, slice_get}
+use Rattle.std.specs.Prelude.{Some, replicate, slice_get, slice_index}
 use Rattle.std.proofs.lemmas.List.Folds.{sum_by-replicate}
 use Rattle.std.proofs.lemmas.List.Sums.{sum_by-append, sum_by-cons, sum_by_push}
 use Rattle.std.proofs.lemmas.Grind.{common_steps}
 use Rattle.std.proofs.lemmas.Option.{same_Some}
 use Rattle.hc_records.specs.Lists.{changed_at}
 use Rattle.hc_owed.specs.declared.area.JudgedArea.{JudgedArea}
+use Rattle.hc_owed.specs.declared.tally.Tally.{Tally}
 use Rattle.hc_owed.specs.Areas.{blocks_waited, fmmu_concerns, register_concerns, registers_waited, sync_manager_concerns}
 use Rattle.hc_owed.specs.Flags.{one}
 use Rattle.hc_owed.specs.Readiness.{no_area}
 use Rattle.hc_owed.specs.TaskSets.{has_task, no_task}
-use Rattle.hc_owed.specs.Waiting.{AreCounted, CanRecount, Recounts}
+use Rattle.hc_owed.specs.Tally.{CanPut, Puts, Tallies}
+use Rattle.hc_owed.specs.Waiting.{AreCounted}
 use Rattle.hc_owed.proofs.TaskLists.{has-where}
 
 pub one-most : (b : Bool) → one b ≤ 1
@@ -54,97 +56,76 @@ blocks-most task area =
 registers-most : (task : ℕ) (area : JudgedArea) → registers_waited task area ≤ 1
 registers-most task area = one-most (has_task task (register_concerns area))
 
--- an area is put in place of another one
+-- areas that keep no task waiting
 
-module _ (areas : List JudgedArea) (n : ℕ) (was now : JudgedArea) (few : length areas < 524288) (at : slice_get areas n ≡ Some was) where
-  pub can-first : (counts : List ℕ) → AreCounted blocks_waited areas counts → CanRecount counts (sync_manager_concerns was)
-  can-first counts counted t low =
-      let here = sum-least (blocks_waited t) areas n was at in
-      let most = sum-most (blocks_waited t) 2 areas (blocks-most t) in
-      let is = counted t low in
-      (omega (arith, here, is), omega (arith, most, is, few))
+none-counts : (task : ℕ) → task < 8 → one (has_task task no_task) ≡ 0
+none-counts task low = ap one (has-where (λ t. false) task low)
 
-  pub can-second : (counts next : List ℕ) → AreCounted blocks_waited areas counts → Recounts counts next (sync_manager_concerns was) (sync_manager_concerns now) → CanRecount next (fmmu_concerns was)
-  can-second counts next counted first t low =
-      let here = sum-least (blocks_waited t) areas n was at in
-      let most = sum-most (blocks_waited t) 2 areas (blocks-most t) in
-      let is = counted t low in
-      let moves = first t low in
-      let small = one-most (has_task t (sync_manager_concerns now)) in
-      (omega (arith, here, is, moves), omega (arith, most, is, few, moves, small))
+pub no-blocks : (task : ℕ) → task < 8 → blocks_waited task no_area ≡ 0
+no-blocks task low = let none = none-counts task low in omega (arith, none)
 
-  pub can-third : (counts : List ℕ) → AreCounted registers_waited areas counts → CanRecount counts (register_concerns was)
-  can-third counts counted t low =
-      let here = sum-least (registers_waited t) areas n was at in
-      let most = sum-most (registers_waited t) 1 areas (registers-most t) in
-      let is = counted t low in
-      (omega (arith, here, is), omega (arith, most, is, few))
+pub no-registers : (task : ℕ) → task < 8 → registers_waited task no_area ≡ 0
+no-registers task low = none-counts task low
 
-  pub blocks-put : (counts next last : List ℕ) → AreCounted blocks_waited areas counts → Recounts counts next (sync_manager_concerns was) (sync_manager_concerns now)
-      → Recounts next last (fmmu_concerns was) (fmmu_concerns now) → AreCounted blocks_waited (changed_at n (λ _. now) areas) last
-  blocks-put counts next last counted first second t low =
+-- an area is counted in place of another one
+
+few-counted : (areas : List JudgedArea) (tally : Tally) (task : ℕ) → length areas < 524288 → Tallies areas tally → task < 8 → (slice_index tally.blocks task < 4294967294) × (slice_index tally.registers task < 4294967294)
+few-counted areas tally t few counts low =
+    let blocks = sum-most (blocks_waited t) 2 areas (blocks-most t) in
+    let registers = sum-most (registers_waited t) 1 areas (registers-most t) in
+    let first = counts.0 t low in
+    let second = counts.1 t low in
+    (omega (arith, blocks, first, few), omega (arith, registers, second, few))
+
+pub can-put : (areas : List JudgedArea) (tally : Tally) (n : ℕ) (was : JudgedArea) → length areas < 524288 → slice_get areas n ≡ Some was → Tallies areas tally → CanPut tally was
+can-put areas tally n was few at counts = record {
+  blocks = λ t low. let here = sum-least (blocks_waited t) areas n was at in let is = counts.0 t low in omega (arith, here, is);
+  registers = λ t low. let here = sum-least (registers_waited t) areas n was at in let is = counts.1 t low in omega (arith, here, is);
+  few_blocks = λ t low. (few-counted areas tally t few counts low).0;
+  few_registers = λ t low. (few-counted areas tally t few counts low).1;
+}
+
+pub area-put : (areas : List JudgedArea) (old new : Tally) (n : ℕ) (was now : JudgedArea) → slice_get areas n ≡ Some was → Tallies areas old → Puts old new was now → Tallies (changed_at n (λ _. now) areas) new
+area-put areas old new n was now at counts puts = (
+  λ t low.
       let put = sum-put (blocks_waited t) areas n was now at in
-      let is = counted t low in
-      let a = first t low in
-      let b = second t low in
-      omega (arith, put, is, a, b)
-
-  pub registers-put : (counts last : List ℕ) → AreCounted registers_waited areas counts → Recounts counts last (register_concerns was) (register_concerns now)
-      → AreCounted registers_waited (changed_at n (λ _. now) areas) last
-  registers-put counts last counted moves t low =
+      let is = counts.0 t low in
+      let moves = puts.blocks t low in
+      omega (arith, put, is, moves),
+  λ t low.
       let put = sum-put (registers_waited t) areas n was now at in
-      let is = counted t low in
-      let a = moves t low in
-      omega (arith, put, is, a)
+      let is = counts.1 t low in
+      let moves = puts.registers t low in
+      omega (arith, put, is, moves),
+)
 
 -- an area is added after the others
 
-pub none-counts : (task : ℕ) → task < 8 → one (has_task task no_task) ≡ 0
-none-counts task low = ap one (has-where (λ t. false) task low)
+pub can-push : (areas : List JudgedArea) (tally : Tally) → length areas < 524288 → Tallies areas tally → CanPut tally no_area
+can-push areas tally few counts = record {
+  blocks = λ t low. let none = no-blocks t low in omega (arith, none);
+  registers = λ t low. let none = no-registers t low in omega (arith, none);
+  few_blocks = λ t low. (few-counted areas tally t few counts low).0;
+  few_registers = λ t low. (few-counted areas tally t few counts low).1;
+}
 
-module _ (areas : List JudgedArea) (area : JudgedArea) (few : length areas < 524288) where
-  pub push-first : (counts : List ℕ) → AreCounted blocks_waited areas counts → CanRecount counts no_task
-  push-first counts counted t low =
-      let most = sum-most (blocks_waited t) 2 areas (blocks-most t) in
-      let is = counted t low in
-      let none = none-counts t low in
-      (omega (arith, none), omega (arith, most, is, few))
-
-  pub push-second : (counts next : List ℕ) → AreCounted blocks_waited areas counts → Recounts counts next no_task (sync_manager_concerns area) → CanRecount next no_task
-  push-second counts next counted first t low =
-      let most = sum-most (blocks_waited t) 2 areas (blocks-most t) in
-      let is = counted t low in
-      let none = none-counts t low in
-      let moves = first t low in
-      let small = one-most (has_task t (sync_manager_concerns area)) in
-      (omega (arith, none), omega (arith, most, is, few, moves, small, none))
-
-  pub push-third : (counts : List ℕ) → AreCounted registers_waited areas counts → CanRecount counts no_task
-  push-third counts counted t low =
-      let most = sum-most (registers_waited t) 1 areas (registers-most t) in
-      let is = counted t low in
-      let none = none-counts t low in
-      (omega (arith, none), omega (arith, most, is, few))
-
-  pub blocks-pushed : (counts next last : List ℕ) → AreCounted blocks_waited areas counts → Recounts counts next no_task (sync_manager_concerns area)
-      → Recounts next last no_task (fmmu_concerns area) → AreCounted blocks_waited (areas ++ area ∷ []) last
-  blocks-pushed counts next last counted first second t low =
+pub area-pushed : (areas : List JudgedArea) (old new : Tally) (area : JudgedArea) → Tallies areas old → Puts old new no_area area → Tallies (areas ++ area ∷ []) new
+area-pushed areas old new area counts puts = (
+  λ t low.
       let push = sum_by_push (blocks_waited t) areas area in
-      let is = counted t low in
-      let none = none-counts t low in
-      let a = first t low in
-      let b = second t low in
-      omega (arith, push, is, a, b, none)
-
-  pub registers-pushed : (counts last : List ℕ) → AreCounted registers_waited areas counts → Recounts counts last no_task (register_concerns area) → AreCounted registers_waited (areas ++ area ∷ []) last
-  registers-pushed counts last counted moves t low =
+      let is = counts.0 t low in
+      let moves = puts.blocks t low in
+      let none = no-blocks t low in
+      omega (arith, push, is, moves, none),
+  λ t low.
       let push = sum_by_push (registers_waited t) areas area in
-      let is = counted t low in
-      let none = none-counts t low in
-      let a = moves t low in
-      omega (arith, push, is, a, none)
+      let is = counts.1 t low in
+      let moves = puts.registers t low in
+      let none = no-registers t low in
+      omega (arith, push, is, moves, none),
+)
 
--- areas that keep no task waiting
+-- areas that keep no task waiting are added
 
 nothing-waits : (f : ℕ → JudgedArea → ℕ) (task : ℕ) (areas : List JudgedArea) (n : ℕ) (area : JudgedArea) → f task area ≡ 0 → sum_by (f task) (areas ++ replicate n area) ≡ sum_by (f task) areas
 nothing-waits f task areas n area none =
@@ -153,11 +134,9 @@ nothing-waits f task areas n area none =
     let zero-all : n * f task area ≡ 0 = ap (λ (k : ℕ). n * k) none ∙ omega arith in
     omega (arith, all, more, zero-all)
 
-pub more-counted : (f : ℕ → JudgedArea → ℕ) (areas : List JudgedArea) (n : ℕ) (area : JudgedArea) (counts : List ℕ) → ((task : ℕ) → task < 8 → f task area ≡ 0) → AreCounted f areas counts → AreCounted f (areas ++ replicate n area) counts
+more-counted : (f : ℕ → JudgedArea → ℕ) (areas : List JudgedArea) (n : ℕ) (area : JudgedArea) (counts : List ℕ) → ((task : ℕ) → task < 8 → f task area ≡ 0) → AreCounted f areas counts → AreCounted f (areas ++ replicate n area) counts
 more-counted f areas n area counts none counted t low = counted t low ∙ sym (nothing-waits f t areas n area (none t low))
 
-pub no-blocks : (task : ℕ) → task < 8 → blocks_waited task no_area ≡ 0
-no-blocks task low = let none = none-counts task low in omega (arith, none)
-
-pub no-registers : (task : ℕ) → task < 8 → registers_waited task no_area ≡ 0
-no-registers task low = none-counts task low
+pub areas-more : (areas : List JudgedArea) (n : ℕ) (tally : Tally) → Tallies areas tally → Tallies (areas ++ replicate n no_area) tally
+areas-more areas n tally counts =
+    (more-counted blocks_waited areas n no_area tally.blocks no-blocks counts.0, more-counted registers_waited areas n no_area tally.registers no-registers counts.1)

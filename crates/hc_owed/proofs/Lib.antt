@@ -5,6 +5,7 @@ mod Changing
 mod Counting
 mod Entering
 mod FlagLists
+mod Foretelling
 mod Forgetting
 mod HoldingUp
 mod Picked
@@ -17,6 +18,8 @@ mod ReadyOpening
 mod ReadyTurns
 mod ReadyWriting
 mod Saying
+mod Tallies
+mod TallyingMoved
 mod TaskLists
 mod Waits
 mod WaitsOutside

@@ -83,7 +83,7 @@ own-of (Some a) None same = cc
 own-of (Some a) (Some b) same = ap (λ (bytes : List ℕ). tasks_where (λ (t : ℕ). names_task t bytes)) (ap (λ (r : RegisterBlock). r.bytes) (same_Some a.block b.block same))
 
 module _ (areas : List JudgedArea) (owed : RegisterState) (gone : Gone) (moved : List RankedBlock) (is : ReadinessIsEdited areas owed gone moved) where
-  abbrev known' : Knowledge
+  abbrev pub known' : Knowledge
   known' = known_over is.old is.known
 
   abbrev held' : Holdings
@@ -92,10 +92,10 @@ module _ (areas : List JudgedArea) (owed : RegisterState) (gone : Gone) (moved :
   abbrev unplugged' : ℕ → Bool
   unplugged' = unplugged_over is.new is.unplugged
 
-  abbrev old : State
+  abbrev pub old : State
   old = is.old
 
-  abbrev new : State
+  abbrev pub new : State
   new = is.new
 
   abbrev project : lowest_fault (groups_of is.old.groups) ≡ None
@@ -107,7 +107,7 @@ module _ (areas : List JudgedArea) (owed : RegisterState) (gone : Gone) (moved :
   abbrev registers : RegistersAreEdited (register_state_of is.known is.old) gone moved
   registers = record { known = is.known; old = is.old; edit = is.edit; new = is.new; right = refl; project = is.right.project; accepted = is.accepted; same = is.same; differ = is.differ }
 
-  abbrev all : ℕ
+  abbrev pub all : ℕ
   all = 8 * length (stations is.old)
 
   abbrev target : ℕ → JudgedArea
@@ -119,7 +119,7 @@ module _ (areas : List JudgedArea) (owed : RegisterState) (gone : Gone) (moved :
   abbrev count : ℕ
   count = 8 * gone.slaves
 
-  same-count : length (stations is.old) ≡ length (stations is.new)
+  pub same-count : length (stations is.old) ≡ length (stations is.new)
   same-count = ap length (same-stations is.old is.new is.edit is.same is.accepted)
 
   -- the slaves that have the areas
@@ -143,13 +143,13 @@ module _ (areas : List JudgedArea) (owed : RegisterState) (gone : Gone) (moved :
       let count = bare-count slave one.0 one.2 in
       (one.0, area-is new i one.0 one.1 (omega (arith, low, count)), ap (λ (s : ℕ × List Area). s.0) (sym one.2))
 
-  area-before : (i : ℕ) (slave : Slave) → area_slave new i ≡ Some slave → (other : Slave) × (area_slave old i ≡ Some other)
+  pub area-before : (i : ℕ) (slave : Slave) → area_slave new i ≡ Some slave → (other : Slave) × (area_slave old i ≡ Some other) × (other.station ≡ slave.station)
   area-before i slave area =
       let here = area-of new i slave area in
       let one = alike (slice_get (declared_slaves old.groups) (i / 8)) slave (sym (ap (option_map bare_slave) here.declared) ∙ bare-get (i / 8)) in
       let low = here.low in
       let count = bare-count slave one.0 one.2 in
-      (one.0, area-is old i one.0 one.1 (omega (arith, low, count)))
+      (one.0, area-is old i one.0 one.1 (omega (arith, low, count)), ap (λ (s : ℕ × List Area). s.0) (sym one.2))
 
   -- an area on its way: right but for the blocks that are still to be moved
   record IsOnWay (i : ℕ) (rest : List RankedBlock) (area : JudgedArea) : Type 0 where
@@ -170,7 +170,7 @@ module _ (areas : List JudgedArea) (owed : RegisterState) (gone : Gone) (moved :
 
   -- a moved block
 
-  flag-is : (m : RankedBlock) → IsAtItsPlace (places is.new) m → unwrap_or (slice_get owed.owed (block_place m)) false ≡ owed_in known' (Some m.found)
+  pub flag-is : (m : RankedBlock) → IsAtItsPlace (places is.new) m → unwrap_or (slice_get owed.owed (block_place m)) false ≡ owed_in known' (Some m.found)
   flag-is m at =
       ap (λ (l : List Bool). unwrap_or (slice_get l (block_place m)) false) (ap (λ (r : RegisterState). r.owed) is.flags)
       ∙ ap (λ (o : Option Bool). unwrap_or o false) (slice_get-map (owed_in known') (places new) (block_place m) ∙ ap (option_map (owed_in known')) at)
@@ -273,28 +273,31 @@ module _ (areas : List JudgedArea) (owed : RegisterState) (gone : Gone) (moved :
   held-same : (slave other : Slave) (i : ℕ) → other.station ≡ slave.station → held_set (is.held slave.station (fmmu_at i)) ≡ held_set (held' other.station (fmmu_at i))
   held-same slave other i station = ap (λ (s : ℕ). held_set (is.held s (fmmu_at i))) (sym station)
 
+  pub out-new : (i : ℕ) (slave : Slave) → area_slave new i ≡ Some slave → is_some (slot new (2 * i + 1)) ≡ false → is_some (slave_at new slave.station) ≡ false
+  out-new i slave area none =
+      some-false (is_some (slave_at new slave.station)) (λ inside. let both = (in-line new i slave project' area inside).1 in let no : true ≡ false = sym both ∙ none in cc)
+
   -- where the line has no block of the area any more
   outside-same : (i : ℕ) (slave other : Slave) → area_slave new i ≡ Some other → other.station ≡ slave.station → is_some (slot new (2 * i + 1)) ≡ false → unplugged' other.station ≡ is.unplugged slave.station
   outside-same i slave other area station none =
-      let out = some-false (is_some (slave_at new other.station))
-      (λ inside. let both = (in-line new i other project' area inside).1 in let no : true ≡ false = sym both ∙ none in cc) in
+      let out = out-new i other area none in
       ap (λ (t : Bool). is.unplugged other.station && not t) out ∙ and-true (is.unplugged other.station) ∙ ap is.unplugged station
     where
       and-true : (b : Bool) → (b && true) ≡ b
       and-true true = refl
       and-true false = refl
 
-  in-old : (i : ℕ) (slave : Slave) (block : LineBlock) → area_slave old i ≡ Some slave → slot old (2 * i + 1) ≡ Some block → is_some (slave_at old slave.station) ≡ true
+  pub in-old : (i : ℕ) (slave : Slave) (block : LineBlock) → area_slave old i ≡ Some slave → slot old (2 * i + 1) ≡ Some block → is_some (slave_at old slave.station) ≡ true
   in-old i slave block area found =
       let at = slot-at old (2 * i + 1) block found in
       ap (λ (s : ℕ). is_some (slave_at old s)) (sym (block-station old i (2 * i + 1) slave block area (omega arith) found)) ∙ is_placed-on old (2 * i + 1) block at
 
-  in-new : (i : ℕ) (slave : Slave) (block : LineBlock) → area_slave new i ≡ Some slave → slot new (2 * i + 1) ≡ Some block → is_some (slave_at new slave.station) ≡ true
+  pub in-new : (i : ℕ) (slave : Slave) (block : LineBlock) → area_slave new i ≡ Some slave → slot new (2 * i + 1) ≡ Some block → is_some (slave_at new slave.station) ≡ true
   in-new i slave block area found =
       let at = slot-at new (2 * i + 1) block found in
       ap (λ (s : ℕ). is_some (slave_at new s)) (sym (block-station new i (2 * i + 1) slave block area (omega arith) found)) ∙ is_placed-on new (2 * i + 1) block at
 
-  out-old : (i : ℕ) (slave : Slave) → area_slave old i ≡ Some slave → is_some (slot old (2 * i + 1)) ≡ false → is_some (slave_at old slave.station) ≡ false
+  pub out-old : (i : ℕ) (slave : Slave) → area_slave old i ≡ Some slave → is_some (slot old (2 * i + 1)) ≡ false → is_some (slave_at old slave.station) ≡ false
   out-old i slave area none =
       some-false (is_some (slave_at old slave.station)) (λ inside. let both = (in-line old i slave project area inside).1 in let no : true ≡ false = sym both ∙ none in cc)
 
@@ -327,7 +330,7 @@ module _ (areas : List JudgedArea) (owed : RegisterState) (gone : Gone) (moved :
       ∙ ap (λ (t : Bool). standing_of t holds'.unknown (unplugged' other.station && some_task (held_set holds'))) (sym none)
 
   -- a slave that left: its blocks are no more
-  went : (n : ℕ) → IsGone gone n → slot new n ≡ None
+  pub went : (n : ℕ) → IsGone gone n → slot new n ≡ None
   went n inside = slot-is new n None (is.differ.went n inside)
 
   gone-some : (i : ℕ) (slave other : Slave) → from ≤ i → i < from + count → area_slave old i ≡ Some slave → area_slave new i ≡ Some other → other.station ≡ slave.station
@@ -383,7 +386,7 @@ module _ (areas : List JudgedArea) (owed : RegisterState) (gone : Gone) (moved :
 
   -- a slave that did not leave
 
-  place-old : (n : ℕ) → n < 2 * all → slice_get (places is.old) n ≡ Some (slot is.old n)
+  pub place-old : (n : ℕ) → n < 2 * all → slice_get (places is.old) n ≡ Some (slot is.old n)
   place-old n low =
       let size = length-places is.old in
       let named = length-map (declared_slaves is.old.groups) (λ (slave : Slave). slave.station) in
@@ -524,10 +527,10 @@ module _ (areas : List JudgedArea) (owed : RegisterState) (gone : Gone) (moved :
 
   -- all areas
 
-  abbrev left : List JudgedArea
+  abbrev pub left : List JudgedArea
   left = areas_left gone (readiness_of is.known is.held is.unplugged is.old)
 
-  left-size : length left ≡ all
+  pub left-size : length left ≡ all
   left-size = length-changed-from (area_after Left) from count (readiness_of is.known is.held is.unplugged is.old) ∙ length-range (judged_at is.known is.held is.unplugged is.old) all
 
   left-way : AreOnWay moved left

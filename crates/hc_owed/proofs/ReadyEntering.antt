@@ -59,10 +59,10 @@ none-named : (held : MayHold) → held.contents ≡ [] → held_set held ≡ no_
 none-named held empty = ap (λ (l : List (List ℕ)). held_set (record { unknown = held.unknown; contents = l })) empty ∙ same-where (λ (t : ℕ). names_among t (record { unknown = held.unknown; contents = [] })) (λ (t : ℕ). false) (λ t low. refl)
 
 module _ (areas : List JudgedArea) (room : ReadinessRoom) (can : ReadinessCanAdmit areas room) where
-  abbrev old : State
+  abbrev pub old : State
   old = can.old
 
-  abbrev new : State
+  abbrev pub new : State
   new = changed can.old (Declare can.group)
 
   abbrev known' : Knowledge
@@ -74,7 +74,7 @@ module _ (areas : List JudgedArea) (room : ReadinessRoom) (can : ReadinessCanAdm
   abbrev unplugged' : ℕ → Bool
   unplugged' = unplugged_over (changed can.old (Declare can.group)) can.unplugged
 
-  same-line : (station : ℕ) → slave_at new station ≡ slave_at old station
+  pub same-line : (station : ℕ) → slave_at new station ≡ slave_at old station
   same-line station = ap (λ (l : List Member). find (is_at station) l) (line-absent 1 can.old.groups can.group)
 
   slaves : declared_slaves new.groups ≡ declared_slaves old.groups ++ can.group.slaves
@@ -97,7 +97,7 @@ module _ (areas : List JudgedArea) (room : ReadinessRoom) (can : ReadinessCanAdm
           ∙ ap (λ (t : Bool). differs block.block.bytes (cond t (can.known block.station block.number) None)) (sym (is_placed-on can.old n block (slot-at can.old n block is)))
           ∙ sym (ap (owed_in known') is)
 
-  never-comes : (a b : Bool) → b ≡ a → (not a && b) ≡ false
+  pub never-comes : (a b : Bool) → b ≡ a → (not a && b) ≡ false
   never-comes true true same = refl
   never-comes true false same = refl
   never-comes false false same = refl

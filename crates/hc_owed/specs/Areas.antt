@@ -94,6 +94,10 @@ area_after Forgotten area = record area { owed = pair_forgotten area.standing ar
 area_after Cleared area = record area { held = no_task; standing = standing_cleared area.standing }
 area_after Unplugs area = record area { standing = standing_unplugged (some_task area.held) area.standing }
 
+-- an area of a slave that is in the line now: where the slave came, its register is cleared
+abbrev pub area_entered : JudgedArea → JudgedArea
+area_entered area = if is_inside area.standing then area else record area { held = no_task; standing = Sure }
+
 -- a write of an area's FMMU's block was sent: the register may hold what the line configures too
 abbrev pub area_written : JudgedArea → JudgedArea
 area_written area = record area { held = either_set area.own area.held }

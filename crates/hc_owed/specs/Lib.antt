@@ -8,7 +8,9 @@ pub mod TaskSets
 pub mod Areas
 pub mod Readiness
 pub mod Waiting
+pub mod Tally
 pub mod ReadinessSteps
 pub mod ReadinessRoom
+pub mod EditWaits
 pub mod Holders
 pub mod ReadinessLaws

@@ -1,5 +1,5 @@
 -- What the steps and the look-ups of a readiness are, for whatever is known of the blocks, whatever the registers may hold and whichever slaves are unplugged.
-use Rattle.std.specs.Prelude.{◌≡◌, ℕ, is_some, Bool, true, false, List, length, slice_get, MatchOption, Option, None, Some}
+use Rattle.std.specs.Prelude.{◌≡◌, ℕ, is_some, not, Bool, true, false, List, length, slice_get, MatchOption, Option, None, Some}
 use Rattle.hc_records.specs.declared.edit.Edit.TheVariants.{Declare}
 use Rattle.hc_records.specs.Edits.{changed, slave_at}
 use Rattle.hc_records.specs.Line.{State}
@@ -11,6 +11,7 @@ use Rattle.hc_plan.specs.Reports.{found_name}
 use Rattle.hc_owed.specs.declared.area.JudgedArea.{JudgedArea}
 use Rattle.hc_owed.specs.declared.readiness_room.ReadinessRoom.{ReadinessRoom}
 use Rattle.hc_owed.specs.declared.task_set.TaskSet.{TaskSet}
+use Rattle.hc_owed.specs.EditWaits.{ReadinessWillBeEdited, areas_cleared}
 use Rattle.hc_owed.specs.Holders.{IsHolder, holding_slaves}
 use Rattle.hc_owed.specs.Laws.{known_over, known_with, known_without}
 use Rattle.hc_owed.specs.Readiness.{Holdings, may_be_sent, readiness_of, blocks_waited_for, registers_waited_for}
@@ -80,6 +81,21 @@ TellsReady areas task ready =
 abbrev pub AreReady : List JudgedArea → TaskSet → Type 0
 AreReady areas set =
     (known : Knowledge) (held : Holdings) (unplugged : ℕ → Bool) (state : State) → IsReadinessFor known held unplugged state areas → set ≡ tasks_where (may_be_sent known held unplugged state)
+
+-- these are the tasks that wait for something
+abbrev pub AreWaiting : List JudgedArea → TaskSet → Type 0
+AreWaiting areas set =
+    (known : Knowledge) (held : Holdings) (unplugged : ℕ → Bool) (state : State) → IsReadinessFor known held unplugged state areas → set ≡ tasks_where (λ task. not (may_be_sent known held unplugged state task))
+
+-- these are the tasks that will wait once an edit that declares nothing is carried out and each slave that came is cleared
+abbrev pub ForetellsWaiting : List JudgedArea → RegisterState → Gone → List RankedBlock → TaskSet → Type 0
+ForetellsWaiting areas owed gone moved set =
+    (is : ReadinessWillBeEdited areas owed gone moved) → AreWaiting (areas_cleared is.known is.held is.unplugged is.old is.new) set
+
+-- they are the tasks that will wait once a group is declared, too
+abbrev pub ForetellsDeclared : List JudgedArea → TaskSet → Type 0
+ForetellsDeclared areas set =
+    (room : ReadinessRoom) (can : ReadinessCanAdmit areas room) → AreWaiting (areas_cleared can.known can.held can.unplugged can.old (changed can.old (Declare can.group))) set
 
 -- of the slaves that hold a task up the one with an index, or none
 abbrev pub GivesHolder : List JudgedArea → ℕ → ℕ → Option ℕ → Type 0

@@ -77,11 +77,13 @@ area_sent number area = if is_fmmu number then area_written area else area
 abbrev pub area_confirmed : ℕ → JudgedArea → JudgedArea
 area_confirmed number area = if is_fmmu number then fmmu_confirmed area else sync_manager_confirmed area
 
--- an area after one of its blocks moved; the flags say which blocks are owed after the edit
+-- an area after one of its blocks moved, which is then owed or not
+abbrev pub block_moved : Bool → RankedBlock → JudgedArea → JudgedArea
+block_moved owes moved area = if is_fmmu (block_place moved) then fmmu_moved (own_set (Some moved.found)) owes area else sync_manager_moved owes area
+
+-- the same where flags say which blocks are owed after the edit
 abbrev pub area_moved : List Bool → RankedBlock → JudgedArea → JudgedArea
-area_moved owed moved area =
-    if is_fmmu (block_place moved) then fmmu_moved (own_set (Some moved.found)) (unwrap_or (slice_get owed (block_place moved)) false) area
-    else sync_manager_moved (unwrap_or (slice_get owed (block_place moved)) false) area
+area_moved owed moved area = block_moved (unwrap_or (slice_get owed (block_place moved)) false) moved area
 
 -- moved blocks, one after another
 abbrev pub areas_moved : List Bool → List RankedBlock → List JudgedArea → List JudgedArea

@@ -1,9 +1,8 @@
 -- How many blocks and registers a task waits for, counted area by area.
-use Rattle.std.specs.Prelude.{◌≡◌, ◌≤◌, ℕ, ◌+◌, ◌==◌, ◌&&◌, ◌<◌, Bool, List, slice_index, sum_by}
+use Rattle.std.specs.Prelude.{◌≡◌, ◌≤◌, ℕ, ◌+◌, ◌<◌, List, slice_index, sum_by}
 use Rattle.hc_records.specs.declared.limits.TheConstants.{TASKS}
 use Rattle.hc_owed.specs.declared.area.JudgedArea.{JudgedArea}
 use Rattle.hc_owed.specs.declared.task_set.TaskSet.{TaskSet}
-use Rattle.hc_owed.specs.Areas.{blocks_waited, registers_waited}
 use Rattle.hc_owed.specs.Flags.{one}
 use Rattle.hc_owed.specs.TaskSets.{has_task}
 
@@ -18,7 +17,3 @@ CanRecount counts was = (task : ℕ) → task < TASKS → (one (has_task task wa
 -- the tasks of one set were taken out of counts, and those of another were counted
 abbrev pub Recounts : List ℕ → List ℕ → TaskSet → TaskSet → Type 0
 Recounts old new was now = (task : ℕ) → task < TASKS → slice_index new task + one (has_task task was) ≡ slice_index old task + one (has_task task now)
-
--- no area keeps a task waiting
-abbrev pub waits_for_none : List JudgedArea → ℕ → Bool
-waits_for_none areas task = (sum_by (blocks_waited task) areas == 0) && (sum_by (registers_waited task) areas == 0)

@@ -181,7 +181,7 @@ fn set_if(counts: bool, set: TaskSet) -> TaskSet
 impl JudgedArea {
     ghost use Rattle.std.specs.Prelude.{◌≡◌};
     ghost use Rattle.hc_owed.specs.Readiness.{no_area};
-    ghost use Rattle.hc_owed.specs.Areas.{area_after, area_written, fmmu_concerns, fmmu_confirmed, fmmu_moved, named_set, pair_forgotten, register_concerns, sync_manager_concerns, sync_manager_confirmed, sync_manager_moved};
+    ghost use Rattle.hc_owed.specs.Areas.{area_after, area_entered, area_written, fmmu_concerns, fmmu_confirmed, fmmu_moved, named_set, pair_forgotten, register_concerns, sync_manager_concerns, sync_manager_confirmed, sync_manager_moved};
 
     /// What is kept of an area whose register names no task and whose slave is outside the line, or where there is no area.
     pub fn outside() -> JudgedArea
@@ -263,6 +263,20 @@ impl JudgedArea {
                 ..self
             },
         }
+    }
+
+    /// The area once its slave is in the line, and its registers are cleared if the slave came.
+    pub fn entered(self) -> JudgedArea
+        ensures { result ≡ area_entered self }
+    {
+        if !self.standing.is_inside() {
+            return JudgedArea {
+                held: TaskSet::none(),
+                standing: RegisterStatus::Sure,
+                ..self
+            };
+        }
+        self
     }
 
     /// The area once a write of its FMMU's block was sent.

@@ -5,6 +5,7 @@
 #![tactic(auto)]
 
 pub mod area;
+pub mod edit_waits;
 mod flags;
 pub mod holders;
 mod opening;
@@ -13,4 +14,5 @@ pub mod readiness;
 pub mod readiness_room;
 pub mod room;
 mod stations;
+mod tally;
 pub mod task_set;

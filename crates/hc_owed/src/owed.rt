@@ -59,7 +59,7 @@ impl Owed {
     ghost use Rattle.hc_registers.specs.RankDifferences.{block_place, first_gone};
     ghost use Rattle.hc_owed.specs.RegisterState.{Knowledge, register_state_of, nothing_known};
     ghost use Rattle.hc_owed.specs.Laws.{as_written, GivesOwedAt, IsFirstOwed, IsLackingAt, IsNextOwed, IsRightAt, IsRightFor, RegistersAreEdited, known_over, known_without, lacking_blocks, owed_from, with_known};
-    ghost use Rattle.hc_owed.specs.Steps.{block_put, cleared, compared, compared_all, places_emptied, forgotten_at, forgotten_of, has_block, place_judged, learnt};
+    ghost use Rattle.hc_owed.specs.Steps.{block_put, cleared, compared, compared_all, places_emptied, forgotten_at, forgotten_of, has_block, learnt, owed_where_moved, place_judged};
 
     /// What is kept of a line whose slaves were just connected: nothing is known of any block, and every block is
     /// owed. `AllocError` where a growth was refused; of the later calls `room_for` alone takes memory.
@@ -259,6 +259,15 @@ impl Owed {
         }
     }
 
+    /// Whether a moved block is owed once the edit that moves it is carried out: other bytes are known at its place, or none.
+    pub(crate) fn will_owe(&self, moved: &RankedBlock) -> bool
+        requires rank { 1 ≤ moved.now.rank }
+        requires inside { block_place moved.now < length self.now.known }
+        ensures { result ≡ owed_where_moved moved.now self.now }
+    {
+        differs(&self.known[moved.place()], &moved.found.block)
+    }
+
     /// Puts a moved block in place of the old one, and compares it with what is known of it.
     fn compare(&mut self, moved: &RankedBlock)
         requires rank { 1 ≤ moved.now.rank }
@@ -266,7 +275,7 @@ impl Owed {
         ensures { self.new ≡ compared moved.now self.old }
     {
         let place = moved.place();
-        let owed = differs(&self.known[place], &moved.found.block);
+        let owed = self.will_owe(moved);
         self.put_block(place, Some(moved.found.block.copied()));
         self.judge(place, owed);
     }

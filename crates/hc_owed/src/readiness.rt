@@ -1,19 +1,18 @@
 //! `Readiness`: which tasks can be sent while register blocks are owed.
-ghost use Rattle.std.specs.Prelude.{◌≡◌, ℕ, ◌+◌, ◌*◌, ◌==◌, ◌<◌, IfSome, None, false, length};
+ghost use Rattle.std.specs.Prelude.{◌≡◌, ℕ, ◌+◌, ◌*◌, ◌==◌, ◌<◌, ◌≤◌, IfSome, None, false, length};
 ghost use Rattle.std.specs.Option.{option_map_or};
 ghost use Rattle.hc_records.specs.declared.limits.TheConstants.{TASKS};
 ghost use Rattle.hc_records.specs.Line.{groups_of};
 ghost use Rattle.hc_records.specs.Project.{lowest_fault};
 ghost use Rattle.hc_registers.specs.RankPlaces.{places};
 ghost use Rattle.hc_events.specs.Ready.{names_task};
-ghost use Rattle.hc_owed.specs.Flags.{one};
 ghost use Rattle.hc_owed.specs.Readiness.{judged_at, none_unplugged, unknown_registers};
+ghost use Rattle.hc_owed.specs.ReadinessSteps.{block_moved};
 ghost use Rattle.hc_owed.specs.RegisterState.{nothing_known};
-ghost use Rattle.hc_owed.specs.TaskSets.{has_task};
-ghost use Rattle.hc_owed.specs.Waiting.{CanRecount, Recounts};
 
 use crate::area::{JudgedArea, OwedPair, RegisterStatus, Turn};
 use crate::owed::Owed;
+use crate::tally::Tally;
 use crate::task_set::TaskSet;
 use hc_plan::plan::Plan;
 use hc_records::limits::TASKS;
@@ -21,28 +20,6 @@ use hc_registers::blocks::Block;
 use hc_registers::ranked::{Gone, RankedBlock};
 use std::alloc::{AllocError, Global};
 use std::marker::Model;
-
-/// 1 for a task that is in a set.
-fn one(set: TaskSet, task: u8) -> u32
-    requires { task < TASKS }
-    ensures { result ≡ one (has_task task set) }
-{
-    if set.has(task) { 1 } else { 0 }
-}
-
-/// Takes the tasks of one set out of counts, and counts those of another.
-fn recount(counts: &mut [u32; 8], was: TaskSet, now: TaskSet)
-    requires { CanRecount counts.old was }
-    ensures { Recounts counts.old counts.new was now }
-{
-    if was == now {
-        return;
-    }
-    for task in 0..TASKS {
-        let at = usize::from(task);
-        counts[at] = counts[at] - one(was, task) + one(now, task);
-    }
-}
 
 /// The logical addresses that a task has (this project's profile).
 const TASK_SPAN: u32 = 0x0100_0000;
@@ -84,28 +61,38 @@ fn opened_area(plan: &Plan, n: usize) -> JudgedArea
     }
 }
 
+/// What is kept of an area once one of its blocks moved, which is now owed or not.
+pub(crate) fn moved_area(moved: &RankedBlock, owes: bool, area: JudgedArea) -> JudgedArea
+    requires { 1 ≤ moved.now.rank }
+    ensures { result ≡ block_moved owes moved.now area }
+{
+    if moved.place() % 2 == 1 {
+        let own = TaskSet::of(named_task(&moved.found.block));
+        area.fmmu_moved(own, owes)
+    } else {
+        area.sync_manager_moved(owes)
+    }
+}
+
 /// What is kept of the areas of all declared slaves, eight for each slave by rank, present or not: which tasks each area's
 /// blocks and its register keep waiting. Contracts see the list of the areas.
 #[derive(Debug, Drop)]
 pub struct Readiness {
     pub(crate) areas: Vec<JudgedArea>,
-    // of each task how many owed blocks concern it
-    blocks: [u32; 8],
-    // of each task how many registers of slaves outside the line concern it
-    registers: [u32; 8],
+    // what the areas count of each task
+    pub(crate) tally: Tally,
 }
 
 impl Model for Readiness {
     ghost use Rattle.std.specs.Prelude.{◌*◌, ◌<◌, List, length};
     ghost use Rattle.hc_owed.specs.declared.area.JudgedArea.{JudgedArea};
-    ghost use Rattle.hc_owed.specs.Areas.{blocks_waited, registers_waited};
-    ghost use Rattle.hc_owed.specs.Waiting.{AreCounted};
+    ghost use Rattle.hc_owed.specs.Tally.{Tallies};
 
     ghost Value = { List JudgedArea };
 
     ghost view = { λ readiness. readiness.areas.items };
 
-    ghost invariant = { λ readiness. AreCounted blocks_waited readiness.areas.items readiness.blocks × AreCounted registers_waited readiness.areas.items readiness.registers × (length readiness.areas.items < 8 * 65536) };
+    ghost invariant = { λ readiness. Tallies readiness.areas.items readiness.tally × (length readiness.areas.items < 8 * 65536) };
 }
 
 impl Readiness {
@@ -122,11 +109,10 @@ impl Readiness {
     ghost use Rattle.hc_owed.specs.Areas.{area_after};
     ghost use Rattle.hc_owed.specs.Laws.{known_over, known_with, known_without};
     ghost use Rattle.hc_owed.specs.Readiness.{none_unplugged, readiness_of, unknown_registers};
-    ghost use Rattle.hc_owed.specs.ReadinessLaws.{AreReady, ClearsSlave, ConfirmsAt, FollowsEdit, ForgetsSlave, SendsAt, TellsReady, UnplugsSlave, WaitsForBlocks, WaitsForRegisters};
+    ghost use Rattle.hc_owed.specs.ReadinessLaws.{AreReady, AreWaiting, ClearsSlave, ConfirmsAt, FollowsEdit, ForetellsDeclared, ForgetsSlave, SendsAt, TellsReady, UnplugsSlave, WaitsForBlocks, WaitsForRegisters};
     ghost use Rattle.hc_owed.specs.ReadinessSteps.{IsReadinessAt, IsReadinessFor, ReadinessIsEdited, area_moved, areas_moved, changed_from, held_over, held_with, held_without, only_contents, unplugged_over, unplugged_with, with_contents};
     ghost use Rattle.hc_owed.specs.RegisterState.{Knowledge, lacks, nothing_known, register_state_of};
     ghost use Rattle.hc_owed.specs.TaskSets.{tasks_where};
-    ghost use Rattle.hc_owed.specs.Waiting.{waits_for_none};
 
     /// What is kept of a line whose slaves were just connected: each block of the line is owed, and each FMMU's register is unknown;
     /// `owed` is what is kept of its blocks. `AllocError` where a growth was refused; of the later calls `room_for` alone takes
@@ -139,8 +125,10 @@ impl Readiness {
         let count = 8 * owed.slaves();
         let mut readiness = Readiness {
             areas: Vec::with_capacity(alloc, count)?,
-            blocks: [0; 8],
-            registers: [0; 8],
+            tally: Tally {
+                blocks: [0; 8],
+                registers: [0; 8],
+            },
         };
         for n in 0..count {
             readiness.push(opened_area(plan, n))?;
@@ -154,17 +142,7 @@ impl Readiness {
         ensures { OnOk result (self.new ≡ self.old ++ area ∷ []) }
     {
         self.areas.push(area)?;
-        recount(
-            &mut self.blocks,
-            TaskSet::none(),
-            area.sync_manager_concerns(),
-        );
-        recount(&mut self.blocks, TaskSet::none(), area.fmmu_concerns());
-        recount(
-            &mut self.registers,
-            TaskSet::none(),
-            area.register_concerns(),
-        );
+        self.tally.put(JudgedArea::outside(), area);
         Ok(())
     }
 
@@ -182,17 +160,7 @@ impl Readiness {
         ensures { self.new ≡ changed_at n (λ _. now) self.old }
     {
         let was = self.areas[n];
-        recount(
-            &mut self.blocks,
-            was.sync_manager_concerns(),
-            now.sync_manager_concerns(),
-        );
-        recount(&mut self.blocks, was.fmmu_concerns(), now.fmmu_concerns());
-        recount(
-            &mut self.registers,
-            was.register_concerns(),
-            now.register_concerns(),
-        );
+        self.tally.put(was, now);
         self.areas[n] = now;
     }
 
@@ -274,12 +242,7 @@ impl Readiness {
         let place = moved.place();
         let owes = owed.is_owed(place);
         let area = self.area(place / 2);
-        if place % 2 == 1 {
-            let own = TaskSet::of(named_task(&moved.found.block));
-            self.set_area(place / 2, area.fmmu_moved(own, owes));
-        } else {
-            self.set_area(place / 2, area.sync_manager_moved(owes));
-        }
+        self.set_area(place / 2, moved_area(moved, owes, area));
     }
 
     /// Blocks of the line moved with an edit, one after another.
@@ -311,7 +274,7 @@ impl Readiness {
         requires { task < TASKS }
         ensures { WaitsForBlocks self.now task result }
     {
-        self.blocks[usize::from(task)]
+        self.tally.blocks[usize::from(task)]
     }
 
     /// How many registers of slaves outside the line a task, 0 to 7, waits for: those with contents that name it. It takes no time.
@@ -319,16 +282,7 @@ impl Readiness {
         requires { task < TASKS }
         ensures { WaitsForRegisters self.now task result }
     {
-        self.registers[usize::from(task)]
-    }
-
-    /// Whether no area keeps a task, 0 to 7, waiting.
-    fn is_free(&self, task: u8) -> bool
-        requires { task < TASKS }
-        ensures { result ≡ waits_for_none self.now task }
-    {
-        let at = usize::from(task);
-        self.blocks[at] == 0 && self.registers[at] == 0
+        self.tally.registers[usize::from(task)]
     }
 
     /// Whether a task, 0 to 7, waits for nothing, so that it can be sent. It takes no time.
@@ -336,17 +290,21 @@ impl Readiness {
         requires { task < TASKS }
         ensures { TellsReady self.now task result }
     {
-        self.is_free(task)
+        self.tally.is_free(task)
     }
 
     /// The tasks that wait for nothing. It takes the time of eight tasks.
     pub fn ready(&self) -> TaskSet
         ensures { AreReady self.now result }
     {
-        let mut set = TaskSet::none();
-        for task in 0..TASKS {
-            set = set.with_task(task, self.is_free(task));
-        }
-        set
+        self.tally.free()
+    }
+
+    /// The tasks that wait, each for some block or register. It takes the time of eight tasks.
+    pub fn waiting_tasks(&self) -> TaskSet
+        ensures now { AreWaiting self.now result }
+        ensures declared { ForetellsDeclared self.now result }
+    {
+        self.tally.free().others()
     }
 }

@@ -73,6 +73,15 @@ impl TaskSet {
         self.bits == 0
     }
 
+    /// The tasks that are not in the set.
+    pub(crate) fn others(self) -> TaskSet
+        ensures { result ≡ tasks_where (λ task. not (has_task task self)) }
+    {
+        TaskSet {
+            bits: self.bits ^ 0xff,
+        }
+    }
+
     /// The set as a number: bit t is 1 if task t is in the set.
     pub fn bits(self) -> u8
         ensures { result ≡ self.bits }

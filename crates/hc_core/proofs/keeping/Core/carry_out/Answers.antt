@@ -12,7 +12,7 @@ use Rattle.hc_core.proofs.keeping.Core.carry_out.Goals as goal
 pub carry-requires : goal.carry-requires
 carry-requires c =
     core_edit-here c.core_edit.inside.core.value c.args.self.now c.args.self.now c.args.core_edit c.core_edit.inside.edit c.core_edit.inside.moves c.core_edit.inside.slaves c.core_edit.inside.room.items
-    (vec_capacity c.core_edit.inside.room) c.core_edit.invariant c.core_edit.view_is c.requires refl
+    (vec_capacity c.core_edit.inside.room) c.core_edit.invariant.0 c.core_edit.view_is c.requires refl
 
 pub returns-clause-answer : goal.returns-clause-answer
 returns-clause-answer c =

@@ -8,12 +8,14 @@ use Rattle.hc_places.specs.Table.{table_of}
 use Rattle.hc_plan.specs.declared.report.Report.{Report}
 use Rattle.hc_owed.specs.RegisterState.{RegisterState}
 use Rattle.hc_events.specs.Points.{state_of}
+use Rattle.hc_events.specs.Ready.{waiting_after}
 use Rattle.hc_core.specs.Records.{history_read}
 use Rattle.hc_core.specs.Agreement.{core_parts, state_in}
 use Rattle.hc_core.specs.Prepared.{CanBeCarriedOut}
 use Rattle.hc_core.specs.State.{CoreState}
-use Rattle.hc_core.proofs.Edits.{accepted-own, after-is, areas-declared, count-waiting, with-memory}
+use Rattle.hc_core.proofs.Edits.{accepted-own, after-is, areas-declared, can-follow, count-waiting, with-memory}
 use Rattle.hc_core.proofs.Followed.{few-declared}
+use Rattle.hc_core.proofs.Foretold.{will-wait}
 use Rattle.hc_core.proofs.keeping.Core.prepare.Goals as goal
 
 pub edit_memory-requires-clause-few : goal.edit_memory-requires-clause-few
@@ -32,6 +34,21 @@ returns-in_err-moves-clause-own c =
     (subst (λ (core : CoreState). edited (state_of core.history) c.args.edit.now ≡ Ok c.in_ok-prepared.prepared.new) c.self.view_is
     (subst (λ (state : State). edited state c.args.edit.now ≡ Ok c.in_ok-prepared.prepared.new) c.self.invariant.state c.in_ok-prepared.ensures.accepted))
 
+pub foretell-waiting-requires : goal.foretell-waiting-requires
+foretell-waiting-requires c =
+    let inside = c.self.inside in
+    let history = history_read inside.history in
+    let taken = history_read inside.taken.value in
+    let room = c.in_ok-moves.ensures.room in
+    let waiting = count-waiting taken history inside.changes.items c.self.invariant.shows in
+    let made = c.in_ok-prepared.ensures.made ∙ c.self.invariant.state in
+    let table = c.places.ensures.table ∙ ap (λ (state : State). table_of (line state)) (c.in_ok-prepared.ensures.unchanged ∙ c.self.invariant.state) in
+    let known = ap (λ (register_state : RegisterState). length register_state.stations) c.self.invariant.known ∙ ap (λ (state : State). length (stations state)) (sym made) in
+    let core_edit = with-memory (state_in inside) c.in_ok-prepared.prepared c.args.edit.now c.places.result.now c.report.result.now.swap c.in_ok-moves.moves (length inside.owed.stations) c.in_ok-moves.slaves c.in_ok-moves.room.items
+    (vec_capacity c.in_ok-moves.room) made c.in_ok-prepared.ensures.prepared c.in_ok-prepared.ensures.edit table (ap (λ (report : Report). report.swap) c.report.ensures.report) c.in_ok-moves.ensures.moves known
+    c.in_ok-moves.ensures.slaves c.in_ok-moves.ensures.empty (omega (arith, room, waiting)) in
+    can-follow (core_parts inside) history taken c.in_ok-prepared.prepared c.in_ok-moves.moves c.in_ok-moves.slaves c.in_ok-moves.room.items (vec_capacity c.in_ok-moves.room) core_edit c.self.invariant
+
 pub invariant_of-result : goal.invariant_of-result
 invariant_of-result c =
     let inside = c.self.inside in
@@ -45,7 +62,12 @@ invariant_of-result c =
     let core_edit = with-memory (state_in inside) c.in_ok-prepared.prepared c.args.edit.now c.places.result.now c.report.result.now.swap c.in_ok-moves.moves (length inside.owed.stations) c.in_ok-moves.slaves c.in_ok-moves.room.items
     (vec_capacity c.in_ok-moves.room) made c.in_ok-prepared.ensures.prepared c.in_ok-prepared.ensures.edit table (ap (λ (report : Report). report.swap) c.report.ensures.report) c.in_ok-moves.ensures.moves known
     c.in_ok-moves.ensures.slaves c.in_ok-moves.ensures.empty (omega (arith, room, waiting)) in
-    subst (λ (core : CoreState). CanBeCarriedOut core c.in_ok-prepared.prepared c.in_ok-moves.moves c.in_ok-moves.slaves c.in_ok-moves.room.items (vec_capacity c.in_ok-moves.room)) (sym c.of-core.ensures) core_edit
+    let follows = can-follow (core_parts inside) history taken c.in_ok-prepared.prepared c.in_ok-moves.moves c.in_ok-moves.slaves c.in_ok-moves.room.items (vec_capacity c.in_ok-moves.room) core_edit c.self.invariant in (
+      subst (λ (core : CoreState). CanBeCarriedOut core c.in_ok-prepared.prepared c.in_ok-moves.moves c.in_ok-moves.slaves c.in_ok-moves.room.items (vec_capacity c.in_ok-moves.room)) (sym c.of-core.ensures) core_edit,
+      c.bits.ensures
+          ∙ will-wait (core_parts inside) history taken c.in_ok-prepared.prepared c.foretell-waiting.result made c.in_ok-prepared.ensures.prepared c.self.invariant (c.foretell-waiting.ensures follows)
+          ∙ ap (λ (core : CoreState). waiting_after core.history c.in_ok-prepared.prepared.report.swap.edit) (sym c.of-core.ensures),
+    )
 
 pub returns-clause-made : goal.returns-clause-made
 returns-clause-made c = c.of-core.ensures ∙ c.self.view_is

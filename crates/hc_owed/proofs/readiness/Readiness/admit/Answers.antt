@@ -8,11 +8,10 @@ use Rattle.hc_records.proofs.lemmas.Projects.{project-few}
 use Rattle.hc_registers.specs.RankPlaces.{stations}
 use Rattle.hc_registers.proofs.lemmas.RanksDeclared.{declared-stations}
 use Rattle.hc_owed.specs.declared.area.JudgedArea.{JudgedArea}
-use Rattle.hc_owed.specs.Areas.{blocks_waited, registers_waited}
 use Rattle.hc_owed.specs.Readiness.{judged_at, no_area}
-use Rattle.hc_owed.specs.Waiting.{AreCounted}
+use Rattle.hc_owed.specs.Tally.{Tallies}
 use Rattle.hc_owed.proofs.AreaPlaces.{length-range}
-use Rattle.hc_owed.proofs.Counting.{more-counted, no-blocks, no-registers}
+use Rattle.hc_owed.proofs.Counting.{areas-more}
 use Rattle.hc_owed.proofs.Opened.{length-copies}
 use Rattle.hc_owed.proofs.ReadyEntering.{entered}
 use Rattle.hc_owed.proofs.readiness.Readiness.admit.Goals as goal
@@ -36,7 +35,6 @@ invariant_of-self c =
     let each = length-map can.group.slaves (λ (slave : Slave). slave.station) in
     let declared = length-map (slaves_of (groups_of (can.old.groups ++ absent can.group ∷ []))) (λ (slave : Slave). slave.station) in
     let few = project-few (groups_of (can.old.groups ++ absent can.group ∷ [])) can.project in (
-      subst (λ (l : List JudgedArea). AreCounted blocks_waited l c.self.inside.blocks) all (more-counted blocks_waited items count no_area c.self.inside.blocks no-blocks c.self.invariant.0),
-      subst (λ (l : List JudgedArea). AreCounted registers_waited l c.self.inside.registers) all (more-counted registers_waited items count no_area c.self.inside.registers no-registers c.self.invariant.1),
+      subst (λ (l : List JudgedArea). Tallies l c.self.inside.tally) all (areas-more items count c.self.inside.tally c.self.invariant.0),
       omega (arith, size, copies, own, named, each, declared, few, can.fits.slaves_are),
     )

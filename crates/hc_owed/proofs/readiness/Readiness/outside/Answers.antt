@@ -7,5 +7,5 @@ use Rattle.hc_owed.proofs.readiness.Readiness.outside.Goals as goal
 
 pub returns : goal.returns
 returns c = λ known held unplugged state is.
-    ap (slice_index c.self.inside.registers) c.from.ensures ∙ c.self.invariant.1 c.args.task c.requires ∙ ap (λ (l : List JudgedArea). sum_by (registers_waited c.args.task) l) c.self.view_is
+    ap (slice_index c.self.inside.tally.registers) c.from.ensures ∙ c.self.invariant.0.1 c.args.task c.requires ∙ ap (λ (l : List JudgedArea). sum_by (registers_waited c.args.task) l) c.self.view_is
     ∙ outside-right known held unplugged state c.args.self.now c.args.task c.requires is

@@ -2,7 +2,7 @@ use Rattle.std.proofs.Common.{◌≡◌, ◌<◌, ℕ, ◌+◌, ◌≤◌}
 use Rattle.std.specs.Prelude.{slice_index}
 use Rattle.hc_owed.specs.Flags.{one}
 use Rattle.hc_owed.specs.TaskSets.{has_task}
-use Rattle.hc_owed.proofs.readiness.recount.Given as goal
+use Rattle.hc_owed.proofs.tally.recount.Given as goal
 
 -- the tasks before the present one are recounted, the others are as they were
 abbrev pub invariant-loop-task : goal.invariant-loop-task

@@ -1,0 +1,84 @@
+//! `Tally`: how many blocks and registers each task waits for.
+ghost use Rattle.std.specs.Prelude.{◌≡◌, ◌<◌};
+ghost use Rattle.hc_records.specs.declared.limits.TheConstants.{TASKS};
+ghost use Rattle.hc_owed.specs.Flags.{one};
+ghost use Rattle.hc_owed.specs.TaskSets.{has_task};
+ghost use Rattle.hc_owed.specs.Waiting.{CanRecount, Recounts};
+
+use crate::area::JudgedArea;
+use crate::task_set::TaskSet;
+use hc_records::limits::TASKS;
+
+/// 1 for a task that is in a set.
+fn one(set: TaskSet, task: u8) -> u32
+    requires { task < TASKS }
+    ensures { result ≡ one (has_task task set) }
+{
+    if set.has(task) { 1 } else { 0 }
+}
+
+/// Takes the tasks of one set out of counts, and counts those of another.
+fn recount(counts: &mut [u32; 8], was: TaskSet, now: TaskSet)
+    requires { CanRecount counts.old was }
+    ensures { Recounts counts.old counts.new was now }
+{
+    if was == now {
+        return;
+    }
+    for task in 0..TASKS {
+        let at = usize::from(task);
+        counts[at] = counts[at] - one(was, task) + one(now, task);
+    }
+}
+
+/// Of each task how many owed blocks concern it, and how many registers of slaves outside the line, counted over areas.
+#[derive(Clone, Copy, Debug)]
+pub(crate) struct Tally {
+    pub(crate) blocks: [u32; 8],
+    pub(crate) registers: [u32; 8],
+}
+
+impl Tally {
+    ghost use Rattle.std.specs.Prelude.{◌≡◌, ◌<◌, not};
+    ghost use Rattle.hc_records.specs.declared.limits.TheConstants.{TASKS};
+    ghost use Rattle.hc_owed.specs.Tally.{CanPut, Puts, counts_none};
+    ghost use Rattle.hc_owed.specs.TaskSets.{tasks_where};
+
+    /// Takes what an area counts out of the counts, and counts another area in its place.
+    pub(crate) fn put(&mut self, was: JudgedArea, now: JudgedArea)
+        requires { CanPut self.old was }
+        ensures { Puts self.old self.new was now }
+    {
+        recount(
+            &mut self.blocks,
+            was.sync_manager_concerns(),
+            now.sync_manager_concerns(),
+        );
+        recount(&mut self.blocks, was.fmmu_concerns(), now.fmmu_concerns());
+        recount(
+            &mut self.registers,
+            was.register_concerns(),
+            now.register_concerns(),
+        );
+    }
+
+    /// Whether nothing is counted for a task, 0 to 7.
+    pub(crate) fn is_free(&self, task: u8) -> bool
+        requires { task < TASKS }
+        ensures { result ≡ counts_none self.now task }
+    {
+        let at = usize::from(task);
+        self.blocks[at] == 0 && self.registers[at] == 0
+    }
+
+    /// The tasks for which nothing is counted.
+    pub(crate) fn free(&self) -> TaskSet
+        ensures { result ≡ tasks_where (counts_none self.now) }
+    {
+        let mut set = TaskSet::none();
+        for task in 0..TASKS {
+            set = set.with_task(task, self.is_free(task));
+        }
+        set
+    }
+}
