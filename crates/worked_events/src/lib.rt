@@ -41,4 +41,6 @@ mod texts;
 #[cfg(test)]
 mod values;
 #[cfg(test)]
+mod waits;
+#[cfg(test)]
 mod writes;

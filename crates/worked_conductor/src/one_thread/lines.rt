@@ -37,17 +37,35 @@ pub fn is_written(master: &mut Master, frame: &mut [u8; FRAME]) -> bool {
     true
 }
 
-/// Whether task 0 is sent with this byte of outputs, and what is in the frame once the axis has answered: two bytes of
-/// inputs, 0xa34, and the counter 3, 2 for the outputs and 1 for the inputs.
-pub fn is_sent(alloc: Global, master: &mut Master, outputs: u8, frame: &mut [u8; FRAME]) -> bool {
-    let Ok(frames) = master.send(alloc, &[0], frame) else {
-        return false;
-    };
-    let is_right = frames.len() == 1 && frame[26] == outputs;
+/// Whether one frame was sent with this byte of outputs, and what is in it once the axis has answered: two bytes of inputs, 0xa34,
+/// and the counter 3, 2 for the outputs and 1 for the inputs.
+fn is_answered(frames: usize, outputs: u8, frame: &mut [u8; FRAME]) -> bool {
+    let is_right = frames == 1 && frame[26] == outputs;
     frame[27] = 0x34;
     frame[28] = 0x0a;
     frame[29] = 3;
     is_right
+}
+
+/// Whether task 0 is sent with this byte of outputs, and what is in the frame once the axis has answered.
+pub fn is_sent(alloc: Global, master: &mut Master, outputs: u8, frame: &mut [u8; FRAME]) -> bool {
+    match master.send(alloc, &[0], frame) {
+        Ok(frames) => is_answered(frames.len(), outputs, frame),
+        Err(_) => false,
+    }
+}
+
+/// Whether task 0 is sent as a ready task with this byte of outputs, and what is in the frame once the axis has answered.
+pub fn is_ready_sent(
+    alloc: Global,
+    master: &mut Master,
+    outputs: u8,
+    frame: &mut [u8; FRAME],
+) -> bool {
+    match master.send_ready(alloc, &[0], frame) {
+        Ok(frames) => is_answered(frames.len(), outputs, frame),
+        Err(_) => false,
+    }
 }
 
 /// Whether an arrival is reported as inputs of the axis' datagram.

@@ -1,9 +1,11 @@
 //! What comes of views and publishings in one thread: rows worked out by hand.
-use crate::one_thread::steps::Step::{Exchange, Forget, Publish, Remap, Take, View, Write};
+use crate::one_thread::steps::Step::{
+    Exchange, ExchangeReady, Forget, Publish, Remap, Take, View, Wait, Write,
+};
 use crate::one_thread::steps::{Step, wrong_step};
 
 /// Steps in a row.
-const ROWS: [&[Step]; 3] = [
+const ROWS: [&[Step]; 4] = [
     // a view shows what was published last
     &[
         View(0, 2, 0, Err(4)),
@@ -45,6 +47,20 @@ const ROWS: [&[Step]; 3] = [
         View(0, 2, 0, Ok(2612)),
         Write(4),
         Exchange(0),
+        Publish,
+        View(0, 2, 0, Ok(2612)),
+    ],
+    // as a ready task, task 0 waits for the axis' four blocks until they are written
+    &[
+        Wait(4),
+        Write(4),
+        ExchangeReady(0),
+        Publish,
+        View(0, 2, 0, Ok(2612)),
+        Forget,
+        Wait(4),
+        Write(4),
+        ExchangeReady(0),
         Publish,
         View(0, 2, 0, Ok(2612)),
     ],

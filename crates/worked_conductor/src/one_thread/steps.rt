@@ -1,10 +1,11 @@
 //! What is done with the axis' master, and what is to come of it.
-use crate::one_thread::lines::{FRAME, are_inputs, is_sent, is_written, opened};
+use crate::one_thread::lines::{FRAME, are_inputs, is_ready_sent, is_sent, is_written, opened};
 use hc_conductor::one_thread::master::Master;
 use hc_conductor::one_thread::refusals::PostRefusal;
 use hc_conductor::one_thread::settings::Setting;
 use hc_conductor::taking::Taken;
 use hc_events::answer::Answer;
+use hc_events::faults::CoreFault;
 use hc_records::edit::Edit;
 use hc_records::items::Items;
 use std::alloc::Global;
@@ -22,6 +23,10 @@ pub enum Step {
     Remap(u32),
     /// Task 0 is sent with this byte, and answered well.
     Exchange(u8),
+    /// Task 0 is sent as a ready task with this byte, and answered well.
+    ExchangeReady(u8),
+    /// Task 0 is not sent as a ready task: so many owed blocks concern it.
+    Wait(u32),
     /// The axis is forgotten, so its four blocks are owed.
     Forget,
     /// All is published.
@@ -70,6 +75,26 @@ fn is_exchanged(alloc: Global, master: &mut Master, outputs: u8) -> bool {
     is_sent(alloc, master, outputs, &mut frame) && are_inputs(&master.arrive(alloc, &frame))
 }
 
+/// Whether task 0 is sent as a ready task with this byte, and answered well.
+fn is_ready_exchanged(alloc: Global, master: &mut Master, outputs: u8) -> bool {
+    let mut frame = [0; FRAME];
+    is_ready_sent(alloc, master, outputs, &mut frame) && are_inputs(&master.arrive(alloc, &frame))
+}
+
+/// Whether task 0 waits for so many owed blocks, and for no register outside the line.
+fn waits(alloc: Global, master: &mut Master, blocks: u32) -> bool {
+    let mut frame = [0; FRAME];
+    let wanted = CoreFault::Waits {
+        task: 0,
+        blocks,
+        outside: 0,
+    };
+    match master.send_ready(alloc, &[0], &mut frame) {
+        Ok(_) => false,
+        Err(fault) => fault == wanted,
+    }
+}
+
 /// Whether a task, 0 to 7, views this of a variable.
 fn is_viewed(
     master: &mut Master,
@@ -103,6 +128,8 @@ fn comes<R: Wait>(rt: &R, alloc: Global, master: &mut Master, step: &Step) -> bo
         }
         Step::Remap(epoch) => is_mapped(alloc, master, *epoch),
         Step::Exchange(outputs) => is_exchanged(alloc, master, *outputs),
+        Step::ExchangeReady(outputs) => is_ready_exchanged(alloc, master, *outputs),
+        Step::Wait(blocks) => waits(alloc, master, *blocks),
         Step::Forget => master.forget(1001).is_ok() && master.core().owed() == 4,
         Step::Publish => master.publish(rt, alloc).is_ok(),
         Step::View(task, variable, epoch, value) => {
