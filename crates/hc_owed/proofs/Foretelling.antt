@@ -341,7 +341,7 @@ module _ (areas : List JudgedArea) (owed : RegisterState) (gone : Gone) (moved :
     inside = let size = areas-size areas after gone moved edited in
         let long = ap length as-seen in
         All-weaker (λ m. block_place m < 16 * length (stations is.old)) (λ m. block_place m < 2 * length seen) (λ m low. omega (arith, low, size, long)) moved (moved-low areas after gone moved edited);
-    kept = let size = places-known in
+    known = let size = places-known in
         All-weaker (λ m. block_place m < 16 * length (stations is.old)) (λ m. block_place m < length owed.known) (λ m low. omega (arith, low, size)) moved (moved-low areas after gone moved edited);
     same = All-weaker (IsAtItsPlace (places is.new)) (λ m. slice_get (areas_left gone areas) (block_place m / 2) ≡ slice_get seen (block_place m / 2))
         (λ m at.

@@ -39,7 +39,7 @@ pub record CanTallyMoved (areas : List JudgedArea) (tally : Tally) (owed : Regis
   pub few : length counted < 8 * 65536
   pub ranks : All (λ block. 1 ≤ block.rank) moved
   pub inside : All (λ block. block_place block < 2 * length areas) moved
-  pub kept : All (λ block. block_place block < length owed.known) moved
+  pub known : All (λ block. block_place block < length owed.known) moved
   pub same : All (λ block. slice_get counted (block_place block / 2) ≡ slice_get areas (block_place block / 2)) moved
   pub ascend : AllPairs (λ a b. block_place a < block_place b) moved
 

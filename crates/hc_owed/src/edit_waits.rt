@@ -24,7 +24,7 @@ fn tally_left(areas: &[JudgedArea], tally: &mut Tally, from: usize, end: usize)
 {
     for n in from..end {
         let area = areas[n];
-        tally.put(area, area.after(Turn::Left));
+        tally.replace(area, area.after(Turn::Left));
     }
 }
 
@@ -37,12 +37,12 @@ fn area_coming(owed: &Owed, moved: &RankedBlock, area: JudgedArea) -> JudgedArea
     moved_area(moved, owed.will_owe(moved), area.entered())
 }
 
-/// The area with an index: what became of it if a block of it moved just before, else what is kept of it. `done` is 0 or the index after
-/// that of the last one.
+/// The area with an index: what became of it if a block of it moved just before, else what is kept of it. `done` is one more than the
+/// index of the area before, or 0 if there is none.
 fn area_now(areas: &[JudgedArea], n: usize, done: usize, last: JudgedArea) -> JudgedArea
     requires { n < length areas.now }
     ensures last { n + 1 ≡ done → result ≡ last }
-    ensures kept { n + 1 ≢ done → slice_get areas.now n ≡ Some result }
+    ensures unmoved { n + 1 ≢ done → slice_get areas.now n ≡ Some result }
 {
     if n + 1 == done { last } else { areas[n] }
 }
@@ -58,7 +58,7 @@ fn tally_moved(areas: &[JudgedArea], tally: &mut Tally, owed: &Owed, moved: &[Ra
         let n = block.place() / 2;
         let was = area_now(areas, n, done, last);
         last = area_coming(owed, block, was);
-        tally.put(was, last);
+        tally.replace(was, last);
         done = n + 1;
     }
 }

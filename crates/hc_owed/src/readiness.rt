@@ -142,7 +142,7 @@ impl Readiness {
         ensures { OnOk result (self.new ≡ self.old ++ area ∷ []) }
     {
         self.areas.push(area)?;
-        self.tally.put(JudgedArea::outside(), area);
+        self.tally.replace(JudgedArea::outside(), area);
         Ok(())
     }
 
@@ -160,7 +160,7 @@ impl Readiness {
         ensures { self.new ≡ changed_at n (λ _. now) self.old }
     {
         let was = self.areas[n];
-        self.tally.put(was, now);
+        self.tally.replace(was, now);
         self.areas[n] = now;
     }
 

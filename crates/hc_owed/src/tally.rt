@@ -45,7 +45,7 @@ impl Tally {
     ghost use Rattle.hc_owed.specs.TaskSets.{tasks_where};
 
     /// Takes what an area counts out of the counts, and counts another area in its place.
-    pub(crate) fn put(&mut self, was: JudgedArea, now: JudgedArea)
+    pub(crate) fn replace(&mut self, was: JudgedArea, now: JudgedArea)
         requires { CanPut self.old was }
         ensures { Puts self.old self.new was now }
     {

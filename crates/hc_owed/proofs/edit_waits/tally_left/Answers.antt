@@ -12,8 +12,8 @@ use Rattle.hc_owed.proofs.Counting.{area-put, can-put}
 use Rattle.hc_owed.proofs.TallyingMoved.{left-at}
 use Rattle.hc_owed.proofs.edit_waits.tally_left.Goals as goal
 
-pub put-requires : goal.put-requires
-put-requires c =
+pub replace-requires : goal.replace-requires
+replace-requires c =
     let areas = c.args.areas.now in
     let n = c.loop-n.n in
     let from = c.args.from in
@@ -33,6 +33,6 @@ loop-n-preserved c =
     let inside = c.requires.inside in
     let low = c.loop-n-test.true in
     let at = left-at areas from n (slice_index_or areas n _) c.loop-n.auto.n (slice_get-get_or areas n _ (omega (arith, low, inside))) in
-    subst (λ (l : List JudgedArea). Tallies l c.put.new.self)
+    subst (λ (l : List JudgedArea). Tallies l c.replace.new.self)
     (ap (λ (a : JudgedArea). changed_at n (λ _. a) present) c.after.ensures ∙ turn-more Left from n areas present (slice_index_or areas n _) c.loop-n.auto.n refl at)
-    (area-put present c.loop-n.tally c.put.new.self n (slice_index_or areas n _) c.after.result at c.loop-n.invariant c.put.ensures)
+    (area-put present c.loop-n.tally c.replace.new.self n (slice_index_or areas n _) c.after.result at c.loop-n.invariant c.replace.ensures)

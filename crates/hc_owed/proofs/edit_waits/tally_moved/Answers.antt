@@ -25,8 +25,8 @@ was-last p place done was last same is e = is (ap (λ (n : ℕ). n / 2 + 1) same
 was-kept : (areas : List JudgedArea) (p place done : ℕ) (was : JudgedArea) → p ≡ place → (p / 2 + 1 ≢ done → slice_get areas (p / 2) ≡ Some was) → place / 2 + 1 ≢ done → slice_get areas (place / 2) ≡ Some was
 was-kept areas p place done was same is apart = ap (λ (n : ℕ). slice_get areas (n / 2)) (sym same) ∙ is (λ e. apart (ap (λ (n : ℕ). n / 2 + 1) (sym same) ∙ e))
 
-pub put-requires : goal.put-requires
-put-requires c =
+pub replace-requires : goal.replace-requires
+replace-requires c =
     let can = c.requires in
     let areas = c.args.areas.now in
     let moved = c.args.moved.now in
@@ -37,7 +37,7 @@ put-requires c =
     (here can.counted c.args.owed.now moved i c.loop-block.done m c.loop-block.last c.loop-block.tally cons (c.loop-block.invariant can))
     (same-at areas can.counted moved i m c.loop-block-test.true c.block-item.is can.same)
     (was-last c.place-n.result (block_place m) c.loop-block.done c.area_now-was.result c.loop-block.last c.place-n.ensures c.area_now-was.ensures.last)
-    (was-kept areas c.place-n.result (block_place m) c.loop-block.done c.area_now-was.result c.place-n.ensures c.area_now-was.ensures.kept) can.few
+    (was-kept areas c.place-n.result (block_place m) c.loop-block.done c.area_now-was.result c.place-n.ensures c.area_now-was.ensures.unmoved) can.few
 
 pub loop-block-preserved : goal.loop-block-preserved
 loop-block-preserved c = λ can.
@@ -49,13 +49,13 @@ loop-block-preserved c = λ can.
     let rest = drop (i + 1) moved in
     let now = c.area_coming-last.result in
     let cons = item-cons moved i m c.loop-block-test.true c.block-item.is in
-    subst (λ (n : ℕ). AreTallied can.counted owed moved rest n now c.put.new.self) (ap (λ (n : ℕ). n / 2 + 1) (sym c.place-n.ensures))
+    subst (λ (n : ℕ). AreTallied can.counted owed moved rest n now c.replace.new.self) (ap (λ (n : ℕ). n / 2 + 1) (sym c.place-n.ensures))
     (more-tallied areas can.counted owed moved rest m c.loop-block.done c.loop-block.last c.area_now-was.result c.loop-block.tally
     (here can.counted owed moved i c.loop-block.done m c.loop-block.last c.loop-block.tally cons (c.loop-block.invariant can))
     (same-at areas can.counted moved i m c.loop-block-test.true c.block-item.is can.same)
     (was-last c.place-n.result (block_place m) c.loop-block.done c.area_now-was.result c.loop-block.last c.place-n.ensures c.area_now-was.ensures.last)
-    (was-kept areas c.place-n.result (block_place m) c.loop-block.done c.area_now-was.result c.place-n.ensures c.area_now-was.ensures.kept)
-    now c.put.new.self c.area_coming-last.ensures c.put.ensures
+    (was-kept areas c.place-n.result (block_place m) c.loop-block.done c.area_now-was.result c.place-n.ensures c.area_now-was.ensures.unmoved)
+    now c.replace.new.self c.area_coming-last.ensures c.replace.ensures
     (AllPairs-head (λ (a b : RankedBlock). block_place a < block_place b) m rest
     (subst (AllPairs (λ (a b : RankedBlock). block_place a < block_place b)) cons (ascends moved i can.ascend))))
 

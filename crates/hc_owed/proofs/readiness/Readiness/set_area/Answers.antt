@@ -12,8 +12,8 @@ use Rattle.hc_owed.proofs.readiness.Readiness.set_area.Goals as goal
 read : (items now : List JudgedArea) (n : ℕ) (was : JudgedArea) → items ≡ now → n < length now → was ≡ slice_index_or items n was → slice_get items n ≡ Some was
 read items now n was same low is = slice_get_read items (length items) n was refl (subst (λ (l : List JudgedArea). n < length l) (sym same) low) is
 
-pub put-requires : goal.put-requires
-put-requires c =
+pub replace-requires : goal.replace-requires
+replace-requires c =
     let items = c.self.inside.areas.items in
     let was = c.index-was.result.now in
     can-put items c.self.inside.tally c.args.n was c.self.invariant.1 (read items c.args.self.now c.args.n was c.self.view_is c.requires c.index-was.ensures) c.self.invariant.0
@@ -30,6 +30,6 @@ invariant_of-self c =
     let set = sym (set-changed c.args.n now items) in
     let size = ap length (sym set) ∙ length-changed c.args.n (λ _. now) items in
     let few = c.self.invariant.1 in (
-      subst (λ (l : List JudgedArea). Tallies l c.put.new.self) set (area-put items c.self.inside.tally c.put.new.self c.args.n was now at c.self.invariant.0 c.put.ensures),
+      subst (λ (l : List JudgedArea). Tallies l c.replace.new.self) set (area-put items c.self.inside.tally c.replace.new.self c.args.n was now at c.self.invariant.0 c.replace.ensures),
       omega (arith, size, few),
     )

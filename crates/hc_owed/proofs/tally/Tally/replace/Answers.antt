@@ -4,7 +4,7 @@ use Rattle.hc_owed.specs.Areas.{fmmu_concerns, register_concerns, sync_manager_c
 use Rattle.hc_owed.specs.TaskSets.{has_task}
 use Rattle.hc_owed.specs.Waiting.{CanRecount, Recounts}
 use Rattle.hc_owed.proofs.Counting.{one-most}
-use Rattle.hc_owed.proofs.tally.Tally.put.Goals as goal
+use Rattle.hc_owed.proofs.tally.Tally.replace.Goals as goal
 
 recounts : (old new : List ℕ) (was now was' now' : TaskSet) → was ≡ was' → now ≡ now' → Recounts old new was now → Recounts old new was' now'
 recounts old new was now was' now' same same' is = subst (λ (s : TaskSet). Recounts old new s now') same (subst (λ (s : TaskSet). Recounts old new was s) same' is)
