@@ -44,7 +44,8 @@ WRONG_VALUES = [
     ("256", 8, "TooWide"),
     ("-129", 8, "OutOfRange"),
     ("1.5", 16, "NotReal"),
-    ("1e39", 32, "OutOfRange"),
+    ("1.0e39", 32, "OutOfRange"),
+    ("1e3", 32, "Malformed"),
     ("0x", 8, "Malformed"),
     ("", 8, "Malformed"),
     ("--1", 8, "Malformed"),
@@ -80,12 +81,12 @@ def check_values(checks: Checks) -> None:
 class Terminal:
     """A session at a pseudo-terminal."""
 
-    def __init__(self, checks: Checks, project: Path) -> None:
+    def __init__(self, checks: Checks, project: Path, *words: object) -> None:
         self.process, self.file = pty.fork()
         if self.process == 0:
             os.environ["TERM"] = "dumb"
-            words = ["-B", str(TOOLS / "line"), str(project), "--program", str(checks.program)]
-            os.execv(sys.executable, [sys.executable, *words])
+            given = ["-B", TOOLS / "line", project, *(words or ("--program", checks.program))]
+            os.execv(sys.executable, [sys.executable, *map(str, given)])
         self.until(PROMPT)
 
     def until(self, ending: bytes) -> str:
@@ -142,10 +143,10 @@ def check_typing(checks: Checks, project: Path) -> None:
 
 
 @contextmanager
-def served(checks: Checks, project: Path) -> Iterator[int]:
+def served(checks: Checks, project: Path, *words: object) -> Iterator[int]:
     """The port of a page that is shown meanwhile."""
-    words = [sys.executable, "-B", TOOLS / "line", project, "--serve", "--program", checks.program]
-    with subprocess.Popen(words, stdout=subprocess.PIPE) as process:
+    command = [sys.executable, "-B", TOOLS / "line", project, "--serve", *(words or ("--program", checks.program))]
+    with subprocess.Popen(command, stdout=subprocess.PIPE) as process:
         try:
             yield int(re.search(rb":(\d+)/", process.stdout.readline())[1])
         finally:
@@ -173,12 +174,17 @@ class Browser:
         return self.request("POST", path, headers, command)
 
 
+def token_of(page: str) -> str:
+    """The token of a page."""
+    return re.search(r'data-token="([^"]+)"', page)[1]
+
+
 def check_page(checks: Checks, project: Path) -> None:
     """The page: what it shows, and who is sent away."""
     with served(checks, project) as port:
         browser = Browser(port)
         status, page = browser.request("GET", "/", {})
-        token = re.search(r'data-token="([^"]+)"', page)[1]
+        token = token_of(page)
         checks.equal("the page", 200, status)
         check_strangers(checks, browser, token)
         for command in ON_PAGE:
