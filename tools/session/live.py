@@ -45,8 +45,8 @@ class Live(Replay):
 
     def answers(self, commands: list[Command], recorded: list[Recorded] | None = None) -> list[list[str]]:
         """What is printed for some commands after the recorded ones, or after others; none of them is recorded."""
-        asks = len(commands) == 1 and commands[0].name in EDITS
-        return [answer_of(self.other(recorded), command, asks) for command in commands]
+        asks, player = len(commands) == 1 and commands[0].name in EDITS, self.other(recorded)
+        return [answer_of(player, command, asks) for command in commands]
 
     def other(self, recorded: list[Recorded] | None) -> object:
         """The player of a line with another history, or of this one. Questions about edits are about what hangs on them alone, so

@@ -7,6 +7,7 @@ import pty
 import re
 import select
 import shutil
+import signal
 import subprocess
 import sys
 import time
@@ -85,6 +86,8 @@ class Terminal:
         self.process, self.file = pty.fork()
         if self.process == 0:
             os.environ["TERM"] = "dumb"
+            # a check that runs in the background has interrupts ignored
+            signal.signal(signal.SIGINT, signal.SIG_DFL)
             given = ["-B", TOOLS / "line", project, *(words or ("--program", checks.program))]
             os.execv(sys.executable, [sys.executable, *map(str, given)])
         self.until(PROMPT)
