@@ -10,7 +10,8 @@ from session.replay import EDITS
 from session.spelling import PROGRAM
 
 PROMPT = "> "
-NAMED = {"slave": "slaves", "group": "groups", "task": "tasks"}
+# a group's name may stand for its only slave
+NAMED = {"slave": ("slaves", "groups"), "group": ("groups",), "task": ("tasks",)}
 
 
 def names_at(line: Line, words: list[str]) -> list[str]:
@@ -22,7 +23,7 @@ def names_at(line: Line, words: list[str]) -> list[str]:
     kinds = PROGRAM.get(words[0], "setting").split()
     kind = kinds[min(len(words), len(kinds)) - 1].rstrip("*") if kinds else ""
     if kind in NAMED:
-        named = getattr(line.names, NAMED[kind])
+        named = [one for names in NAMED[kind] for one in getattr(line.names, names)]
     else:
         named = line.names.variables.values() if kind in ("variable", "setting") else []
     return sorted({one.name for one in named if one.name})
