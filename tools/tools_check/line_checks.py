@@ -149,11 +149,13 @@ def check_typing(checks: Checks, project: Path) -> None:
 def served(checks: Checks, project: Path, *words: object) -> Iterator[int]:
     """The port of a page that is shown meanwhile."""
     command = [sys.executable, "-B", TOOLS / "line", project, "--serve", *(words or ("--program", checks.program))]
-    with subprocess.Popen(command, stdout=subprocess.PIPE) as process:
+    complaints = checks.scratch / "complaints"
+    with complaints.open("wb") as complained, subprocess.Popen(command, stdout=subprocess.PIPE, stderr=complained) as process:
         try:
             yield int(re.search(rb":(\d+)/", process.stdout.readline())[1])
         finally:
             process.terminate()
+    checks.equal("what the page's server complains of", b"", complaints.read_bytes())
 
 
 class Browser:

@@ -4,6 +4,8 @@ import ast
 import json
 import os
 import shutil
+import socket
+import struct
 import subprocess
 import sys
 import time
@@ -197,10 +199,22 @@ def check_served_page(checks: Checks, project: Path) -> None:
             states.append(json.loads(browser.give(command, token_of(page))[1]))
             counts.append(len(runs.read_text()))
         checks.equal(f"runs of a command on the page, {counts}", True, max(counts) <= 9)
+        leave(browser, token_of(page))
         pictures = ["Blocks to write" in state["picture"] for state in states]
         checks.equal("blocks to write before and after they are written", [True, True, False, False, False], pictures)
         lists = [row[1:] for row in states[0]["assignments"] if "gripper" in row[0]]
         checks.equal("PDOs to assign on the page", [["0x1c12", "0x1600"], ["0x1c13", "0x1a00"]], lists)
+
+
+def leave(browser: Browser, token: str) -> None:
+    """A browser that leaves before it is answered."""
+    head = f"POST /command HTTP/1.1\r\nHost: {browser.host}\r\nOrigin: http://{browser.host}\r\nX-Session: {token}\r\n"
+    host, port = browser.host.split(":")
+    with socket.create_connection((host, int(port))) as connection:
+        connection.setsockopt(socket.SOL_SOCKET, socket.SO_LINGER, struct.pack("ii", 1, 0))
+        connection.sendall(f"{head}Content-Length: 5\r\n\r\ntable".encode())
+        time.sleep(0.2)
+    browser.give("", token)
 
 
 def check_devices(checks: Checks) -> None:
