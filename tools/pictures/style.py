@@ -10,7 +10,7 @@ DIRECTION_WORDS = {"out": "output", "in": "input"}
 MARK_LETTERS = {Mark.NEW: "N", Mark.MOVED: "M", Mark.GONE: "G"}
 MARK_WORDS = {
     Mark.NEW: "new: it wasn't mapped before",
-    Mark.MOVED: "moved: one of its register blocks has to be written",
+    Mark.MOVED: "moved: one of its register blocks has changed",
     Mark.GONE: "gone: it isn't mapped any more",
 }
 

@@ -107,7 +107,7 @@ class Marks:
         self.written = {(station, row // 2) for station, row, _ in view.changed_blocks()}
 
     def of_area(self, place: AreaPlace, is_after: bool) -> Mark:
-        """Of an area: new, gone, moved where one of its blocks has to be written, or kept."""
+        """Of an area: new, gone, moved if one of its blocks has changed, or kept."""
         name = (place.station, place.area)
         if self.before is None:
             return Mark.UNCHANGED
