@@ -11,8 +11,8 @@ import zangjulf
 
 NUMBER = re.compile(r"([0-9]{1,20})|0x([0-9A-Fa-f]{1,16})")
 LAST_TASK = 7
-#: the most posts of a task that wait
-WAITING = 4
+#: the most posts of a task that wait, and the most bytes that are read of a slave's memory at once
+WAITING, MOST_PEEKED = 4, 1486
 WORDS = {
     zangjulf.Arrived.WRITE_DONE: "write done", zangjulf.Arrived.WRITE_MISSED: "write missed", zangjulf.Arrived.STALE: "stale",
 }
@@ -223,15 +223,18 @@ class Player:
         return ["poked"]
 
     def peek(self, station, address, size):
+        if not 1 <= size <= MOST_PEEKED:
+            raise ValueError("peek")
         return [f"mem {address:#06x}: {self.memory(station, address, size)[address : address + size].hex(' ')}"]
 
 
 def number(word):
     """The number that a word is, decimal or hexadecimal."""
     it = NUMBER.fullmatch(word)
-    if it is None:
+    value = -1 if it is None else int(it[1]) if it[1] else int(it[2], 16)
+    if not 0 <= value < 1 << 64:
         raise ValueError(word)
-    return int(it[1]) if it[1] else int(it[2], 16)
+    return value
 
 
 def found(looked_up):

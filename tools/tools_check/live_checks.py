@@ -1,6 +1,8 @@
 """The session over the library, where there is one: it answers as hotline does, at once, and keeps its line."""
 
+import random
 import time
+import tomllib
 from collections.abc import Iterator
 
 from checks import TOOLS, Checks
@@ -35,12 +37,39 @@ pdo = [{{ index = 0x1a00, entries = [[{fourth}, 16], [{fifth}, 32]] }}]
 """
 
 
+CHANGER = TOOLS.parent / "examples/tool_changer.toml"
+SCRIPTS, LENGTH = 12, 120
+# The kinds of the words of drawn commands; a group that is declared later is drawn as the others from the beginning.
+DRAWN = {
+    **{"layout": "", "regs": "station", "show": "task few", "place": "variable", "connect": "alias", "disconnect": "alias"},
+    **{"remap": "station few pdo", "move": "station few task", "write": "", "send": "task", "read": "task", "scan": "", "name": ""},
+    **{"post": "task setting", "take": "", "view": "task variable", "program": "", "cycle": "task", "declare": ""},
+    **{"poke": "station register bytes", "peek": "station register size"},
+}
+OFTEN = ("connect", "remap", "post", "take", "program", "cycle", "cycle")
+DECLARED = """declare
+[[group]]
+alias = 300
+[[group.slave]]
+station = 3300
+[[group.slave.area]]
+sm = 2
+dir = "out"
+phys = 0x1000
+task = 1
+assigned = [1]
+pdo = [{ index = 1, entries = [[3001, 8]] }]
+%%"""
+
+
 def check(checks: Checks) -> None:
     """All checks of the session over the library; without one this is said."""
     if live_of(b"slave = []\n") is None:
         print("tools: there is no library, and no session over it is tried (tools/embed.sh does)")
         return
     check_answers(checks)
+    for seed in range(SCRIPTS):
+        check_drawn(checks, seed)
     check_day(checks)
     check_times(checks)
     check_interrupts(checks)
@@ -52,6 +81,34 @@ def check_answers(checks: Checks) -> None:
         text, commands = parted(path.read_bytes())
         answers = played(text, commands)
         checks.equal(f"answers to {path.name} over the library", path.with_suffix(".out").read_text().splitlines(), answers)
+
+
+def check_drawn(checks: Checks, seed: int) -> None:
+    """What hotline prints of drawn commands, refused ones among them."""
+    draw, text = random.Random(seed), CHANGER.read_bytes()
+    document = tomllib.loads(text.decode())
+    slaves = [*document["slave"], *(slave for group in document["group"] for slave in group["slave"])]
+    offered = [pdo for slave in slaves for area in slave.get("area", []) for pdo in area["pdo"]]
+    variables = [3001, 999, *(variable for pdo in offered for variable, _ in pdo["entries"])]
+    kinds = {
+        "station": [9, 3300, *(slave["station"] for slave in slaves)],
+        "alias": [0, 7, 300, *(group["alias"] for group in document["group"])],
+        "task": [0, 0, 1, 1, 2, 8],
+        "few": [0, 0, 1, 2],
+        "pdo": [pdo["index"] for pdo in offered],
+        "variable": variables,
+        "setting": [f"{variable}={value}" for variable in variables for value in (0, 1, 5, 255, 70000)],
+        "register": ["0x1100", "0x1180", "0x0600", "0x0010"],
+        "bytes": ["00", "0102", "ff00ff"],
+        "size": [1, 4, 16],
+    }
+    given = []
+    for name in draw.choices([*DRAWN, *OFTEN], k=LENGTH):
+        words = [str(draw.choice(kinds[kind])) for kind in DRAWN[name].split()]
+        given.append(DECLARED if name == "declare" else " ".join([name, *words]))
+    commands = "\n".join(given).encode() + b"\n"
+    status, lines = checks.hotline(text + b"%%\n" + commands)
+    checks.equal(f"drawn commands over the library, {seed}", (0, lines), (status, played(text, commands)))
 
 
 def played(text: bytes, commands: bytes) -> list[str]:
