@@ -4,9 +4,11 @@ import sys
 from pathlib import Path
 from types import ModuleType
 
+from projects.asking import Ran, input_of, said_of
 from projects.faults import Refusal
 from session.replay import CHANGES, EDITS, Command, Recorded, Replay, is_refused
 
+NO_PROJECT = 3
 BINDING = Path(__file__).resolve().parents[2] / "bindings/python"
 
 
@@ -38,7 +40,8 @@ class Live(Replay):
         except zangjulf.TooManyDatagrams as fault:
             raise Refusal(f"open fault 1 TooManyDatagrams {fault.detail}") from fault
         except zangjulf.ProjectFault as fault:
-            raise Refusal(self.module.project_fault("project", fault)) from fault
+            said = Ran(NO_PROJECT, [self.module.project_fault("project", fault)])
+            raise Refusal(said_of(input_of(self.text, []), said)) from fault
         for one in recorded:
             player.answer(one.command.lines)
         return player

@@ -129,6 +129,8 @@ def check_day(checks: Checks) -> None:
     again = Terminal(checks, project, "--history", kept)
     checks.equal("the history over the library after a restart", history, again.give("history"))
     again.end()
+    broken = checks.tool("line", checks.file("broken.toml", CHANGER.read_bytes() + b"layout\n"))
+    checks.equal("no project over the library", (2, True), (broken.status, "is a line %% missing" in broken.complaint))
     status, lines = checks.hotline(kept.read_bytes())
     checks.equal("a kept history is an input of hotline", (0, "epoch 2 recut 1 moved 1"), (status, lines[-1]))
 
