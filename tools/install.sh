@@ -1,19 +1,23 @@
 #!/bin/sh
 # Installs the library below a folder: tools/install.sh PREFIX [FOLDER]. The folder then has the header, the archive, the shared
 # object, what pkg-config and CMake find it by, the verdict and the licences; the whole may be moved afterwards. The library is
-# what tools/library.sh has left in the folder, build/ where none is named; where it isn't there, it is built into build/ first.
-# The version is in tools/package/version. It wants what tools/library.sh wants.
+# what tools/library.sh has left in the folder, build/ if none is named. If there is none, nothing is installed and the status is 1.
+# The version is in tools/package/version.
 set -eu
 if [ $# -ne 1 ] && [ $# -ne 2 ]; then
     echo "usage: tools/install.sh PREFIX [FOLDER]" >&2
     exit 2
 fi
+top=$(cd "$(dirname "$0")/.." && pwd)
+folder=${2:-$top/build}
+if [ ! -e "$folder/libzangjulf.so" ]; then
+    echo "install: there is no library in $folder; tools/library.sh builds it there" >&2
+    exit 1
+fi
+folder=$(cd "$folder" && pwd)
 mkdir -p "$1"
 prefix=$(cd "$1" && pwd)
-folder=${2:+$(cd "$2" && pwd)}
-cd "$(dirname "$0")/.."
-folder=${folder:-$PWD/build}
-[ -e "$folder/libzangjulf.so" ] || tools/library.sh x86_64-v2 "$folder"
+cd "$top"
 . tools/package/version
 major=${version%%.*}
 minor=${version#*.}

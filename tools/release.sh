@@ -1,9 +1,9 @@
 #!/bin/sh
 # Makes a release: tools/release.sh [--log LOG] [TARGET..], of all targets where none is named (tools/library.sh has them). For
 # each target build/release/ then has an archive with what tools/install.sh installs, the verdict, the checksums of the sources and
-# a page with the commands that check them; SHA256SUMS has the archives' checksums. What is in an archive plays examples/*.in,
-# linked from the static library and from the shared one, on the processor that it is made for: aarch64 and the first x86-64 by
-# qemu. It wants what tools/library.sh wants, qemu-user and pkg-config (tools/embed.packages). What is missing is named, and
+# a page with the commands that check them, and what tools/package/contents.sh adds; SHA256SUMS has the archives' checksums. What is in
+# an archive plays examples/*.in, linked from the static library and from the shared one, on the processor that it is made for: aarch64
+# and the first x86-64 by qemu. Each example is built from it in an empty folder. Made twice, it is the same byte for byte. It wants what tools/library.sh wants, qemu-user and pkg-config (tools/embed.packages). What is missing is named, and
 # counts as failed. The last line is 'N passed, M failed'.
 #
 # LOG is what `rt ci --anew` printed of these sources: the verdicts of the crates below the library are then its lines, by which
@@ -14,6 +14,9 @@ scratch=$(mktemp -d)
 trap 'rm -rf "$scratch"' EXIT
 . tools/embed/checks.sh
 . tools/package/version
+. tools/package/contents.sh
+kit=$(dirname "$(dirname "$(readlink -f "$(command -v rt)")")")
+stamp=$(git log -1 --format=%ct)
 release=$PWD/build/release
 mkdir -p "$release"
 
@@ -110,13 +113,30 @@ pack() {
     tools/install.sh "$packed" "$release/$1" >"$scratch/printed" 2>&1
     report_run $? "the library for $1 isn't installed" || return
     documents "$1"
+    contents "$1" "$release/$1" $(below hc_c | sort -u) >"$scratch/printed" 2>&1
+    report_run $? "$1: the pages, examples, wheel, notices or lists aren't packed"
     grep -q '^hc_c: logic=proved ' "$packed/share/doc/zangjulf/verdict.txt"
     report $? "$1: the verdict doesn't say that the library is proved"
-    tar --sort=name --owner=0 --group=0 --numeric-owner --mtime="@$(git log -1 --format=%ct)" -C "$release" -c "$name" |
-        gzip -n9 >"$release/$name.tar.gz"
+    archive >"$release/$name.tar.gz"
     report $? "$1: no archive is packed"
     play_packed "$1"
+    build_packed "$name"
+    repeat "$1"
     rm -rf "$packed"
+}
+
+# archive: the folder as an archive, which is the same for the same files
+archive() {
+    tar --sort=name --owner=0 --group=0 --numeric-owner --mode=u+rw,go+r,go-w --mtime="@$stamp" -C "$release" -c "$name" | gzip -n9
+}
+
+# repeat TARGET: built and packed once more, the archive is the same, byte for byte
+repeat() {
+    rm -rf "$packed"
+    tools/library.sh "$1" "$release/$1" >"$scratch/printed" 2>&1 && tools/install.sh "$packed" "$release/$1" >>"$scratch/printed" 2>&1 &&
+        documents "$1" && contents "$1" "$release/$1" $(below hc_c | sort -u) >>"$scratch/printed" 2>&1 &&
+        archive | cmp - "$release/$name.tar.gz" >>"$scratch/printed" 2>&1
+    report_run $? "$1: built twice, the archive is another one"
 }
 
 # refuse_first_processor: what is built for later processors doesn't run on the first ones, so that running there shows something

@@ -10,12 +10,16 @@ import os
 import runpy
 import sys
 import sysconfig
+import time
 import zipfile
 from pathlib import Path
 
 HERE = Path(__file__).resolve().parent
 TOP = HERE.parents[1]
 header_version = runpy.run_path(str(HERE / "zangjulf/version.py"))["header_version"]
+
+#: 1980-01-01, before which a zip archive has no time
+EARLIEST = 315_532_800
 
 METADATA = """Metadata-Version: 2.1
 Name: zangjulf
@@ -83,7 +87,11 @@ def build_wheel(wheel_directory, config_settings=None, metadata_directory=None):
     place = f"zangjulf-{version}.dist-info/RECORD"
     held[place] = record(held, place).encode()
     name = f"zangjulf-{version}-{tag}.whl"
+    # the time of all files is the one that is named, or the earliest of such archives, so that the same files make the same wheel
+    stamp = time.gmtime(max(int(os.environ.get("SOURCE_DATE_EPOCH", EARLIEST)), EARLIEST))[:6]
     with zipfile.ZipFile(Path(wheel_directory) / name, "w", zipfile.ZIP_DEFLATED) as wheel:
         for file, data in held.items():
-            wheel.writestr(file, data)
+            described = zipfile.ZipInfo(file, stamp)
+            described.compress_type, described.external_attr = zipfile.ZIP_DEFLATED, 0o644 << 16
+            wheel.writestr(described, data)
     return name

@@ -1,6 +1,7 @@
 """The command line of `tools/esi`."""
 
 import argparse
+import sys
 from collections.abc import Callable
 
 from devices.choosing import Choice, areas_of, found_device
@@ -19,7 +20,9 @@ LAST_STATION = 65_535
 class DeviceAction(argparse.Action):
     """Begins another device; the options after it are its own."""
 
-    def __call__(self, _parser: object, namespace: argparse.Namespace, values: str, _option: object = None) -> None:
+    def __call__(self, parser: argparse.ArgumentParser, namespace: argparse.Namespace, values: str, _option: object = None) -> None:
+        if namespace.devices and namespace.devices[0].type is None:
+            parser.error("--name, --prefix, --assign and --offer come after the --device that they are of")
         namespace.devices.append(Choice(values))
 
 
@@ -96,7 +99,7 @@ def listed(device: Device) -> str:
     """A device with its sync managers and PDOs, for who chooses among them."""
     lines = [f"{device.title()} {device.name}"]
     for manager in device.sync_managers:
-        lines.append(f"  sync manager {manager.number} {manager.kind} at 0x{manager.start:04x}")
+        lines.append(f"  sync manager {manager.number} {manager.kind} at {manager.place()}")
         lines += [f"    assigned {words_of(pdo)}" for pdo in device.pdos if pdo.sync_manager == manager.number]
     lines += [f"  {pdo.direction} {words_of(pdo)}" for pdo in device.pdos if pdo.sync_manager is None]
     return "\n".join(lines)
@@ -108,9 +111,9 @@ def words_of(pdo: DevicePdo) -> str:
     return f"PDO 0x{pdo.index:04x} {pdo.name}, {pdo.bits()} bits{excluded}"
 
 
-def written(devices: list[Device], arguments: argparse.Namespace) -> tuple[list[str], bool]:
-    """The lines of the text, and whether a slave would work otherwise than its file says."""
-    lines, differs, variable = [], False, arguments.variable
+def written(devices: list[Device], arguments: argparse.Namespace) -> tuple[list[str], list[str]]:
+    """The lines of the text, and in which ways slaves would work otherwise than their files say."""
+    lines, differs, variable = [], [], arguments.variable
     if arguments.alias is not None:
         name = [f"name = {quoted(arguments.group)}"] if arguments.group else []
         lines += ["[[group]]", *name, f"alias = {arguments.alias}", ""]
@@ -121,7 +124,7 @@ def written(devices: list[Device], arguments: argparse.Namespace) -> tuple[list[
         first = station * VARIABLES_OF_A_STATION + 1 if variable is None else variable
         writer = SlaveWriter(slave_of(found_device(devices, choice), choice, arguments, station, first))
         lines += [*writer.lines(), ""]
-        differs = differs or any(loss.differs for loss in writer.slave.losses)
+        differs += [f"{writer.slave.name}, station {station}: {loss}" for loss in writer.slave.losses if loss.differs]
         if variable is not None:
             variable = writer.variable
         elif writer.variable - first >= VARIABLES_OF_A_STATION:
@@ -159,4 +162,6 @@ def run(words: list[str]) -> int:
         return FINE
     lines, differs = written(devices, arguments)
     print("\n".join(lines))
+    for words in differs:
+        print(f"esi: {words}", file=sys.stderr)
     return FINDINGS if differs else FINE

@@ -1,6 +1,6 @@
 """What a project text can't say of a device, as two kinds: what then differs on the wire, and what the master does."""
 
-from collections.abc import Iterator
+from collections.abc import Callable, Iterator
 from dataclasses import dataclass
 from itertools import combinations
 
@@ -13,7 +13,6 @@ from projects.limits import (
     MEMORY_START,
     MOST_BITS,
     MOST_ENTRIES,
-    MOST_ENTRY_BITS,
     MOST_PDOS,
     Span,
     overlapping,
@@ -62,7 +61,9 @@ def area_losses(area: ChosenArea) -> Iterator[Loss]:
     """What differs of an area by itself."""
     manager = area.manager
     at = f"sync manager {manager.number}"
-    if manager.start < MEMORY_START:
+    if manager.start is None:
+        yield left_out("StartAddress", f"{at} has no start address in the file")
+    elif manager.start < MEMORY_START:
         yield left_out("StartAddress", f"{at} begins at 0x{manager.start:04x}, below 0x{MEMORY_START:04x}")
     elif manager.start + area.offered_bytes() > MEMORY_END:
         yield left_out("EndAddress", f"{at} ends after 0x{MEMORY_END - 1:04x}")
@@ -72,10 +73,10 @@ def area_losses(area: ChosenArea) -> Iterator[Loss]:
         yield left_out("TooManyPdos", f"{at} offers {len(area.offered)} PDOs, over {MOST_PDOS}")
     for pdo in area.offered:
         named = f"{at}, PDO 0x{pdo.index:04x}"
-        if len(pdo.entries) > MOST_ENTRIES:
-            yield left_out("TooManyEntries", f"{named} has {len(pdo.entries)} entries, over {MOST_ENTRIES}")
-        if any(not 1 <= entry.bits <= MOST_ENTRY_BITS for entry in pdo.entries):
-            yield left_out("EntryTooWide", f"{named} has an entry outside 1 to {MOST_ENTRY_BITS} bits")
+        if (count := sum(len(entry.parts()) for entry in pdo.entries)) > MOST_ENTRIES:
+            yield left_out("TooManyEntries", f"{named} has {count} entries, over {MOST_ENTRIES}")
+        if any(entry.bits < 1 for entry in pdo.entries):
+            yield left_out("EntryTooWide", f"{named} has an entry of no bits")
     if area.assigned_bytes() * 8 > MOST_BITS:
         yield left_out("AreaTooBig", f"{at} has {area.assigned_bytes()} bytes assigned, over {MOST_BITS // 8}")
     written = CONTROL[manager.direction]
@@ -104,19 +105,23 @@ def exclusions_broken(area: ChosenArea) -> Iterator[Loss]:
             yield Loss("Exclusion", words, True)
 
 
+def spans_of(areas: list[ChosenArea], times: int, size_of: Callable[[ChosenArea], int]) -> list[Span]:
+    """The memory of the areas that have a start address, so many times the bytes that a function gives."""
+    placed = [area for area in areas if area.manager.start is not None]
+    return [Span(f"sync manager {area.manager.number}", area.manager.start, times * size_of(area)) for area in placed]
+
+
 def reach_losses(areas: list[ChosenArea]) -> Iterator[Loss]:
     """Areas whose offered PDOs all together overlap, which the program refuses."""
-    spans = [Span(f"sync manager {area.manager.number}", area.manager.start, area.offered_bytes()) for area in areas]
+    spans = spans_of(areas, 1, ChosenArea.offered_bytes)
     for one, other in overlapping(spans):
         yield Loss("Reach", f"{one} overlaps {other}: hotline refuses the text until fewer PDOs are offered", True)
 
 
 def buffer_losses(device: Device, areas: list[ChosenArea]) -> Iterator[Loss]:
     """Three buffers of an area that overlap another area's buffers, or a mailbox."""
-    spans = [
-        Span(f"sync manager {area.manager.number}", area.manager.start, 3 * area.assigned_bytes()) for area in areas
-    ]
-    mailboxes = [manager for manager in device.sync_managers if manager.kind.startswith("MBox")]
+    spans = spans_of(areas, 3, ChosenArea.assigned_bytes)
+    mailboxes = [one for one in device.sync_managers if one.kind.startswith("MBox") and one.start is not None]
     spans += [Span(f"mailbox {manager.number}", manager.start, manager.size) for manager in mailboxes]
     for one, other in overlapping(spans):
         yield Loss("ThreeBuffers", f"{one} overlaps {other}", True)
@@ -136,7 +141,7 @@ def notes(device: Device, areas: list[ChosenArea]) -> Iterator[Loss]:
     yield Loss("Identity", identity, False)
     for manager in device.sync_managers:
         if manager.kind.startswith("MBox"):
-            words = f"sync manager {manager.number} {manager.kind} at 0x{manager.start:04x}, {manager.size} bytes"
+            words = f"sync manager {manager.number} {manager.kind} at {manager.place()}, {manager.size} bytes"
             yield Loss("Mailbox", f"{words}, control 0x{manager.control:02x}", False)
         elif manager.enable & ONLY_OPERATIONAL:
             yield Loss("Enable", f"sync manager {manager.number} is to be activated in Op alone", False)
@@ -156,6 +161,10 @@ def pdo_notes(device: Device, areas: list[ChosenArea]) -> Iterator[Loss]:
         excluded = [f"0x{index:04x}" for index in pdo.excludes if index in offered]
         if pdo.index in offered and excluded:
             yield Loss("Excludes", f"PDO 0x{pdo.index:04x} excludes {', '.join(excluded)}", False)
+        for entry in pdo.entries:
+            if pdo.index in offered and len(entry.parts()) > 1:
+                words = f"PDO 0x{pdo.index:04x}, entry 0x{entry.index:04x}:{entry.subindex:02x} of {entry.bits} bits"
+                yield Loss("EntryParted", f"{words} is written as {len(entry.parts())} variables, the lowest bits first", False)
     missing = [f"0x{pdo.index:04x}" for pdo in device.pdos if pdo.index not in offered]
     if missing:
         yield Loss("NotOffered", f"PDOs {', '.join(missing)}", False)

@@ -5,6 +5,7 @@ from dataclasses import dataclass
 
 from devices.elements import Element
 from projects.faults import Refusal
+from projects.limits import MOST_ENTRY_BITS
 
 NUMBER = re.compile(r"#[xX]([0-9A-Fa-f]{1,16})|([0-9]{1,20})")
 ENGLISH = "1033"
@@ -15,11 +16,12 @@ TRUE = ("1", "true")
 
 @dataclass(frozen=True)
 class SyncManager:
-    """A sync manager: its place in the list, its kind as `Outputs` or `MBoxIn`, and its register fields."""
+    """A sync manager: its place in the list, its kind as `Outputs` or `MBoxIn`, and its register fields. The file may leave out its
+    start address."""
 
     number: int
     kind: str
-    start: int
+    start: int | None
     size: int
     control: int
     enable: int
@@ -28,6 +30,10 @@ class SyncManager:
     def direction(self) -> str | None:
         """`out` or `in` where it carries process data."""
         return DIRECTIONS.get(self.kind)
+
+    def place(self) -> str:
+        """The start address in words."""
+        return "no address" if self.start is None else f"0x{self.start:04x}"
 
 
 @dataclass(frozen=True)
@@ -39,6 +45,11 @@ class DeviceEntry:
     bits: int
     name: str
     type: str
+
+    def parts(self) -> list[int]:
+        """The bits of each variable that the entry becomes: more than one if it is wider than a variable may be."""
+        full, rest = divmod(self.bits, MOST_ENTRY_BITS)
+        return [MOST_ENTRY_BITS] * full + ([rest] if rest or not full else [])
 
 
 @dataclass(frozen=True)
@@ -115,8 +126,8 @@ def name_in(element: Element) -> str:
 def sync_manager(place: int, element: Element) -> SyncManager:
     """A sync manager by its place."""
     given = element.attributes
-    fields = (number(given.get(key), element.line) for key in ("StartAddress", "DefaultSize", "ControlByte", "Enable"))
-    return SyncManager(place, element.text.strip(), *fields)
+    start, *fields = (number(given.get(key), element.line) for key in ("StartAddress", "DefaultSize", "ControlByte", "Enable"))
+    return SyncManager(place, element.text.strip(), start if given.get("StartAddress", "").strip() else None, *fields)
 
 
 def entry(element: Element) -> DeviceEntry:

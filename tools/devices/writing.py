@@ -1,6 +1,7 @@
 """Writes a device as a slave of a project text, with names for its variables."""
 
 import re
+import unicodedata
 from collections import Counter
 from collections.abc import Iterator
 from dataclasses import dataclass
@@ -11,6 +12,7 @@ from devices.records import DeviceEntry, DevicePdo
 
 WIDTH = 118
 NOT_IN_NAME = re.compile(r"[^a-z0-9]+")
+SPELT = str.maketrans({"ä": "ae", "ö": "oe", "ü": "ue", "ß": "ss", "æ": "ae", "ø": "oe", "å": "aa"})
 UNPRINTED = re.compile(r'[\x00-\x1f\x7f"\\]')
 
 
@@ -39,8 +41,9 @@ def remark(words: str) -> str:
 
 
 def identifier(*words: str) -> str:
-    """Words as a part of a name."""
-    return NOT_IN_NAME.sub("_", " ".join(words).lower()).strip("_")
+    """Words as a part of a name; umlauts are spelt in two letters, and other letters lose their accents."""
+    plain = unicodedata.normalize("NFKD", " ".join(words).lower().translate(SPELT))
+    return NOT_IN_NAME.sub("_", "".join(sign for sign in plain if not unicodedata.combining(sign))).strip("_")
 
 
 def names_of(prefix: str, places: list[tuple[DevicePdo, DeviceEntry]]) -> list[str]:
@@ -97,13 +100,11 @@ class SlaveWriter:
         """The entries of a PDO and their names, as items of arrays."""
         entries, names = [], []
         for entry in pdo.entries:
-            if entry.index:
-                entries.append(f"[{self.variable}, {entry.bits}]")
-                names.append(quoted(next(self.names)))
-                self.variable += 1
-            else:
-                entries.append(f"[0, {entry.bits}]")
-                names.append('""')
+            name, parts = next(self.names) if entry.index else "", entry.parts()
+            for number, bits in enumerate(parts):
+                entries.append(f"[{self.variable if entry.index else 0}, {bits}]")
+                names.append(quoted(f"{name}_part{number}" if name and len(parts) > 1 else name))
+                self.variable += 1 if entry.index else 0
         return entries, names
 
 

@@ -116,4 +116,6 @@ callers_in_python() {
     report_run $? "what the Python package refuses, or how its structs are laid out"
     timeout 120 python3 bindings/python/sharing.py examples/own_tasks.toml >"$scratch/printed" 2>&1
     report_run $? "threads that share a line in Python"
+    timeout 300 python3 -B tools/tools_check/main.py "${hotline:-crates/hotline/out/hotline}" live >"$scratch/printed" 2>&1
+    report_run $? "a session of tools/line over the library"
 }

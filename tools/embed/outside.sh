@@ -78,7 +78,7 @@ python_outside() {
     $pip >"$scratch/printed" 2>&1
     report_run $? "pip doesn't install the package"
     mkdir "$scratch/python"
-    cp bindings/python/play.py "$scratch/python/"
+    cp bindings/python/play.py bindings/python/player.py "$scratch/python/"
     play "Python outside the repository" "$scratch/venv/bin/python" "$scratch/python/play.py"
     (cd "$scratch/python" && "$scratch/venv/bin/python" -m zangjulf) >"$scratch/printed"
     grep -qx "zangjulf $version" "$scratch/printed" && grep -q "^library $scratch/venv/" "$scratch/printed" &&

@@ -2,13 +2,13 @@
 
 import re
 
+from linting.explaining import STEP, explained
 from linting.findings import Finding
-from projects.asking import Program, Ran
+from projects.asking import Program, Ran, said_of
 from projects.faults import Refusal
 from projects.toml import Node
 
 NO_PROJECT = 3
-STEP = re.compile(r"(\w+)|\[(\d+)\]")
 AT_LINE = re.compile(r"at line (\d+) column (\d+)")
 AT_PLACE = re.compile(r"at (\S+)(?: alias \d+)?(?: station \d+)?(?: first (\S+).*)?")
 
@@ -19,7 +19,7 @@ def fault_of(document: Node, text: bytes, hotline: Program, check: Program | Non
     if run.status == 0:
         return None
     if run.status != NO_PROJECT or not run.lines:
-        raise Refusal(f"hotline ended with status {run.status}")
+        raise Refusal(f"hotline ended with status {run.status} and said: {said_of(text, run)}")
     said = run.lines[0]
     kind = said.split()[-1] if said.startswith("project") else said.split()[3]
     if check is None or not said.startswith("project"):
@@ -38,7 +38,7 @@ def located(document: Node, kind: str, run: Ran) -> Finding:
     if place is None:
         return Finding(1, kind, said)
     first = f", which is on line {line_of(document, place[2])}" if place[2] else ""
-    return Finding(line_of(document, place[1]), kind, f"{said}{first}")
+    return Finding(line_of(document, place[1]), kind, f"{explained(document, kind, place[1], place[2])}{said}{first}")
 
 
 def line_of(document: Node, path: str) -> int:

@@ -33,7 +33,8 @@ def unknown_keys(table: Node, kind: str = "", path: str = "") -> Iterator[Findin
         if key not in known:
             close = get_close_matches(key, known, 1)
             hint = f"; {close[0]} is" if close else ""
-            yield Finding(member.line, "UnknownKey", f"{key} is no key of a {kind or 'project'}{hint}", path)
+            owner = f"an {kind}" if kind == "area" else f"a {kind or 'project'}"
+            yield Finding(member.line, "UnknownKey", f"{key} is no key of {owner}{hint}", path)
         elif key in tables:
             for index, item in enumerate(member.items()):
                 yield from unknown_keys(item, tables[key], joined(path, f"{key}[{index}]"))

@@ -6,7 +6,7 @@ from pathlib import Path
 
 from pictures.drawing import picture
 from pictures.report import report
-from pictures.views import Run, view_against, view_since
+from pictures.views import Run, run_of, view_against, view_since
 from projects.asking import Program, add_options, program_of
 from projects.faults import FINE
 from projects.files import content_of, parted
@@ -29,20 +29,20 @@ def parsed(words: list[str]) -> argparse.Namespace:
     return parser.parse_args(words)
 
 
-def run_of(program: Program, name: str, more: bytes = b"") -> Run:
+def input_run(program: Program, name: str, more: bytes = b"") -> Run:
     """An input with further commands, as the program runs it."""
     text, commands = parted(content_of(name))
-    return Run(program, Path(name).stem, text, commands + more)
+    return run_of(program, Path(name).stem, text, commands + more)
 
 
 def run(words: list[str]) -> int:
     """Writes what is asked for to standard output."""
     arguments = parsed(words)
     program = program_of(arguments)
-    asked = run_of(program, arguments.project, content_of(arguments.commands) if arguments.commands else b"")
+    asked = input_run(program, arguments.project, content_of(arguments.commands) if arguments.commands else b"")
     if arguments.against is None:
         view = view_since(asked, arguments.since)
     else:
-        view = view_against(asked, run_of(program, arguments.against))
+        view = view_against(asked, input_run(program, arguments.against))
     sys.stdout.buffer.write((report(view) if arguments.report else picture(view)).encode())
     return FINE

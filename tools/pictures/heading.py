@@ -84,7 +84,7 @@ def heading(view: View, left: float, width: float) -> tuple[str, float]:
     present = [group for group in groups if is_present(group, view.after)]
     words.add_list("Present", [group_words(group) for group in present])
     words.add_list("Absent", [group_words(group) for group in groups if group not in present])
-    written = view.blocks_to_write()
+    written = view.owed_blocks()
     differ = view.change and view.change.is_other_text
     words.add_list("Other blocks" if differ else "Blocks to write", block_phrases(written), 3)
     carried = {

@@ -57,6 +57,7 @@ def report(view: View) -> str:
         element("section", element("h2", "Picture"), element("div", picture(view, ""), kind="scrolled", tabindex=0)),
         tables.datagrams(),
         tables.variables(),
+        tables.assignments(),
         tables.blocks(),
         element("script", SCRIPT),
     ]

@@ -3,9 +3,12 @@
 import re
 from bisect import bisect_right
 from dataclasses import dataclass
+from typing import TYPE_CHECKING
 
-from projects.asking import Session
 from projects.records import Area, Project, Slave
+
+if TYPE_CHECKING:
+    from session.asking import Questions
 
 PARTS = re.compile(r"task (\d+) parts (\d+) (\d+)")
 DATAGRAM = re.compile(r"datagram (\d+) address 0x([0-9a-f]{8}) length (\d+) expected (\d+)")
@@ -154,12 +157,12 @@ def variables_of(lines: list[str]) -> dict[int, VariablePlace]:
     return {int(row[1]): VariablePlace(*map(int, row.groups()[:5]), row[6]) for row in found}
 
 
-def state_of(session: Session, project: Project) -> State:
-    """The state that the program prints when it is asked for everything."""
+def state_of(questions: "Questions", project: Project) -> State:
+    """The state that is printed when everything is asked."""
     slaves = [slave for slave, _ in project.slaves()]
     longer = [b"layout\n", *(b"regs %d\n" % slave.station for slave in slaves)]
     single = [b"place %d\n" % variable for variable in sorted(project.homes)]
-    (layout, *printed), places = session.answers(longer, single)
+    (layout, *printed), places = questions.answers(longer, single)
     parts, datagrams = datagrams_of(layout[1:])
     asked = [(slave.station, read_blocks(lines)) for slave, lines in zip(slaves, printed)]
     blocks = {station: rows for station, rows in asked if rows is not None}

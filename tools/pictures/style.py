@@ -1,6 +1,7 @@
 """Colours of Okabe and Ito, and the letter beside each, so that no colour means anything by itself."""
 
 import re
+from pathlib import Path
 
 from pictures.views import Mark
 
@@ -9,11 +10,11 @@ DIRECTION_WORDS = {"out": "output", "in": "input"}
 MARK_LETTERS = {Mark.NEW: "N", Mark.MOVED: "M", Mark.GONE: "G"}
 MARK_WORDS = {
     Mark.NEW: "new: it wasn't mapped before",
-    Mark.MOVED: "moved: one of its register blocks has to be written",
+    Mark.MOVED: "moved: one of its register blocks has changed",
     Mark.GONE: "gone: it isn't mapped any more",
 }
 
-ORANGE, SKY_BLUE, GREEN, VERMILLION, PURPLE = "#e69f00", "#56b4e9", "#009e73", "#d55e00", "#cc79a7"
+COLOURS = {"ORANGE": "#e69f00", "SKY_BLUE": "#56b4e9", "GREEN": "#009e73", "VERMILLION": "#d55e00", "PURPLE": "#cc79a7"}
 
 PAPER = "#ffffff"
 # Light and dark: paper, ink, quiet words, fine lines.
@@ -32,37 +33,10 @@ def with_plain(style: str) -> str:
     return THEMED.sub(lambda found: f"{found[1]}: {found[2]}{LIGHT[found[3]]}; {found[0]}", style)
 
 
-PICTURE = with_plain(f"""
-.picture {{ {variables(LIGHT)}; color-scheme: light dark; }}
-.picture {{ font-family: "DejaVu Sans Mono", Menlo, Consolas, monospace; }}
-@media (prefers-color-scheme: dark) {{ .picture {{ {variables(DARK)}; }} }}
-.picture .paper {{ fill: var(--paper); }}
-.picture text {{ fill: var(--ink); font-size: 11px; }}
-.picture .heading {{ font: bold 17px sans-serif; }}
-.picture .task {{ font: bold 14px sans-serif; }}
-.picture .words {{ font: 12px sans-serif; }}
-.picture .name {{ font-weight: bold; }}
-.picture .quiet {{ font: 10px sans-serif; fill: var(--quiet); }}
-.picture .number {{ font-size: 10px; }}
-.picture .small, .picture .slim {{ font-size: 9px; }}
-.picture .slim {{ font-weight: bold; }}
-.picture .ticks {{ stroke: var(--quiet); stroke-width: 1; fill: none; }}
-.picture rect {{ stroke: var(--paper); stroke-width: 1; }}
-.picture .out > .band {{ fill: {ORANGE}; }}
-.picture .in > .band {{ fill: {SKY_BLUE}; }}
-.picture .band + text, .picture .badge text {{ fill: #000000; }}
-.picture .out > .cell {{ fill: {ORANGE}; fill-opacity: 0.3; }}
-.picture .in > .cell {{ fill: {SKY_BLUE}; fill-opacity: 0.3; }}
-.picture .gap > .cell {{ fill: url(#gap-hatch); fill-opacity: 1; stroke: var(--fine); }}
-.picture .unused > rect {{ fill: none; stroke: var(--quiet); stroke-dasharray: 1 3; }}
-.picture .hatch {{ stroke: var(--fine); stroke-width: 2; }}
-.picture .new > .band, .picture .new.own > .cell {{ stroke: {GREEN}; stroke-width: 2; }}
-.picture .moved > .band, .picture .moved.own > .cell {{ stroke: {VERMILLION}; stroke-width: 2; stroke-dasharray: 6 2; }}
-.picture .gone > .band, .picture .gone.own > .cell {{ stroke: {PURPLE}; stroke-width: 2; stroke-dasharray: 2 2; }}
-.picture .badge > rect {{ stroke: none; }}
-.picture .badge.new > rect {{ fill: {GREEN}; }}
-.picture .badge.moved > rect {{ fill: {VERMILLION}; }}
-.picture .badge.gone > rect {{ fill: {PURPLE}; }}
-.picture .badge text {{ font-weight: bold; }}
-.picture .way {{ fill: {VERMILLION}; fill-opacity: 0.22; stroke: {VERMILLION}; stroke-dasharray: 6 2; }}
-""")
+def style_in(file: Path) -> str:
+    """The style of a file, in which the names of colours stand for them, LIGHT and DARK for all that are taken by name."""
+    names = {"LIGHT": variables(LIGHT), "DARK": variables(DARK), **COLOURS}
+    return with_plain(re.sub(r"\b[A-Z_]{4,}\b", lambda found: names[found[0]], file.read_text()))
+
+
+PICTURE = style_in(Path(__file__).with_name("picture.css"))

@@ -7,6 +7,7 @@ from pictures.rows import Rows
 from pictures.states import Block, Datagram, VariablePlace
 from pictures.style import DIRECTION_LETTERS, DIRECTION_WORDS, MARK_LETTERS
 from pictures.views import Mark, View, mark_between
+from projects.assignments import pdo_words
 
 # The columns of each table. What comes after a bar says how a column is set.
 CHANGE, NAME = "change|", "name|"
@@ -19,6 +20,7 @@ VARIABLES_BEFORE = ["place before|"]
 BLOCKS = ["station address|number", "slave|", "alias|number", "area|number", "direction|", "block|", "register|code"]
 BLOCKS += ["bytes|code", "what they say|"]
 BLOCKS_BEFORE = ["bytes before|code"]
+ASSIGNMENTS, ASSIGNMENTS_BEFORE = ["station address|number", "slave|", "object|code", "PDOs|code"], ["PDOs before|code"]
 
 
 def selectors(columns_of: dict[str, list[str]], setting: str, *tags: str) -> str:
@@ -83,6 +85,7 @@ class Tables:
             "datagrams": (DATAGRAMS, DATAGRAMS_BEFORE),
             "variables": (variables, VARIABLES_BEFORE),
             "blocks": (BLOCKS, BLOCKS_BEFORE),
+            "assignments": (ASSIGNMENTS, ASSIGNMENTS_BEFORE),
         }
         if not self.has_before:
             return {name: own for name, (own, _) in shown.items()}
@@ -141,6 +144,17 @@ class Tables:
             for pair in pairs(old.get(station, []), new.get(station, []))
         ]
         return self.table("blocks", rows, "Register blocks")
+
+    def assignments(self) -> str:
+        """The PDOs that each sync manager of a slave of the line, or of the line before, is to be assigned."""
+        old, new = self.view.assigned_before if self.has_before else {}, self.view.assigned
+        rows = []
+        for name in {**old, **new}:
+            before, after = (lists[name].pdos if name in lists else None for lists in (old, new))
+            now, earlier = ("" if pdos is None else pdo_words(pdos) for pdos in (after, before))
+            cells = [name[0], (new.get(name) or old[name]).slave.name, f"0x{name[1]:04x}", now]
+            rows.append(self.row("assignment", f"{name[0]}/0x{name[1]:04x}", cells, [earlier], self.mark(before, after)))
+        return self.table("assignments", rows, "PDOs to assign")
 
     def block(self, station: int, area: int, before: Block | None, after: Block | None) -> str:
         """A register block of an area; where it is gone, its bytes of before alone."""

@@ -1,21 +1,22 @@
 """What is drawn: a line alone, or beside it the line before its last edits or another text's line, with what moved."""
 
-import re
-from dataclasses import dataclass
+from dataclasses import dataclass, field, replace
 from enum import Enum
 
-from pictures.states import AreaPlace, Block, State, VariablePlace, state_of
-from projects.asking import Program, Session
+from pictures.states import AreaPlace, Block, State, VariablePlace
+from projects.asking import Program, input_of
+from projects.assignments import Assignments, assignments_after
 from projects.faults import Refusal
 from projects.files import document_of
 from projects.names import names_of
 from projects.records import Project, read_project
+from session.asking import Questions
+from session.replay import ACCEPTED, Recorded, Replay, commands_in
 
-EDITED = re.compile(r"epoch (\d+) recut (\d+) moved (\d+)")
 # Commands that only look, send or take what arrives: no register block and no place hangs on them.
 PASSED_OVER = {
-    *(b"layout", b"regs", b"show", b"place", b"write", b"send", b"arrive", b"read"),
-    *(b"scan", b"name", b"program", b"cycle", b"poke", b"peek", b"post", b"take", b"view"),
+    *("layout", "regs", "show", "place", "write", "send", "arrive", "read"),
+    *("scan", "name", "program", "cycle", "poke", "peek", "post", "take", "view"),
 }
 
 
@@ -42,7 +43,8 @@ class Change:
 class View:
     """A line, and perhaps one before it, each with the project that declares it.
 
-    `answers` has each edit that was asked for with its answer.
+    `answers` has each edit that was asked for with its answer; `owed` the blocks that are owed now, by station address and register,
+    where that is known; `assigned` the lists of PDOs of the present slaves.
     """
 
     name: str
@@ -52,9 +54,23 @@ class View:
     earlier: Project | None = None
     before: State | None = None
     change: Change | None = None
+    owed: set[tuple[int, int]] | None = None
+    assigned: Assignments = field(default_factory=dict)
+    assigned_before: Assignments = field(default_factory=dict)
 
-    def blocks_to_write(self) -> list[tuple[int, int, Block]]:
-        """The blocks of the line that weren't there before with the same bytes, as (station, row, block)."""
+    def owed_blocks(self) -> list[tuple[int, int, Block]]:
+        """The blocks that have to be written, as (station, row, block): those that are owed now, or all that the edits changed."""
+        if self.owed is None:
+            return self.changed_blocks()
+        return [
+            (station, row, block)
+            for station, blocks in self.after.blocks.items()
+            for row, block in enumerate(blocks)
+            if (station, block.register) in self.owed
+        ]
+
+    def changed_blocks(self) -> list[tuple[int, int, Block]]:
+        """The blocks of the line that weren't there before with the same bytes."""
         if self.before is None:
             return []
         return [
@@ -88,10 +104,10 @@ class Marks:
         self.before, self.after = view.before, view.after
         self.old_areas, self.new_areas = areas_by_name(view.before), areas_by_name(view.after)
         # A slave's blocks come in pairs, an area's sync manager and its FMMU.
-        self.written = {(station, row // 2) for station, row, _ in view.blocks_to_write()}
+        self.written = {(station, row // 2) for station, row, _ in view.changed_blocks()}
 
     def of_area(self, place: AreaPlace, is_after: bool) -> Mark:
-        """Of an area: new, gone, moved where one of its blocks has to be written, or kept."""
+        """Of an area: new, gone, moved if one of its blocks has changed, or kept."""
         name = (place.station, place.area)
         if self.before is None:
             return Mark.UNCHANGED
@@ -127,92 +143,67 @@ def areas_by_name(state: State | None) -> dict[tuple[int, int], AreaPlace]:
     return {(place.station, place.area): place for places in state.areas.values() for place in places}
 
 
-def is_declaration(lines: list[bytes]) -> bool:
-    """Whether some lines begin with a `declare`."""
-    return lines[0].split() == [b"declare"]
+def project_after(name: str, text: bytes, edits: list[Recorded]) -> Project:
+    """The project of a text, with the groups that edits declared."""
+    documents = [one.command.document() for one in edits if one.command.name == "declare"]
+    declared = [document_of("a declared group", document) for document in documents]
+    return read_project(document_of(name, text), declared)
 
 
-def commands_in(content: bytes) -> list[list[bytes]]:
-    """The lines of each command: one, or a `declare` with all lines up to the end of its document."""
-    commands, lines = [], []
-    for line in content.split(b"\n"):
-        lines.append(line + b"\n")
-        if not is_declaration(lines) or (len(lines) > 1 and line.removesuffix(b"\r") == b"%%"):
-            commands.append(lines)
-            lines = []
-    return commands + [lines] if lines else commands
-
-
-def edits_of(content: bytes) -> list[list[bytes]]:
-    """The commands, with those blank that are no edits: so the program counts lines as in the file."""
-    named = [(lines[0].split()[:1], lines) for lines in commands_in(content)]
-    return [[b"\n"] if name and name[0] in PASSED_OVER else lines for name, lines in named]
+def with_assignments(view: View, after: list[Recorded], before: list[Recorded]) -> View:
+    """A view with the lists of PDOs that its slaves are to be assigned after some edits, and those before."""
+    lists = [[one.command.words for one in edits] for edits in (after, before)]
+    assigned = assignments_after(view.project, lists[0])
+    return replace(view, assigned=assigned, assigned_before=assignments_after(view.declares(False), lists[1]))
 
 
 @dataclass(frozen=True)
-class Edit:
-    """An accepted edit: its row among the commands, its words, and the numbers of its answer."""
-
-    row: int
-    words: str
-    epoch: int
-    recut: int
-    moved: int
-
-
 class Run:
-    """A project text with its edits, and what the program answered to each."""
+    """A project text with its accepted edits, and what was answered to each that was asked for."""
 
-    def __init__(self, program: Program, name: str, text: bytes, commands: bytes) -> None:
-        self.program, self.name, self.text = program, name, text
-        self.commands = edits_of(commands)
-        rows = [row for row, lines in enumerate(self.commands) if lines[0].strip()]
-        words = [self.commands[row][0].decode(errors="replace").strip() for row in rows]
-        self.answers = list(zip(words, self.session(self.commands).edited()))
-        self.edits = [
-            Edit(row, asked, *map(int, found.groups()))
-            for row, (asked, said) in zip(rows, self.answers)
-            if (found := EDITED.fullmatch(said))
-        ]
-
-    def session(self, commands: list[list[bytes]]) -> Session:
-        """The text after some commands."""
-        return Session(self.program, self.text, [b"".join(lines) for lines in commands])
+    replay: Replay
+    name: str
+    edits: list[Recorded]
+    answers: list[tuple[str, str]]
 
     def line(self, count: int) -> tuple[Project, State]:
         """The line after so many accepted edits, and the project that declares it."""
-        commands = self.commands[: self.edits[count].row] if count < len(self.edits) else self.commands
-        accepted = [self.commands[edit.row] for edit in self.edits[:count]]
-        declared = [b"".join(lines[1:-1]) for lines in accepted if is_declaration(lines)]
-        documents = [document_of("a declared group", document) for document in declared]
-        project = read_project(document_of(self.name, self.text), documents)
+        project = project_after(self.name, self.replay.text, self.edits[:count])
         names_of(project)
-        return project, state_of(self.session(commands), project)
+        return project, Questions(self.replay, self.edits[:count]).state(project)
 
-    def edits_since(self, epoch: int | None) -> list[Edit]:
-        """The accepted edits after an epoch, or the last one."""
-        if epoch is None:
-            return self.edits[-1:]
-        last = self.edits[-1].epoch if self.edits else 0
-        if not 0 <= epoch < last:
-            raise Refusal(f"NoSuchEpoch: no edit was accepted behind epoch {epoch}; the line is in epoch {last}")
-        return [edit for edit in self.edits if edit.epoch > epoch]
+
+def run_of(program: Program, name: str, text: bytes, commands: bytes) -> Run:
+    """The run of an input. If the program refuses it, it is asked again as it is, so that it counts the input's own lines."""
+    replay = Replay(program, text)
+    edits = [command for command in commands_in(commands) if command.name not in PASSED_OVER]
+    try:
+        answers = replay.answers(edits)
+    except Refusal:
+        program.printed(input_of(text, [commands]))
+        raise
+    accepted = [Recorded(edit, lines) for edit, lines in zip(edits, answers) if ACCEPTED.fullmatch(lines[-1])]
+    return Run(replay, name, accepted, [(str(edit), lines[-1]) for edit, lines in zip(edits, answers)])
 
 
 def view_since(run: Run, epoch: int | None) -> View:
     """The line after all commands, beside the line of an epoch or, without one, the line before the last accepted edit."""
     project, after = run.line(len(run.edits))
-    edits = run.edits_since(epoch)
+    if epoch is not None and not 0 <= epoch < len(run.edits):
+        raise Refusal(f"NoSuchEpoch: no edit was accepted behind epoch {epoch}; the line is in epoch {len(run.edits)}")
+    edits = run.edits[-1:] if epoch is None else run.edits[epoch:]
     if not edits:
-        return View(run.name, project, after, run.answers)
+        return with_assignments(View(run.name, project, after, run.answers), run.edits, run.edits)
     earlier, before = run.line(len(run.edits) - len(edits))
-    numbers = (edits[0].recut, edits[0].moved) if len(edits) == 1 else (None, None)
-    change = Change("; ".join(edit.words for edit in edits), False, *numbers)
-    return View(run.name, project, after, run.answers, earlier, before, change)
+    numbers = map(int, ACCEPTED.fullmatch(edits[0].lines[-1]).groups()[1:]) if len(edits) == 1 else (None, None)
+    change = Change("; ".join(str(edit.command) for edit in edits), False, *numbers)
+    view = View(run.name, project, after, run.answers, earlier, before, change)
+    return with_assignments(view, run.edits, run.edits[: -len(edits)])
 
 
 def view_against(run: Run, other: Run) -> View:
     """The line after all commands, beside another text's line after all of its own."""
     project, after = run.line(len(run.edits))
     earlier, before = other.line(len(other.edits))
-    return View(run.name, project, after, run.answers, earlier, before, Change(f"against {other.name}", True))
+    view = View(run.name, project, after, run.answers, earlier, before, Change(f"against {other.name}", True))
+    return with_assignments(view, run.edits, other.edits)

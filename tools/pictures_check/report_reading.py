@@ -17,6 +17,7 @@ class ReportReader:
         self.compare("datagrams", self.datagrams())
         self.compare("variables", self.variables())
         self.compare("blocks", self.blocks())
+        self.compare("assignments", self.assignments())
         outer = [node for node in self.root.tagged("script") + self.root.tagged("img") if "src" in node.attributes]
         self.expect("elements from elsewhere", 0, len(outer + self.root.tagged("link")))
         return self.said
@@ -102,6 +103,17 @@ class ReportReader:
             if self.required.before:
                 written["place before"] = "task {} datagram {} bit {}".format(*before[:3]) if before else ""
             wanted[str(key)] = (self.changes(before, after, written), written)
+        return wanted
+
+    def assignments(self):
+        """Of each sync manager of a slave the PDOs that it is to be assigned."""
+        wanted, shown = {}, lambda pdos: "" if pdos is None else " ".join(f"0x{pdo:04x}" for pdo in pdos) or "none"
+        for key in self.keys("lists"):
+            before, after = self.pair("lists", key)
+            written = {"station address": str(key[0]), "object": key[1], "PDOs": shown(after)}
+            if self.required.before:
+                written["PDOs before"] = shown(before)
+            wanted[f"{key[0]}/{key[1]}"] = (self.changes(before, after, written), written)
         return wanted
 
     def blocks(self):

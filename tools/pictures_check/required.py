@@ -134,8 +134,22 @@ class Line:
     def state(self, count):
         """The records and the state after so many accepted edits."""
         edits = self.edits[: self.accepted[count]] if count < len(self.accepted) else self.edits
-        records = Records(self.text, [self.edits[row] for row in self.accepted[:count]])
-        return records, State(self.program, self.text, records, edits)
+        accepted = [self.edits[row] for row in self.accepted[:count]]
+        records = Records(self.text, accepted)
+        state = State(self.program, self.text, records, edits)
+        state.lists = self.lists(records, state, accepted)
+        return records, state
+
+    @staticmethod
+    def lists(records, state, accepted):
+        """The PDOs that the sync managers of the present slaves are to be assigned, by station address and CoE object."""
+        remaps = {tuple(words[1:3]): words[3:] for words in map(str.split, accepted) if words[0] == "remap"}
+        remaps = {tuple(int(word, 0) for word in name): [int(word, 0) for word in pdos] for name, pdos in remaps.items()}
+        return {
+            (station, f"0x{0x1C10 + area['sm']:04x}"): remaps.get((station, row), area["assigned"])
+            for station in state.present
+            for row, area in enumerate(records.areas[station])
+        }
 
 
 class Required:

@@ -1,21 +1,24 @@
-"""Asks the built program: gives it a project text with commands, and takes its words apart by question."""
+"""Asks the built program: gives it a project text with commands, and takes what it prints."""
 
 import argparse
 import subprocess
-from collections.abc import Callable, Iterator
+from collections.abc import Iterator
 from dataclasses import dataclass
-from itertools import islice, takewhile
+from itertools import takewhile
 from pathlib import Path
 
 from projects.faults import Refusal
-from projects.files import LONGEST_INPUT
+from projects.files import parted
+from projects.toml import TomlFault, read_toml
 
 BUILT = Path(__file__).resolve().parents[2] / "crates/hotline/out/hotline"
 SECONDS = 60
 # No variable has the number 0, so the answer `none` shows where the lines of the question before it end.
 END = b"place 0\n"
-
-Section = Callable[[Iterator[str]], object]
+KEPT_RUNS = 64
+NOT_TOML = "project fault 1 NotToml"
+# What a status means if the program prints nothing of it.
+STATUSES = {4: "nothing: the input is too long, or reading it or writing the answers failed"}
 
 
 @dataclass(frozen=True)
@@ -27,28 +30,60 @@ class Ran:
 
 
 class Program:
-    """The program at a path, which is given so many seconds for a run."""
+    """The program at a path, which is given so many seconds for a run. Its last runs are kept: the same input is not run twice."""
 
     def __init__(self, path: str | Path, seconds: int = SECONDS) -> None:
-        self.path, self.seconds = path, seconds
+        self.path, self.seconds = Path(path).resolve(), seconds
+        self.runs = 0
+        self.kept: dict[bytes, Ran] = {}
 
     def ran(self, content: bytes) -> Ran:
         """A run over an input."""
+        if content not in self.kept:
+            while len(self.kept) >= KEPT_RUNS:
+                del self.kept[next(iter(self.kept))]
+            self.kept[content] = self.run(content)
+        return self.kept[content]
+
+    def run(self, content: bytes) -> Ran:
+        """The same, without a look at what is kept. What prints no line and ends well is not the program."""
         try:
             run = subprocess.run([self.path], input=content, capture_output=True, timeout=self.seconds)
+            self.runs += 1
+            return Ran(run.returncode, run.stdout.decode().splitlines())
         except OSError as error:
             raise Refusal(f"{self.path}: {error.strerror}; docs/use/TOOLS.md says how it is built") from error
         except subprocess.TimeoutExpired as error:
             raise Refusal(f"{self.path} didn't end within {self.seconds} seconds; --seconds gives it more") from error
-        return Ran(run.returncode, run.stdout.decode().splitlines())
+        except UnicodeDecodeError as error:
+            raise Refusal(f"{self.path} isn't hotline: it prints bytes that are no text") from error
 
     def printed(self, content: bytes) -> list[str]:
         """The lines that the program prints for an input; what ends its run early is a refusal in its own words."""
         run = self.ran(content)
         if run.status != 0:
-            said = run.lines[-1] if run.lines else "nothing"
-            raise Refusal(f"hotline ended with status {run.status} and said: {said}")
+            raise Refusal(f"hotline ended with status {run.status} and said: {said_of(content, run)}")
         return run.lines
+
+    def checked(self) -> "Program":
+        """Refuses what is not the program: it answers a question about an empty project."""
+        if self.ran(input_of(b"slave = []", [END])) != Ran(0, ["none"]):
+            raise Refusal(f"{self.path} isn't hotline: it doesn't answer as the program does")
+        return self
+
+
+def said_of(content: bytes, run: Ran) -> str:
+    """The program's last line; if it can't read the text, also where, and what may be missing."""
+    said = run.lines[-1] if run.lines else STATUSES.get(run.status, "nothing")
+    if said != NOT_TOML:
+        return said
+    text, commands = parted(content)
+    try:
+        read_toml(text)
+    except TomlFault as fault:
+        hint = "" if commands else "; is a line %% missing before commands?"
+        return f"{said}: {fault}{hint}"
+    return said
 
 
 def add_options(parser: argparse.ArgumentParser) -> None:
@@ -61,51 +96,13 @@ def add_options(parser: argparse.ArgumentParser) -> None:
 
 def program_of(arguments: argparse.Namespace) -> Program:
     """The program that these options name."""
-    return Program(arguments.program, arguments.seconds)
+    return Program(arguments.program, arguments.seconds).checked()
 
 
 def input_of(text: bytes, commands: list[bytes]) -> bytes:
     """An input of the program: a text, the line `%%`, and commands with their line feeds."""
     ended = text if text.endswith(b"\n") or not text else text + b"\n"
     return ended + b"%%\n" + b"".join(commands)
-
-
-class Session:
-    """A project text and the edits after which questions are asked; `edits` are their lines with line feeds."""
-
-    def __init__(self, program: Program, text: bytes, edits: list[bytes]) -> None:
-        self.program = program
-        self.front = input_of(text, edits)
-        self.passed = sum(1 for edit in edits if edit.strip())
-
-    def edited(self) -> list[str]:
-        """What each edit is answered with."""
-        return self.program.printed(self.front)
-
-    def answers(self, longer: list[bytes], single: list[bytes]) -> tuple[list[list[str]], list[str]]:
-        """The lines that each of some questions prints, and the line that each of others does, which print just one."""
-        asked: list[tuple[bytes, Section]] = [(question + END, section) for question in longer]
-        asked += [(question, next) for question in single]
-        given = []
-        for portion in self.portions(asked):
-            content = self.front + b"".join(question for question, _ in portion)
-            lines = islice(iter(self.program.printed(content)), self.passed, None)
-            given += [taken(lines) for _, taken in portion]
-        return given[: len(longer)], given[len(longer) :]
-
-    def portions(self, asked: list[tuple[bytes, Section]]) -> list[list[tuple[bytes, Section]]]:
-        """The questions in their order, parted so that each part fits an input after the text and the edits."""
-        room = LONGEST_INPUT - len(self.front)
-        portions, left = [], 0
-        for question, taken in asked:
-            if len(question) > room:
-                raise Refusal("the project text and the edits leave no room for questions in an input of hotline")
-            if len(question) > left:
-                portions.append([])
-                left = room
-            portions[-1].append((question, taken))
-            left -= len(question)
-        return portions
 
 
 def section(lines: Iterator[str]) -> list[str]:

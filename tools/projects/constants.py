@@ -1,11 +1,14 @@
-"""The names of a project as constants in C, Rust or Python."""
+"""The names of a project as constants in C, Rust or Python, or as JSON; in C and JSON with the PDOs that slaves are assigned."""
 
+import json
 import re
 from collections.abc import Callable
 from dataclasses import dataclass
 
+from projects.assignments import declared_assignments
 from projects.faults import Refusal
-from projects.names import Names, Numbered, Variable
+from projects.names import Names, Numbered, Variable, names_of
+from projects.records import Project
 from projects.words import plural
 
 NOT_IN_IDENTIFIER = re.compile(r"[^A-Za-z0-9]+")
@@ -88,10 +91,37 @@ def constants_of(names: Names) -> list[Constant]:
     ]
 
 
-def printed(names: Names, language: str, title: str) -> str:
+def assignment_lines(project: Project) -> list[str]:
+    """In C the PDOs that each sync manager is assigned at the opening, as an initializer and a count."""
+    lines = []
+    for one in declared_assignments(project).values():
+        name = f"ASSIGNED_{one.slave.station}_{one.object:04X}"
+        pdos = ", ".join(f"0x{index:04x}u" for index in one.pdos) or "0"
+        lines.append(f"#define {name} {{{pdos}}} /* {f'{one.slave.name}, '.removeprefix(', ')}object 0x{one.object:04x} */")
+        lines.append(f"#define {name}_COUNT {len(one.pdos)}u")
+    return lines
+
+
+def as_json(names: Names, project: Project) -> str:
+    """The same as JSON, with the PDOs that each sync manager of a declared slave is assigned at the opening."""
+    keys = ("number", "name", "bits", "direction", "station", "task")
+    variables = [{**{key: getattr(one, key) for key in keys}, "pdo": one.home.pdo.index} for one in names.variables.values()]
+    kinds = {"slaves": names.slaves, "groups": names.groups, "tasks": [task for task in names.tasks if task.name]}
+    named = {kind: [{"number": one.number, "name": one.name} for one in given] for kind, given in kinds.items()}
+    lists = [
+        {"station": one.slave.station, "group": one.group.alias, "object": one.object, "pdos": one.pdos}
+        for one in declared_assignments(project).values()
+    ]
+    return json.dumps({"variables": variables, **named, "assignments": lists}, indent=2) + "\n"
+
+
+def printed(project: Project, language: str, title: str) -> str:
     """The constants in a language; `title` is the project's name."""
+    names = names_of(project)
+    if language == "json":
+        return as_json(names, project)
     style = LANGUAGES[language]
     plain = NOT_IN_IDENTIFIER.sub("_", title)
     head = style.head.replace("{guard}", f"{plain.upper()}_NAMES_H").format(plain)
-    lines = [head, *map(style.line, constants_of(names))]
+    lines = [head, *map(style.line, constants_of(names)), *(assignment_lines(project) if language == "c" else [])]
     return "\n".join([*lines, *([style.foot] if style.foot else [])]) + "\n"

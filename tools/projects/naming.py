@@ -6,7 +6,6 @@ from pathlib import Path
 from projects.constants import LANGUAGES, printed
 from projects.faults import FINE
 from projects.files import content_of, document_of, parted
-from projects.names import names_of
 from projects.records import read_project
 
 
@@ -19,10 +18,10 @@ def run(words: list[str]) -> int:
     )
     parser.add_argument("project", help="a project text, or an input of hotline that begins with one; - for stdin")
     languages = parser.add_mutually_exclusive_group(required=True)
-    for language in LANGUAGES:
+    for language in (*LANGUAGES, "json"):
         languages.add_argument(f"--{language}", action="store_const", const=language, dest="language")
     arguments = parser.parse_args(words)
     text, _ = parted(content_of(arguments.project))
     project = read_project(document_of(arguments.project, text), [])
-    print(printed(names_of(project), arguments.language, Path(arguments.project).stem), end="")
+    print(printed(project, arguments.language, Path(arguments.project).stem), end="")
     return FINE

@@ -3,11 +3,13 @@
 import argparse
 from pathlib import Path
 
-from projects.asking import add_options, program_of
+from projects.asking import BUILT, add_options, program_of
 from projects.faults import FINE
 from projects.files import content_of, parted
 from session.line import Line
+from session.live import live_of
 from session.prompt import prompt
+from session.replay import Replay
 from session.serving import serve
 
 
@@ -20,11 +22,14 @@ def run(words: list[str]) -> int:
     )
     parser.add_argument("project", help="a project text, or an input of hotline, whose commands are left out")
     add_options(parser)
+    parser.add_argument("--history", type=Path, metavar="FILE", help="keep the changes in this file, and begin with those in it")
     parser.add_argument("--serve", action="store_true", help="a page on this machine in place of the prompt")
     parser.add_argument("--port", type=int, default=0, help="the page's port; any free one if it is left out")
     arguments = parser.parse_args(words)
     text, _ = parted(content_of(arguments.project))
-    line = Line(program_of(arguments), Path(arguments.project).stem, text)
+    # a program that is named is asked, also beside the library
+    replay = live_of(text) if arguments.program == BUILT else None
+    line = Line(replay or Replay(program_of(arguments), text), Path(arguments.project).stem, arguments.history)
     if arguments.serve:
         serve(line, arguments.port)
     else:

@@ -3,10 +3,10 @@
 import re
 
 from pictures.states import Datagram
-from projects.names import Names
+from projects.names import Names, number_in
 from projects.records import Project
-from session.asking import SENT, Layout
-from session.replay import Command, is_refused
+from session.asking import Questions
+from session.replay import SENT, Command, is_refused
 from wire.frames import FPWR, LRW, Frame, read_frame
 from wire.frames import Datagram as Sent
 
@@ -32,27 +32,30 @@ class Describer:
         name = self.tasks.get(task, "")
         return f"task {task}{f' {name}' if name else ''} datagram {number}"
 
-    def block(self, write: Sent) -> str:
-        """The register block that a datagram writes, with its slave."""
-        register = write.register()
+    def block(self, station: int, register: int) -> str:
+        """A register block, with its slave."""
         if register >= SYNC_MANAGERS:
             title = f"sync manager {(register - SYNC_MANAGERS) // 8}"
         else:
             title = f"FMMU {(register - FMMUS) // 16}"
-        return f"{self.slave(write.slave_address())}, {title}"
+        return f"{self.slave(station)}, {title}"
 
     def sent(self, datagram: Sent) -> str:
         """What a datagram carries."""
         if datagram.command == LRW:
             return self.datagram(*datagram.name())
-        return self.block(datagram) if datagram.command == FPWR else "no datagram of the master's"
+        if datagram.command != FPWR:
+            return "no datagram of the master's"
+        return self.block(datagram.slave_address(), datagram.register())
 
-    def described(self, command: Command, lines: list[str], layout: Layout) -> list[str]:
+    def described(self, command: Command, lines: list[str], questions: Questions) -> list[str]:
         """The lines of an answer, each with what it belongs to where it doesn't say so itself."""
         if is_refused(lines):
             return lines
-        if command.name == "cycle" and len(lines) == len(order := layout.of_tasks(list(map(int, command.words[1:])))):
-            return [self.arrived(line, self.of(datagram)) for line, datagram in zip(lines, order)]
+        if command.name == "cycle":
+            order = questions.layout().of_tasks([number_in(word) for word in command.words[1:]])
+            if len(lines) == len(order):
+                return [self.arrived(line, self.of(datagram)) for line, datagram in zip(lines, order)]
         if command.name == "arrive":
             return self.answered(read_frame(bytes.fromhex(command.words[1])), lines)
         if command.name == "regs" and not lines:

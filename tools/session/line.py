@@ -1,20 +1,24 @@
 """A session: commands come in as people write them, and each is answered in lines of text."""
 
 import difflib
+import os
 import re
 from collections.abc import Callable
+from dataclasses import replace
 from pathlib import Path
 
 from pictures.states import VariablePlace
-from projects.asking import Program
+from pictures.views import Run, View, project_after, view_since
+from projects.assignments import Assignment, Assignments, assignments_after, changed, pdo_words
 from projects.faults import Refusal
-from projects.files import content_of, document_of
+from projects.files import content_of, parted
 from projects.names import Names, Variable, names_of
-from projects.records import Project, read_project
+from projects.records import Project
 from session.asking import Questions
 from session.describing import Describer
 from session.help import HELP, one_command
-from session.replay import ACCEPTED, EDITS, Command, Recorded, Replay, command_of, is_refused
+from session.live import Live
+from session.replay import ACCEPTED, EDITS, Command, Recorded, Replay, command_of, commands_in, is_refused
 from session.spelling import Speller, words_of
 from session.values import Value, read_value
 
@@ -24,11 +28,10 @@ UNWRITTEN = re.compile(r"^refused 17 |^written \d+ owed [1-9]")
 
 
 class Line:
-    """A project with the commands given so far, and its names."""
+    """A project with the commands given so far, and its names. A history keeps the commands in a file from then on."""
 
-    def __init__(self, program: Program, name: str, text: bytes) -> None:
-        self.name, self.replay = name, Replay(program, text)
-        self.replay.answers([])
+    def __init__(self, replay: Replay, name: str, history: Path | None = None) -> None:
+        self.name, self.replay, self.file = name, replay, None
         self.own: dict[str, Callable[[list[str]], list[str]]] = {
             "set": self.set,
             "get": self.get,
@@ -39,16 +42,42 @@ class Line:
             "undo": self.undo,
             "history": self.history,
             "save": self.save,
+            "assignments": self.assignments,
             "declare": self.declare,
             "help": self.help,
         }
+        self.restore(history)
         self.read_names()
+
+    def restore(self, history: Path | None) -> None:
+        """Plays the commands of a history that is there, and keeps later ones in it."""
+        if history is not None and history.exists():
+            text, commands = parted(content_of(str(history)))
+            if text.strip() != self.replay.text.strip():
+                raise Refusal(f"OtherProject: {history} has the history of another project text")
+            for command in commands_in(commands):
+                self.replay.play([command])
+        self.file = history
+
+    def began(self) -> str:
+        """The epoch, and how many commands the history had."""
+        count = len(self.replay.recorded)
+        return f"epoch {len(self.replay.edits())}" + (f", {count} commands from {self.file}" if count else "")
+
+    def keep(self) -> None:
+        """Writes the history's file anew, whole or not at all."""
+        if self.file is None:
+            return
+        written = self.file.with_name(f"{self.file.name}.new")
+        try:
+            written.write_bytes(self.replay.script())
+            os.replace(written, self.file)
+        except OSError as error:
+            raise Refusal(f"NotKept: {self.file}: {error.strerror}; what the command did stays") from error
 
     def read_names(self) -> None:
         """Reads the project anew, with the groups that were declared."""
-        declared = [one.command.document() for one in self.replay.recorded if one.command.name == "declare"]
-        documents = [document_of("a declared group", text) for text in declared]
-        self.project: Project = read_project(document_of(self.name, self.replay.text), documents)
+        self.project: Project = project_after(self.name, self.replay.text, self.replay.edits())
         self.names: Names = names_of(self.project)
         self.speller, self.describer = Speller(self.project, self.names), Describer(self.project, self.names)
 
@@ -62,13 +91,36 @@ class Line:
         return self.given(self.speller.command(words))
 
     def given(self, command: Command) -> list[str]:
-        """The program's answer to a command, with what it belongs to."""
-        layout = Questions(self.replay).layout()
+        """The answer to a command, with what it belongs to; after an edit also which PDOs slaves have to be assigned."""
+        before, count = self.assigned(self.replay.edits()), len(self.replay.recorded)
         lines = self.replay.play([command])[0]
-        described = self.describer.described(command, lines, layout)
+        if len(self.replay.recorded) > count:
+            self.keep()
+        described = self.describer.described(command, lines, Questions(self.replay))
         if UNWRITTEN.search(lines[-1] if lines else ""):
-            described += [f"  first of them: {self.owed([])[1]}"]
-        return described
+            [first] = self.replay.owed_blocks(1)
+            described += [f"  first of them: {self.describer.block(*first)}"]
+        return described + self.to_assign(before, self.assigned(self.replay.edits()))
+
+    def assigned(self, edits: list[Recorded]) -> Assignments:
+        """The lists of PDOs of the present slaves after some edits."""
+        return assignments_after(self.project, [one.command.words for one in edits])
+
+    def assignments(self, words: list[str]) -> list[str]:
+        """What the sync managers of each present slave are to be assigned."""
+        return list(map(self.list_words, self.assigned(self.replay.edits()).values())) or ["no slave of the line has an area"]
+
+    def list_words(self, one: Assignment) -> str:
+        """A list with its slave."""
+        return f"{self.describer.slave(one.slave.station)}, {one.words()}"
+
+    def to_assign(self, before: Assignments, after: Assignments) -> list[str]:
+        """The lists that differ from before, which a master gives their slaves in Pre-Op."""
+        return [
+            f"  to assign in Pre-Op: {self.list_words(one)}"
+            + (f", was {pdo_words(before[one.name()].pdos)}" if one.name() in before else "")
+            for one in changed(before, after)
+        ]
 
     def edit(self, words: list[str]) -> Command:
         """The edit that some words are."""
@@ -94,6 +146,7 @@ class Line:
         answers = self.replay.play([*commands, command_of(["take"])])
         if is_refused(answers[-1]):
             raise Refusal(f"{commands[len(answers) - 1]}: {answers[-1][-1]}; nothing is posted")
+        self.keep()
         return [f"{self.title(number)} = {value}" for number, value in settings.items()]
 
     def setting(self, word: str) -> tuple[int, Value]:
@@ -126,9 +179,12 @@ class Line:
 
     def shown(self, variables: list[Variable]) -> dict[int, str]:
         """The values of variables in words, or why there is none."""
-        questions = Questions(self.replay)
-        places = questions.places([variable.number for variable in variables])
-        values = questions.values(places)
+        places = Questions(self.replay).places([variable.number for variable in variables])
+        return self.values_at(variables, places)
+
+    def values_at(self, variables: list[Variable], places: dict[int, VariablePlace]) -> dict[int, str]:
+        """The same of variables whose places are known."""
+        values = Questions(self.replay).values(places)
         missing = {number: "no good answer in this epoch" for number in places}
         return {
             variable.number: str(values.get(variable.number, missing.get(variable.number, "not in the line")))
@@ -139,7 +195,7 @@ class Line:
         """Variables, all where none is named: what each is called, where it is with its slave, and its value."""
         chosen = [self.names.variable(word) for word in words] or list(self.names.variables.values())
         places = Questions(self.replay).places([variable.number for variable in chosen])
-        shown = self.shown(chosen)
+        shown = self.values_at(chosen, places)
         return [(self.title(one.number), self.where(one, places), shown[one.number]) for one in chosen]
 
     def table(self, words: list[str]) -> list[str]:
@@ -161,36 +217,44 @@ class Line:
         """What an edit would change, found out on a copy: the line stays as it is."""
         edit = self.edit(words)
         before = Questions(self.replay)
-        lines = before.ask(edit)
+        [lines] = before.ask(edit)
         if not ACCEPTED.fullmatch(lines[-1]):
             return [f"would be answered: {lines[-1]}"]
-        after = Questions(self.replay, [*self.replay.recorded, Recorded(edit, lines)])
-        owed = after.owed()
+        edits, now, owed = self.replay.edits(), self.replay.owed(), self.replay.owed_after(Recorded(edit, lines))
+        after = Questions(self.replay, [*edits, Recorded(edit, lines)])
         tasks = sorted({task for task, _ in changed_datagrams(before, after)})
         return [
             f"would be answered: {lines[-1]}",
-            f"then {owed} register blocks are owed: {owed} round trips before any task is sent"
-            f" ({before.owed()} are owed now)",
-            f"tasks with another layout: {', '.join(map(str, tasks)) or 'none'}",
+            f"then {owed} register blocks are owed: {owed} round trips before any task is sent ({now} are owed now)",
+            f"tasks that get another layout: {', '.join(f'task {task}' for task in tasks) or 'none'}",
+            *self.to_assign(self.assigned(edits), self.assigned([*edits, Recorded(edit, lines)])),
         ]
 
     def diff(self, words: list[str]) -> list[str]:
         """The layout and the variables' places before and after the last edit."""
-        last = max((place for place, one in enumerate(self.replay.recorded) if one.is_edit()), default=None)
-        if last is None:
+        edits = self.replay.edits()
+        if not edits:
             return ["no edit was accepted"]
-        before = Questions(self.replay, self.replay.recorded[:last])
-        after = Questions(self.replay, self.replay.recorded[: last + 1])
-        changed = list(difflib.unified_diff(before.layout().lines, after.layout().lines, lineterm="", n=0))[2:]
-        lines = [line for line in changed if not line.startswith("@@")]
-        return [str(self.replay.recorded[last].command), *lines, *self.moved(before, after)]
+        numbers = list(self.names.variables)
+        (old, before), (new, after) = (
+            Questions(self.replay, some).layout_and_places(numbers) for some in (edits[:-1], edits)
+        )
+        changes = list(difflib.unified_diff(old.lines, new.lines, lineterm="", n=0))[2:]
+        lines = [line for line in changes if not line.startswith("@@")]
+        return [str(edits[-1].command), *lines, *self.moved(before, after)]
 
-    def moved(self, before: Questions, after: Questions) -> list[str]:
+    def view(self) -> View:
+        """What a picture shows: the line beside the line before its last edit, and the blocks that are owed."""
+        edits = self.replay.edits()
+        run = Run(self.replay, self.name, edits, [(str(one.command), one.lines[-1]) for one in edits])
+        count = self.replay.owed()
+        # hotline lists no owed blocks: where some are, those that the last edit changed are shown
+        is_known = count == 0 or isinstance(self.replay, Live)
+        return replace(view_since(run, None), owed=set(self.replay.owed_blocks(count)) if is_known else None)
+
+    def moved(self, old: dict[int, VariablePlace], new: dict[int, VariablePlace]) -> list[str]:
         """The variables whose places differ, with both."""
-        variables = list(self.names.variables.values())
-        numbers = [variable.number for variable in variables]
-        old, new = before.places(numbers), after.places(numbers)
-        differing = [one for one in variables if old.get(one.number) != new.get(one.number)]
+        differing = [one for one in self.names.variables.values() if old.get(one.number) != new.get(one.number)]
         return [
             f"{self.title(one.number)}: {place_words(old.get(one.number))} -> {place_words(new.get(one.number))}"
             for one in differing
@@ -198,10 +262,8 @@ class Line:
 
     def owed(self, words: list[str]) -> list[str]:
         """How many register blocks are owed, and which, in the order of writing."""
-        questions = Questions(self.replay)
-        count = questions.owed()
-        writes = questions.owed_writes(min(count, LISTED_WRITES))
-        listed = [self.describer.block(frame.datagrams[0]) for frame in writes]
+        count = self.replay.owed()
+        listed = [self.describer.block(*block) for block in self.replay.owed_blocks(min(count, LISTED_WRITES))]
         more = [f".. and {count - len(listed)} more"] if count > len(listed) else []
         return [f"{count} register blocks are owed", *listed, *more]
 
@@ -210,6 +272,7 @@ class Line:
         command = self.replay.undo()
         if command is None:
             return ["there is nothing to undo"]
+        self.keep()
         if command.name == "declare":
             self.read_names()
         return [f"undone: {command}"]
@@ -238,10 +301,11 @@ class Line:
         if not is_refused(lines):
             try:
                 self.read_names()
-            except Refusal:
+            except (Refusal, KeyboardInterrupt):
                 self.replay.undo()
                 self.read_names()
                 raise
+            self.keep()
         return lines
 
     def help(self, words: list[str]) -> list[str]:

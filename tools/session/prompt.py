@@ -6,34 +6,56 @@ from collections.abc import Callable
 
 from projects.faults import Refusal
 from session.line import Line
+from session.replay import EDITS
 from session.spelling import PROGRAM
 
 PROMPT = "> "
+# a group's name may stand for its only slave
+NAMED = {"slave": ("slaves", "groups"), "group": ("groups",), "task": ("tasks",)}
 
 
-def completions(line: Line) -> list[str]:
-    """The words that can be completed: commands and names, in quotes where they have blanks."""
-    names = [one.name for one in [*line.names.slaves, *line.names.groups, *line.names.tasks, *line.names.variables.values()]]
-    quoted = [f'"{name}"' if " " in name else name for name in names if name]
-    return sorted({*PROGRAM, *line.own, "quit", *quoted})
+def names_at(line: Line, words: list[str]) -> list[str]:
+    """What may follow some words: commands first, then names of the kind that the command takes there."""
+    if not words:
+        return sorted({*PROGRAM, *line.own, "quit"})
+    if words[0] == "cost":
+        return names_at(line, words[1:]) if len(words) > 1 else sorted(EDITS - {"declare"})
+    kinds = PROGRAM.get(words[0], "setting").split()
+    kind = kinds[min(len(words), len(kinds)) - 1].rstrip("*") if kinds else ""
+    if kind in NAMED:
+        named = [one for names in NAMED[kind] for one in getattr(line.names, names)]
+    else:
+        named = line.names.variables.values() if kind in ("variable", "setting") else []
+    return sorted({one.name for one in named if one.name})
+
+
+def completions(line: Line, before: str, text: str) -> list[str]:
+    """The ends of a line that may stand in place of a text after what is before it; a name with blanks gets its quotes."""
+    opened = before.count('"') % 2 == 1
+    quote = before.rfind('"') if opened else len(before)
+    typed = before[quote + 1 :] + text if opened else text.removeprefix('"')
+    names = [one for one in names_at(line, before[:quote].split()) if one.lower().startswith(typed.lower())]
+    if opened:
+        return [one[len(before) - quote - 1 :] + '"' for one in names]
+    return [f'"{one}"' if " " in one or text.startswith('"') else one for one in names]
 
 
 def completer(line: Line) -> Callable[[str, int], str | None]:
     """What `readline` asks for the words that begin with a text."""
 
     def complete(text: str, state: int) -> str | None:
-        found = [word for word in completions(line) if word.lower().startswith(text.lower())]
+        found = completions(line, readline.get_line_buffer()[: readline.get_begidx()], text)
         return found[state] if state < len(found) else None
 
     return complete
 
 
 def prompt(line: Line) -> None:
-    """Answers commands until the input ends or says quit. A command that can't be carried out changes nothing."""
+    """Answers commands until the input ends or says quit. A command that fails, or is interrupted, changes nothing."""
     readline.set_completer(completer(line))
     readline.set_completer_delims(" =")
     readline.parse_and_bind("tab: complete")
-    print(f"{line.name}: epoch 0. `help` lists the commands.")
+    print(f"{line.name}: {line.began()}. `help` lists the commands; {line.replay.speed}.")
     while True:
         try:
             given = input(PROMPT)
@@ -56,5 +78,7 @@ def answer(line: Line, given: str) -> None:
         lines = line.respond(given)
     except Refusal as refusal:
         lines = [f"? {refusal}"]
+    except KeyboardInterrupt:
+        lines = ["? Interrupted: the command changed nothing"]
     if lines:
         print("\n".join(lines), flush=True)

@@ -51,7 +51,7 @@ class Handler(BaseHTTPRequestHandler):
             self.refuse(HTTPStatus.NOT_FOUND)
         else:
             nonce = secrets.token_urlsafe(16)
-            self.reply(page(self.server.line.name, self.server.token, nonce), "text/html; charset=utf-8", nonce)
+            self.reply(page(self.server.line, self.server.token, nonce), "text/html; charset=utf-8", nonce)
 
     def do_POST(self) -> None:
         """A command, or an empty one for the state alone; it is answered with its lines and the line's state."""
@@ -98,6 +98,13 @@ class Handler(BaseHTTPRequestHandler):
         self.send_header("Cache-Control", "no-store")
         self.end_headers()
         self.wfile.write(content)
+
+    def handle_one_request(self) -> None:
+        """Answers a request; a browser that has left gets no answer."""
+        try:
+            super().handle_one_request()
+        except ConnectionError:
+            self.close_connection = True
 
     def refuse(self, status: HTTPStatus) -> None:
         """Sends nothing but a status."""

@@ -4,10 +4,12 @@ import shlex
 from collections.abc import Callable
 
 from projects.faults import Refusal
+from projects.limits import MEMORY_END
 from projects.names import Names, number_in
 from projects.records import Project
 from session.replay import Command, command_of
 
+LONGEST_LINE = 65_536
 # The kinds of the words of each command; the last kind may be repeated where a star follows it.
 PROGRAM = {
     "layout": "",
@@ -29,13 +31,15 @@ PROGRAM = {
     "name": "",
     "program": "",
     "cycle": "task task*",
-    "poke": "slave number bytes",
-    "peek": "slave number number",
+    "poke": "slave address bytes",
+    "peek": "slave address count",
 }
 
 
 def words_of(line: str) -> list[str]:
     """The words of a line before a comment; quotes keep blanks within a name."""
+    if len(line) > LONGEST_LINE:
+        raise Refusal(f"TooLong: a command has at most {LONGEST_LINE:,} characters, and this one {len(line):,}")
     lexer = shlex.shlex(line, posix=True, punctuation_chars=False)
     lexer.whitespace_split = True
     lexer.commenters = "#"
@@ -56,8 +60,7 @@ class Speller:
             "task": lambda word: plain(word, names.task),
             "variable": lambda word: plain(word, lambda name: names.variable(name).number),
             "setting": self.setting,
-            "number": str,
-            "bytes": str,
+            **{kind: str for kind in ("number", "bytes", "address", "count")},
         }
 
     def station(self, word: str) -> int:
@@ -81,7 +84,18 @@ class Speller:
         if len(rest) < len(kinds) or (len(rest) > len(kinds) and repeated is None):
             raise Refusal(f"WrongCount: {name} takes {PROGRAM[name] or 'no words'}, and {len(rest)} words are given")
         kinds += [repeated] * (len(rest) - len(kinds))
+        if name in ("poke", "peek"):
+            check_memory(*rest[1:], is_poke=name == "poke")
         return command_of([name, *(self.kinds[kind](word) for kind, word in zip(kinds, rest))])
+
+
+def check_memory(address: str, extent: str, *, is_poke: bool) -> None:
+    """Refuses a range that the memory of a simulated slave doesn't have."""
+    first, count = number_in(address), len(extent) // 2 if is_poke else number_in(extent)
+    if first is None or count is None:
+        raise Refusal(f"Malformed: {address if first is None else extent} is no number")
+    if first + count > MEMORY_END:
+        raise Refusal(f"OutOfRange: a slave's memory ends at 0x{MEMORY_END - 1:04x}; {address} with {count} bytes goes on behind it")
 
 
 def plain(word: str, found: Callable[[str], int]) -> str:

@@ -5,27 +5,11 @@ nothing: what is printed before it belongs to the command.
 """
 
 import argparse
-from collections.abc import Iterator
-from itertools import islice
 
-from projects.asking import END, Program, add_options, input_of, program_of, section
+from projects.asking import Program, add_options, input_of, program_of
 from projects.faults import FINE, Refusal
 from projects.files import content_of, parted
-from session.replay import Command
-from wire.playing import commands_in
-
-# These print one line, which may be the mark's own: they get no mark.
-ONE_LINE = {"place", "show"}
-
-
-def marked(command: Command) -> bytes:
-    """A command with the mark after it, where it has one."""
-    return command.lines if command.name in ONE_LINE else command.lines + END
-
-
-def answer(command: Command, lines: Iterator[str]) -> list[str]:
-    """The lines that the program printed for a command, taken from those that are left."""
-    return list(islice(lines, 1)) if command.name in ONE_LINE else section(lines)
+from session.replay import answer, commands_in, marked
 
 
 def transcript(program: Program, text: bytes, commands: bytes) -> list[str]:

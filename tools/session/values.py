@@ -8,7 +8,9 @@ from dataclasses import dataclass
 from projects.faults import Refusal
 
 INTEGER = re.compile(r"([+-]?)(?:0x([0-9A-Fa-f]+)|0b([01]+)|([0-9]+))")
-REAL = re.compile(r"[+-]?[0-9]+(?:\.[0-9]*)?(?:[eE][+-]?[0-9]+)?")
+# A real number has a point, so that an integer variable doesn't get the bits of one unseen.
+REAL = re.compile(r"[+-]?[0-9]+\.[0-9]*(?:[eE][+-]?[0-9]+)?")
+WITHOUT_POINT = re.compile(r"[+-]?[0-9]+[eE][+-]?[0-9]+")
 # The binary formats of IEEE 754 by their bits: how `struct` packs a number and its bits.
 REALS = {32: ("<f", "<I"), 64: ("<d", "<Q")}
 PLAIN_REALS = (1e-6, 1e12)
@@ -68,6 +70,9 @@ def read_value(word: str, bits: int) -> Value:
 
 def read_real(word: str, bits: int) -> Value:
     """A real number as the bits of IEEE 754."""
+    if WITHOUT_POINT.fullmatch(word):
+        mantissa, exponent = re.split("[eE]", word)
+        raise Refusal(f"Malformed: {word} may be an integer or a real number; a real one is written {mantissa}.0e{exponent}")
     if not REAL.fullmatch(word):
         raise Refusal(f"Malformed: {word} is no value")
     if bits not in REALS:

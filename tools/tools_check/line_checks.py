@@ -7,6 +7,7 @@ import pty
 import re
 import select
 import shutil
+import signal
 import subprocess
 import sys
 import time
@@ -44,7 +45,8 @@ WRONG_VALUES = [
     ("256", 8, "TooWide"),
     ("-129", 8, "OutOfRange"),
     ("1.5", 16, "NotReal"),
-    ("1e39", 32, "OutOfRange"),
+    ("1.0e39", 32, "OutOfRange"),
+    ("1e3", 32, "Malformed"),
     ("0x", 8, "Malformed"),
     ("", 8, "Malformed"),
     ("--1", 8, "Malformed"),
@@ -80,12 +82,14 @@ def check_values(checks: Checks) -> None:
 class Terminal:
     """A session at a pseudo-terminal."""
 
-    def __init__(self, checks: Checks, project: Path) -> None:
+    def __init__(self, checks: Checks, project: Path, *words: object) -> None:
         self.process, self.file = pty.fork()
         if self.process == 0:
             os.environ["TERM"] = "dumb"
-            words = ["-B", str(TOOLS / "line"), str(project), "--program", str(checks.program)]
-            os.execv(sys.executable, [sys.executable, *words])
+            # a check that runs in the background has interrupts ignored
+            signal.signal(signal.SIGINT, signal.SIG_DFL)
+            given = ["-B", TOOLS / "line", project, *(words or ("--program", checks.program))]
+            os.execv(sys.executable, [sys.executable, *map(str, given)])
         self.until(PROMPT)
 
     def until(self, ending: bytes) -> str:
@@ -142,14 +146,16 @@ def check_typing(checks: Checks, project: Path) -> None:
 
 
 @contextmanager
-def served(checks: Checks, project: Path) -> Iterator[int]:
+def served(checks: Checks, project: Path, *words: object) -> Iterator[int]:
     """The port of a page that is shown meanwhile."""
-    words = [sys.executable, "-B", TOOLS / "line", project, "--serve", "--program", checks.program]
-    with subprocess.Popen(words, stdout=subprocess.PIPE) as process:
+    command = [sys.executable, "-B", TOOLS / "line", project, "--serve", *(words or ("--program", checks.program))]
+    complaints = checks.scratch / "complaints"
+    with complaints.open("wb") as complained, subprocess.Popen(command, stdout=subprocess.PIPE, stderr=complained) as process:
         try:
             yield int(re.search(rb":(\d+)/", process.stdout.readline())[1])
         finally:
             process.terminate()
+    checks.equal("what the page's server complains of", b"", complaints.read_bytes())
 
 
 class Browser:
@@ -173,12 +179,17 @@ class Browser:
         return self.request("POST", path, headers, command)
 
 
+def token_of(page: str) -> str:
+    """The token of a page."""
+    return re.search(r'data-token="([^"]+)"', page)[1]
+
+
 def check_page(checks: Checks, project: Path) -> None:
     """The page: what it shows, and who is sent away."""
     with served(checks, project) as port:
         browser = Browser(port)
         status, page = browser.request("GET", "/", {})
-        token = re.search(r'data-token="([^"]+)"', page)[1]
+        token = token_of(page)
         checks.equal("the page", 200, status)
         check_strangers(checks, browser, token)
         for command in ON_PAGE:

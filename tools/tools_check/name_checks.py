@@ -55,6 +55,10 @@ C = """\
 #define SLAVE_AXIS_X 1002u /* station address */
 #define GROUP_GRIPPER_2 100u /* alias */
 #define TASK_SLOW_TASKS 1u /* task */
+#define ASSIGNED_1002_1C12 {0x1600u} /* axis X, object 0x1c12 */
+#define ASSIGNED_1002_1C12_COUNT 1u
+#define ASSIGNED_2001_1C13 {0} /* gripper 2, object 0x1c13 */
+#define ASSIGNED_2001_1C13_COUNT 0u
 
 #endif
 """

@@ -50,7 +50,7 @@ def check_usage(checks: Checks) -> None:
         ([DAY, "--since", 99], "NoSuchEpoch"),
         ([EXAMPLE, "--since", 0], "NoSuchEpoch"),
         ([DAY, "--since", -1], "NoSuchEpoch"),
-        ([checks.file("wrong.toml", "a = "), *program], "hotline ended with status 3 and said"),
+        ([checks.file("wrong.toml", "a = "), *program], "project fault 1 NotToml"),
         ([checks.file("named.toml", short)], "NamesLength"),
     ):
         checks.refused(f"picture {words}", checks.tool("picture", *words, *program), kind)

@@ -8,7 +8,7 @@ from wire.playing import Passed, Play
 
 def listing(play: Play) -> list[str]:
     """A line for each frame: its number in the capture, which way it went, and what its datagrams carry."""
-    project = play.project(play.declared())
+    project = play.project()
     describer = Describer(project, names_of(project))
     return [frame_line(number, passed, describer) for number, passed in enumerate(play.frames, 1)]
 

@@ -8,35 +8,17 @@ import re
 from collections.abc import Iterator
 from dataclasses import dataclass
 
+from pictures.views import project_after
 from projects.asking import Program, input_of
 from projects.faults import Refusal
-from projects.files import document_of
 from projects.names import number_in
-from projects.records import Project, read_project
-from session.replay import ACCEPTED, CHANGES, EDITS, Command, Recorded, Replay, command_of
+from projects.records import Project
+from session.replay import ACCEPTED, CHANGES, EDITS, Command, Recorded, Replay, command_of, commands_in
 from wire.frames import Frame, frame_bytes, read_frame
 from wire.line import Slaves
 
 SENT = re.compile(r"(?:sent|frame) \d+: ([0-9a-f]+)")
-UNPROGRAMMED = re.compile(r"refused 17 Unprogrammed (\d+)")
 DONE = "write done"
-
-
-def commands_in(content: bytes) -> list[Command]:
-    """The commands of an input, blank lines left out."""
-    commands: list[Command] = []
-    lines: list[bytes] = []
-    for line in content.split(b"\n"):
-        lines.append(line.removesuffix(b"\r"))
-        inside = lines[0].split() == [b"declare"]
-        if inside and (len(lines) == 1 or lines[-1] != b"%%"):
-            continue
-        if lines[0].strip():
-            commands.append(Command(b"\n".join(lines) + b"\n"))
-        lines = []
-    if lines:
-        raise Refusal("a declare in the input has no line %% after its document")
-    return commands
 
 
 @dataclass(frozen=True)
@@ -52,18 +34,12 @@ class Play:
 
     def __init__(self, program: Program, name: str, text: bytes) -> None:
         self.name, self.replay = name, Replay(program, text)
-        self.replay.answers([])
-        self.slaves = Slaves(self.project([]).groups)
+        self.slaves = Slaves(self.project().groups)
         self.frames: list[Passed] = []
 
-    def declared(self) -> list[bytes]:
-        """The documents of the groups that were declared."""
-        return [one.command.document() for one in self.replay.recorded if one.command.name == "declare"]
-
-    def project(self, declared: list[bytes]) -> Project:
-        """The project with groups that were declared later."""
-        documents = [document_of("a declared group", text) for text in declared]
-        return read_project(document_of(self.name, self.replay.text), documents)
+    def project(self) -> Project:
+        """The project with the groups that were declared."""
+        return project_after(self.name, self.replay.text, self.replay.edits())
 
     def play(self, commands: list[Command]) -> list[str]:
         """The lines that the program should print for the commands; the frames are gathered meanwhile."""
@@ -82,7 +58,7 @@ class Play:
 
     def passed_on(self, command: Command) -> list[str]:
         """What the program answers to a command that the simulated line has no part in."""
-        lines = self.replay.answers([command])
+        [lines] = self.replay.answers([command])
         if command.name in CHANGES:
             self.replay.recorded.append(Recorded(command, lines))
         if command.name == "arrive":
@@ -97,7 +73,7 @@ class Play:
         if command.name != "declare":
             self.slaves.edit(command.words)
             return
-        self.slaves.declare(self.project(self.declared()[-1:]).groups[-1])
+        self.slaves.declare(self.project().groups[-1])
 
     def round_trip(self, frame: Frame) -> Frame:
         """Sends a frame over the plain line; what comes back is a frame of the capture too."""
@@ -119,7 +95,7 @@ class Play:
     def taken(self, back: Frame) -> list[str]:
         """What the program answers to a frame that came back."""
         command = command_of(["arrive", frame_bytes(back).hex()])
-        lines = self.replay.answers([command])
+        [lines] = self.replay.answers([command])
         self.replay.recorded.append(Recorded(command, lines))
         return lines
 
@@ -130,8 +106,7 @@ class Play:
             if self.taken(self.round_trip(read_frame(bytes.fromhex(found[1])))) != [DONE]:
                 break
             done += 1
-        owed = UNPROGRAMMED.fullmatch(self.replay.answers([command_of(["send", "0"])])[0])
-        return [f"written {done} owed {owed[1] if owed else 0}"]
+        return [f"written {done} owed {self.replay.owed()}"]
 
     def setup(self, frames: list[Frame]) -> Iterator[Frame]:
         """Sends frames that the master's core knows nothing of."""
@@ -150,7 +125,7 @@ class Play:
 
     def memory(self, command: Command) -> list[str]:
         """A look into a machine's memory, or a change of it by the slave's own side."""
-        lines = self.replay.answers([command])
+        [lines] = self.replay.answers([command])
         if lines[0].startswith("refused"):
             return lines
         station, at = (number_in(word) for word in command.words[1:3])
