@@ -168,9 +168,8 @@ def check_prompt(checks: Checks, project: Path) -> None:
         answer = terminal.give(command) + "\n"
         checks.equal(f"> {command}: {said} in {answer!r}", True, said in answer)
     terminal.end()
-    begun = time.monotonic()
     ended = checks.tool("line", project, "--program", checks.program, given=b"get " + b"x" * 3_000_000 + b"\n")
-    checks.equal("a command of 3 MB", (True, True), ("? TooLong" in ended.said, time.monotonic() - begun < 20))
+    checks.equal("a command of 3 MB", True, "? TooLong" in ended.said)
 
 
 def tabbed(terminal: Terminal, typed: str) -> str:
