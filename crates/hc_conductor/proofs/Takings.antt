@@ -11,15 +11,18 @@ use Rattle.hc_rings.specs.declared.posts.PostReceiver.{PostReceiver}
 use Rattle.hc_rings.specs.Post.{Post}
 use Rattle.hc_rings.specs.Ring.{taken}
 use Rattle.hc_core.specs.State.{CoreState}
+use Rattle.hc_conductor.specs.declared.taking.PostRule.{PostRule}
+use Rattle.hc_conductor.specs.declared.taking.PostRule.TheVariants.{Present, Steady}
 use Rattle.hc_conductor.specs.declared.taking.Taken.{Taken}
-use Rattle.hc_conductor.specs.Taking.{AreTaken, TakesFrom, TakesFromAll, event_of, events_of, events_of_all, was_accepted, posted_in}
+use Rattle.hc_conductor.specs.Conducting.{Conducting, core_history}
+use Rattle.hc_conductor.specs.Taking.{AreTaken, CountsPosts, TakesFrom, TakesFromAll, TakesPostsBy, all_events_by, event_by, events_by, was_accepted, posted_in}
 
 -- ---- one more post, before the others
 
 -- four at most
-pub four-taken : (task most : ℕ) (before after : CoreState) (old new : PostReceiver) (answer_given : Taken) → most ≤ POSTS_WAITING → TakesFrom task most before after old new answer_given
-    → TakesFrom task POSTS_WAITING before after old new answer_given
-four-taken task most before after old new answer_given few takes = record {
+pub four-taken : (rule : PostRule) (task most : ℕ) (before after : CoreState) (old new : PostReceiver) (answer_given : Taken) → most ≤ POSTS_WAITING → TakesFrom rule task most before after old new answer_given
+    → TakesFrom rule task POSTS_WAITING before after old new answer_given
+four-taken rule task most before after old new answer_given few takes = record {
   posts = takes.posts;
   ring = record {
     few = let own = takes.ring.few in omega (arith, own, few);
@@ -50,25 +53,35 @@ posted_after history first second =
     ∙ ap length (filter-append was_accepted here there)
     ∙ length-append (filter was_accepted here) (filter was_accepted there)
 
-pub rings-taken : (task : ℕ) (before middle after : CoreState) (old new : PostReceiver) (olds updates : List PostReceiver) (answer_given first rest : Taken)
-    → TakesFrom task POSTS_WAITING before middle old new first → TakesFromAll (task + 1) middle after olds updates rest
+events-join : (rule : PostRule) (task : ℕ) (posts : List Post) (others : List (List Post)) → all_events_by rule task (posts ∷ others) ≡ events_by rule task posts ++ all_events_by rule (task + 1) others
+events-join Present task posts others = refl
+events-join Steady task posts others = refl
+
+counts_with : (history : History) (here there : List Step) (answer_given first rest : Taken) → CountsPosts history here first → CountsPosts (entries_after_all history here) there rest
+    → answer_given.accepted ≡ first.accepted + rest.accepted → answer_given.refused ≡ first.refused + rest.refused → CountsPosts history (here ++ there) answer_given
+counts_with history here there answer_given first rest one others accepted refused = record {
+  accepted = omega (arith, accepted, one.accepted, others.accepted, posted_after history here there);
+  all = omega (arith, accepted, refused, one.all, others.all, length-append here there);
+}
+
+pub rings-taken : (rule : PostRule) (task : ℕ) (before middle after : CoreState) (old new : PostReceiver) (olds updates : List PostReceiver) (answer_given first rest : Taken)
+    → TakesFrom rule task POSTS_WAITING before middle old new first → TakesFromAll rule (task + 1) middle after olds updates rest
     → answer_given.accepted ≡ first.accepted + rest.accepted → answer_given.refused ≡ first.refused + rest.refused
-    → TakesFromAll task before after (old ∷ olds) (new ∷ updates) answer_given
-rings-taken task before middle after old new olds updates answer_given first rest one others accepted refused =
-    let here = events_of task one.posts in
-    let there = events_of_all (task + 1) others.posts in
-    let after_it = ap (λ (c : CoreState). posted_in c.history there) one.core in
+    → TakesFromAll rule task before after (old ∷ olds) (new ∷ updates) answer_given
+rings-taken rule task before middle after old new olds updates answer_given first rest one others accepted refused =
+    let here = events_by rule task one.posts in
+    let there = all_events_by rule (task + 1) others.posts in
+    let join = sym (events-join rule task one.posts others.posts) in
     record {
       posts = one.posts ∷ others.posts;
       rings = (one.ring, others.rings);
       core =
           others.core
           ∙ ap (λ (c : CoreState). record c { history = entries_after_all c.history there }) one.core
-          ∙ ap (λ (history : History). record before { history = history }) (sym (entries_later before.history here there));
-      counts = record {
-        accepted = omega (arith, accepted, one.counts.accepted, others.counts.accepted, after_it, posted_after before.history here there);
-        all = omega (arith, accepted, refused, one.counts.all, others.counts.all, length-append here there);
-      };
+          ∙ ap (λ (history : History). record before { history = history }) (sym (entries_later before.history here there))
+          ∙ ap (λ (steps : List Step). record before { history = entries_after_all before.history steps }) join;
+      counts = subst (λ (steps : List Step). CountsPosts before.history steps answer_given) join
+          (counts_with before.history here there answer_given first rest one.counts (subst (λ (c : CoreState). CountsPosts c.history there rest) one.core others.counts) accepted refused);
     }
 
 -- ---- how many there are at most
@@ -77,16 +90,20 @@ pub first-few : (most rest : List ℕ) (n : ℕ) → most ≡ n ∷ rest → All
 first-few most rest n is few =
     All-head (λ (m : ℕ). m ≤ POSTS_WAITING) n rest (subst (All (λ (m : ℕ). m ≤ POSTS_WAITING)) is few)
 
-pub few-events : (task : ℕ) (olds updates : List PostReceiver) (posts : List (List Post)) → AreTaken olds updates posts → length (events_of_all task posts) ≤ POSTS_WAITING * length olds
-few-events task [] [] [] are = omega arith
-few-events task (old ∷ olds) (new ∷ updates) (one ∷ others) are =
+no_events : (rule : PostRule) (task : ℕ) → all_events_by rule task [] ≡ []
+no_events Present task = refl
+no_events Steady task = refl
+
+pub few-events : (rule : PostRule) (task : ℕ) (olds updates : List PostReceiver) (posts : List (List Post)) → AreTaken olds updates posts → length (all_events_by rule task posts) ≤ POSTS_WAITING * length olds
+few-events rule task [] [] [] are = omega (arith, ap length (no_events rule task))
+few-events rule task (old ∷ olds) (new ∷ updates) (one ∷ others) are =
     let few = are.0.few in
-    let rest = few-events (task + 1) olds updates others are.1 in
-    omega (arith, few, rest, length-append (events_of task one) (events_of_all (task + 1) others), length-map one (event_of task))
-few-events task [] [] (one ∷ others) are = absurd are
-few-events task [] (new ∷ updates) posts are = absurd are
-few-events task (old ∷ olds) [] posts are = absurd are
-few-events task (old ∷ olds) (new ∷ updates) [] are = absurd are
+    let rest = few-events rule (task + 1) olds updates others are.1 in
+    omega (arith, few, rest, ap length (events-join rule task one others), length-append (events_by rule task one) (all_events_by rule (task + 1) others), length-map one (event_by rule task))
+few-events rule task [] [] (one ∷ others) are = absurd are
+few-events rule task [] (new ∷ updates) posts are = absurd are
+few-events rule task (old ∷ olds) [] posts are = absurd are
+few-events rule task (old ∷ olds) (new ∷ updates) [] are = absurd are
 
 pub as-many-rings : (olds updates : List PostReceiver) (posts : List (List Post)) → AreTaken olds updates posts → length updates ≡ length olds
 as-many-rings [] [] [] are = refl
@@ -99,3 +116,10 @@ as-many-rings (old ∷ olds) (new ∷ updates) [] are = absurd are
 -- what is written over as many is the whole
 pub whole-list : {A : Type 0} (updates rest : List A) (n : ℕ) → length updates ≡ n → take n (updates ++ rest) ≡ updates
 whole-list updates rest n e = subst (λ (k : ℕ). take k (updates ++ rest) ≡ updates) e (take-append_seam updates rest)
+
+-- what a rule says of a conductor's rings and its core
+
+pub takes-by : (rule : PostRule) (old new : Conducting) (answer_given : Taken) (posts : List (List Post)) → AreTaken old.rings new.rings posts
+    → core_history new ≡ entries_after_all (core_history old) (all_events_by rule 0 posts) → CountsPosts (core_history old) (all_events_by rule 0 posts) answer_given → TakesPostsBy rule old new answer_given
+takes-by Present old new answer_given posts rings entries counts = record { posts = posts; rings = rings; entries = entries; counts = counts }
+takes-by Steady old new answer_given posts rings entries counts = record { posts = posts; rings = rings; entries = entries; counts = counts }

@@ -16,8 +16,9 @@ use Rattle.hc_rings.specs.Post.{Post}
 use Rattle.hc_rings.specs.Ring.{SameReceiver, given_back, left, posted, spare_places, taken}
 use Rattle.hc_rings.proofs.lemmas.Same.{ends-still, sender-same}
 use Rattle.hc_core.specs.State.{CoreState}
+use Rattle.hc_conductor.specs.declared.taking.PostRule.{PostRule}
 use Rattle.hc_conductor.specs.declared.taking.Taken.{Taken}
-use Rattle.hc_conductor.specs.Taking.{AreTaken, AreTakenFrom, EachTakesKnown, TakesFrom, TakesKnown, TakesWaiting, event_of, events_of, one_if, posted_in, was_accepted}
+use Rattle.hc_conductor.specs.Taking.{AreTaken, AreTakenFrom, EachTakesKnown, TakesFrom, TakesKnown, TakesWaiting, event_by, events_by, one_if, posted_in, was_accepted}
 use Rattle.hc_conductor.specs.Together.{AreJoined, EachRing, LostNoBuffer, KnowAll, posts_waiting, waiting_between}
 
 -- ---- one post that is known comes out
@@ -45,20 +46,20 @@ one_back : (old mid back : List Post) (places : ℕ) (post : Post) → mid ≡ o
 one_back old mid back places post same (inl more) = omega (arith, ap length more, length-append mid (post ∷ []), ap length same)
 one_back old mid back places post same (inr (none, full)) = omega (arith, ap length none, ap length same)
 
-pub one-taken : (task n most : ℕ) (before middle after : CoreState) (old mid back new : PostReceiver) (post : Post) (accepted : Bool) (others answer_given : Taken) → suc n ≡ most
-    → middle ≡ record before { history = entries_after before.history (event_of task post) } → was_accepted (answer_to before.history (event_of task post)) ≡ accepted
+pub one-taken : (rule : PostRule) (task n most : ℕ) (before middle after : CoreState) (old mid back new : PostReceiver) (post : Post) (accepted : Bool) (others answer_given : Taken) → suc n ≡ most
+    → middle ≡ record before { history = entries_after before.history (event_by rule task post) } → was_accepted (answer_to before.history (event_by rule task post)) ≡ accepted
     → SameReceiver old mid → taken mid ≡ taken old ++ post ∷ [] → spare_places mid ≡ spare_places old → given_back mid ≡ given_back old
     → SameReceiver mid back → taken back ≡ taken mid → (given_back back ≡ given_back mid ++ post ∷ []) ⊎ ((given_back back ≡ given_back mid) × (spare_places back ≡ 0))
     → (0 < spare_places mid → given_back back ≡ given_back mid ++ post ∷ []) → spare_places mid ≤ spare_places back + 1
-    → TakesFrom task n middle after back new others → answer_given.accepted ≡ one_if accepted + others.accepted → answer_given.accepted + answer_given.refused ≡ 1 + (others.accepted + others.refused)
-    → TakesFrom task most before after old new answer_given
-one-taken task n most before middle after old mid back new post accepted others answer_given all moved answers ring one places given ring_too still gave gives room from counted sum =
-    let next = entries_after before.history (event_of task post) in
+    → TakesFrom rule task n middle after back new others → answer_given.accepted ≡ one_if accepted + others.accepted → answer_given.accepted + answer_given.refused ≡ 1 + (others.accepted + others.refused)
+    → TakesFrom rule task most before after old new answer_given
+one-taken rule task n most before middle after old mid back new post accepted others answer_given all moved answers ring one places given ring_too still gave gives room from counted sum =
+    let next = entries_after before.history (event_by rule task post) in
     let history : middle.history ≡ next = ap (λ (core : CoreState). core.history) moved in
     let few = from.ring.few in
     let more = one_back (given_back old) (given_back mid) (given_back back) (spare_places back) post given gave in
     let no_more = from.ring.no_more in
-    let length_is : length (events_of task from.posts) ≡ length from.posts = length-map from.posts (event_of task) in
+    let length_is : length (events_by rule task from.posts) ≡ length from.posts = length-map from.posts (event_by rule task) in
     record {
       posts = post ∷ from.posts;
       ring = record {
@@ -70,10 +71,10 @@ one-taken task n most before middle after old mid back new post accepted others 
             from.ring.back (omega (arith, enough, places, room)) ∙ ap (λ (posts : List Post). posts ++ from.posts) (back_too ∙ ap (λ (posts : List Post). posts ++ post ∷ []) given) ∙ append_assoc (given_back old) (post ∷ []) from.posts;
         no_more = omega (arith, no_more, more);
       };
-      core = from.core ∙ ap (λ (core : CoreState). let made : CoreState = record core { history = entries_after_all core.history (events_of task from.posts) } in made) moved;
+      core = from.core ∙ ap (λ (core : CoreState). let made : CoreState = record core { history = entries_after_all core.history (events_by rule task from.posts) } in made) moved;
       counts = record {
-        accepted = counted ∙ ap (λ k. one_if accepted + k) (from.counts.accepted ∙ ap (λ (h : History). posted_in h (events_of task from.posts)) history)
-            ∙ sym (accepted_one accepted (answer_to before.history (event_of task post)) (answers_to next (events_of task from.posts)) answers);
+        accepted = counted ∙ ap (λ k. one_if accepted + k) (from.counts.accepted ∙ ap (λ (h : History). posted_in h (events_by rule task from.posts)) history)
+            ∙ sym (accepted_one accepted (answer_to before.history (event_by rule task post)) (answers_to next (events_by rule task from.posts)) answers);
         all = sum ∙ ap (λ k. 1 + k) from.counts.all ∙ omega arith;
       };
     }

@@ -4,12 +4,14 @@ use mathlib.Core.List.{IsPrefix}
 use Rattle.hc_events.specs.declared.answer.Answer.{Answer}
 use Rattle.hc_events.specs.declared.answer.Answer.TheVariants as answer
 use Rattle.hc_events.specs.Entries.{History}
-use Rattle.hc_events.specs.Steps.{Posts, Step, answers_to, entries_after_all}
+use Rattle.hc_events.specs.Steps.{Posts, PostsSteady, Step, answers_to, entries_after_all}
 use Rattle.hc_rings.specs.declared.posts.TheConstants.{POSTS_WAITING}
 use Rattle.hc_rings.specs.declared.posts.PostReceiver.{PostReceiver}
 use Rattle.hc_rings.specs.Post.{Post}
 use Rattle.hc_rings.specs.Ring.{SameReceiver, given_back, left, spare_places, taken}
 use Rattle.hc_core.specs.State.{CoreState}
+use Rattle.hc_conductor.specs.declared.taking.PostRule.{PostRule}
+use Rattle.hc_conductor.specs.declared.taking.PostRule.TheVariants.{Present, Steady}
 use Rattle.hc_conductor.specs.declared.taking.Taken.{Taken}
 use Rattle.hc_conductor.specs.Conducting.{Conducting, core_history}
 
@@ -25,6 +27,33 @@ events_of task posts = map (event_of task) posts
 abbrev pub events_of_all : ℕ → List (List Post) → List Step
 events_of_all task [] = []
 events_of_all task (posts ∷ others) = events_of task posts ++ events_of_all (task + 1) others
+
+-- a task's post, as a steady event
+abbrev pub steady_event_of : ℕ → Post → Step
+steady_event_of task post = PostsSteady task post.epoch post.bytes
+
+-- a task's posts, in order, as steady events
+abbrev pub steady_events_of : ℕ → List Post → List Step
+steady_events_of task posts = map (steady_event_of task) posts
+
+-- the posts of tasks from this number on, ascending, as steady events
+abbrev pub steady_events_of_all : ℕ → List (List Post) → List Step
+steady_events_of_all task [] = []
+steady_events_of_all task (posts ∷ others) = steady_events_of task posts ++ steady_events_of_all (task + 1) others
+
+-- a task's post, as the event that a rule makes of it
+abbrev pub event_by : PostRule → ℕ → Post → Step
+event_by Present = event_of
+event_by Steady = steady_event_of
+
+-- a task's posts, in order, as the events that a rule makes of them
+abbrev pub events_by : PostRule → ℕ → List Post → List Step
+events_by rule task posts = map (event_by rule task) posts
+
+-- the posts of tasks from this number on, ascending, as the events that a rule makes of them
+abbrev pub all_events_by : PostRule → ℕ → List (List Post) → List Step
+all_events_by Present = events_of_all
+all_events_by Steady = steady_events_of_all
 
 -- the post was accepted
 abbrev pub was_accepted : Answer → Bool
@@ -79,18 +108,18 @@ AreTaken (old ∷ olds) (new ∷ updates) (posts ∷ others) = AreTakenFrom POST
 AreTaken olds updates others = ⊥
 
 -- some posts of a task's ring, so many at most, became events of the core, in order
-pub record TakesFrom (task most : ℕ) (before after : CoreState) (old new : PostReceiver) (answer_given : Taken) : Type 0 where
+pub record TakesFrom (rule : PostRule) (task most : ℕ) (before after : CoreState) (old new : PostReceiver) (answer_given : Taken) : Type 0 where
   pub posts : List Post
   pub ring : AreTakenFrom most old new posts
-  pub core : after ≡ record before { history = entries_after_all before.history (events_of task posts) }
-  pub counts : CountsPosts before.history (events_of task posts) answer_given
+  pub core : after ≡ record before { history = entries_after_all before.history (events_by rule task posts) }
+  pub counts : CountsPosts before.history (events_by rule task posts) answer_given
 
 -- so did some of each ring, from this task's on
-pub record TakesFromAll (task : ℕ) (before after : CoreState) (old new : List PostReceiver) (answer_given : Taken) : Type 0 where
+pub record TakesFromAll (rule : PostRule) (task : ℕ) (before after : CoreState) (old new : List PostReceiver) (answer_given : Taken) : Type 0 where
   pub posts : List (List Post)
   pub rings : AreTaken old new posts
-  pub core : after ≡ record before { history = entries_after_all before.history (events_of_all task posts) }
-  pub counts : CountsPosts before.history (events_of_all task posts) answer_given
+  pub core : after ≡ record before { history = entries_after_all before.history (all_events_by rule task posts) }
+  pub counts : CountsPosts before.history (all_events_by rule task posts) answer_given
 
 -- some posts of each ring became events of the core, and nothing else did: the tasks ascending and each ring's posts in order
 pub record TakesPosts (old new : Conducting) (answer_given : Taken) : Type 0 where
@@ -98,3 +127,15 @@ pub record TakesPosts (old new : Conducting) (answer_given : Taken) : Type 0 whe
   pub rings : AreTaken old.rings new.rings posts
   pub entries : core_history new ≡ entries_after_all (core_history old) (events_of_all 0 posts)
   pub counts : CountsPosts (core_history old) (events_of_all 0 posts) answer_given
+
+-- some posts of each ring became steady events of the core, and nothing else did: the tasks ascending and each ring's posts in order
+pub record TakesSteadyPosts (old new : Conducting) (answer_given : Taken) : Type 0 where
+  pub posts : List (List Post)
+  pub rings : AreTaken old.rings new.rings posts
+  pub entries : core_history new ≡ entries_after_all (core_history old) (steady_events_of_all 0 posts)
+  pub counts : CountsPosts (core_history old) (steady_events_of_all 0 posts) answer_given
+
+-- posts of each ring became the events of the core that a rule makes of them
+abbrev pub TakesPostsBy : PostRule → Conducting → Conducting → Taken → Type 0
+TakesPostsBy Present = TakesPosts
+TakesPostsBy Steady = TakesSteadyPosts

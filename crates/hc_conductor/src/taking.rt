@@ -4,7 +4,7 @@ ghost use Rattle.hc_records.specs.declared.limits.TheConstants.{TASKS};
 ghost use Rattle.hc_events.specs.Steps.{answer_to, entries_after};
 ghost use Rattle.hc_rings.specs.declared.posts.TheConstants.{POSTS_WAITING};
 ghost use Rattle.hc_conductor.specs.Conducting.{SameChanges};
-ghost use Rattle.hc_conductor.specs.Taking.{EachTakesKnown, EachTakesWaiting, TakesFrom, TakesFromAll, TakesKnown, TakesPosts, TakesWaiting, event_of, was_accepted, one_if};
+ghost use Rattle.hc_conductor.specs.Taking.{EachTakesKnown, EachTakesWaiting, TakesFrom, TakesFromAll, TakesKnown, TakesPosts, TakesPostsBy, TakesSteadyPosts, TakesWaiting, event_by, event_of, one_if, steady_event_of, was_accepted};
 
 use crate::conductor::Conductor;
 use hc_core::keeping::Core;
@@ -16,8 +16,17 @@ use hc_rings::{POSTS_WAITING, PostBuffer, PostReceiver};
 pub struct Taken {
     /// Their values are sent from now on.
     pub accepted: u32,
-    /// They were for another epoch, and left nothing.
+    /// They were for an epoch that the core does not accept, and left nothing.
     pub refused: u32,
+}
+
+/// Which posts the core accepts when they are taken.
+#[derive(Clone, Copy)]
+pub(crate) enum PostRule {
+    /// Those that were made for the present epoch.
+    Present,
+    /// Those that were made since the last edit that changed their task.
+    Steady,
 }
 
 // Nothing was taken.
@@ -57,11 +66,33 @@ fn is_accepted(core: &mut Core, task: u8, post: &PostBuffer) -> bool
     }
 }
 
-/// Hands the core up to `most` posts of a task's ring, the oldest first, and counts them. The recursion is as deep as there are
-/// posts: four at most.
-fn take_some(core: &mut Core, task: u8, ring: &mut PostReceiver, most: u32) -> Taken
+/// Hands the core a task's post as a steady one, and returns whether the core accepted it.
+fn is_steadily_accepted(core: &mut Core, task: u8, post: &PostBuffer) -> bool
+    ensures core { core.new ≡ record core.old { history = entries_after core.old.history (steady_event_of task post.now) } }
+    ensures answer_given { was_accepted (answer_to core.old.history (steady_event_of task post.now)) ≡ result }
+{
+    match core.post_steady(task, post.epoch(), post.bytes()) {
+        Ok(()) => true,
+        Err(_) => false,
+    }
+}
+
+/// Hands the core a task's post by a rule, and returns whether the core accepted it.
+fn is_accepted_by(core: &mut Core, rule: PostRule, task: u8, post: &PostBuffer) -> bool
+    ensures core { core.new ≡ record core.old { history = entries_after core.old.history (event_by rule task post.now) } }
+    ensures answer_given { was_accepted (answer_to core.old.history (event_by rule task post.now)) ≡ result }
+{
+    match rule {
+        PostRule::Present => is_accepted(core, task, post),
+        PostRule::Steady => is_steadily_accepted(core, task, post),
+    }
+}
+
+/// Hands the core up to `most` posts of a task's ring by a rule, the oldest first, and counts them. The recursion is as deep as
+/// there are posts: four at most.
+fn take_some(core: &mut Core, rule: PostRule, task: u8, ring: &mut PostReceiver, most: u32) -> Taken
     requires { most ≤ POSTS_WAITING }
-    ensures taken { TakesFrom task most core.old core.new ring.old ring.new result }
+    ensures taken { TakesFrom rule task most core.old core.new ring.old ring.new result }
     ensures known { TakesKnown most ring.old ring.new }
     ensures waiting { TakesWaiting most ring.old ring.new }
 {
@@ -71,18 +102,24 @@ fn take_some(core: &mut Core, task: u8, ring: &mut PostReceiver, most: u32) -> T
     let Some(post) = ring.take() else {
         return NOTHING;
     };
-    let accepted = is_accepted(core, task, &post);
+    let accepted = is_accepted_by(core, rule, task, &post);
     ring.give_back(post);
-    with_one(take_some(core, task, ring, most - 1), accepted)
+    with_one(take_some(core, rule, task, ring, most - 1), accepted)
 }
 
-/// Hands the core up to `most` posts of each ring, and counts them. The first ring is the given task's, the next one the next
-/// task's. The recursion is as deep as there are rings: eight at most.
-pub(crate) fn take_all(core: &mut Core, task: u8, rings: &mut [PostReceiver], most: &[u32]) -> Taken
+/// Hands the core up to `most` posts of each ring by a rule, and counts them. The first ring is the given task's, the next one the
+/// next task's. The recursion is as deep as there are rings: eight at most.
+pub(crate) fn take_all(
+    core: &mut Core,
+    rule: PostRule,
+    task: u8,
+    rings: &mut [PostReceiver],
+    most: &[u32],
+) -> Taken
     requires tasks { task + length rings.old ≤ TASKS }
     requires each { length most.now ≡ length rings.old }
     requires few { All (λ n. n ≤ POSTS_WAITING) most.now }
-    ensures taken { TakesFromAll task core.old core.new rings.old rings.new result }
+    ensures taken { TakesFromAll rule task core.old core.new rings.old rings.new result }
     ensures known { EachTakesKnown most.now rings.old rings.new }
     ensures waiting { EachTakesWaiting most.now rings.old rings.new }
 {
@@ -92,8 +129,8 @@ pub(crate) fn take_all(core: &mut Core, task: u8, rings: &mut [PostReceiver], mo
     let Some((count, counts)) = most.split_first() else {
         unreachable!()
     };
-    let first = take_some(core, task, ring, *count);
-    let rest = take_all(core, task + 1, others, counts);
+    let first = take_some(core, rule, task, ring, *count);
+    let rest = take_all(core, rule, task + 1, others, counts);
     Taken {
         accepted: first.accepted + rest.accepted,
         refused: first.refused + rest.refused,
@@ -104,6 +141,17 @@ impl Conductor {
     ghost use Rattle.std.specs.Prelude.{List, replicate};
     ghost use Rattle.hc_rings.specs.declared.posts.PostSender.{PostSender};
     ghost use Rattle.hc_conductor.specs.Together.{AreJoined, EachRing};
+
+    /// Takes what tasks posted, at most four posts of each, and hands each to the core by a rule.
+    fn take_by(&mut self, rule: PostRule) -> Taken
+        ensures taken { TakesPostsBy rule self.old self.new result }
+        ensures waiting { EachTakesWaiting (replicate TASKS POSTS_WAITING) self.old.rings self.new.rings }
+        ensures joined { (seats : List PostSender) → EachRing AreJoined seats self.old.rings → EachRing AreJoined seats self.new.rings }
+        ensures changes { SameChanges self.old self.new }
+    {
+        let most = [POSTS_WAITING as u32; TASKS as usize];
+        take_all(&mut self.core, rule, 0, &mut self.rings, &most)
+    }
 
     /// Takes what tasks posted, at most four posts of each, and hands each to the core as a post of its task, for its
     /// epoch: the tasks ascending, each one's posts in order. Each post that is known to wait is among them, up to four of
@@ -116,7 +164,20 @@ impl Conductor {
         ensures joined { (seats : List PostSender) → EachRing AreJoined seats self.old.rings → EachRing AreJoined seats self.new.rings }
         ensures changes { SameChanges self.old self.new }
     {
-        let most = [POSTS_WAITING as u32; TASKS as usize];
-        take_all(&mut self.core, 0, &mut self.rings, &most)
+        self.take_by(PostRule::Present)
+    }
+
+    /// Takes what tasks posted, at most four posts of each, and hands each to the core as a steady post of its task, for its
+    /// epoch: the tasks ascending, each one's posts in order. Each post that is known to wait is among them, up to four of a
+    /// task. The core accepts a post if no edit since its epoch changed the task; a post that the core refuses leaves nothing.
+    /// Each buffer goes back to its seat, unless no place is found for it. It waits for nobody and takes no memory; what is
+    /// posted meanwhile may be left for the next call.
+    pub fn take_steady_posts(&mut self) -> Taken
+        ensures taken { TakesSteadyPosts self.old self.new result }
+        ensures waiting { EachTakesWaiting (replicate TASKS POSTS_WAITING) self.old.rings self.new.rings }
+        ensures joined { (seats : List PostSender) → EachRing AreJoined seats self.old.rings → EachRing AreJoined seats self.new.rings }
+        ensures changes { SameChanges self.old self.new }
+    {
+        self.take_by(PostRule::Steady)
     }
 }

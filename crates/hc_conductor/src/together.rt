@@ -9,7 +9,7 @@ ghost use Rattle.hc_conductor.specs.Together.{AreJoined, EachRing, LostNoBuffer,
 
 use crate::conductor::Conductor;
 use crate::seat::TaskSeat;
-use crate::taking::{Taken, take_all};
+use crate::taking::{PostRule, Taken, take_all};
 use hc_records::limits::TASKS;
 use hc_rings::PostReceiver;
 
@@ -76,6 +76,12 @@ impl Conductor {
         ensures held { map ring.held (map sender seats.new) ≡ map ring.held (map sender seats.old) }
     {
         let counts = self.posts_waiting(seats);
-        take_all(&mut self.core, 0, &mut self.rings, &counts)
+        take_all(
+            &mut self.core,
+            PostRule::Present,
+            0,
+            &mut self.rings,
+            &counts,
+        )
     }
 }

@@ -12,7 +12,7 @@ use Rattle.hc_events.specs.Images.{new_answer_by}
 use Rattle.hc_events.specs.Changes.{Update, Swapped, Answered, updates_of}
 use Rattle.hc_events.specs.Owed.{is_in_line, owed_blocks}
 use Rattle.hc_events.specs.Ready.{with_cleared}
-use Rattle.hc_events.specs.Steps.{Step, Edits, Posts, SendsTasks, SendsWrite, Arrives, Reads, Forgets, SendsReady, Clears, Unplugs, unless_fault, edit_refused, clear_faults, forget_faults, ready_faults, unplug_faults, post_faults, proposal, task_faults, with_sent, write_faults, with_write, with_arrival, entries_after, entries_after_all, SendsWrites, with_writes}
+use Rattle.hc_events.specs.Steps.{Step, Edits, Posts, PostsSteady, SendsTasks, SendsWrite, Arrives, Reads, Forgets, SendsReady, Clears, Unplugs, unless_fault, edit_refused, clear_faults, forget_faults, ready_faults, unplug_faults, post_faults, post_steady_faults, proposal, task_faults, with_sent, write_faults, with_write, with_arrival, entries_after, entries_after_all, SendsWrites, with_writes}
 use Rattle.hc_events.specs.UpdatesLaws.{Grows}
 use Rattle.hc_events.specs.WriteFrames.{frame_blocks}
 
@@ -61,6 +61,8 @@ grows_after history (Edits edit) =
     grows_if (updates_of history) (edit_refused history edit) history (Edited edit ∷ history) (same (updates_of history)) (record { more = Swapped edit ∷ []; joined = refl })
 grows_after history (Posts task epoch bytes) =
     grows_if (updates_of history) (lowest (post_faults history task epoch bytes)) history (Posted task bytes ∷ history) (same (updates_of history)) (same (updates_of history))
+grows_after history (PostsSteady task epoch bytes) =
+    grows_if (updates_of history) (lowest (post_steady_faults history task epoch bytes)) history (Posted task bytes ∷ history) (same (updates_of history)) (same (updates_of history))
 grows_after history (SendsTasks tasks) =
     grows_if (updates_of history) (lowest (task_faults history tasks)) history (with_sent history (proposal history tasks)) (same (updates_of history)) (grows_sent history (proposal history tasks))
 grows_after history SendsWrite =

@@ -15,7 +15,7 @@ use Rattle.hc_events.specs.Entries.{History, Edited, Posted, Sent, Forgot, Clear
 use Rattle.hc_events.specs.Owed.{is_in_line, owed_blocks}
 use Rattle.hc_events.specs.Ready.{with_cleared}
 use Rattle.hc_events.specs.Sendings.{Frame}
-use Rattle.hc_events.specs.Steps.{Step, Edits, Posts, SendsTasks, SendsWrite, SendsWrites, Arrives, Reads, Forgets, SendsReady, Clears, Unplugs, clear_faults, edit_refused, entries_after, entries_after_all, forget_faults, post_faults, proposal, task_faults, unless_fault, unplug_faults, with_arrival, with_sent, with_write, with_writes, write_faults}
+use Rattle.hc_events.specs.Steps.{Step, Edits, Posts, PostsSteady, SendsTasks, SendsWrite, SendsWrites, Arrives, Reads, Forgets, SendsReady, Clears, Unplugs, clear_faults, edit_refused, entries_after, entries_after_all, forget_faults, post_faults, post_steady_faults, proposal, task_faults, unless_fault, unplug_faults, with_arrival, with_sent, with_write, with_writes, write_faults}
 use Rattle.hc_events.specs.WriteFrames.{frame_blocks}
 use Rattle.hc_events.proofs.lemmas.Accepted.{nothing_owed}
 
@@ -50,6 +50,8 @@ came_so history (Ok arrival) before = before
 one_step : (history : History) (step : Step) → sends_ready step ≡ false → IsProgrammed history → IsProgrammed (entries_after history step)
 one_step history (Edits edit) other before = if_accepted (edit_refused history edit) history (Edited edit ∷ history) (λ e. before) before
 one_step history (Posts task epoch bytes) other before = if_accepted (lowest (post_faults history task epoch bytes)) history (Posted task bytes ∷ history) (λ e. before) before
+one_step history (PostsSteady task epoch bytes) other before =
+    if_accepted (lowest (post_steady_faults history task epoch bytes)) history (Posted task bytes ∷ history) (λ e. before) before
 one_step history (SendsTasks tasks) other before =
     if_accepted (lowest (task_faults history tasks)) history (with_sent history (proposal history tasks)) (λ e. sent_so history (proposal history tasks) (nothing_owed history tasks e) before) before
 one_step history SendsWrite other before =

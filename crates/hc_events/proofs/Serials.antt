@@ -19,7 +19,7 @@ use Rattle.hc_events.specs.Heads.{data_heads, write_heads}
 use Rattle.hc_events.specs.Answering.{Sending, sending_of_heads, followed_by, sending_of}
 use Rattle.hc_events.specs.Owed.{is_in_line, owed_blocks}
 use Rattle.hc_events.specs.Ready.{with_cleared}
-use Rattle.hc_events.specs.Steps.{Step, Edits, Posts, SendsTasks, SendsWrite, Arrives, Reads, Forgets, SendsReady, Clears, Unplugs, clear_faults, forget_faults, ready_faults, unplug_faults, unless_fault, edit_refused, has_serials, is_no_task, post_faults, proposal, task_faults, with_sent, write_faults, with_write, with_arrival, entries_after, entries_after_all, SendsWrites, with_writes}
+use Rattle.hc_events.specs.Steps.{Step, Edits, Posts, PostsSteady, SendsTasks, SendsWrite, Arrives, Reads, Forgets, SendsReady, Clears, Unplugs, clear_faults, forget_faults, ready_faults, unplug_faults, unless_fault, edit_refused, has_serials, is_no_task, post_faults, post_steady_faults, proposal, task_faults, with_sent, write_faults, with_write, with_arrival, entries_after, entries_after_all, SendsWrites, with_writes}
 use Rattle.hc_events.specs.Accepted.{just_opened, history_of}
 use Rattle.hc_events.proofs.lemmas.Accepted.{passed, ready-passed}
 use Rattle.hc_events.proofs.lemmas.Once.{serial-below}
@@ -149,6 +149,8 @@ left_arrival history (Ok arrival) before = before
 left_after : (history : History) (step : Step) → Left history → Left (entries_after history step)
 left_after history (Edits edit) before = left_if (edit_refused history edit) history (Edited edit ∷ history) (λ e. before) before
 left_after history (Posts task epoch bytes) before = left_if (lowest (post_faults history task epoch bytes)) history (Posted task bytes ∷ history) (λ e. before) before
+left_after history (PostsSteady task epoch bytes) before =
+    left_if (lowest (post_steady_faults history task epoch bytes)) history (Posted task bytes ∷ history) (λ e. before) before
 left_after history (SendsTasks tasks) before = left_if (lowest (task_faults history tasks)) history (with_sent history (proposal history tasks)) (λ e. left_sent history tasks e) before
 left_after history SendsWrite before =
     left_if (lowest (write_faults history (owed_blocks history))) history (with_write history (owed_blocks history)) (λ e. left_write history (owed_blocks history) e before) before

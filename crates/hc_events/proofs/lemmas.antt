@@ -33,6 +33,7 @@ pub mod StaleStays
 pub mod Placing
 pub mod Returns
 pub mod Steady
+pub mod SteadyPosts
 pub mod TwoWrites
 pub mod Unchanged
 pub mod Undeclared

@@ -7,7 +7,7 @@ use Rattle.hc_records.specs.Image.{datagram_count, task_places}
 use Rattle.hc_registers.specs.Blocks.{LineBlock}
 use Rattle.hc_frames.specs.Sizes.{frame_bytes}
 use Rattle.hc_events.specs.declared.answer.Answer.{Answer}
-use Rattle.hc_events.specs.Steps.{sent_text, Step, Posts, Forgets, Clears, Unplugs, answer_to, entries_after, has_serials, proposal, ready_faults, task_faults, write_faults}
+use Rattle.hc_events.specs.Steps.{sent_text, Step, Posts, PostsSteady, Forgets, Clears, Unplugs, answer_to, entries_after, has_serials, proposal, ready_faults, task_faults, write_faults}
 use Rattle.hc_events.specs.declared.answer.Answer.TheVariants as answer
 use Rattle.hc_events.specs.declared.faults.CoreFault.{CoreFault}
 use Rattle.hc_events.specs.declared.faults.CoreFault.TheVariants.{Memory, Room}
@@ -17,9 +17,10 @@ use Rattle.hc_events.specs.Sendings.{Frame, frame_of_one, line_data_length, sent
 use Rattle.hc_events.specs.Owed.{owed_blocks}
 use Rattle.hc_events.specs.WriteFrames.{frame_blocks, writes_size}
 
--- an event takes memory for what it answers or for what is kept after it; a post takes none, since the room for its values was taken at the opening or by an accepted edit; forgetting a slave's registers takes none, nor does clearing or unplugging a slave
+-- an event takes memory for what it answers or for what is kept after it; a post takes none, steady or not, since the room for its values was taken at the opening or by an accepted edit; forgetting a slave's registers takes none, nor does clearing or unplugging a slave
 abbrev pub takes_memory : Step → Bool
 takes_memory (Posts task epoch bytes) = false
+takes_memory (PostsSteady task epoch bytes) = false
 takes_memory (Forgets station) = false
 takes_memory (Clears station) = false
 takes_memory (Unplugs station) = false

@@ -1,13 +1,16 @@
 -- What holds of tasks over edits that don't change them. Each law is the contract of a function of `laws`.
-use Rattle.std.specs.Prelude.{◌≡◌, ℕ, ◌<◌, ◌≤◌, ◌⊎◌, false, true, List, ◌∷◌, filter, length, map, Some, None}
+use Rattle.std.specs.Prelude.{◌≡◌, ◌↔◌, ℕ, ◌<◌, ◌≤◌, ◌⊎◌, false, true, List, ◌∷◌, filter, length, map, Some, None}
 use Rattle.std.specs.List.{enumerate_from, flat_map}
 use Rattle.hc_records.specs.declared.edit.Edit.{Edit}
 use Rattle.hc_records.specs.declared.limits.TheConstants.{TASKS}
 use Rattle.hc_records.specs.Edits.{over_limit_task}
+use Rattle.hc_records.specs.Image.{output_length, task_places}
 use Rattle.hc_records.specs.declared.records.Area.{Area}
 use Rattle.hc_records.specs.Line.{Member, groups_of}
 use Rattle.hc_records.specs.Project.{lowest_fault}
 use Rattle.hc_places.specs.Table.{place_in, table_of, task_table}
+use Rattle.hc_events.specs.declared.answer.Answer.TheVariants as answer
+use Rattle.hc_events.specs.declared.faults.CoreFault.TheVariants.{StalePost}
 use Rattle.hc_events.specs.Ages.{data_serial}
 use Rattle.hc_events.specs.Entries.{History, Edited}
 use Rattle.hc_events.specs.Images.{slot_of}
@@ -16,7 +19,7 @@ use Rattle.hc_events.specs.Points.{epoch_of, line_of, state_of}
 use Rattle.hc_events.specs.Ready.{edited_and_cleared, is_in_task, is_ready}
 use Rattle.hc_events.specs.Sendings.{line_data_length}
 use Rattle.hc_events.specs.Steady.{SteadyData, edit_changes, lies_in_task, steady_data, task_blocks, task_epoch}
-use Rattle.hc_events.specs.Steps.{edit_refused}
+use Rattle.hc_events.specs.Steps.{Posts, PostsSteady, answer_to, edit_refused, entries_after}
 use Rattle.hc_events.specs.Accepted.{IsReachable}
 
 -- a task's epoch is at most the epoch
@@ -65,8 +68,40 @@ pub record FitsSteadily (history : History) (task d : ℕ) (found : SteadyData) 
 abbrev pub SteadyDataFit : Type 0
 SteadyDataFit = (history : History) (task d : ℕ) (found : SteadyData) → steady_data history task d ≡ Some found → FitsSteadily history task d found
 
--- an edit leaves a task undisturbed: its datagrams, the places of its variables, the register blocks of its areas, its epoch, the data that each of its datagrams would be sent with, and its steady data are those of before; and
--- if it was ready it is ready once each slave that came is cleared
+-- what a steady post is accepted for: there is the task, the epoch is from the last edit that changed the task to the present one, and the bytes are as many as the task has outputs
+pub record IsSteadyPost (history : History) (task epoch : ℕ) (bytes : List ℕ) : Type 0 where
+  pub there : task < TASKS
+  pub from : task_epoch history task ≤ epoch
+  pub most : epoch ≤ epoch_of history
+  pub size : length bytes ≡ output_length (task_places task (line_of history))
+
+-- just such posts are accepted
+abbrev pub SteadyPostsAreAccepted : Type 0
+SteadyPostsAreAccepted =
+    (history : History) (task epoch : ℕ) (bytes : List ℕ) → (answer_to history (PostsSteady task epoch bytes) ≡ answer.Posted) ↔ IsSteadyPost history task epoch bytes
+
+-- a steady post of a task is refused with 15 just where its epoch is below the one of the last edit that changed the task, or above the present one
+abbrev pub SteadyPostsAreStale : Type 0
+SteadyPostsAreStale =
+    (history : History) (task epoch : ℕ) (bytes : List ℕ) → task < TASKS
+    → (answer_to history (PostsSteady task epoch bytes) ≡ answer.Refused StalePost) ↔ ((epoch < task_epoch history task) ⊎ (epoch_of history < epoch))
+
+-- a steady post has the answer of the post with the same task, epoch and bytes, and leads to the same record
+pub record IsAnsweredAsPost (history : History) (task epoch : ℕ) (bytes : List ℕ) : Type 0 where
+  pub answer : answer_to history (PostsSteady task epoch bytes) ≡ answer_to history (Posts task epoch bytes)
+  pub entries : entries_after history (PostsSteady task epoch bytes) ≡ entries_after history (Posts task epoch bytes)
+
+-- each steady post of the present epoch is answered as the post is
+abbrev pub PostsOfTheEpochAreAlike : Type 0
+PostsOfTheEpochAreAlike = (history : History) (task : ℕ) (bytes : List ℕ) → IsAnsweredAsPost history task (epoch_of history) bytes
+
+-- a steady post is answered as the post is if the post is accepted
+abbrev pub AcceptedPostsAreSteady : Type 0
+AcceptedPostsAreSteady =
+    (history : History) (task epoch : ℕ) (bytes : List ℕ) → answer_to history (Posts task epoch bytes) ≡ answer.Posted → IsAnsweredAsPost history task epoch bytes
+
+-- an edit leaves a task undisturbed: its datagrams, the places of its variables, the register blocks of its areas, its epoch, the data that each of its datagrams would be sent with, and its steady data are those of before; each
+-- steady post that would have been accepted for it before is accepted after; and if it was ready it is ready once each slave that came is cleared
 pub record IsUndisturbed (history : History) (edit : Edit) (task : ℕ) : Type 0 where
   pub table : task_table (line_of (Edited edit ∷ history)) task ≡ task_table (line_of history) task
   pub places :
@@ -77,6 +112,9 @@ pub record IsUndisturbed (history : History) (edit : Edit) (task : ℕ) : Type 0
   pub epoch : task_epoch (Edited edit ∷ history) task ≡ task_epoch history task
   pub data_sent : (d : ℕ) → sent_data (Edited edit ∷ history) task d ≡ sent_data history task d
   pub steady : (d : ℕ) → steady_data (Edited edit ∷ history) task d ≡ steady_data history task d
+  pub posts :
+      (epoch : ℕ) (bytes : List ℕ) → answer_to history (PostsSteady task epoch bytes) ≡ answer.Posted
+      → answer_to (Edited edit ∷ history) (PostsSteady task epoch bytes) ≡ answer.Posted
   pub ready : is_ready history task ≡ true → is_ready (edited_and_cleared history edit) task ≡ true
 
 -- so does each accepted edit that doesn't change the task, in a project before the edit and after it

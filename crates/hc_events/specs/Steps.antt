@@ -1,5 +1,5 @@
 -- What the core answers to each event, and what it accepts of it. `Calls` says which events may be answered with `Memory` instead.
-use Rattle.std.specs.Prelude.{ℕ, ◌+◌, ◌==◌, not, nat_lt, is_none, Bool, if◌then◌else◌, List, [], ◌∷◌, ◌++◌, length, map, Option, Some, None, option_map, Result, Ok, Err}
+use Rattle.std.specs.Prelude.{ℕ, ◌+◌, ◌==◌, ◌||◌, not, nat_lt, is_none, Bool, if◌then◌else◌, List, [], ◌∷◌, ◌++◌, length, map, Option, Some, None, option_map, Result, Ok, Err}
 use Rattle.std.specs.List.{list_any}
 use Rattle.hc_records.specs.declared.limits.TheConstants.{TASKS}
 use Rattle.hc_records.specs.declared.edit.Edit.{Edit}
@@ -31,12 +31,14 @@ use Rattle.hc_events.specs.Images.{slots_of}
 use Rattle.hc_events.specs.Outputs.{sent_data}
 use Rattle.hc_events.specs.Owed.{is_in_line, owed_blocks}
 use Rattle.hc_events.specs.Ready.{is_ready, waited_for, waited_for_outside, with_cleared}
+use Rattle.hc_events.specs.Steady.{task_epoch}
 use Rattle.hc_events.specs.WriteFrames.{frame_blocks, writes_text}
 
 -- an event, without where it lies in memory
 pub data Step : Type 0 where
   Edits : Edit → Step
   Posts : ℕ → ℕ → List ℕ → Step
+  PostsSteady : ℕ → ℕ → List ℕ → Step
   SendsTasks : List ℕ → Step
   SendsWrite : Step
   SendsWrites : Step
@@ -78,6 +80,20 @@ abbrev pub post_faults : History → ℕ → ℕ → List ℕ → List (Bool × 
 post_faults history task epoch bytes =
     (is_no_task task, NoSuchTask)
     ∷ (not (epoch == epoch_of history), StalePost)
+    ∷ (not (length bytes == output_length (task_places task (line_of history))), PostLength)
+    ∷ []
+
+-- a steady post: one that edits of other tasks leave valid
+
+-- an epoch is below the one of the last edit that changed the task, or above the present one
+abbrev pub is_stale_epoch : History → ℕ → ℕ → Bool
+is_stale_epoch history task epoch = nat_lt epoch (task_epoch history task) || nat_lt (epoch_of history) epoch
+
+-- what refuses a steady post, in order: 8 no such task, 15 an epoch before the last edit that changed the task or after the present one, 16 not the task's number of output bytes
+abbrev pub post_steady_faults : History → ℕ → ℕ → List ℕ → List (Bool × CoreFault)
+post_steady_faults history task epoch bytes =
+    (is_no_task task, NoSuchTask)
+    ∷ (is_stale_epoch history task epoch, StalePost)
     ∷ (not (length bytes == output_length (task_places task (line_of history))), PostLength)
     ∷ []
 
@@ -251,6 +267,7 @@ unplug_faults history station =
 abbrev pub step_of : Event → Step
 step_of (event.Edit edit) = Edits edit.now
 step_of (event.Post task epoch bytes) = Posts task epoch bytes.now
+step_of (event.PostSteady task epoch bytes) = PostsSteady task epoch bytes.now
 step_of (event.SendTasks tasks) = SendsTasks tasks.now
 step_of event.SendWrite = SendsWrite
 step_of event.SendWrites = SendsWrites
@@ -265,6 +282,7 @@ step_of (event.Unplugged station) = Unplugs station
 abbrev pub answer_to : History → Step → Answer
 answer_to history (Edits edit) = unless (edit_refused history edit) (edit_answer (state_of history) (state_after (state_of history) edit))
 answer_to history (Posts task epoch bytes) = unless (lowest (post_faults history task epoch bytes)) answer.Posted
+answer_to history (PostsSteady task epoch bytes) = unless (lowest (post_steady_faults history task epoch bytes)) answer.Posted
 answer_to history (SendsTasks tasks) = unless (lowest (task_faults history tasks)) (answer.Sent (map (sent_text history) (proposal history tasks)))
 answer_to history SendsWrite = unless (lowest (write_faults history (owed_blocks history))) (sent_write_answer (next_serial history) (owed_blocks history))
 answer_to history SendsWrites = unless (lowest (write_faults history (owed_blocks history))) (writes_answer (next_serial history) (frame_blocks (owed_blocks history)))
@@ -279,6 +297,7 @@ answer_to history (Unplugs station) = unless (lowest (unplug_faults history stat
 abbrev pub entries_after : History → Step → History
 entries_after history (Edits edit) = unless_fault (edit_refused history edit) history (Edited edit ∷ history)
 entries_after history (Posts task epoch bytes) = unless_fault (lowest (post_faults history task epoch bytes)) history (Posted task bytes ∷ history)
+entries_after history (PostsSteady task epoch bytes) = unless_fault (lowest (post_steady_faults history task epoch bytes)) history (Posted task bytes ∷ history)
 entries_after history (SendsTasks tasks) = unless_fault (lowest (task_faults history tasks)) history (with_sent history (proposal history tasks))
 entries_after history SendsWrite = unless_fault (lowest (write_faults history (owed_blocks history))) history (with_write history (owed_blocks history))
 entries_after history SendsWrites = unless_fault (lowest (write_faults history (owed_blocks history))) history (with_writes history (frame_blocks (owed_blocks history)))

@@ -1,18 +1,19 @@
 -- Worked histories of tasks over edits, computed by the definitions: a wrong definition fails here. The numbers beside each history are counted by hand.
-use Rattle.std.specs.Prelude.{◌≡◌, ℕ, List, [], ◌∷◌, ◌++◌, map, refl, Option, Some, None}
+use Rattle.std.specs.Prelude.{◌≡◌, ℕ, List, [], ◌∷◌, ◌++◌, map, refl, replicate, Option, Some, None}
 use Rattle.hc_bits.specs.Bits.{bit_of, number_of}
 use Rattle.hc_records.specs.declared.records.Dir.TheVariants.{Out, In}
 use Rattle.hc_records.specs.declared.records.Slave.{Slave}
 use Rattle.hc_records.specs.declared.edit.Edit.{Edit}
 use Rattle.hc_records.specs.declared.edit.Edit.TheVariants.{Connect, Declare, Disconnect, Move, Remap}
 use Rattle.hc_frames.specs.Arrived.{starts_within}
+use Rattle.hc_events.specs.declared.answer.Answer.{Answer}
 use Rattle.hc_events.specs.declared.answer.Answer.TheVariants as answer
 use Rattle.hc_events.specs.declared.faults.CoreFault.TheVariants.{NoSuchTask, PostLength, StalePost}
 use Rattle.hc_events.specs.Entries.{History, Opened}
 use Rattle.hc_events.specs.Images.{slot_of}
 use Rattle.hc_events.specs.Outputs.{sent_data}
 use Rattle.hc_events.specs.Steady.{SteadyData, steady_data, task_epoch}
-use Rattle.hc_events.specs.Steps.{Step, Clears, Edits, Posts, SendsReady, SendsTasks, answers_to, entries_after_all}
+use Rattle.hc_events.specs.Steps.{Step, Clears, Edits, Posts, PostsSteady, SendsReady, SendsTasks, answers_to, entries_after_all}
 use Rattle.hc_events.specs.WorkedAxis.{area_of, axis, back, data_back}
 use Rattle.hc_events.specs.WorkedReady.{cell}
 
@@ -130,3 +131,98 @@ posts_over_the_edit :
     ∷ []
 unfolding bit_of number_of starts_within
 posts_over_the_edit = refl
+
+-- Steady posts after the gripper came. A post of the epoch before counts for task 0, which the edit did not change, and not for task 2. An epoch that is still to come is refused for both.
+
+steady_posts_over_the_edit :
+    answers_to (entries_after_all cell over_the_edit) (
+    PostsSteady 0 0 (1 ∷ [])
+    ∷ PostsSteady 0 1 (3 ∷ [])
+    ∷ PostsSteady 0 2 (1 ∷ [])
+    ∷ PostsSteady 0 0 (1 ∷ 1 ∷ [])
+    ∷ PostsSteady 2 0 (1 ∷ [])
+    ∷ PostsSteady 2 1 (1 ∷ [])
+    ∷ PostsSteady 2 2 (1 ∷ [])
+    ∷ PostsSteady 2 0 (1 ∷ 1 ∷ [])
+    ∷ PostsSteady 2 1 (1 ∷ 1 ∷ [])
+    ∷ PostsSteady 8 2 []
+    ∷ [])
+    ≡ answer.Posted
+    ∷ answer.Posted
+    ∷ answer.Refused StalePost
+    ∷ answer.Refused PostLength
+    ∷ answer.Refused StalePost
+    ∷ answer.Posted
+    ∷ answer.Refused StalePost
+    ∷ answer.Refused StalePost
+    ∷ answer.Refused PostLength
+    ∷ answer.Refused NoSuchTask
+    ∷ []
+unfolding bit_of number_of starts_within
+steady_posts_over_the_edit = refl
+
+-- what task 0 is sent with after these events in the cell
+abbrev sent_after : List Step → List ℕ
+sent_after steps = sent_data (entries_after_all cell steps) 0 0
+
+steady_posts_are_sent :
+    map sent_after
+    ((over_the_edit ++ PostsSteady 0 0 (1 ∷ []) ∷ []) ∷ (over_the_edit ++ PostsSteady 0 0 (1 ∷ []) ∷ PostsSteady 0 2 (3 ∷ []) ∷ []) ∷ [])
+    ≡ (1 ∷ 0 ∷ 0 ∷ [])
+    ∷ (1 ∷ 0 ∷ 0 ∷ [])
+    ∷ []
+unfolding bit_of number_of starts_within
+steady_posts_are_sent = refl
+
+-- whether task 0 and task 1 accept a post of each of the first three epochs, after these edits: task 0 of one byte, task 1 of so many
+abbrev posts_after : History → ℕ → List Edit → List Answer
+posts_after history size edits =
+    answers_to (entries_after_all history (map Edits edits)) (
+    PostsSteady 0 0 (1 ∷ [])
+    ∷ PostsSteady 0 1 (1 ∷ [])
+    ∷ PostsSteady 0 2 (1 ∷ [])
+    ∷ PostsSteady 1 0 (replicate size 1)
+    ∷ PostsSteady 1 1 (replicate size 1)
+    ∷ PostsSteady 1 2 (replicate size 1)
+    ∷ [])
+
+abbrev stale : Answer
+stale = answer.Refused StalePost
+
+-- The probe comes in task 0: posts of the epoch before are refused there, and accepted for task 1, which has no outputs.
+
+steady_posts_in_a_shared_task :
+    posts_after with_probe 0 (Connect 200 ∷ []) ≡ stale ∷ answer.Posted ∷ stale ∷ answer.Posted ∷ answer.Posted ∷ stale ∷ []
+unfolding bit_of number_of starts_within
+steady_posts_in_a_shared_task = refl
+
+-- The spindle is remapped in task 1: posts of task 0 count, and those of task 1 no longer. After a second remap too, posts of task 0 count from the opening on, and posts of task 1 from the second remap on.
+
+steady_posts_over_remaps :
+    posts_after with_spindle 1 (Remap 1002 0 (0x1601 ∷ []) ∷ [])
+    ∷ posts_after with_spindle 1 (Remap 1002 0 (0x1601 ∷ []) ∷ Remap 1002 0 (0x1600 ∷ []) ∷ [])
+    ∷ []
+    ≡ (answer.Posted ∷ answer.Posted ∷ stale ∷ stale ∷ answer.Posted ∷ stale ∷ [])
+    ∷ (answer.Posted ∷ answer.Posted ∷ answer.Posted ∷ stale ∷ stale ∷ answer.Posted ∷ [])
+    ∷ []
+unfolding bit_of number_of starts_within
+steady_posts_over_remaps = refl
+
+-- The spindle moves to task 0, and is remapped there: the second edit changes task 0 alone, so task 1 accepts posts from the first edit on. Then it has no outputs.
+
+steady_posts_over_two_edits :
+    posts_after with_spindle 0 (Move 1002 0 0 ∷ Remap 1002 0 (0x1601 ∷ []) ∷ []) ≡ stale ∷ stale ∷ answer.Posted ∷ stale ∷ answer.Posted ∷ answer.Posted ∷ []
+unfolding bit_of number_of starts_within
+steady_posts_over_two_edits = refl
+
+-- The axis' inputs move to task 1 and back: no post from before counts, although the line is as it was. The gripper comes and goes: each post counts for both tasks.
+
+steady_posts_over_reverses :
+    posts_after cell 0 (Move 1001 1 1 ∷ Move 1001 1 0 ∷ [])
+    ∷ posts_after cell 0 (Connect 100 ∷ Disconnect 100 ∷ [])
+    ∷ []
+    ≡ (stale ∷ stale ∷ answer.Posted ∷ stale ∷ stale ∷ answer.Posted ∷ [])
+    ∷ (answer.Posted ∷ answer.Posted ∷ answer.Posted ∷ answer.Posted ∷ answer.Posted ∷ answer.Posted ∷ [])
+    ∷ []
+unfolding bit_of number_of starts_within
+steady_posts_over_reverses = refl

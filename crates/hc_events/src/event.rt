@@ -39,4 +39,15 @@ pub enum Event<'a> {
     /// The slave with this station address is off the wire: it holds up no task until its group is connected again.
     /// Refused if no declared slave has the address, or the slave is in the line.
     Unplugged(u16),
+    /// A task posts its outputs for any epoch since an edit changed the task. Edits that do not change the task leave the
+    /// post valid (this project's profile).
+    PostSteady {
+        /// The task, 0 to 7; a higher one is refused.
+        task: u8,
+        /// The epoch in which the task saw the places of its variables. It is refused if it is below the epoch of the last
+        /// edit that changed the task, or above the present epoch.
+        epoch: u32,
+        /// The output bytes of the task's image, as many as the task has now.
+        bytes: &'a [u8],
+    },
 }

@@ -24,7 +24,7 @@ use Rattle.hc_events.specs.Sendings.{Frame, Named, frame_of_one, framed, framed_
 use Rattle.hc_events.specs.Owed.{is_in_line, last_write, owed_blocks}
 use Rattle.hc_events.specs.Ready.{is_ready, with_cleared}
 use Rattle.hc_events.specs.WriteFrames.{frame_blocks}
-use Rattle.hc_events.specs.Steps.{Step, Edits, Posts, SendsTasks, SendsWrite, SendsWrites, Arrives, Reads, Forgets, SendsReady, Clears, Unplugs, unless_fault, edit_refused, clear_faults, forget_faults, ready_faults, unplug_faults, wait_fault, is_no_task, post_faults, proposal, has_serials, task_faults, with_sent, write_faults, with_write, with_writes, with_arrival, entries_after, entries_after_all}
+use Rattle.hc_events.specs.Steps.{Step, Edits, Posts, PostsSteady, SendsTasks, SendsWrite, SendsWrites, Arrives, Reads, Forgets, SendsReady, Clears, Unplugs, unless_fault, edit_refused, clear_faults, forget_faults, ready_faults, unplug_faults, wait_fault, is_no_task, is_stale_epoch, post_faults, post_steady_faults, proposal, has_serials, task_faults, with_sent, write_faults, with_write, with_writes, with_arrival, entries_after, entries_after_all}
 use Rattle.hc_events.specs.Accepted.{AreAccepted, IsAccepted, IsPost, IsInLine, IsUnplugging, frames_of, just_opened}
 use Rattle.hc_events.proofs.lemmas.Awaited.{same_is}
 
@@ -121,6 +121,14 @@ accepted_post history task epoch bytes e =
     let lengths = (not (length bytes == output_length (task_places task (line_of history))), PostLength) ∷ [] in
     let first = passed (is_no_task task) NoSuchTask ((not (epoch == epoch_of history), StalePost) ∷ lengths) e in
     let second = passed (not (epoch == epoch_of history)) StalePost lengths first.1 in
+    let third = passed (not (length bytes == output_length (task_places task (line_of history)))) PostLength [] second.1 in
+    record { is_placed = ltb-true task TASKS (not-false _ first.0); fits = eqb-true _ _ (not-false _ third.0) }
+
+accepted_steady_post : (history : History) (task epoch : ℕ) (bytes : List ℕ) → lowest (post_steady_faults history task epoch bytes) ≡ None → IsPost (line_of history) task bytes
+accepted_steady_post history task epoch bytes e =
+    let lengths = (not (length bytes == output_length (task_places task (line_of history))), PostLength) ∷ [] in
+    let first = passed (is_no_task task) NoSuchTask ((is_stale_epoch history task epoch, StalePost) ∷ lengths) e in
+    let second = passed (is_stale_epoch history task epoch) StalePost lengths first.1 in
     let third = passed (not (length bytes == output_length (task_places task (line_of history)))) PostLength [] second.1 in
     record { is_placed = ltb-true task TASKS (not-false _ first.0); fits = eqb-true _ _ (not-false _ third.0) }
 
@@ -244,6 +252,8 @@ unchanged-after P stays history (Edits edit) before =
     keeps_if P (edit_refused history edit) history (Edited edit ∷ history) (λ e. stays history (Edited edit) (no_refusal (lowest (edit_faults (state_of history) edit)) e) before) before
 unchanged-after P stays history (Posts task epoch bytes) before =
     keeps_if P (lowest (post_faults history task epoch bytes)) history (Posted task bytes ∷ history) (λ e. stays history (Posted task bytes) (accepted_post history task epoch bytes e) before) before
+unchanged-after P stays history (PostsSteady task epoch bytes) before =
+    keeps_if P (lowest (post_steady_faults history task epoch bytes)) history (Posted task bytes ∷ history) (λ e. stays history (Posted task bytes) (accepted_steady_post history task epoch bytes e) before) before
 unchanged-after P stays history (SendsTasks tasks) before =
     keeps_if P (lowest (task_faults history tasks)) history (with_sent history (proposal history tasks))
     (λ e. keeps_sent P stays (line_of history) (next_serial history) tasks (proposal history tasks) history refl (all_can_go history (proposal history tasks) (nothing_owed history tasks e)) (proposal-is_placed history tasks) (All-contains_itself (frames_of (line_of history) (next_serial history) tasks)) before) before

@@ -7,7 +7,7 @@ use Rattle.std.specs.List.{list_any, range_with_len}
 use Rattle.std.specs.Str.{bytes_eq}
 use Rattle.std.proofs.lemmas.Bool.{or_parts}
 use Rattle.hc_bits.specs.Bits.{number_of}
-use Rattle.hc_records.specs.Line.{line}
+use Rattle.hc_records.specs.Line.{Member, line}
 use Rattle.hc_records.specs.Lists.{lowest}
 use Rattle.hc_records.specs.Image.{VariablePlace, datagram_count, datagram_length, logical_address, output_length, task_places}
 use Rattle.hc_records.specs.Edits.{edit_faults, is_declared_station, slave_at, state_after}
@@ -31,7 +31,7 @@ use Rattle.hc_events.specs.Ages.{data_serial}
 use Rattle.hc_events.specs.Steady.{steady_data, task_epoch}
 use Rattle.hc_events.specs.Holding.{is_unplugged, may_hold}
 use Rattle.hc_events.specs.Ready.{concerns, concerns_outside, is_ready, may_name, names_among, registers_outside, serves_task, waited_for, waited_for_outside, with_cleared}
-use Rattle.hc_events.specs.Steps.{Step, Edits, Posts, SendsTasks, SendsWrite, Arrives, Reads, Forgets, SendsReady, Clears, Unplugs, wait_fault, ready_faults, clear_faults, unplug_faults, unless, unless_fault, forget_faults, edit_refused, edit_answer, is_no_task, post_faults, has_serials, serials_left, proposal, task_faults, sent_datagram, sent_text, with_sent, write_faults, sent_write_answer, with_write, write_answer, judged_answer, arrival_answer, with_arrival, read_faults, answer_to, entries_after, answers_to, entries_after_all, SendsWrites, writes_answer, with_writes, judged_blocks_answer}
+use Rattle.hc_events.specs.Steps.{Step, Edits, Posts, PostsSteady, SendsTasks, SendsWrite, Arrives, Reads, Forgets, SendsReady, Clears, Unplugs, wait_fault, ready_faults, clear_faults, unplug_faults, unless, unless_fault, forget_faults, edit_refused, edit_answer, is_no_task, is_stale_epoch, post_faults, post_steady_faults, has_serials, serials_left, proposal, task_faults, sent_datagram, sent_text, with_sent, write_faults, sent_write_answer, with_write, write_answer, judged_answer, arrival_answer, with_arrival, read_faults, answer_to, entries_after, answers_to, entries_after_all, SendsWrites, writes_answer, with_writes, judged_blocks_answer}
 use Rattle.hc_events.specs.Heads.{is_block}
 use Rattle.hc_events.specs.Changes.{updates_of}
 use Rattle.hc_events.specs.Stale.{SameAfter, SaysTheSame, without_stale}
@@ -158,6 +158,19 @@ same_post_faults a b task epoch bytes says =
     ap (λ n. lowest ((is_no_task task, NoSuchTask) ∷ (not (epoch == n), StalePost) ∷ (not (length bytes == output_length (task_places task (line_of a))), PostLength) ∷ [])) says.epoch
     ∙ ap (λ members. lowest ((is_no_task task, NoSuchTask) ∷ (not (epoch == epoch_of b), StalePost) ∷ (not (length bytes == output_length (task_places task members)), PostLength) ∷ [])) (same-line a b says)
 
+abbrev steady_faults_of : ℕ → List ℕ → Bool → List Member → List (Bool × CoreFault)
+steady_faults_of task bytes stale members =
+    (is_no_task task, NoSuchTask) ∷ (stale, StalePost) ∷ (not (length bytes == output_length (task_places task members)), PostLength) ∷ []
+
+same_stale_epoch : (a b : History) (task epoch : ℕ) → SaysTheSame a b → is_stale_epoch a task epoch ≡ is_stale_epoch b task epoch
+same_stale_epoch a b task epoch says =
+    ap (λ n. nat_lt epoch n || nat_lt (epoch_of a) epoch) (says.epochs task) ∙ ap (λ n. nat_lt epoch (task_epoch b task) || nat_lt n epoch) says.epoch
+
+same_steady_post_faults : (a b : History) (task epoch : ℕ) (bytes : List ℕ) → SaysTheSame a b → lowest (post_steady_faults a task epoch bytes) ≡ lowest (post_steady_faults b task epoch bytes)
+same_steady_post_faults a b task epoch bytes says =
+    ap (λ stale. lowest (steady_faults_of task bytes stale (line_of a))) (same_stale_epoch a b task epoch says)
+    ∙ ap (λ members. lowest (steady_faults_of task bytes (is_stale_epoch b task epoch) members)) (same-line a b says)
+
 same_forget_faults : (a b : History) (station : ℕ) → SaysTheSame a b → lowest (forget_faults a station) ≡ lowest (forget_faults b station)
 same_forget_faults a b station says =
     ap (λ state. lowest ((not (is_declared_station state station), UnknownStation) ∷ (is_none (slave_at state station), Absent) ∷ [])) says.state
@@ -247,6 +260,7 @@ pub same-answer : (a b : History) (step : Step) → SameWithout a b → answer_t
 same-answer a b (Edits edit) same =
     ap (λ state. unless (option_map edit_refusal (lowest (edit_faults state edit))) (edit_answer state (state_after state edit))) (same-says a b same).state
 same-answer a b (Posts task epoch bytes) same = ap (λ refused. unless refused answer.Posted) (same_post_faults a b task epoch bytes (same-says a b same))
+same-answer a b (PostsSteady task epoch bytes) same = ap (λ refused. unless refused answer.Posted) (same_steady_post_faults a b task epoch bytes (same-says a b same))
 same-answer a b (SendsTasks tasks) same =
     let says = same-says a b same in
     ap (λ refused. unless refused (answer.Sent (map (sent_text a) (proposal a tasks)))) (same_task_faults a b tasks says)
@@ -314,6 +328,9 @@ same-after a b (Edits edit) same =
 same-after a b (Posts task epoch bytes) same =
     ap (λ refused. without_stale (unless_fault refused a (Posted task bytes ∷ a))) (same_post_faults a b task epoch bytes (same-says a b same))
     ∙ same_unchanged (lowest (post_faults b task epoch bytes)) a b (Posted task bytes ∷ a) (Posted task bytes ∷ b) same (same-grows (Posted task bytes) a b same)
+same-after a b (PostsSteady task epoch bytes) same =
+    ap (λ refused. without_stale (unless_fault refused a (Posted task bytes ∷ a))) (same_steady_post_faults a b task epoch bytes (same-says a b same))
+    ∙ same_unchanged (lowest (post_steady_faults b task epoch bytes)) a b (Posted task bytes ∷ a) (Posted task bytes ∷ b) same (same-grows (Posted task bytes) a b same)
 same-after a b (SendsTasks tasks) same =
     let says = same-says a b same in
     ap (λ refused. without_stale (unless_fault refused a (with_sent a (proposal a tasks)))) (same_task_faults a b tasks says)

@@ -28,6 +28,7 @@ use Rattle.hc_events.proofs.lemmas.ReadyEdits.{ready-waits, untouched-ready}
 use Rattle.hc_events.proofs.lemmas.SameAfter.{bytes-alike}
 use Rattle.hc_events.proofs.lemmas.SentValues.{IsRow, datagram-of, found-variable, from-bit, outputs-are, task-placed}
 use Rattle.hc_events.proofs.lemmas.Steady.{edit-moves}
+use Rattle.hc_events.proofs.lemmas.SteadyPosts.{posts-stay}
 use Rattle.hc_events.proofs.lemmas.Unchanged.{IsUnchanged, place-stays, same-length, unchanged-parts}
 
 -- a table has a variable's place of the line
@@ -151,6 +152,7 @@ is-undisturbed history edit task leaves =
       epoch = moves.left leaves.none;
       data_sent = λ d. data-stays history edit task d leaves;
       steady = λ d. moves.same_data d leaves.none;
+      posts = λ epoch bytes accepted. posts-stay history edit task epoch bytes (moves.left leaves.none) (sym unchanged.table) accepted;
       ready = λ ready.
           untouched-ready history edit task (record {
             at = record { all = leaves.all; project = leaves.project; uncrowded = leaves.uncrowded };

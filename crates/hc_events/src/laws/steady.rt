@@ -1,6 +1,6 @@
 //! What follows from the definitions of tasks over edits that do not change them: each function here does nothing, and its
 //! contract is a law that holds of every record. Nobody calls it.
-ghost use Rattle.hc_events.specs.SteadyLaws.{EditsMoveTaskEpochs, EditsOfOthersChangeNoTask, SameLinesChangeNoTask, SlotsAreSteady, SteadyDataFit, SteadyDataOfTheEpochAreSlots, TaskEpochsAreBounded, UnchangedTasksAreUndisturbed};
+ghost use Rattle.hc_events.specs.SteadyLaws.{AcceptedPostsAreSteady, EditsMoveTaskEpochs, EditsOfOthersChangeNoTask, PostsOfTheEpochAreAlike, SameLinesChangeNoTask, SlotsAreSteady, SteadyDataFit, SteadyDataOfTheEpochAreSlots, SteadyPostsAreAccepted, SteadyPostsAreStale, TaskEpochsAreBounded, UnchangedTasksAreUndisturbed};
 
 /// An edit that leaves the line changes no task: a remap or a move to what there is, and a declared group.
 pub fn same_lines_change_no_task()
@@ -35,9 +35,32 @@ pub fn steady_data_fit()
     ensures { SteadyDataFit }
 {}
 
+/// A steady post is accepted exactly if there is the task, no edit after the post's epoch changed the task, the epoch is not
+/// above the present one, and the post has as many bytes as the task has outputs.
+pub fn steady_posts_are_accepted()
+    ensures { SteadyPostsAreAccepted }
+{}
+
+/// A steady post of a task is refused with `StalePost` exactly if its epoch is below the epoch of the last edit that changed
+/// the task, or above the present epoch.
+pub fn steady_posts_are_stale()
+    ensures { SteadyPostsAreStale }
+{}
+
+/// A steady post of the present epoch has the answer that a post with the same bytes has, and leads to the same history.
+pub fn posts_of_the_epoch_are_alike()
+    ensures { PostsOfTheEpochAreAlike }
+{}
+
+/// If a post is accepted, the steady post with the same task, epoch and bytes is accepted too, and leads to the same history.
+pub fn accepted_posts_are_steady()
+    ensures { AcceptedPostsAreSteady }
+{}
+
 /// An accepted edit that does not change a task leaves it undisturbed. The task's datagrams, the places of its variables, the
 /// register blocks of its areas, its epoch, the data that it would be sent with and its steady data are the same before and
-/// after the edit. If the task was ready, it is ready once each slave that came is cleared.
+/// after the edit. Each steady post that would have been accepted before the edit is accepted after it. If the task was ready,
+/// it is ready once each slave that came is cleared.
 pub fn unchanged_tasks_are_undisturbed()
     ensures { UnchangedTasksAreUndisturbed }
 {}
