@@ -11,4 +11,5 @@ pub mod Waiting
 pub mod ReadinessSteps
 pub mod ReadinessRoom
 pub mod Holders
+pub mod ChangedTasks
 pub mod ReadinessLaws

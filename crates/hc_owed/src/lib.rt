@@ -5,6 +5,7 @@
 #![tactic(auto)]
 
 pub mod area;
+mod changed_tasks;
 mod flags;
 pub mod holders;
 mod opening;
