@@ -1,7 +1,8 @@
 -- The tasks of sets that are joined, beside tests of what is still to be joined.
-use Rattle.std.proofs.Common.{◌≡◌, ℕ, ◌<◌, ◌==◌, ◌&&◌, ◌||◌, Bool, true, false, refl, ap, ◌∙◌}
+use Rattle.std.proofs.Common.{◌≡◌, ℕ, ◌<◌, ◌==◌, ◌&&◌, ◌||◌, Bool, true, false, refl, ap, ◌∙◌, Some}
+use Rattle.std.specs.Option.{option_map_or}
 use Rattle.hc_owed.specs.declared.task_set.TaskSet.{TaskSet}
-use Rattle.hc_owed.specs.TaskSets.{either_set, has_task, no_task, tasks_where}
+use Rattle.hc_owed.specs.TaskSets.{either_set, has_task, no_task, only_task, tasks_where}
 use Rattle.hc_owed.proofs.TaskLists.{has-where}
 
 pub none-set : (t : ℕ) → t < 8 → has_task t no_task ≡ false
@@ -37,3 +38,10 @@ with-any t task a set rest low is =
     joined : (x y z : Bool) → ((x || y) || z) ≡ (x || (y || z))
     joined true y z = refl
     joined false y z = refl
+
+-- one task alone, and none
+pub only-has : (t task : ℕ) (set : TaskSet) → t < 8 → set ≡ only_task (Some task) → has_task t set ≡ (task == t)
+only-has t task set low is = ap (has_task t) is ∙ has-where (λ other. option_map_or (λ one. one == other) (Some task) false) t low
+
+pub none-has : (t : ℕ) (set : TaskSet) → t < 8 → set ≡ no_task → has_task t set ≡ false
+none-has t set low is = ap (has_task t) is ∙ none-set t low
