@@ -134,7 +134,7 @@ agree-edited : (unchanged : CoreParts) (history taken : History) (new : State) (
 agree-edited unchanged history taken new report changed inputs ages epochs outputs owed readiness accepted say uncrowded has slots_so undated raised known ready carried agree =
     let edit = report.swap.edit in
     let after : state_after (state_of history) edit ≡ new = after-is (state_of history) edit new accepted in
-    let all = (accepted_edit (lowest (edit_faults (state_of history) edit)) (changed_state (state_of history) edit) new accepted, agree.accepted) in
+    let all : AreAccepted (Edited edit ∷ history) = (accepted_edit (lowest (edit_faults (state_of history) edit)) (changed_state (state_of history) edit) new accepted, agree.accepted) in
     let changes : (task : ℕ) → task < TASKS → has_task task changed ≡ edit_changes history edit task = λ task low. has task low ∙ ap (λ (state : State). changes_task (state_of history) state task) (sym after) in
     let epoch : report.epoch ≡ epoch_of history + 1 = say.epoch ∙ ap (λ (state : State). state.epoch) (sym after) ∙ epochs-counted (Edited edit ∷ history) all in
     record {

@@ -19,4 +19,4 @@ from_zero count most few = omega (arith, few)
 
 pub slots-shown : (history : History) (image : DatagramImage) (task count : ℕ) → ShowsSteadyData history image → task < TASKS → count ≤ MOST_DATAGRAMS
     → map (data_of image task) (range_with_len 0 count) ≡ map (steady_slot history task) (range_with_len 0 count)
-slots-shown history image task count shows low few = shown_from history image task 0 count shows (from_zero count MOST_DATAGRAMS few)
+slots-shown history image task count shows low few = shown_from history image task 0 count shows low (from_zero count MOST_DATAGRAMS few)

@@ -17,7 +17,7 @@ use Rattle.hc_core.specs.Ages.{aged, data_age, steady_age}
 abbrev found_of : List ℕ → ℕ → ℕ → SteadyData
 found_of bytes serial epoch = record { bytes = bytes; serial = serial; epoch = epoch }
 
-abbrev age_from : ℕ → ℕ → DataAge
+abbrev pub age_from : ℕ → ℕ → DataAge
 age_from serial epoch = record { serial = serial; epoch = epoch }
 
 -- good answers

@@ -7,7 +7,7 @@ use Rattle.hc_events.specs.Images.{FitsImage, renewed}
 use Rattle.hc_images.specs.Image.{data_of}
 use Rattle.hc_core.specs.GoodAnswers.{good_of, good_answers_in, parts_without_places}
 use Rattle.hc_core.specs.Ages.{age_of, aged}
-use Rattle.hc_core.proofs.good_answers.put_good_answers.Invariants.{age_from}
+use Rattle.hc_core.proofs.SteadyReads.{age_from}
 use Rattle.hc_core.proofs.GoodAnswersSteps.{good_answers-over, good_answers-short, good_answers-step, parts-back}
 use Rattle.hc_core.proofs.good_answers.put_good_answers.Goals as goal
 

@@ -4,13 +4,9 @@ use Rattle.hc_records.specs.declared.limits.TheConstants.{MOST_DATAGRAMS}
 use Rattle.hc_events.specs.Images.{FitsImage, renewed}
 use Rattle.hc_images.specs.Image.{data_of}
 use Rattle.hc_core.specs.GoodAnswers.{good_answers_in, parts_without_places}
-use Rattle.hc_core.specs.declared.ages.DataAge.{DataAge}
+use Rattle.hc_core.proofs.SteadyReads.{age_from}
 use Rattle.hc_core.specs.Ages.{age_of, aged}
 use Rattle.hc_core.proofs.good_answers.put_good_answers.Given as goal
-
--- an age
-abbrev pub age_from : ℕ → ℕ → DataAge
-age_from serial epoch = record { serial = serial; epoch = epoch }
 
 -- what is left leads from the image and the ages so far to those of all; and it fits
 abbrev pub invariant-loop-outcome : goal.invariant-loop-outcome
