@@ -19,11 +19,11 @@ use Rattle.hc_events.specs.Arrivals.{Arrival}
 use Rattle.hc_events.specs.Accepted.{AreAccepted, IsInLine}
 use Rattle.hc_events.specs.Entries.{HistoryEntry, History, Opened, Sent, Came}
 use Rattle.hc_events.specs.Heads.{Block, Head, is_block}
-use Rattle.hc_events.specs.Points.{line_of, state_of}
+use Rattle.hc_events.specs.Points.{epoch_of, line_of, state_of}
+use Rattle.hc_events.specs.Steady.{SteadyData, steady_slot}
 use Rattle.hc_events.specs.Answering.{Sending, is_stale_to, judge, judged_by}
 use Rattle.hc_events.specs.Awaited.{awaited, is_write_sending}
-use Rattle.hc_events.specs.Ages.{data_serial, dated}
-use Rattle.hc_events.specs.Images.{FitsImage, NewAnswer, new_answer_by, renewed, slot_of}
+use Rattle.hc_events.specs.Images.{FitsImage, NewAnswer, new_answer_by, renewed}
 use Rattle.hc_events.specs.Holding.{held_after_answer, is_unplugged, may_hold}
 use Rattle.hc_events.specs.Owed.{confirms, known_bytes, last_write, write_of}
 use Rattle.hc_events.specs.declared.answer.Outcome.{Outcome}
@@ -50,7 +50,8 @@ use Rattle.hc_core.proofs.Update.{updates-came, updates-none}
 use Rattle.hc_core.proofs.AnswerGiven.{ShowsInputs, ShowsWrites, answer_given-writes}
 use Rattle.hc_core.specs.Agreement.{Agree, CoreParts}
 use Rattle.hc_core.specs.GoodAnswers.{change_of, good_answers_in}
-use Rattle.hc_core.specs.Serials.{Serials, serial_of}
+use Rattle.hc_core.proofs.SteadyReads.{ages-after, none-steadied, slots-after}
+use Rattle.hc_core.specs.Ages.{Ages, age_of, aged, data_age, steady_age}
 use Rattle.hc_core.specs.Chosen.{AreWriteOutcomes, CanConfirm, IsAwaitedAt, known_done}
 use Rattle.hc_core.specs.Held.{CanConfirmAreas, held_done}
 use Rattle.hc_core.specs.Waits.{Waits}
@@ -59,10 +60,6 @@ use Rattle.hc_core.specs.Waits.{Waits}
 
 pub none-new_answer : (history : History) (arrival : Arrival) → is_stale_to history arrival ≡ true → new_answer_by history arrival ≡ []
 none-new_answer history arrival stale = search (rules, good_answers-of_updates, not-true)
-
--- without a good answer the serials stay
-none_dated : (history : History) (arrival : Arrival) (task d : ℕ) → new_answer_by history arrival ≡ [] → data_serial (Came arrival ∷ history) task d ≡ data_serial history task d
-none_dated history arrival task d none = ap (fold (dated arrival.serial task d) (data_serial history task d)) none
 
 pub agree-stale : (unchanged : CoreParts) (history taken : History) (arrival : Arrival) → is_stale_to history arrival ≡ true → Agree unchanged history taken → Agree unchanged (Came arrival ∷ history) taken
 agree-stale unchanged history taken arrival stale agree =
@@ -75,8 +72,9 @@ agree-stale unchanged history taken arrival stale agree =
       serial = agree.serial;
       left = agree.left;
       waits = waits-stale history unchanged.awaited arrival stale agree.waits;
-      slots = λ task d below. agree.slots task d below ∙ sym (says.slots task d);
-      dates = λ task d below. agree.dates task d below ∙ sym (none_dated history arrival task d (none-new_answer history arrival stale));
+      slots = λ task d low below. agree.slots task d low below ∙ sym (ap (option_map (λ (found : SteadyData). found.bytes)) (says.steady task d));
+      dates = λ task d low below. agree.dates task d low below ∙ sym (ap (option_map data_age) (says.steady task d));
+      epochs = λ task low. agree.epochs task low ∙ sym (says.epochs task);
       values = values-came history arrival unchanged.outputs agree.values;
       known = agree.known ∙ unchanged-alike (known_bytes history) (known_bytes (Came arrival ∷ history)) (state_of history) (λ station number. sym (says.known station number));
       ready = areas-alike unchanged.readiness (known_bytes history) (may_hold history) (is_unplugged history) (Came arrival ∷ history) agree.ready (λ station number. sym (says.known station number))
@@ -99,11 +97,11 @@ held_framed history arrival sending there frame station number =
     (λ t. let never : false ≡ true = sym frame ∙ not-frame sending station number (awaited-last history station number (write_of arrival.serial (confirmed-last history arrival station number t).block) sending (confirmed-last history arrival station number t).last there) in cc)
     (λ t. sym (ap (λ b. held_after_answer b (last_write history station number) (may_hold history station number)) t))
 
-pub agree-inputs : (unchanged : CoreParts) (history taken : History) (arrival : Arrival) (outcomes : List Outcome) (inputs : DatagramImage) (serials : Serials) → ShowsInputs history arrival outcomes
+pub agree-inputs : (unchanged : CoreParts) (history taken : History) (arrival : Arrival) (outcomes : List Outcome) (inputs : DatagramImage) (ages : Ages) (epoch : ℕ) → ShowsInputs history arrival outcomes → epoch ≡ epoch_of history
     → ((task d : ℕ) → d < MOST_DATAGRAMS → data_of inputs task d ≡ fold (renewed task d) (data_of unchanged.inputs task d) (good_answers_in outcomes arrival.parts))
-    → ((task d : ℕ) → d < MOST_DATAGRAMS → serial_of serials task d ≡ fold (dated arrival.serial task d) (serial_of unchanged.serials task d) (good_answers_in outcomes arrival.parts)) → Agree unchanged history taken
-    → Agree (record unchanged { awaited = ended arrival.serial unchanged.awaited; inputs = inputs; serials = serials; changes = unchanged.changes ++ map change_of (good_answers_in outcomes arrival.parts) }) (Came arrival ∷ history) taken
-agree-inputs unchanged history taken arrival outcomes inputs serials shows puts dates agree = record {
+    → ((task d : ℕ) → d < MOST_DATAGRAMS → age_of ages task d ≡ fold (aged (record { serial = arrival.serial; epoch = epoch }) task d) (age_of unchanged.ages task d) (good_answers_in outcomes arrival.parts)) → Agree unchanged history taken
+    → Agree (record unchanged { awaited = ended arrival.serial unchanged.awaited; inputs = inputs; ages = ages; changes = unchanged.changes ++ map change_of (good_answers_in outcomes arrival.parts) }) (Came arrival ∷ history) taken
+agree-inputs unchanged history taken arrival outcomes inputs ages epoch shows now puts dates agree = record {
   accepted = (tt, agree.accepted);
   state = agree.state;
   project = agree.project;
@@ -111,12 +109,13 @@ agree-inputs unchanged history taken arrival outcomes inputs serials shows puts 
   serial = agree.serial;
   left = agree.left;
   waits = waits-ended history unchanged.awaited arrival agree.waits shows.updates;
-  slots = λ task d below.
-      puts task d below ∙ ap (λ start. fold (renewed task d) start (good_answers_in outcomes arrival.parts)) (agree.slots task d below)
-      ∙ ap (fold (renewed task d) (slot_of history task d)) (sym shows.good_answers);
-  dates = λ task d below.
-      dates task d below ∙ ap (λ start. fold (dated arrival.serial task d) start (good_answers_in outcomes arrival.parts)) (agree.dates task d below)
-      ∙ ap (fold (dated arrival.serial task d) (data_serial history task d)) (sym shows.good_answers);
+  slots = λ task d low below.
+      puts task d below ∙ ap (λ start. fold (renewed task d) start (good_answers_in outcomes arrival.parts)) (agree.slots task d low below)
+      ∙ ap (fold (renewed task d) (steady_slot history task d)) (sym shows.good_answers) ∙ sym (slots-after history arrival task d);
+  dates = λ task d low below.
+      dates task d below ∙ ap (λ start. fold (aged (record { serial = arrival.serial; epoch = epoch }) task d) start (good_answers_in outcomes arrival.parts)) (agree.dates task d low below)
+      ∙ ap (fold (aged (record { serial = arrival.serial; epoch = epoch }) task d) (steady_age history task d)) (sym shows.good_answers) ∙ sym (ages-after history arrival epoch task d now);
+  epochs = agree.epochs;
   values = values-came history arrival unchanged.outputs agree.values;
   known = search (rules, unchanged-alike, known-framed);
   ready = areas-alike unchanged.readiness (known_bytes history) (may_hold history) (is_unplugged history) (Came arrival ∷ history) agree.ready
@@ -126,9 +125,6 @@ agree-inputs unchanged history taken arrival outcomes inputs serials shows puts 
 }
 
 -- one that answers a frame of register writes
-
-none_put : (history : History) (arrival : Arrival) (task d : ℕ) → new_answer_by history arrival ≡ [] → slot_of (Came arrival ∷ history) task d ≡ slot_of history task d
-none_put history arrival task d none = ap (fold (renewed task d) (slot_of history task d)) none
 
 -- the write that is kept with the arrival's serial is the one that is awaited
 
@@ -230,8 +226,9 @@ agree-written unchanged history taken arrival outcomes owed readiness written wi
       serial = agree.serial;
       left = agree.left;
       waits = waits-ended history unchanged.awaited arrival agree.waits shows.is.new_answer;
-      slots = λ task d below. agree.slots task d below ∙ sym (none_put history arrival task d shows.none);
-      dates = λ task d below. agree.dates task d below ∙ sym (none_dated history arrival task d shows.none);
+      slots = λ task d low below. agree.slots task d low below ∙ sym (ap (option_map (λ (found : SteadyData). found.bytes)) (none-steadied history arrival task d shows.none));
+      dates = λ task d low below. agree.dates task d low below ∙ sym (ap (option_map data_age) (none-steadied history arrival task d shows.none));
+      epochs = agree.epochs;
       values = values-came history arrival unchanged.outputs agree.values;
       known = confirmed
           ∙ unchanged-alike (known_done (state_of history) blocks outcomes (known_bytes history)) (known_bytes (Came arrival ∷ history)) (state_of history)

@@ -1,5 +1,5 @@
 -- What is kept stays right after an accepted edit.
-use Rattle.std.proofs.Common.{◌≡◌, ℕ, ◌+◌, ◌*◌, ◌<◌, List, [], ◌∷◌, ◌++◌, length, refl, sym, ap, ◌∙◌, subst, append_assoc, length-append, None, Option, rules}
+use Rattle.std.proofs.Common.{◌≡◌, ℕ, ◌+◌, ◌*◌, ◌<◌, Bool, cond, ap₂, List, [], ◌∷◌, ◌++◌, length, refl, sym, ap, ◌∙◌, subst, append_assoc, length-append, None, Option, rules}
 use Rattle.std.specs.Prelude.{Contains, Err, IfSome, Ok, Result}
 use Rattle.std.specs.Result.{result_unwrap_or}
 use Rattle.std.proofs.lemmas.List.{length-map, map-append}
@@ -31,12 +31,14 @@ use Rattle.hc_events.specs.Holding.{is_unplugged, may_hold}
 use Rattle.hc_events.specs.UpdatesLaws.{state_after_changes}
 use Rattle.hc_events.specs.Outputs.{value_bit}
 use Rattle.hc_events.specs.Owed.{known_bytes}
-use Rattle.hc_events.specs.Points.{line_of, state_of}
+use Rattle.hc_events.specs.Points.{epoch_of, line_of, state_of}
+use Rattle.hc_events.specs.Steady.{SteadyData, changes_task, edit_changes, steady_data, task_epoch}
+use Rattle.hc_events.proofs.lemmas.Epochs.{epochs-counted}
 use Rattle.hc_events.specs.Steps.{edit_answer}
 use Rattle.hc_events.proofs.lemmas.Undeclared.{undeclared-empty}
 use Rattle.hc_events.proofs.lemmas.Views.{legal-joined}
 use Rattle.hc_sendings.specs.Waiting.{nothing}
-use Rattle.hc_images.specs.Image.{HasNone, DatagramImage}
+use Rattle.hc_images.specs.Image.{DatagramImage}
 use Rattle.hc_images.specs.Moves.{Moves, moved_table}
 use Rattle.hc_images.specs.Packed.{HoldsOutputValues, Packed}
 use Rattle.hc_images.specs.Values.{unchanged as unchanged_over}
@@ -51,7 +53,13 @@ use Rattle.hc_core.proofs.Update.{exact-joined}
 use Rattle.hc_core.proofs.Posts.{values-edited}
 use Rattle.hc_core.proofs.Known.{unchanged-alike, known-edited}
 use Rattle.hc_core.specs.Agreement.{Agree, CoreParts}
-use Rattle.hc_core.specs.Serials.{HaveNone, Serials}
+use Rattle.hc_core.proofs.SteadyReads.{chosen-mapped}
+use Rattle.hc_core.specs.Ages.{Ages, data_age}
+use Rattle.hc_core.specs.Changed.{CanTellTasks, EmptiesTasks, HasChangedTasks, RaisesTasks, UndatesTasks}
+use Rattle.hc_core.specs.declared.ages.DataAge.{DataAge}
+use Rattle.hc_owed.specs.declared.task_set.TaskSet.{TaskSet}
+use Rattle.hc_owed.specs.TaskSets.{has_task}
+use Rattle.hc_records.specs.declared.limits.TheConstants.{TASKS}
 use Rattle.hc_core.specs.Update.{ShowUpdates}
 use Rattle.hc_core.specs.declared.declaring.SlaveRoom.{SlaveRoom}
 use Rattle.hc_core.specs.Prepared.{CanFollow, CoreEdit, CanBeCarriedOut, HasSlaveRoom}
@@ -106,8 +114,9 @@ updates-edited taken history edit changes new report accepted say shows =
 
 -- all that is kept
 
-agree-edited : (unchanged : CoreParts) (history taken : History) (new : State) (report : Report) (inputs : DatagramImage) (serials : Serials) (outputs : Packed) (owed : RegisterState) (readiness : List JudgedArea) → edited (state_of history) report.swap.edit ≡ Ok new → ReportsEdit (state_of history) report.swap.edit new report
-    → over_limit_task (line new) ≡ None → HasNone inputs → HaveNone serials → owed ≡ register_state_of (known_over (state_of history) (known_bytes history)) new
+agree-edited : (unchanged : CoreParts) (history taken : History) (new : State) (report : Report) (changed : TaskSet) (inputs : DatagramImage) (ages : Ages) (epochs : List ℕ) (outputs : Packed) (owed : RegisterState) (readiness : List JudgedArea) → edited (state_of history) report.swap.edit ≡ Ok new → ReportsEdit (state_of history) report.swap.edit new report
+    → over_limit_task (line new) ≡ None → ((task : ℕ) → task < TASKS → has_task task changed ≡ changes_task (state_of history) new task)
+    → EmptiesTasks changed unchanged.inputs inputs → UndatesTasks changed unchanged.ages ages → RaisesTasks changed report.epoch unchanged.epochs epochs → owed ≡ register_state_of (known_over (state_of history) (known_bytes history)) new
     → readiness ≡ readiness_of (known_over (state_of history) (known_bytes history)) (held_over (state_of history) new (may_hold history)) (unplugged_over new (is_unplugged history)) new
     → HoldsOutputValues (table_of (line new)) (unchanged_over (table_of (line_of history)) (value_bit history)) outputs → Agree unchanged history taken
     → Agree (record {
@@ -115,25 +124,36 @@ agree-edited : (unchanged : CoreParts) (history taken : History) (new : State) (
       serial = unchanged.serial;
       awaited = nothing;
       inputs = inputs;
-      serials = serials;
+      ages = ages;
+      epochs = epochs;
       outputs = outputs;
       owed = owed;
       readiness = readiness;
       changes = unchanged.changes ++ change.Swapped report.swap ∷ [];
     }) (Edited report.swap.edit ∷ history) taken
-agree-edited unchanged history taken new report inputs serials outputs owed readiness accepted say uncrowded none undated known ready carried agree =
+agree-edited unchanged history taken new report changed inputs ages epochs outputs owed readiness accepted say uncrowded has slots_so undated raised known ready carried agree =
     let edit = report.swap.edit in
     let after : state_after (state_of history) edit ≡ new = after-is (state_of history) edit new accepted in
+    let all : AreAccepted (Edited edit ∷ history) = (accepted_edit (lowest (edit_faults (state_of history) edit)) (changed_state (state_of history) edit) new accepted, agree.accepted) in
+    let changes : (task : ℕ) → task < TASKS → has_task task changed ≡ edit_changes history edit task = λ task low. has task low ∙ ap (λ (state : State). changes_task (state_of history) state task) (sym after) in
+    let epoch : report.epoch ≡ epoch_of history + 1 = say.epoch ∙ ap (λ (state : State). state.epoch) (sym after) ∙ epochs-counted (Edited edit ∷ history) all in
     record {
-      accepted = (accepted_edit (lowest (edit_faults (state_of history) edit)) (changed_state (state_of history) edit) new accepted, agree.accepted);
+      accepted = all;
       state = sym after;
       project = subst (λ state. lowest_fault (groups_of state.groups) ≡ None) (sym after) (accepted-project (state_of history) new edit agree.project accepted);
       uncrowded = subst (λ state. over_limit_task (line state) ≡ None) (sym after) uncrowded;
       serial = agree.serial;
       left = agree.left;
       waits = waits-edited history edit;
-      slots = λ task d below. none task d;
-      dates = λ task d below. undated task d;
+      slots = λ task d low below.
+          slots_so task d low below ∙ ap₂ (λ (b : Bool) (slot : Option (List ℕ)). cond b None slot) (changes task low) (agree.slots task d low below)
+          ∙ sym (chosen-mapped (λ (found : SteadyData). found.bytes) (edit_changes history edit task) (steady_data history task d));
+      dates = λ task d low below.
+          undated task d low below ∙ ap₂ (λ (b : Bool) (age : Option DataAge). cond b None age) (changes task low) (agree.dates task d low below)
+          ∙ sym (chosen-mapped data_age (edit_changes history edit task) (steady_data history task d));
+      epochs = λ task low.
+          raised task low ∙ ap₂ (λ (b : Bool) (own : ℕ). cond b report.epoch own) (changes task low) (agree.epochs task low)
+          ∙ ap (λ (now : ℕ). cond (edit_changes history edit task) now (task_epoch history task)) epoch;
       values = values-edited history edit outputs
           (subst (λ (state : State). HoldsOutputValues (table_of (line state)) (unchanged_over (table_of (line_of history)) (value_bit history)) outputs) (sym after) carried);
       known = search (rules, unchanged-alike, known-edited);
@@ -199,8 +219,20 @@ can-follow unchanged history taken edit moves slaves room capacity core_edit agr
   slaves = core_edit.slaves;
 }
 
-pub agree-carried : (unchanged : CoreParts) (history taken : History) (edit : PreparedEdit) (moves : Moves) (slaves : Option SlaveRoom) (room : List Change) (capacity : ℕ) (inputs : DatagramImage) (serials : Serials) (outputs : Packed) (owed : RegisterState) (readiness : List JudgedArea)
-    → CanBeCarriedOut (record { history = history; taken = taken }) edit moves slaves room capacity → IsPrepared edit → HasNone inputs → HaveNone serials → owed ≡ register_state_of (known_over edit.old (known_bytes history)) edit.new
+-- so the tasks that it changes can be found
+abbrev pub can-tell : (unchanged : CoreParts) (history taken : History) (edit : PreparedEdit) (moves : Moves) (slaves : Option SlaveRoom) (room : List Change) (capacity : ℕ) (table : Table) → table ≡ table_of (line unchanged.plan)
+    → CanBeCarriedOut (record { history = history; taken = taken }) edit moves slaves room capacity → Agree unchanged history taken → CanTellTasks table unchanged.readiness edit
+can-tell unchanged history taken edit moves slaves room capacity table shown core_edit agree = record {
+  known = known_bytes history;
+  held = may_hold history;
+  unplugged = is_unplugged history;
+  places = shown ∙ ap (λ (state : State). table_of (line state)) (agree.state ∙ sym core_edit.made);
+  areas = subst (λ (state : State). IsReadinessFor (known_bytes history) (may_hold history) (is_unplugged history) state unchanged.readiness) (sym core_edit.made) (kept-right unchanged history taken agree);
+  prepared = core_edit.prepared;
+}
+
+pub agree-carried : (unchanged : CoreParts) (history taken : History) (edit : PreparedEdit) (moves : Moves) (slaves : Option SlaveRoom) (room : List Change) (capacity : ℕ) (changed : TaskSet) (inputs : DatagramImage) (ages : Ages) (epochs : List ℕ) (outputs : Packed) (owed : RegisterState) (readiness : List JudgedArea)
+    → CanBeCarriedOut (record { history = history; taken = taken }) edit moves slaves room capacity → IsPrepared edit → HasChangedTasks edit changed → EmptiesTasks changed unchanged.inputs inputs → UndatesTasks changed unchanged.ages ages → RaisesTasks changed edit.report.epoch unchanged.epochs epochs → owed ≡ register_state_of (known_over edit.old (known_bytes history)) edit.new
     → readiness ≡ readiness_of (known_over edit.old (known_bytes history)) (held_over edit.old edit.new (may_hold history)) (unplugged_over edit.new (is_unplugged history)) edit.new
     → ((value : ℕ → ℕ → ℕ) → HoldsOutputValues moves.before value unchanged.outputs → HoldsOutputValues (moved_table moves) (unchanged_over moves.before value) outputs) → Agree unchanged history taken
     → Agree (record {
@@ -208,13 +240,14 @@ pub agree-carried : (unchanged : CoreParts) (history taken : History) (edit : Pr
       serial = unchanged.serial;
       awaited = nothing;
       inputs = inputs;
-      serials = serials;
+      ages = ages;
+      epochs = epochs;
       outputs = outputs;
       owed = owed;
       readiness = readiness;
       changes = unchanged.changes ++ change.Swapped edit.report.swap ∷ [];
     }) (Edited edit.report.swap.edit ∷ history) taken
-agree-carried unchanged history taken edit moves slaves room capacity inputs serials outputs owed readiness core_edit prepared none undated known ready moves_so agree =
+agree-carried unchanged history taken edit moves slaves room capacity changed inputs ages epochs outputs owed readiness core_edit prepared has slots_so undated raised known ready moves_so agree =
     let asked = edit.report.swap.edit in
     let accepted : edited (state_of history) asked ≡ Ok edit.new = subst (λ (state : State). edited state asked ≡ Ok edit.new) core_edit.made prepared.accepted in
     let answer_given : ReportsEdit (state_of history) asked edit.new edit.report = subst (λ (state : State). ReportsEdit state asked edit.new edit.report) core_edit.made prepared.answer_given in
@@ -222,7 +255,8 @@ agree-carried unchanged history taken edit moves slaves room capacity inputs ser
     let carried : HoldsOutputValues (table_of (line edit.new)) (unchanged_over (table_of (line_of history)) (value_bit history)) outputs =
     subst (λ (table : Table). HoldsOutputValues (table_of (line edit.new)) (unchanged_over table (value_bit history)) outputs) core_edit.table
     (subst (λ (table : Table). HoldsOutputValues table (unchanged_over moves.before (value_bit history)) outputs) (table-leads (record { history = history; taken = taken }) edit moves slaves room capacity core_edit prepared) (moves_so (value_bit history) before)) in
-    agree-edited unchanged history taken edit.new edit.report inputs serials outputs owed readiness accepted answer_given prepared.crowds.1 none undated
+    agree-edited unchanged history taken edit.new edit.report changed inputs ages epochs outputs owed readiness accepted answer_given prepared.crowds.1
+    (λ task low. has task low ∙ ap (λ (state : State). changes_task state edit.new task) core_edit.made) slots_so undated raised
     (known ∙ ap (λ (state : State). register_state_of (known_over state (known_bytes history)) edit.new) core_edit.made)
     (ready ∙ ap (λ (state : State). readiness_of (known_over state (known_bytes history)) (held_over state edit.new (may_hold history)) (unplugged_over edit.new (is_unplugged history)) edit.new) core_edit.made) carried agree
 

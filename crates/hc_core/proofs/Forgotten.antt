@@ -159,6 +159,7 @@ agree-forgot unchanged history taken station owed readiness inside right ready a
   waits = waits-forgot history unchanged.awaited station agree.waits;
   slots = agree.slots;
   dates = agree.dates;
+  epochs = agree.epochs;
   values = values_forgot history station unchanged.outputs agree.values;
   known = right
       ∙ unchanged-alike (known_without station (known_bytes history)) (known_bytes (Forgot station ∷ history)) (state_of history) (λ other number. sym (known-forgot history station other number));
@@ -185,6 +186,7 @@ agree-cleared unchanged history taken station readiness is ready agree = record 
   waits = waits-cleared history unchanged.awaited station agree.waits;
   slots = agree.slots;
   dates = agree.dates;
+  epochs = agree.epochs;
   values = values_cleared history station unchanged.outputs agree.values;
   known = agree.known;
   ready = areas-alike readiness (known_bytes history) (held_without station (may_hold history)) (is_unplugged history) (Cleared station ∷ history) ready
@@ -208,6 +210,7 @@ agree-unplugged unchanged history taken station readiness is ready agree = recor
   waits = waits-unplugged history unchanged.awaited station agree.waits;
   slots = agree.slots;
   dates = agree.dates;
+  epochs = agree.epochs;
   values = values_unplugged history station unchanged.outputs agree.values;
   known = agree.known;
   ready = areas-alike readiness (known_bytes history) (may_hold history) (unplugged_with station (is_unplugged history)) (Unplugged station ∷ history) ready

@@ -31,6 +31,8 @@ pub mod Fills
 pub mod FewFrames
 pub mod LastData
 pub mod LastSerials
+mod SteadyReads
+mod ChangedTasks
 pub mod Lines
 pub mod GoesWithout
 pub mod ReadsAmong

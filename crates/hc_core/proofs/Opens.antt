@@ -1,7 +1,9 @@
 -- What is kept at the opening is what the record of the opening says.
-use Rattle.std.proofs.Common.{◌≡◌, ◌≤◌, List, [], arith, None, rules}
+use Rattle.std.proofs.Common.{◌≡◌, ℕ, ◌<◌, ◌≤◌, List, [], arith, None, rules}
+use Rattle.std.specs.Prelude.{slice_index}
 use Rattle.std.proofs.lemmas.List.{append-nil}
 use Rattle.hc_records.specs.declared.records.Group.{Group}
+use Rattle.hc_records.specs.declared.limits.TheConstants.{TASKS}
 use Rattle.hc_records.specs.Edits.{over_limit_task}
 use Rattle.hc_records.specs.Line.{State, groups_of, line, opened}
 use Rattle.hc_records.specs.Project.{lowest_fault}
@@ -18,24 +20,25 @@ use Rattle.hc_core.proofs.AreasKept.{areas-opened}
 use Rattle.hc_core.proofs.Awaits.{waits-opened}
 use Rattle.hc_core.proofs.Known.{unchanged-alike}
 use Rattle.hc_core.specs.Agreement.{Agree}
-use Rattle.hc_core.specs.Serials.{HaveNone, Serials}
+use Rattle.hc_core.specs.Ages.{Ages, HaveNone}
 
 none_sent : 0 ≤ SETUP_SERIAL
 none_sent = omega arith
 
-pub agree-opened : (groups : List Group) (inputs : DatagramImage) (serials : Serials) (outputs : Packed) (owed : RegisterState) (readiness : List JudgedArea) → lowest_fault (groups_of (opened groups).groups) ≡ None → over_limit_task (line (opened groups)) ≡ None → HasNone inputs → HaveNone serials → owed ≡ register_state_of nothing_known (opened groups) → readiness ≡ readiness_of nothing_known unknown_registers none_unplugged (opened groups) → HoldsOutputValues (table_of (line (opened groups))) (λ variable k. 0) outputs
+pub agree-opened : (groups : List Group) (inputs : DatagramImage) (ages : Ages) (epochs : List ℕ) (outputs : Packed) (owed : RegisterState) (readiness : List JudgedArea) → lowest_fault (groups_of (opened groups).groups) ≡ None → over_limit_task (line (opened groups)) ≡ None → HasNone inputs → HaveNone ages → ((task : ℕ) → task < TASKS → slice_index epochs task ≡ 0) → owed ≡ register_state_of nothing_known (opened groups) → readiness ≡ readiness_of nothing_known unknown_registers none_unplugged (opened groups) → HoldsOutputValues (table_of (line (opened groups))) (λ variable k. 0) outputs
     → Agree (record {
       plan = opened groups;
       serial = 0;
       awaited = nothing;
       inputs = inputs;
-      serials = serials;
+      ages = ages;
+      epochs = epochs;
       outputs = outputs;
       owed = owed;
       readiness = readiness;
       changes = [];
     }) (just_opened groups) (just_opened groups)
-agree-opened groups inputs serials outputs owed readiness project uncrowded none undated unknown ready zeros = search (rules, none_sent, waits-opened, unchanged-alike, append-nil, areas-opened)
+agree-opened groups inputs ages epochs outputs owed readiness project uncrowded none undated first unknown ready zeros = search (rules, none_sent, waits-opened, unchanged-alike, append-nil, areas-opened)
 
 abbrev pub IsProject : State → Type 0
 IsProject state = lowest_fault (groups_of state.groups) ≡ None

@@ -2,18 +2,17 @@
 use Rattle.std.proofs.Common.{◌≡◌, ℕ, List, [], ◌∷◌, None, rules}
 use Rattle.hc_records.specs.declared.edit.Edit.{Edit}
 use Rattle.hc_records.specs.Line.{groups_of}
-use Rattle.hc_records.specs.Lists.{lowest}
 use Rattle.hc_records.specs.Project.{lowest_fault}
 use Rattle.hc_records.proofs.lemmas.VariablePlaces.{variables-lie}
 use Rattle.hc_registers.specs.Blocks.{LineBlock}
 use Rattle.hc_places.specs.Table.{table_of}
-use Rattle.hc_events.specs.Accepted.{AreAccepted}
+use Rattle.hc_events.specs.Accepted.{AreAccepted, IsPost}
 use Rattle.hc_events.specs.Arrivals.{Arrival}
 use Rattle.hc_events.specs.Entries.{History, Edited, Posted, Sent, Wrote, Came}
 use Rattle.hc_events.specs.Outputs.{value_bit}
 use Rattle.hc_events.specs.Points.{line_of, state_of}
 use Rattle.hc_events.specs.Sendings.{Frame, Named}
-use Rattle.hc_events.specs.Steps.{post_faults, with_sent}
+use Rattle.hc_events.specs.Steps.{with_sent}
 use Rattle.hc_images.specs.Packed.{HoldsOutputValues, Packed}
 use Rattle.hc_images.specs.Values.{unchanged, posted_values}
 use Rattle.hc_images.proofs.lemmas.Bits.{AreAlike, holds-alike}
@@ -59,9 +58,9 @@ values-edited history edit packed holds = search (rules, holds-alike, unchanged_
 
 -- all that is kept
 
-accepted_posted : (history : History) (task epoch : ℕ) (bytes : List ℕ) → lowest (post_faults history task epoch bytes) ≡ None → AreAccepted history → AreAccepted (Posted task bytes ∷ history)
-accepted_posted history task epoch bytes none all = search rules
+accepted_posted : (history : History) (task : ℕ) (bytes : List ℕ) → IsPost (line_of history) task bytes → AreAccepted history → AreAccepted (Posted task bytes ∷ history)
+accepted_posted history task bytes post all = (post, all)
 
-pub agree-posted : (unchanged : CoreParts) (history taken : History) (task epoch : ℕ) (bytes : List ℕ) (outputs : Packed) → lowest (post_faults history task epoch bytes) ≡ None
+pub agree-posted : (unchanged : CoreParts) (history taken : History) (task : ℕ) (bytes : List ℕ) (outputs : Packed) → IsPost (line_of history) task bytes
     → HoldsOutputValues (table_of (line_of history)) (posted_values (table_of (line_of history)) task bytes (value_bit history)) outputs → Agree unchanged history taken → Agree (record unchanged { outputs = outputs }) (Posted task bytes ∷ history) taken
-agree-posted unchanged history taken task epoch bytes outputs none holds agree = search (rules, accepted_posted, waits-posted, values-posted)
+agree-posted unchanged history taken task bytes outputs post holds agree = search (rules, accepted_posted, waits-posted, values-posted)

@@ -9,9 +9,8 @@ use Rattle.hc_frames.specs.declared.limits.TheConstants.{SETUP_SERIAL}
 use Rattle.hc_events.specs.Accepted.{AreAccepted, IsWrite}
 use Rattle.hc_events.specs.Changes.{updates_of}
 use Rattle.hc_events.specs.Entries.{History, Sent, Wrote}
-use Rattle.hc_events.specs.Ages.{data_serial}
 use Rattle.hc_events.specs.Holding.{is_unplugged, may_hold}
-use Rattle.hc_events.specs.Images.{slot_of}
+use Rattle.hc_events.specs.Steady.{steady_slot, task_epoch}
 use Rattle.hc_events.specs.Owed.{known_bytes, owed_blocks}
 use Rattle.hc_events.specs.Points.{next_serial, state_of}
 use Rattle.hc_events.specs.Sendings.{Frame, Named}
@@ -28,6 +27,7 @@ use Rattle.hc_core.proofs.Awaits.{waits-wrote}
 use Rattle.hc_core.proofs.Posts.{values-sent, values-wrote}
 use Rattle.hc_core.proofs.Known.{unchanged-alike, known-wrote}
 use Rattle.hc_core.proofs.SentAll.{waits-all_sent}
+use Rattle.hc_core.specs.Ages.{steady_age}
 use Rattle.hc_core.specs.Agreement.{Agree, CoreParts}
 use Rattle.hc_core.specs.Chosen.{IsLineBlock, known_sent}
 use Rattle.hc_core.specs.Held.{held_sent}
@@ -74,8 +74,9 @@ agree-sent unchanged history taken tasks none left agree =
       serial = ap (λ n. n + length frames) agree.serial ∙ sym (serial_sent frames history);
       left = left;
       waits = waits-all_sent history unchanged.awaited tasks agree.waits;
-      slots = λ task d below. agree.slots task d below ∙ sym (sent_alike (λ before. slot_of before task d) (λ before frame. refl) frames history);
-      dates = λ task d below. agree.dates task d below ∙ sym (sent_alike (λ before. data_serial before task d) (λ before frame. refl) frames history);
+      slots = λ task d low below. agree.slots task d low below ∙ sym (sent_alike (λ before. steady_slot before task d) (λ before frame. refl) frames history);
+      dates = λ task d low below. agree.dates task d low below ∙ sym (sent_alike (λ before. steady_age before task d) (λ before frame. refl) frames history);
+      epochs = λ task low. agree.epochs task low ∙ sym (sent_alike (λ before. task_epoch before task) (λ before frame. refl) frames history);
       values = values-sent frames history unchanged.outputs agree.values;
       known = agree.known
           ∙ unchanged-alike (known_bytes history) (known_bytes (with_sent history frames)) (state_of history) (λ station number. sym (sent_alike (λ before. known_bytes before station number) (λ before frame. refl) frames history))
@@ -113,6 +114,7 @@ agree-wrote unchanged history taken placed owed readiness write at left sent rea
       (waits-wrote history unchanged.awaited placed (subst (λ n. 0 < n) (same-length placed) write.some) at agree.waits);
   slots = agree.slots;
   dates = agree.dates;
+  epochs = agree.epochs;
   values = values-wrote history (map block_of placed) unchanged.outputs agree.values;
   known = sent ∙ unchanged-alike (known_sent placed (known_bytes history)) (known_bytes (Wrote (map block_of placed) ∷ history)) (state_of history) (λ station number. sym (known-wrote history placed station number));
   ready = areas-wrote readiness history placed agree.project at ready;

@@ -1,6 +1,5 @@
 -- What a core keeps, by the history of what it accepted.
-use Rattle.std.specs.Prelude.{◌≡◌, ℕ, ◌<◌, ◌≤◌, List, None}
-use Rattle.hc_records.specs.declared.limits.TheConstants.{MOST_DATAGRAMS}
+use Rattle.std.specs.Prelude.{◌≡◌, ℕ, ◌≤◌, List, None}
 use Rattle.hc_records.specs.Line.{State, groups_of}
 use Rattle.hc_records.specs.Edits.{over_limit_task}
 use Rattle.hc_records.specs.Project.{lowest_fault}
@@ -9,10 +8,9 @@ use Rattle.hc_events.specs.declared.change.Change.{Change}
 use Rattle.hc_events.specs.Accepted.{AreAccepted}
 use Rattle.hc_events.specs.Entries.{History}
 use Rattle.hc_events.specs.Points.{line_of, next_serial, state_of}
-use Rattle.hc_events.specs.Images.{slot_of}
 use Rattle.hc_events.specs.Owed.{known_bytes}
 use Rattle.hc_sendings.specs.Waiting.{Waiting}
-use Rattle.hc_images.specs.Image.{DatagramImage, data_of}
+use Rattle.hc_images.specs.Image.{DatagramImage}
 use Rattle.hc_images.specs.Packed.{Packed}
 use Rattle.hc_owed.specs.declared.area.JudgedArea.{JudgedArea}
 use Rattle.hc_owed.specs.RegisterState.{RegisterState, register_state_of}
@@ -20,14 +18,11 @@ use Rattle.hc_core.specs.Held.{areas_of}
 use Rattle.hc_core.specs.Records.{history_read}
 use Rattle.hc_core.specs.declared.keeping.Core.TheInside.{Inside}
 use Rattle.hc_core.specs.Update.{ShowUpdates}
-use Rattle.hc_core.specs.Serials.{Serials, ShowSerials}
+use Rattle.hc_core.specs.Ages.{Ages, ShowAges, ShowsSteadyData}
+use Rattle.hc_core.specs.Changed.{ShowEpochs}
 use Rattle.hc_core.specs.State.{CoreState}
 use Rattle.hc_core.specs.Values.{HoldsValues}
 use Rattle.hc_core.specs.Waits.{Waits}
-
--- the input image has of each datagram what a task reads of it
-abbrev pub ShowsSlots : History → DatagramImage → Type 0
-ShowsSlots history image = (task d : ℕ) → d < MOST_DATAGRAMS → data_of image task d ≡ slot_of history task d
 
 -- the parts of a core
 pub record CoreParts : Type 0 where
@@ -35,7 +30,8 @@ pub record CoreParts : Type 0 where
   pub serial : ℕ
   pub awaited : Waiting
   pub inputs : DatagramImage
-  pub serials : Serials
+  pub ages : Ages
+  pub epochs : List ℕ
   pub outputs : Packed
   pub owed : RegisterState
   pub readiness : List JudgedArea
@@ -50,8 +46,9 @@ pub record Agree (unchanged : CoreParts) (history taken : History) : Type 0 wher
   pub serial : unchanged.serial ≡ next_serial history
   pub left : unchanged.serial ≤ SETUP_SERIAL
   pub waits : Waits history unchanged.awaited
-  pub slots : ShowsSlots history unchanged.inputs
-  pub dates : ShowSerials history unchanged.serials
+  pub slots : ShowsSteadyData history unchanged.inputs
+  pub dates : ShowAges history unchanged.ages
+  pub epochs : ShowEpochs history unchanged.epochs
   pub values : HoldsValues history unchanged.outputs
   pub known : unchanged.owed ≡ register_state_of (known_bytes history) (state_of history)
   pub ready : unchanged.readiness ≡ areas_of history
@@ -68,7 +65,8 @@ core_parts core = record {
   serial = core.serial;
   awaited = core.awaited;
   inputs = core.inputs;
-  serials = core.data_serials;
+  ages = core.ages;
+  epochs = core.epochs;
   outputs = core.outputs;
   owed = core.owed;
   readiness = core.readiness;

@@ -11,7 +11,9 @@ pub mod Lines
 pub mod Texts
 pub mod Records
 pub mod Update
-pub mod Serials
+pub mod Ages
+pub mod Changed
+pub mod Steady
 pub mod Agreement
 pub mod Waits
 pub mod Prepared

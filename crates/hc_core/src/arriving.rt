@@ -74,7 +74,8 @@ impl Core {
             arrival,
         )?;
         self.changes.append(&mut self.new_answer)?;
-        put_good_answers(&mut self.inputs, &mut self.data_serials, outcomes, arrival);
+        let epoch = self.plan.epoch();
+        put_good_answers(&mut self.inputs, &mut self.ages, epoch, outcomes, arrival);
         self.awaited.end(arrival.serial());
         self.history = self.history.came(bytes);
         Ok(())

@@ -26,7 +26,8 @@ impl Core {
     {
         // a look at the core gives its invariant: the data fit an image
         let _ = &self.history;
-        put_good_answers(&mut self.inputs, &mut self.data_serials, outcomes, arrival);
+        let epoch = self.plan.epoch();
+        put_good_answers(&mut self.inputs, &mut self.ages, epoch, outcomes, arrival);
         self.awaited.end(arrival.serial());
         let came = self.history.came(bytes);
         self.changes.clear();

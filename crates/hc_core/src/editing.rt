@@ -9,6 +9,7 @@ ghost use Rattle.hc_events.specs.Points.{state_of};
 ghost use Rattle.hc_events.specs.Steps.{edit_answer};
 ghost use Rattle.hc_core.specs.Prepared.{CanBeCarriedOut};
 
+use crate::changed::{changed_tasks, empty_tasks, raise_epochs};
 use crate::declaring::{SlaveRoom, follow, foretell};
 use crate::keeping::Core;
 use crate::prepared::{CoreEdit, add_swap, edit_memory};
@@ -69,10 +70,11 @@ impl Core {
         })
     }
 
-    /// Carries a prepared edit out: a new epoch begins, where nothing is awaited and no datagram has data; output
-    /// variables that keep a place keep their values, and the value of any other is 0; the blocks that it moved
-    /// are owed unless their slaves are known to have their bytes, and of a declared group's slaves none is in
-    /// the line. The edit was prepared for the core as it is. Nothing can be refused, and it takes no memory.
+    /// Carries a prepared edit out: a new epoch begins, where nothing is awaited and no datagram has data of the epoch.
+    /// The tasks that the edit changes have no steady data, and every other task keeps its own. Output variables that
+    /// keep a place keep their values, and the value of any other is 0. The blocks that it moved are owed unless their
+    /// slaves are known to have their bytes, and of a declared group's slaves none is in the line. The edit was prepared
+    /// for the core as it is. Nothing can be refused, and it takes no memory.
     pub fn carry_out(&mut self, core_edit: CoreEdit) -> Answer
         requires { core_edit.core ≡ self.old }
         ensures answer { result ≡ edit_answer (state_of self.old.history) (state_after (state_of self.old.history) core_edit.edit.report.swap.edit) }
@@ -101,12 +103,13 @@ impl Core {
         ensures answer { result ≡ edit_answer (state_of self.old.history) (state_after (state_of self.old.history) edit.report.swap.edit) }
         ensures entries { self.new ≡ record self.old { history = Edited edit.report.swap.edit ∷ self.old.history } }
     {
+        let changed = changed_tasks(self.plan.places(), &self.readiness, &edit);
         self.awaited.clear();
-        self.inputs.clear();
-        self.data_serials.clear();
+        empty_tasks(&mut self.inputs, &mut self.ages, changed);
         follow(&mut self.owed, &mut self.readiness, &edit, slaves);
         self.outputs.change(moves, &edit.report().swap);
         let report = self.plan.carry_out(edit);
+        raise_epochs(&mut self.epochs, report.epoch, changed);
         let answer_given = judged_answer(&report);
         self.history = self.history.edited(report.swap.edit());
         add_swap(&mut self.changes, room, report.swap);

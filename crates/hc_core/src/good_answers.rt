@@ -1,11 +1,11 @@
-//! What an arrival's good answers change: the input image with its serials, and the changes that its readers get.
+//! What an arrival's good answers change: the input image with the ages of its data, and the changes that its readers get.
 ghost use Rattle.std.specs.Prelude.{◌≡◌, [], All, IfOk, OnOk, map, option_to_list};
 ghost use Rattle.hc_events.specs.Images.{FitsImage};
 ghost use Rattle.hc_core.specs.GoodAnswers.{change_of, good_of, good_answers_in};
-ghost use Rattle.hc_core.specs.Serials.{AreDated, AreRenewed};
+ghost use Rattle.hc_core.specs.Ages.{AreAged, AreRenewed};
 
+use crate::ages::{Ages, DataAge};
 use crate::buffers::Buffers;
-use crate::serials::Serials;
 use hc_events::answer::Outcome;
 use hc_events::change::{Change, GoodAnswer};
 use hc_frames::reading::{Part, Returned};
@@ -63,23 +63,25 @@ pub(crate) fn put_changes(
     Ok(())
 }
 
-/// An outcome's data are those of its datagram from now on, where it is a good answer, and this is their serial.
+/// An outcome's data are those of its datagram from now on, and this is their serial and their epoch, if the outcome is a good
+/// answer.
 fn put_good(
     inputs: &mut Inputs,
-    serials: &mut Serials,
+    ages: &mut Ages,
     serial: u64,
+    epoch: u32,
     outcome: &Outcome,
     part: &Part<'_>,
 )
     requires { All FitsImage (good_of outcome.now part.now.carried) }
     ensures slots { AreRenewed (good_of outcome.now part.now.carried) inputs.old inputs.new }
-    ensures serials { AreDated serial (good_of outcome.now part.now.carried) serials.old serials.new }
+    ensures ages { AreAged (record { serial = serial; epoch = epoch }) (good_of outcome.now part.now.carried) ages.old ages.new }
 {
     match outcome {
         Outcome::Inputs { task, datagram } => {
             let task = Task(*task);
             inputs.put(task, *datagram, part.bytes);
-            serials.put(task, *datagram, serial);
+            ages.put(task, *datagram, DataAge { serial, epoch });
         }
         Outcome::WrongCount {
             expected: _,
@@ -91,16 +93,18 @@ fn put_good(
     }
 }
 
-/// So are those of all good answers of an arrival, one after another, with the arrival's serial.
+/// The data of an arrival's good answers are those of their datagrams from now on, one after another. They answer the sending with
+/// the arrival's serial, and came in this epoch.
 pub(crate) fn put_good_answers(
     inputs: &mut Inputs,
-    serials: &mut Serials,
+    ages: &mut Ages,
+    epoch: u32,
     outcomes: &[Outcome],
     arrival: &Returned<'_>,
 )
     requires { All FitsImage (good_answers_in outcomes.now arrival.now.parts) }
     ensures slots { AreRenewed (good_answers_in outcomes.now arrival.now.parts) inputs.old inputs.new }
-    ensures serials { AreDated arrival.now.serial (good_answers_in outcomes.now arrival.now.parts) serials.old serials.new }
+    ensures ages { AreAged (record { serial = arrival.now.serial; epoch = epoch }) (good_answers_in outcomes.now arrival.now.parts) ages.old ages.new }
 {
     let serial = arrival.serial();
     let mut parts = arrival.parts();
@@ -108,6 +112,6 @@ pub(crate) fn put_good_answers(
         let Some(part) = parts.next() else {
             return;
         };
-        put_good(inputs, serials, serial, outcome, &part);
+        put_good(inputs, ages, serial, epoch, outcome, &part);
     }
 }

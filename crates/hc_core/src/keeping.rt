@@ -1,7 +1,7 @@
 //! What a core keeps.
+use crate::ages::Ages;
 use crate::buffers::Buffers;
 use crate::history::HistoryGhost;
-use crate::serials::Serials;
 use hc_events::change::Change;
 use hc_events::sending::Sending;
 use hc_images::inputs::Inputs;
@@ -14,16 +14,18 @@ use hc_sendings::write_frames::WriteFrame;
 use std::marker::Model;
 use std::snapshot::Snapshot;
 
-/// The line, the next serial, what is awaited, the input image and the serials of its data, the output values, the known
-/// and the owed register blocks, and the changes that nobody took. Contracts see the history of what was accepted, and
+/// The line, the next serial, what is awaited, the input image and the ages of its data, the epochs of the tasks, the output
+/// values, the known and the owed register blocks, and the changes that nobody took. Contracts see the history of what was accepted, and
 /// that record as it was when the changes were taken last.
 pub struct Core {
     pub(crate) plan: Plan,
     pub(crate) serial: u64,
     pub(crate) awaited: Awaited,
     pub(crate) inputs: Inputs,
-    // of each datagram's data the serial of the sending that they answer
-    pub(crate) data_serials: Serials,
+    // of each datagram's data the sending that they answer, and the epoch in which the answer came
+    pub(crate) ages: Ages,
+    // of each task the epoch of the last edit that changed it
+    pub(crate) epochs: [u32; 8],
     pub(crate) outputs: Outputs,
     pub(crate) owed: Owed,
     // which tasks owed blocks and registers outside the line keep waiting
@@ -47,7 +49,8 @@ impl Drop for Core {
             serial: _,
             awaited: _,
             inputs: _,
-            data_serials: _,
+            ages: _,
+            epochs: _,
             outputs: _,
             owed: _,
             readiness: _,

@@ -3,10 +3,12 @@
 #![tactic(auto)]
 
 mod adding;
+mod ages;
 mod areas;
 pub mod arena;
 mod arriving;
 mod buffers;
+mod changed;
 mod choosing;
 mod declaring;
 mod discarding;
@@ -27,8 +29,8 @@ pub mod prepared;
 mod reading;
 mod ready;
 mod sending;
-mod serials;
 mod serving;
+mod steady;
 mod taking;
 mod text;
 mod waiting;

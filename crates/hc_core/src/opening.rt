@@ -5,10 +5,10 @@ ghost use Rattle.hc_records.specs.Line.{line, opened};
 ghost use Rattle.hc_places.specs.Layout.{NamesOverLimit};
 ghost use Rattle.hc_events.specs.Accepted.{just_opened};
 
+use crate::ages::Ages;
 use crate::buffers::Buffers;
 use crate::history::HistoryGhost;
 use crate::keeping::Core;
-use crate::serials::Serials;
 use hc_images::inputs::Inputs;
 use hc_images::outputs::Outputs;
 use hc_owed::owed::Owed;
@@ -37,7 +37,7 @@ impl Core {
         let inputs = Inputs::new(alloc)?;
         let owed = Owed::new(alloc, &plan)?;
         let outputs = Outputs::new(alloc, plan.places())?;
-        let data_serials = Serials::new(alloc)?;
+        let ages = Ages::new(alloc)?;
         let writes = WriteFrame::new(alloc)?;
         let readiness = Readiness::new(alloc, &plan, &owed)?;
         let taken = Snapshot::of(&history);
@@ -46,7 +46,8 @@ impl Core {
             serial: 0,
             awaited,
             inputs,
-            data_serials,
+            ages,
+            epochs: [0; 8],
             outputs,
             owed,
             readiness,

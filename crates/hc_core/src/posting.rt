@@ -1,8 +1,13 @@
 //! What tasks post.
-ghost use Rattle.std.specs.Prelude.{◌≡◌, ◌∷◌, IfErr, None, OnErr, OnOk, Some};
+ghost use Rattle.std.specs.Prelude.{◌≡◌, ◌∷◌, ◌<◌, ◌==◌, IfErr, None, OnErr, OnOk, Some, length};
+ghost use Rattle.hc_records.specs.declared.limits.TheConstants.{TASKS};
+ghost use Rattle.hc_records.specs.Image.{output_length, task_places};
 ghost use Rattle.hc_records.specs.Lists.{lowest};
+ghost use Rattle.hc_events.specs.Accepted.{IsPost};
 ghost use Rattle.hc_events.specs.Entries.{Posted};
+ghost use Rattle.hc_events.specs.Points.{line_of};
 ghost use Rattle.hc_events.specs.Steps.{post_faults};
+ghost use Rattle.hc_core.specs.Steady.{is_stale_epoch, post_steady_faults};
 
 use crate::keeping::Core;
 use hc_events::faults::CoreFault;
@@ -10,6 +15,31 @@ use hc_records::limits::TASKS;
 use hc_records::task::Task;
 
 impl Core {
+    /// Whether these are as many bytes as a task, 0 to 7, has output bytes in the present epoch.
+    fn fits_outputs(&self, task: u8, bytes: &[u8]) -> bool
+        requires { task < TASKS }
+        ensures { result ≡ (length bytes.now == output_length (task_places task (line_of self.now.history))) }
+    {
+        bytes.len() == usize::from(self.plan.places().part(task).0)
+    }
+
+    /// Whether an epoch is below the one of the last edit that changed a task, 0 to 7, or above the present one.
+    fn is_stale_epoch(&self, task: u8, epoch: u32) -> bool
+        requires { task < TASKS }
+        ensures { result ≡ is_stale_epoch self.now.history task epoch }
+    {
+        epoch < self.task_epoch(task) || epoch > self.plan().epoch()
+    }
+
+    /// A post of a task that nothing refuses is recorded, and its values are sent from now on.
+    fn take_post(&mut self, task: u8, bytes: &[u8])
+        requires { IsPost (line_of self.old.history) task bytes.now }
+        ensures { self.new ≡ record self.old { history = Posted task bytes.now ∷ self.old.history } }
+    {
+        self.outputs.post(self.plan.places(), Task(task), bytes);
+        self.history = self.history.posted(task, bytes);
+    }
+
     /// A post of a task, 0 to 7, that was made for an epoch: as many bytes as the task has output bytes in it. Each
     /// output variable of the task has its bits in them as its value from now on. `NoSuchTask` where the
     /// number is over 7; `StalePost` where another epoch has begun; `PostLength` where there are more or fewer
@@ -23,14 +53,40 @@ impl Core {
         if task >= TASKS {
             return Err(CoreFault::NoSuchTask);
         }
-        if epoch != self.plan.epoch() {
+        if epoch != self.plan().epoch() {
             return Err(CoreFault::StalePost);
         }
-        if bytes.len() != usize::from(self.plan.places().part(task).0) {
+        if !self.fits_outputs(task, bytes) {
             return Err(CoreFault::PostLength);
         }
-        self.outputs.post(self.plan.places(), Task(task), bytes);
-        self.history = self.history.posted(task, bytes);
+        self.take_post(task, bytes);
+        Ok(())
+    }
+
+    /// A steady post of a task, 0 to 7: as `post`, for any epoch from the last accepted edit that changed the task to the present
+    /// one. So an edit that does not change the task leaves a post valid that was made before the edit. Each output variable of
+    /// the task has its bits in the bytes as its value from now on. It allocates nothing (this project's profile). It fails with
+    /// the first of these that holds, and nothing changes:
+    ///
+    /// - `NoSuchTask`: the task is over 7.
+    /// - `StalePost`: the epoch is below `task_epoch` of the task, or above the present epoch.
+    /// - `PostLength`: there are more or fewer bytes than the task has output bytes.
+    pub fn post_steady(&mut self, task: u8, epoch: u32, bytes: &[u8]) -> Result<(), CoreFault>
+        ensures accepted { OnOk result (lowest (post_steady_faults self.old.history task epoch bytes.now) ≡ None) }
+        ensures entries { OnOk result (self.new ≡ record self.old { history = Posted task bytes.now ∷ self.old.history }) }
+        ensures refused { IfErr result (λ fault. lowest (post_steady_faults self.old.history task epoch bytes.now) ≡ Some fault) }
+        ensures unchanged { OnErr result (self.new ≡ self.old) }
+    {
+        if task >= TASKS {
+            return Err(CoreFault::NoSuchTask);
+        }
+        if self.is_stale_epoch(task, epoch) {
+            return Err(CoreFault::StalePost);
+        }
+        if !self.fits_outputs(task, bytes) {
+            return Err(CoreFault::PostLength);
+        }
+        self.take_post(task, bytes);
         Ok(())
     }
 }

@@ -1,5 +1,6 @@
 //! What a core says of itself and to tasks.
-ghost use Rattle.std.specs.Prelude.{◌≡◌, ◌<◌, ◌≤◌, ◌⊎◌, IfOk, IfSome, None, Ok, length};
+ghost use Rattle.std.specs.Prelude.{◌≡◌, ◌<◌, ◌≤◌, ◌⊎◌, IfOk, IfSome, None, Ok, is_some, length, map};
+ghost use Rattle.std.specs.List.{range_with_len};
 ghost use Rattle.std.specs.Option.{option_copied};
 ghost use Rattle.hc_records.specs.declared.limits.TheConstants.{MOST_DATAGRAMS, TASKS};
 ghost use Rattle.hc_records.specs.Lists.{lowest};
@@ -17,6 +18,7 @@ use crate::keeping::Core;
 use hc_events::answer::Answer;
 use hc_events::faults::CoreFault;
 use hc_plan::plan::Plan;
+use hc_records::items::Items;
 use hc_records::limits::{MOST_DATAGRAMS, TASKS};
 use hc_records::task::Task;
 use std::alloc::{AllocError, Global};
@@ -46,6 +48,21 @@ impl Core {
         self.owed.count()
     }
 
+    /// Whether a task, 0 to 7, reads data of one of its datagrams, 0 to 15: the answer that brought its steady data came in the
+    /// present epoch.
+    fn is_present(&self, task: u8, number: u8) -> bool
+        requires task { task < TASKS }
+        requires number { number < MOST_DATAGRAMS }
+        ensures { result ≡ is_some (slot_of self.now.history task number) }
+    {
+        // a look at the plan gives the core's invariant: the ages are the history's
+        let _ = &self.plan;
+        match self.ages.get(Task(task), number) {
+            Some(age) => age.epoch == self.plan.epoch(),
+            None => false,
+        }
+    }
+
     /// What a task reads of one of its datagrams, lent: the data of the last good answer in the present epoch, or none
     /// where it had none; none too where the task is over 7, or the number over 15. It takes no memory.
     pub fn data(&self, task: u8, number: u8) -> Option<&[u8]>
@@ -57,6 +74,9 @@ impl Core {
         if task >= TASKS || usize::from(number) >= MOST_DATAGRAMS {
             return None;
         }
+        if !self.is_present(task, number) {
+            return None;
+        }
         self.inputs.data(Task(task), number)
     }
 
@@ -66,12 +86,15 @@ impl Core {
         ensures serial { task < TASKS → number < MOST_DATAGRAMS → result ≡ data_serial self.now.history task number }
         ensures none { TASKS ≤ task ⊎ MOST_DATAGRAMS ≤ number → result ≡ None }
     {
-        // a look at the plan gives the core's invariant: the serials are the history's
+        // a look at the plan gives the core's invariant: the ages are the history's
         let _ = &self.plan;
         if task >= TASKS || usize::from(number) >= MOST_DATAGRAMS {
             return None;
         }
-        self.data_serials.get(Task(task), number)
+        if !self.is_present(task, number) {
+            return None;
+        }
+        self.steady_serial(task, number)
     }
 
     /// The output values of a datagram of the present line, lent, as it is sent now: at the place of each output variable
@@ -85,7 +108,37 @@ impl Core {
         self.outputs.bytes(task, number)
     }
 
-    /// The image of a task as it is kept.
+    /// A copy of what a task, 0 to 7, reads of one of its datagrams, 0 to 15, or none.
+    fn slot(&self, alloc: Global, task: u8, number: u8) -> Result<Option<Items<u8>>, AllocError>
+        requires task { task < TASKS }
+        requires number { number < MOST_DATAGRAMS }
+        ensures { IfOk result (λ slot. slot ≡ slot_of self.now.history task number) }
+    {
+        let Some(bytes) = self.data(task, number) else {
+            return Ok(None);
+        };
+        Ok(Some(Items::of(Vec::from_slice(alloc, bytes)?)))
+    }
+
+    /// What a task, 0 to 7, reads of its first datagrams, at most 16.
+    fn slots(
+        &self,
+        alloc: Global,
+        task: u8,
+        count: u8,
+    ) -> Result<Items<Option<Items<u8>>>, AllocError>
+        requires task { task < TASKS }
+        requires count { count ≤ MOST_DATAGRAMS }
+        ensures { IfOk result (λ slots. slots ≡ map (slot_of self.now.history task) (range_with_len 0 count)) }
+    {
+        let mut slots = Vec::with_capacity(alloc, usize::from(count))?;
+        for number in 0..count {
+            slots.push(self.slot(alloc, task, number)?)?;
+        }
+        Ok(Items::of(slots))
+    }
+
+    /// The image of a task in the present epoch.
     fn image(&self, alloc: Global, task: u8) -> Result<Answer, AllocError>
         ensures answer { IfOk result (λ answer_given. answer_given ≡ answer_to self.now.history (Reads task)) }
         ensures early { IfSome (lowest (read_faults task)) (λ fault. result ≡ Ok (answer.Refused fault)) }
@@ -94,7 +147,7 @@ impl Core {
             return Ok(Answer::Refused(CoreFault::NoSuchTask));
         }
         let count = self.plan.places().datagrams(task).len() as u8;
-        let slots = self.inputs.read(alloc, Task(task), count)?;
+        let slots = self.slots(alloc, task, count)?;
         let epoch = self.plan.epoch();
         Ok(Answer::Image { epoch, slots })
     }

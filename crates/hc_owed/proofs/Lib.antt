@@ -1,6 +1,7 @@
 mod AreaChanges
 mod AreaPlaces
 mod AreaTasks
+mod ChangedTasks
 mod Changing
 mod Counting
 mod Entering

@@ -13,4 +13,5 @@ pub mod ReadinessSteps
 pub mod ReadinessRoom
 pub mod EditWaits
 pub mod Holders
+pub mod ChangedTasks
 pub mod ReadinessLaws

@@ -5,6 +5,7 @@
 #![tactic(auto)]
 
 pub mod area;
+mod changed_tasks;
 pub mod edit_waits;
 mod flags;
 pub mod holders;

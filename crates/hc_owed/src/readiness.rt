@@ -26,7 +26,7 @@ const TASK_SPAN: u32 = 0x0100_0000;
 
 /// The task, 0 to 7, in whose logical addresses a block's FMMU begins, if the block is an active FMMU's. None for the block of a
 /// sync manager, for an FMMU that is not active, and for addresses of no task (ETG.1000.4, 6.6).
-fn named_task(block: &Block) -> Option<u8>
+pub(crate) fn named_task(block: &Block) -> Option<u8>
     ensures named { (task : ℕ) → task < TASKS → names_task task block.now.bytes ≡ option_map_or (λ own. own == task) result false }
     ensures low { IfSome result (λ task. task < TASKS) }
 {

@@ -1,4 +1,4 @@
-use Rattle.std.proofs.Common.{◌∷◌, ◌++◌, [], ◌∙◌, List, ap, arith, subst, sym}
+use Rattle.std.proofs.Common.{◌≡◌, ℕ, ◌∷◌, ◌++◌, [], ◌∙◌, List, ap, arith, subst, sym}
 use Rattle.std.specs.Prelude.{vec_capacity}
 use Rattle.hc_records.specs.Edits.{state_after}
 use Rattle.hc_records.specs.Line.{State, line}
@@ -18,10 +18,17 @@ use Rattle.hc_events.specs.Entries.{History, Edited}
 use Rattle.hc_events.specs.Points.{state_of}
 use Rattle.hc_events.specs.Steps.{edit_answer}
 use Rattle.hc_core.specs.Records.{history_read}
-use Rattle.hc_core.proofs.Edits.{after-is, agree-carried, can-follow, count-waiting, edited-answer_given, new-project, still-here, table-leads}
+use Rattle.hc_core.proofs.Edits.{after-is, agree-carried, can-follow, can-tell, count-waiting, edited-answer_given, new-project, still-here, table-leads}
+use Rattle.hc_core.specs.Changed.{RaisesTasks}
 use Rattle.hc_core.specs.Agreement.{Agree, CoreParts, core_parts, state_in}
 use Rattle.hc_core.specs.State.{CoreState}
 use Rattle.hc_core.proofs.keeping.Core.carry.Goals as goal
+
+pub changed_tasks-requires : goal.changed_tasks-requires
+changed_tasks-requires c =
+    let core_edit = still-here (state_in c.self.inside) c.args.self.now c.args.edit c.args.moves c.args.slaves c.args.room.items (vec_capacity c.args.room) c.self.view_is c.requires in
+    can-tell (core_parts c.self.inside) (history_read c.self.inside.history) (history_read c.self.inside.taken.value) c.args.edit c.args.moves c.args.slaves c.args.room.items (vec_capacity c.args.room)
+    c.places.result.now c.places.ensures.table core_edit c.self.invariant
 
 pub follow-requires : goal.follow-requires
 follow-requires c =
@@ -75,15 +82,17 @@ invariant_of-self c =
     let prepared = core_edit.prepared in
     let followed = can-follow (core_parts inside) history taken edit c.args.moves c.args.slaves c.args.room.items (vec_capacity c.args.room) core_edit c.self.invariant in
     let swap = ap (λ (report : Report). report.swap) c.carry_out-report.ensures.report in
+    let epoch : c.carry_out-report.result.epoch ≡ edit.report.epoch = ap (λ (report : Report). report.epoch) c.carry_out-report.ensures.report in
+    let raised = subst (λ (n : ℕ). RaisesTasks c.changed_tasks-changed.result n inside.epochs c.raise_epochs.new.epochs) epoch c.raise_epochs.ensures in
     let changes = c.add_swap.ensures ∙ ap (λ (one : Swap). inside.changes.items ++ change.Swapped one ∷ []) swap in
     let grows = c.edited.ensures ∙ ap (λ asked. Edited asked ∷ history) (c.edit.ensures ∙ ap (λ (one : Swap). one.edit) swap) in
-    let unchanged : State → Waiting → List Change → CoreParts = λ plan awaited changes. record { plan = plan; serial = inside.serial; awaited = awaited; inputs = c.clear-2.new.self; serials = c.clear-3.new.self; outputs = c.change.new.self; owed = c.follow.new.owed; readiness = c.follow.new.readiness; changes = changes } in
+    let unchanged : State → Waiting → List Change → CoreParts = λ plan awaited changes. record { plan = plan; serial = inside.serial; awaited = awaited; inputs = c.empty_tasks.new.inputs; ages = c.empty_tasks.new.ages; epochs = c.raise_epochs.new.epochs; outputs = c.change.new.self; owed = c.follow.new.owed; readiness = c.follow.new.readiness; changes = changes } in
     subst (λ (after_it : History). Agree (unchanged c.carry_out-report.new.self c.clear.new.self c.add_swap.new.changes.items) after_it taken) (sym grows)
     (subst (λ (plan : State). Agree (unchanged plan c.clear.new.self c.add_swap.new.changes.items) (Edited edit.report.swap.edit ∷ history) taken) (sym c.carry_out-report.ensures.plan)
     (subst (λ (waiting : Waiting). Agree (unchanged edit.new waiting c.add_swap.new.changes.items) (Edited edit.report.swap.edit ∷ history) taken) (sym c.clear.ensures)
     (subst (λ (answer_given : List Change). Agree (unchanged edit.new nothing answer_given) (Edited edit.report.swap.edit ∷ history) taken) (sym changes)
-    (agree-carried (core_parts inside) history taken edit c.args.moves c.args.slaves c.args.room.items (vec_capacity c.args.room) c.clear-2.new.self c.clear-3.new.self c.change.new.self c.follow.new.owed c.follow.new.readiness
-    core_edit prepared c.clear-2.ensures c.clear-3.ensures (c.follow.ensures.known followed) (c.follow.ensures.ready followed) c.change.ensures c.self.invariant))))
+    (agree-carried (core_parts inside) history taken edit c.args.moves c.args.slaves c.args.room.items (vec_capacity c.args.room) c.changed_tasks-changed.result c.empty_tasks.new.inputs c.empty_tasks.new.ages c.raise_epochs.new.epochs c.change.new.self c.follow.new.owed c.follow.new.readiness
+    core_edit prepared c.changed_tasks-changed.ensures c.empty_tasks.ensures.slots c.empty_tasks.ensures.ages raised (c.follow.ensures.known followed) (c.follow.ensures.ready followed) c.change.ensures c.self.invariant))))
 
 pub returns-clause-answer : goal.returns-clause-answer
 returns-clause-answer c =

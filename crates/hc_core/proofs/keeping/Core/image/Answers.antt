@@ -12,9 +12,7 @@ use Rattle.hc_events.specs.Steps.{image_of, is_no_task, unless}
 use Rattle.hc_events.proofs.lemmas.Epochs.{epochs-counted}
 use Rattle.hc_events.proofs.lemmas.Views.{is_task}
 use Rattle.hc_sendings.proofs.lemmas.Listed.{listed-count}
-use Rattle.hc_images.specs.Image.{data_of_first}
 use Rattle.hc_core.specs.Records.{history_read}
-use Rattle.hc_core.proofs.Shown.{slots-shown}
 use Rattle.hc_core.specs.State.{CoreState}
 use Rattle.hc_core.proofs.keeping.Core.image.Goals as goal
 
@@ -23,11 +21,10 @@ returns-clause-answer c =
     let unchanged = c.self.invariant in
     let history = history_read c.self.inside.history in
     let task = c.args.task in
-    let image = c.self.inside.inputs in
     let count = listed-count c.self.inside.plan task c.datagrams.result.now c.places.ensures.unchanged (c.datagrams.ensures.datagrams ∙ ap (λ table. datagrams_in table task) c.places.ensures.table) in
     let few : datagram_count (task_places task (line c.self.inside.plan)) ≤ MOST_DATAGRAMS = subst (λ n. n ≤ MOST_DATAGRAMS) count c.datagrams.ensures.few in
-    let slots = c.in_ok-slots.ensures ∙ ap (data_of_first image task) count
-    ∙ slots-shown history image task (datagram_count (task_places task (line c.self.inside.plan))) unchanged.slots few
+    let slots = c.in_ok-slots.ensures ∙ ap (λ (core : CoreState). map (slot_of core.history task) (range_with_len 0 c.count)) (sym c.self.view_is)
+    ∙ ap (λ n. map (slot_of history task) (range_with_len 0 n)) count
     ∙ ap (λ (state : State). map (slot_of history task) (range_with_len 0 (datagram_count (task_places task (line state))))) unchanged.state in
     let epoch = c.epoch-epoch.ensures ∙ ap (λ (state : State). state.epoch) unchanged.state ∙ epochs-counted history unchanged.accepted in
     ap (λ n. Image n c.in_ok-slots.slots) epoch

@@ -1,4 +1,6 @@
-use Rattle.std.proofs.Common.{◌≡◌, ◌∙◌, List, ap, sym, subst, refl}
+use Rattle.std.proofs.Common.{◌≡◌, ◌∙◌, ℕ, suc, ◌<◌, List, ap, arith, sym, subst, refl}
+use Rattle.std.specs.Prelude.{replicate, slice_index}
+use Rattle.hc_records.specs.declared.limits.TheConstants.{TASKS}
 use Rattle.std.proofs.lemmas.Result.{err_from_is_err_and}
 use Rattle.hc_records.specs.Line.{State, line, opened}
 use Rattle.hc_events.specs.declared.change.Change.{Change}
@@ -15,6 +17,10 @@ use Rattle.hc_core.proofs.Opens.{IsProject, IsUncrowded, agree-opened}
 use Rattle.hc_core.specs.Agreement.{Agree, CoreParts}
 use Rattle.hc_core.proofs.keeping.Core.new.Goals as goal
 
+no_epoch : (task : ℕ) → task < TASKS → slice_index (replicate 8 0) task ≡ 0
+no_epoch (suc (suc (suc (suc (suc (suc (suc (suc task)))))))) low = absurd (omega arith)
+no_epoch other low = refl
+
 pub invariant_of-result : goal.invariant_of-result
 invariant_of-result c =
     let groups = c.args.project in
@@ -22,7 +28,8 @@ invariant_of-result c =
     let plan = c.in_ok-plan.ensures.state in
     let history : history_read c.opened-history.result ≡ just_opened groups = c.opened-history.ensures in
     let taken : history_read c.of-taken.result.value ≡ just_opened groups = ap history_read c.of-taken.ensures ∙ history in
-    let unchanged : State → Waiting → List Change → CoreParts = λ state awaited changes. record { plan = state; serial = 0; awaited = awaited; inputs = inputs; serials = c.in_ok-data_serials.data_serials; outputs = c.in_ok-outputs.outputs; owed = c.in_ok-owed.owed; readiness = c.in_ok-readiness.readiness; changes = changes } in
+    let first : List ℕ = replicate 8 0 in
+    let unchanged : State → Waiting → List Change → CoreParts = λ state awaited changes. record { plan = state; serial = 0; awaited = awaited; inputs = inputs; ages = c.in_ok-ages.ages; epochs = first; outputs = c.in_ok-outputs.outputs; owed = c.in_ok-owed.owed; readiness = c.in_ok-readiness.readiness; changes = changes } in
     let owed : c.in_ok-owed.owed ≡ register_state_of nothing_known (opened groups) = c.in_ok-owed.ensures ∙ ap (register_state_of nothing_known) plan in
     let ready : c.in_ok-readiness.readiness ≡ readiness_of nothing_known unknown_registers none_unplugged (opened groups) =
     c.in_ok-readiness.ensures ∙ ap (readiness_of nothing_known unknown_registers none_unplugged) plan in
@@ -33,10 +40,10 @@ invariant_of-result c =
     (subst (λ (state : State). Agree (unchanged state c.in_ok-awaited.awaited c.new-9.result.items) (just_opened groups) (just_opened groups)) (sym plan)
     (subst (λ (waiting : Waiting). Agree (unchanged (opened groups) waiting c.new-9.result.items) (just_opened groups) (just_opened groups)) (sym c.in_ok-awaited.ensures)
     (subst (λ (changes : List Change). Agree (unchanged (opened groups) nothing changes) (just_opened groups) (just_opened groups)) (sym c.new-9.ensures.items)
-    (agree-opened groups inputs c.in_ok-data_serials.data_serials c.in_ok-outputs.outputs c.in_ok-owed.owed c.in_ok-readiness.readiness
+    (agree-opened groups inputs c.in_ok-ages.ages first c.in_ok-outputs.outputs c.in_ok-owed.owed c.in_ok-readiness.readiness
     (subst IsProject plan c.places.ensures.unchanged)
     (subst IsUncrowded plan c.places.ensures.uncrowded)
-    c.in_ok-inputs.ensures c.in_ok-data_serials.ensures owed ready zeros)))))
+    c.in_ok-inputs.ensures c.in_ok-ages.ensures no_epoch owed ready zeros)))))
 
 pub new-requires-5 : goal.new-requires-5
 new-requires-5 c =
@@ -67,9 +74,9 @@ returns-in_err-outputs-clause-refused c =
     let p = err_from_is_err_and c.from_residual-in_err-outputs.result c.from_residual-in_err-outputs.ensures.1 in
     rw (p.1, p.2) (λ other. absurd (other refl))
 
-pub returns-in_err-data_serials-clause-refused : goal.returns-in_err-data_serials-clause-refused
-returns-in_err-data_serials-clause-refused c =
-    let p = err_from_is_err_and c.from_residual-in_err-data_serials.result c.from_residual-in_err-data_serials.ensures.1 in
+pub returns-in_err-ages-clause-refused : goal.returns-in_err-ages-clause-refused
+returns-in_err-ages-clause-refused c =
+    let p = err_from_is_err_and c.from_residual-in_err-ages.result c.from_residual-in_err-ages.ensures.1 in
     rw (p.1, p.2) (λ other. absurd (other refl))
 
 pub returns-in_err-readiness-clause-refused : goal.returns-in_err-readiness-clause-refused

@@ -1,0 +1,74 @@
+-- The tasks that an edit changes, and what becomes of their data and of their epochs.
+use Rattle.std.specs.Prelude.{◌≡◌, ◌==◌, ◌&&◌, ◌||◌, ℕ, ◌<◌, if◌then◌else◌, Bool, List, slice_index, None}
+use Rattle.std.specs.List.{list_any}
+use Rattle.hc_records.specs.declared.limits.TheConstants.{MOST_DATAGRAMS, TASKS}
+use Rattle.hc_records.specs.Line.{line}
+use Rattle.hc_places.specs.Swap.{Change, ChangedRow, ChangedTask}
+use Rattle.hc_places.specs.Table.{Table, place_in, table_of}
+use Rattle.hc_plan.specs.Prepared.{IsPrepared, PreparedEdit}
+use Rattle.hc_images.specs.Image.{DatagramImage, data_of}
+use Rattle.hc_owed.specs.declared.area.JudgedArea.{JudgedArea}
+use Rattle.hc_owed.specs.declared.task_set.TaskSet.{TaskSet}
+use Rattle.hc_owed.specs.Readiness.{Holdings}
+use Rattle.hc_owed.specs.ReadinessSteps.{IsReadinessFor}
+use Rattle.hc_owed.specs.RegisterState.{Knowledge}
+use Rattle.hc_owed.specs.TaskSets.{has_task}
+use Rattle.hc_events.specs.Entries.{History}
+use Rattle.hc_events.specs.Steady.{changes_task, lies_in_task, task_epoch}
+use Rattle.hc_core.specs.Ages.{Ages, age_of}
+
+-- by a swap
+
+-- a change of a table has a new table of a task
+abbrev pub has_table : Change → ℕ → Bool
+has_table change task = list_any (λ (changed : ChangedTask). changed.0 == task) change.tasks
+
+-- the old place of a changed variable or its new one is in a task
+abbrev pub row_lies : Table → ℕ → ChangedRow → Bool
+row_lies table task changed = lies_in_task task (place_in table changed.0) || lies_in_task task changed.1
+
+-- so it is with one of a change's variables
+abbrev pub has_place : Table → Change → ℕ → Bool
+has_place table change task = list_any (row_lies table task) change.rows
+
+-- by a prepared edit
+
+-- what is kept of the areas, and the table, are right for the state before a prepared edit
+pub record CanTellTasks (table : Table) (readiness : List JudgedArea) (edit : PreparedEdit) : Type 0 where
+  pub known : Knowledge
+  pub held : Holdings
+  pub unplugged : ℕ → Bool
+  pub places : table ≡ table_of (line edit.old)
+  pub areas : IsReadinessFor known held unplugged edit.old readiness
+  pub prepared : IsPrepared edit
+
+-- a set has just the tasks that the edit changes
+abbrev pub HasChangedTasks : PreparedEdit → TaskSet → Type 0
+HasChangedTasks edit changed = (task : ℕ) → task < TASKS → has_task task changed ≡ changes_task edit.old edit.new task
+
+-- what becomes of them
+
+-- if a task is changed, its datagrams have no data from then on; each other datagram keeps what it had
+abbrev pub EmptiesIf : Bool → ℕ → DatagramImage → DatagramImage → Type 0
+EmptiesIf changed task old new = (t d : ℕ) → d < MOST_DATAGRAMS → data_of new t d ≡ (if changed && (task == t) then None else data_of old t d)
+
+-- and they have no age
+abbrev pub UndatesIf : Bool → ℕ → Ages → Ages → Type 0
+UndatesIf changed task old new = (t d : ℕ) → d < MOST_DATAGRAMS → age_of new t d ≡ (if changed && (task == t) then None else age_of old t d)
+
+-- each datagram of a task in the set has no data from then on, and each of another task keeps what it had
+abbrev pub EmptiesTasks : TaskSet → DatagramImage → DatagramImage → Type 0
+EmptiesTasks changed old new =
+    (task d : ℕ) → task < TASKS → d < MOST_DATAGRAMS → data_of new task d ≡ (if has_task task changed then None else data_of old task d)
+
+-- it has no age either
+abbrev pub UndatesTasks : TaskSet → Ages → Ages → Type 0
+UndatesTasks changed old new = (task d : ℕ) → task < TASKS → d < MOST_DATAGRAMS → age_of new task d ≡ (if has_task task changed then None else age_of old task d)
+
+-- each task in the set has this epoch from then on, and each other one keeps its own
+abbrev pub RaisesTasks : TaskSet → ℕ → List ℕ → List ℕ → Type 0
+RaisesTasks changed epoch old new = (task : ℕ) → task < TASKS → slice_index new task ≡ (if has_task task changed then epoch else slice_index old task)
+
+-- the epochs of the tasks are those that the record says
+abbrev pub ShowEpochs : History → List ℕ → Type 0
+ShowEpochs history epochs = (task : ℕ) → task < TASKS → slice_index epochs task ≡ task_epoch history task
