@@ -81,7 +81,7 @@ extern "C" {
     ANSWER(AREA_TOO_BIG, 11, "the area would have more bits than a datagram, 11,888") \
     ANSWER(TOO_MANY_DATAGRAMS, 12, "a task would need more than 16 datagrams") \
     ANSWER(EPOCHS_SPENT, 13, "the epoch is the last one, 4,294,967,295") \
-    ANSWER(STALE_POST, 15, "the post was made for another epoch") \
+    ANSWER(STALE_POST, 15, "the post was made before the last edit that changed its task, or for an epoch to come") \
     ANSWER(POST_LENGTH, 16, "the post does not have the task's number of output bytes") \
     ANSWER(UNPROGRAMMED, 17, "register blocks are owed: no task is sent before they are written") \
     ANSWER(NOTHING_OWED, 18, "no register block is owed") \
@@ -514,13 +514,15 @@ uint8_t zangjulf_arrive(struct zangjulf *handle, const uint8_t *bytes, size_t le
 
 /* A task's image. */
 struct zangjulf_image {
-    uint32_t epoch;   /* whose places the data are in */
+    uint32_t epoch;      /* the present epoch: it counts the edits */
+    uint32_t task_epoch; /* the epoch of the last edit that changed the task, 0 if none did: its places are those of each epoch since */
     size_t datagrams; /* how many the task has, at most 16 */
     size_t size;      /* the bytes of the task's image, at most 23,776 */
-    uint16_t has;     /* bit d: datagram d has data in this epoch */
+    uint16_t has;     /* bit d: datagram d has data */
 };
 
-/* What a task reads: of each of its datagrams the data of its last good answer in the present epoch, or none. They are in
+/* What a task reads: of each of its datagrams the data of its last good answer since the last edit that changed the task, or
+ * none. An edit that does not change the task leaves what it reads. They are in
  * `out` at the datagram's offset in the task's image; bytes of a datagram without data are 0. `serials` has of each the
  * serial of the sending that its data answer, 0 where it has none, as many as there is room for. Serials count all frames,
  * register writes too: data are of the last sending where `has` has the datagram's bit and its serial isn't below what
@@ -591,10 +593,11 @@ uint8_t zangjulf_show(struct zangjulf *handle);
 
 /* An image that a seat views. */
 struct zangjulf_view {
-    uint32_t epoch; /* whose places the data are in */
+    uint32_t epoch;      /* the epoch in which the image was shown */
+    uint32_t task_epoch; /* the epoch then of the last edit that changed the task, 0 if none did */
     size_t size;    /* the bytes of the task's image, at most 23,776 */
     size_t outputs; /* its output bytes, which come first: so many a post has */
-    uint16_t has;   /* bit d: datagram d has data in this epoch */
+    uint16_t has;   /* bit d: datagram d has data */
 };
 
 /* The seat takes the newest image that was shown, or keeps the one that it has where none is newer; it never goes back to an
@@ -612,8 +615,8 @@ uint8_t zangjulf_seat_view(struct zangjulf_seat *seat, uint8_t *out, size_t leng
  * ZANGJULF_CLOSED. Unless it is done `out` is as it was. Nothing changes. Takes no memory. */
 uint8_t zangjulf_seat_outputs(const struct zangjulf_seat *seat, uint8_t *out, size_t length);
 
-/* The seat posts all outputs of its task for an epoch, which is the epoch of the image that it took last. The post waits until
- * the owner takes it; posts of a seat keep their order. ZANGJULF_DONE; 15 where that image is of another epoch; 16 where it has
+/* The seat posts all outputs of its task for an epoch from `task_epoch` to `epoch` of the image that it took last. The post waits
+ * until the owner takes it; posts of a seat keep their order. ZANGJULF_DONE; 15 for another epoch; 16 where the image has
  * another number of outputs; ZANGJULF_NO_SPARE where four posts of the seat wait; or ZANGJULF_CLOSED, where the seat is closed
  * or its line is. Unless it is done nothing is posted. Takes no memory. */
 uint8_t zangjulf_seat_post(struct zangjulf_seat *seat, uint32_t epoch, const uint8_t *bytes, size_t length);
@@ -625,7 +628,7 @@ struct zangjulf_taken {
 };
 
 /* The owner takes the posts that wait, at most four of each seat: task 0's first, and the posts of a task in their order. Each
- * is judged and done as by `zangjulf_post`; one that is refused was made for another epoch than the present one. ZANGJULF_DONE,
+ * is judged and done as by `zangjulf_post`; one that is refused was made before the last edit that changed its task. ZANGJULF_DONE,
  * also where none waits; or ZANGJULF_CLOSED. What is posted meanwhile may be left for the next call. Takes no memory. */
 uint8_t zangjulf_take_posts(struct zangjulf *handle, struct zangjulf_taken *taken);
 

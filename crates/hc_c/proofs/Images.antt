@@ -9,14 +9,14 @@ use Rattle.hc_places.specs.declared.table.Datagram.{Datagram}
 use Rattle.hc_places.specs.Table.{Table, datagrams_in, table_of}
 use Rattle.hc_events.specs.declared.faults.CoreFault.TheVariants.{NoSuchTask}
 use Rattle.hc_events.specs.Entries.{History}
-use Rattle.hc_events.specs.Images.{slot_of}
 use Rattle.hc_events.specs.Points.{line_of, state_of}
 use Rattle.hc_events.specs.Sendings.{line_data_length}
+use Rattle.hc_events.specs.Steady.{steady_slot}
 use Rattle.hc_events.specs.Steps.{Reads, answer_to, image_of, unless}
-use Rattle.hc_events.proofs.lemmas.Slots.{slots-fit}
 use Rattle.hc_sendings.proofs.lemmas.Listed.{listed-length}
 use Rattle.hc_c.specs.Pieces.{HaveLengths}
 use Rattle.hc_c.specs.Reads.{datagrams_of, fit_number, image_number}
+use Rattle.hc_c.proofs.SteadySlots.{steady_slots-fit}
 
 lower : (task : ℕ) → task < TASKS → nat_lt task TASKS ≡ true
 lower task low = grind (arith, nat_tests)
@@ -54,9 +54,9 @@ listed-lengths history plan table task datagrams state unchanged same are =
     (λ i n low is. listed-length plan task i datagrams blank unchanged here low ∙ ap (λ (m : ℕ). line_data_length (line plan) (task, m)) (same_index i n is)))
 
 -- so what a task reads of one has them too
-pub slot-fits : (history : History) (task number size : ℕ) (slot : Option (List ℕ)) → slot ≡ slot_of history task number → size ≡ line_data_length (line_of history) (task, number) → IfSome slot (λ bytes. length bytes ≡ size)
+pub slot-fits : (history : History) (task number size : ℕ) (slot : Option (List ℕ)) → slot ≡ steady_slot history task number → size ≡ line_data_length (line_of history) (task, number) → IfSome slot (λ bytes. length bytes ≡ size)
 slot-fits history task number size None is long = tt
-slot-fits history task number size (Some bytes) is long = slots-fit history task number bytes (sym is) ∙ sym long
+slot-fits history task number size (Some bytes) is long = steady_slots-fit history task number bytes (sym is) ∙ sym long
 
 -- sixteen bits are enough
 pub few-bits : (count : ℕ) → count < 16 → 2 ^ count ≤ 32768

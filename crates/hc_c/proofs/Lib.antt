@@ -12,5 +12,6 @@ mod Returned
 mod Rooms
 mod SeatEnds
 mod Showing
+mod SteadySlots
 mod Taken
 mod TakenBits

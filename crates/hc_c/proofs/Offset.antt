@@ -18,14 +18,14 @@ use Rattle.hc_places.specs.declared.table.Datagram.{Datagram}
 use Rattle.hc_places.specs.Table.{TaskTable, datagram_of, task_table}
 use Rattle.hc_plan.proofs.lemmas.TableRows.{row-is}
 use Rattle.hc_events.specs.Entries.{History}
-use Rattle.hc_events.specs.Images.{slot_of}
 use Rattle.hc_events.specs.Points.{line_of}
-use Rattle.hc_events.proofs.lemmas.Slots.{slots-fit}
+use Rattle.hc_events.specs.Steady.{steady_slot}
 use Rattle.hc_c.specs.declared.reading.Image.{Image}
 use Rattle.hc_c.specs.Looks.{datagram_at, task_part_bytes}
 use Rattle.hc_c.specs.Offsets.{HasNoData, HoldsByOffset, ReadsHoldByOffset, bytes_at}
 use Rattle.hc_c.specs.Reads.{HoldsImage, data_or_zeros, datagrams_of, image_from, image_size}
 use Rattle.hc_c.proofs.Returned.{row_at}
+use Rattle.hc_c.proofs.SteadySlots.{steady_slots-fit}
 
 -- pieces one after another, so many from a number on, and then the rest
 abbrev pieces : (ℕ → List ℕ) → List ℕ → ℕ → ℕ → List ℕ
@@ -98,10 +98,10 @@ zero-at piece offset size rest laid (suc n) a m low zeros = elim (cases_lt m (si
 
 -- what a read writes, as pieces
 image-pieces : (history : History) (task : ℕ) (row : ℕ → Datagram) (rest : List ℕ) (n a : ℕ)
-    → image_from history task a (map row (range_with_len a n)) ++ rest ≡ pieces (λ d. data_or_zeros (row d).length (slot_of history task d)) rest a n
+    → image_from history task a (map row (range_with_len a n)) ++ rest ≡ pieces (λ d. data_or_zeros (row d).length (steady_slot history task d)) rest a n
 image-pieces history task row rest zero a = refl
 image-pieces history task row rest (suc n) a =
-    let own = data_or_zeros (row a).length (slot_of history task a) in
+    let own = data_or_zeros (row a).length (steady_slot history task a) in
     append_assoc own (image_from history task (a + 1) (map row (range_with_len (a + 1) n))) rest
     ∙ ap (λ (xs : List ℕ). own ++ xs) (image-pieces history task row rest n (a + 1))
 
@@ -128,13 +128,13 @@ task-there : (members : List Member) (task : ℕ) → task < TASKS → slice_get
 task-there members (suc (suc (suc (suc (suc (suc (suc (suc task)))))))) low = absurd (omega arith)
 task-there members other low = refl
 
-sized-slot : (history : History) (task d : ℕ) (slot : Option (List ℕ)) → slot_of history task d ≡ slot
+sized-slot : (history : History) (task d : ℕ) (slot : Option (List ℕ)) → steady_slot history task d ≡ slot
     → length (data_or_zeros (datagram_length (task_places task (line_of history)) d) slot) ≡ datagram_length (task_places task (line_of history)) d
 sized-slot history task d None is = length-replicate (datagram_length (task_places task (line_of history)) d) 0
-sized-slot history task d (Some bytes) is = slots-fit history task d bytes is
+sized-slot history task d (Some bytes) is = steady_slots-fit history task d bytes is
 
 -- a datagram that covers a byte without data has none
-no-data : (history : History) (task byte d : ℕ) (slot : Option (List ℕ)) → slot_of history task d ≡ slot → task < TASKS → d < datagram_count (task_places task (line_of history))
+no-data : (history : History) (task byte d : ℕ) (slot : Option (List ℕ)) → steady_slot history task d ≡ slot → task < TASKS → d < datagram_count (task_places task (line_of history))
     → HasNoData history task byte → datagram_offset (task_places task (line_of history)) d ≤ byte
     → byte < datagram_offset (task_places task (line_of history)) d + datagram_length (task_places task (line_of history)) d
     → data_or_zeros (datagram_length (task_places task (line_of history)) d) slot ≡ replicate (datagram_length (task_places task (line_of history)) d) 0
@@ -147,11 +147,11 @@ no-data history task byte d (Some bytes) is low counted none begins over =
     ]
 
 laid-out : (history : History) (task : ℕ)
-    → AreLaid (λ d. data_or_zeros (datagram_length (task_places task (line_of history)) d) (slot_of history task d)) (datagram_offset (task_places task (line_of history))) (datagram_length (task_places task (line_of history)))
+    → AreLaid (λ d. data_or_zeros (datagram_length (task_places task (line_of history)) d) (steady_slot history task d)) (datagram_offset (task_places task (line_of history))) (datagram_length (task_places task (line_of history)))
 laid-out history task = record {
   next = (tiles-image (task_places task (line_of history))).next;
   rises = offset-le (task_places task (line_of history));
-  sized = λ d. sized-slot history task d (slot_of history task d) refl;
+  sized = λ d. sized-slot history task d (steady_slot history task d) refl;
 }
 
 task-holds : (history : History) (task : ℕ) (image : Image) (before after serials serials' : List ℕ) → task < TASKS
@@ -164,7 +164,7 @@ task-holds history task image before after serials serials' low holds =
     let count = datagram_count areas in
     let row = datagram_of members task in
     let rest = drop (image_size (map row (range_with_len 0 count))) before in
-    let piece = λ (d : ℕ). data_or_zeros (datagram_length areas d) (slot_of history task d) in
+    let piece = λ (d : ℕ). data_or_zeros (datagram_length areas d) (steady_slot history task d) in
     let laid = laid-out history task in
     let tiles = tiles-image areas in
     let last = tiles.last in
@@ -186,7 +186,7 @@ task-holds history task image before after serials serials' low holds =
       others = λ byte within none.
           ap (λ (xs : List ℕ). slice_get xs byte) bytes
           ∙ zero-at piece (datagram_offset areas) (datagram_length areas) rest laid count 0 byte (omega (arith, within, size, all, begin))
-          (λ d from below begins over. no-data history task byte d (slot_of history task d) refl low (omega (arith, below)) none (omega (arith, begins, begin)) (omega (arith, over, begin)));
+          (λ d from below begins over. no-data history task byte d (steady_slot history task d) refl low (omega (arith, below)) none (omega (arith, begins, begin)) (omega (arith, over, begin)));
       size = size ∙ sum ∙ sym (ap (λ (o : Option TaskTable). (parts_of o).0 + (parts_of o).1) (task-there members task low));
     }
 

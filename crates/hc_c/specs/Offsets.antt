@@ -2,7 +2,7 @@
 use Rattle.std.specs.Prelude.{◌≡◌, ℕ, ◌+◌, ◌<◌, ◌≤◌, ◌⊎◌, List, drop, slice_get, take, Some}
 use Rattle.hc_places.specs.declared.table.Datagram.{Datagram}
 use Rattle.hc_events.specs.Entries.{History}
-use Rattle.hc_events.specs.Images.{slot_of}
+use Rattle.hc_events.specs.Steady.{steady_slot}
 use Rattle.hc_c.specs.declared.reading.Image.{Image}
 use Rattle.hc_c.specs.Looks.{datagram_at, task_part_bytes}
 use Rattle.hc_c.specs.Reads.{HoldsImage, datagrams_of}
@@ -19,12 +19,12 @@ LiesOutside datagram byte = (byte < datagram.offset) ⊎ (datagram.offset + data
 abbrev pub HasNoData : History → ℕ → ℕ → Type 0
 HasNoData history task byte =
     (number : ℕ) (datagram : Datagram) (bytes : List ℕ) → datagram_at history task number ≡ Some datagram
-    → slot_of history task number ≡ Some bytes → LiesOutside datagram byte
+    → steady_slot history task number ≡ Some bytes → LiesOutside datagram byte
 
 -- the data of each datagram that has some lie at its offset, every other byte of the image is 0, and the image has the task's outputs and inputs
 pub record HoldsByOffset (history : History) (task : ℕ) (image : Image) (out : List ℕ) : Type 0 where
   pub each : (number : ℕ) (datagram : Datagram) (bytes : List ℕ) → datagram_at history task number ≡ Some datagram
-      → slot_of history task number ≡ Some bytes → bytes_at datagram.offset datagram.length out ≡ bytes
+      → steady_slot history task number ≡ Some bytes → bytes_at datagram.offset datagram.length out ≡ bytes
   pub others : (byte : ℕ) → byte < image.size → HasNoData history task byte → slice_get out byte ≡ Some 0
   pub size : image.size ≡ (task_part_bytes history task).0 + (task_part_bytes history task).1
 

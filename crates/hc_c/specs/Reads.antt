@@ -5,11 +5,10 @@ use Rattle.hc_places.specs.declared.table.Datagram.{Datagram}
 use Rattle.hc_places.specs.Table.{datagrams_in, table_of}
 use Rattle.hc_events.specs.declared.answer.Answer.{Answer}
 use Rattle.hc_events.specs.declared.answer.Answer.TheVariants as answer
-use Rattle.hc_events.specs.Ages.{data_serial}
 use Rattle.hc_events.specs.Entries.{History}
 use Rattle.hc_events.specs.Faults.{core_fault_number}
-use Rattle.hc_events.specs.Images.{slot_of}
 use Rattle.hc_events.specs.Points.{epoch_of, line_of}
+use Rattle.hc_events.specs.Steady.{steady_serial, steady_slot, task_epoch}
 use Rattle.hc_events.specs.Steps.{Reads, answer_to}
 use Rattle.hc_c.specs.declared.numbers.TheConstants.{DONE, NOTHING, ROOM}
 use Rattle.hc_c.specs.declared.reading.Image.{Image}
@@ -32,7 +31,7 @@ data_or_zeros size (Some bytes) = bytes
 abbrev pub image_from : History → ℕ → ℕ → List Datagram → List ℕ
 image_from history task number [] = []
 image_from history task number (datagram ∷ datagrams) =
-    data_or_zeros datagram.length (slot_of history task number) ++ image_from history task (number + 1) datagrams
+    data_or_zeros datagram.length (steady_slot history task number) ++ image_from history task (number + 1) datagrams
 
 -- the number whose bits, from the least significant one on, say so
 abbrev pub bit_mask : List Bool → ℕ
@@ -41,11 +40,11 @@ bit_mask (bit ∷ bits) = (if bit then 1 else 0) + 2 * bit_mask bits
 
 -- of so many datagrams of a task, from a number on, whether each has data
 abbrev pub have_data : History → ℕ → ℕ → ℕ → List Bool
-have_data history task number count = map (λ d. is_some (slot_of history task d)) (range_with_len number count)
+have_data history task number count = map (λ d. is_some (steady_slot history task d)) (range_with_len number count)
 
 -- of so many datagrams of a task, from a number on, the serial of the sending that each one's data answer; 0 where it has none
 abbrev pub serials_from : History → ℕ → ℕ → ℕ → List ℕ
-serials_from history task number count = map (λ d. unwrap_or (data_serial history task d) 0) (range_with_len number count)
+serials_from history task number count = map (λ d. unwrap_or (steady_serial history task d) 0) (range_with_len number count)
 
 -- 0 where so many bytes fit a slice of so many, else the number of one that is too short
 abbrev pub fit_number : ℕ → ℕ → ℕ
@@ -61,9 +60,10 @@ image_number _ size room = NOTHING
 abbrev pub read_number : History → ℕ → ℕ → ℕ
 read_number history task room = image_number (answer_to history (Reads task)) (image_size (datagrams_of history task)) room
 
--- what a task reads of these datagrams: the epoch, their number and their bytes; those with data by their bits; the bytes of all before what the slice had after them; and each one's serial, as many as there is room for
+-- what a task reads of these datagrams: the epoch and the task's epoch, their number and their bytes; those with data by their bits; the bytes of all before what the slice had after them; and each one's serial, as many as there is room for
 pub record HoldsImage (history : History) (task : ℕ) (datagrams : List Datagram) (image : Image) (before after serials serials' : List ℕ) : Type 0 where
   pub epoch_is : image.epoch ≡ epoch_of history
+  pub task_epoch_is : image.task_epoch ≡ task_epoch history task
   pub counted : image.datagrams ≡ length datagrams
   pub size : image.size ≡ image_size datagrams
   pub has : image.has ≡ bit_mask (have_data history task 0 (length datagrams))

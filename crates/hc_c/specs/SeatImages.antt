@@ -2,11 +2,10 @@
 use Rattle.std.specs.Prelude.{◌≡◌, ℕ, ◌+◌, List, [], ◌∷◌, ◌++◌, Option, None, Some, length, map, take, option_map, unwrap_or}
 use Rattle.std.specs.List.{range_with_len}
 use Rattle.hc_places.specs.declared.table.Datagram.{Datagram}
-use Rattle.hc_events.specs.Ages.{data_serial}
 use Rattle.hc_events.specs.Entries.{History}
-use Rattle.hc_events.specs.Images.{slot_of}
 use Rattle.hc_events.specs.Outputs.{sent_data}
 use Rattle.hc_events.specs.Points.{epoch_of}
+use Rattle.hc_events.specs.Steady.{steady_serial, steady_slot, task_epoch}
 use Rattle.hc_mail.specs.Images.{Image}
 use Rattle.hc_mail.specs.Ends.{reported, seen}
 use Rattle.hc_c.specs.Looks.{task_part_bytes}
@@ -20,7 +19,7 @@ serial_shown slot serial = option_map (λ _. unwrap_or serial 0) slot
 
 -- the serials shown of so many datagrams of a task, from a number on
 abbrev pub serials_shown : History → ℕ → ℕ → ℕ → List (Option ℕ)
-serials_shown history task number count = map (λ d. serial_shown (slot_of history task d) (data_serial history task d)) (range_with_len number count)
+serials_shown history task number count = map (λ d. serial_shown (steady_slot history task d) (steady_serial history task d)) (range_with_len number count)
 
 -- the data with which a task's datagrams, from a number on, would be sent now, one after another
 abbrev pub sent_from : History → ℕ → ℕ → List Datagram → List ℕ
@@ -35,6 +34,7 @@ outputs_of history task = take (task_part_bytes history task).0 (sent_from histo
 abbrev pub image_shown : History → ℕ → Image
 image_shown history task = record {
   epoch = epoch_of history;
+  task_epoch = task_epoch history task;
   bytes = image_from history task 0 (datagrams_of history task);
   serials = serials_shown history task 0 (length (datagrams_of history task));
   outputs = outputs_of history task;

@@ -1,5 +1,5 @@
 -- What calls say of a seat's two ends before and after.
-use Rattle.std.specs.Prelude.{◌≡◌, ℕ, ◌+◌, ◌*◌, Bool, List, [], ◌∷◌, ◌++◌, ◌==◌, if◌then◌else◌, not, Option, None, Some, drop, is_some, length, map, set, unwrap_or}
+use Rattle.std.specs.Prelude.{◌≡◌, ℕ, ◌+◌, ◌*◌, ◌≤◌, nat_lt, ◌||◌, Bool, List, [], ◌∷◌, ◌++◌, ◌==◌, if◌then◌else◌, not, Option, None, Some, drop, is_some, length, map, set, unwrap_or}
 use Rattle.hc_events.specs.declared.faults.CoreFault.{CoreFault}
 use Rattle.hc_events.specs.declared.faults.CoreFault.TheVariants.{PostLength, StalePost}
 use Rattle.hc_mail.specs.Images.{Image, StartsWith, newest}
@@ -60,23 +60,25 @@ abbrev pub mask_from : ℕ → List Bool → ℕ
 mask_from bit [] = 0
 mask_from bit (is_set ∷ rest) = (if is_set then bit else 0) + mask_from (2 * bit) rest
 
--- an image, as C gets it: its epoch, its bytes and its output bytes; those with data by their bits; its bytes before what the slice had after them; and the serials, as many as there is room for
+-- an image, as C gets it: its epoch and its task's epoch, its bytes and its output bytes; those with data by their bits; its bytes before what the slice had after them; and the serials, as many as there is room for
 pub record GivesImage (image : Image) (view : SeatView) (before after : List ℕ) (serials serials' : List ℕ) : Type 0 where
   pub epoch_is : view.epoch ≡ image.epoch
+  pub task_epoch_is : view.task_epoch ≡ image.task_epoch
   pub size : view.size ≡ length image.bytes
   pub outputs : view.outputs ≡ length image.outputs
   pub has : view.has ≡ bit_mask (map is_some image.serials)
   pub bytes : after ≡ image.bytes ++ drop (length image.bytes) before
   pub answered_serials : serials' ≡ put_first (serials_answered image.serials) serials
 
--- what refuses outputs for an epoch beside an image, in order: 15 it is of another epoch, 16 it has another number of output bytes
+-- what refuses outputs for an epoch beside an image, in order: 15 the epoch is below the task's or above the image's, 16 it has another number of output bytes
 abbrev pub seat_fault : Image → ℕ → List ℕ → Option CoreFault
 seat_fault image epoch bytes =
-    if not (epoch == image.epoch) then Some StalePost else (if not (length bytes == length image.outputs) then Some PostLength else None)
+    if nat_lt epoch image.task_epoch || nat_lt image.epoch epoch then Some StalePost else (if not (length bytes == length image.outputs) then Some PostLength else None)
 
--- the outputs of the task were posted for the epoch of the image at hand, as many as that has; the image is as it was
+-- the outputs of the task were posted for an epoch from the task's to the one of the image at hand, as many as that has; the image is as it was
 pub record Posts (epoch : ℕ) (bytes : List ℕ) (old new : TaskEnd) : Type 0 where
-  pub epoch_is : epoch ≡ (at_hand old).epoch
+  pub from : (at_hand old).task_epoch ≤ epoch
+  pub most : epoch ≤ (at_hand old).epoch
   pub size : length bytes ≡ length (at_hand old).outputs
   pub posted : posted new.posts ≡ posted old.posts ++ post_of epoch bytes ∷ []
   pub ring : SameSender old.posts new.posts

@@ -3,7 +3,7 @@ use Rattle.std.specs.Prelude.{◌≡◌, ℕ, ◌+◌, ◌*◌, ◌≤◌, ◌<�
 use Rattle.std.specs.List.{list_any}
 use Rattle.hc_events.specs.declared.answer.Answer.{Answer}
 use Rattle.hc_events.specs.declared.answer.Answer.TheVariants as answer
-use Rattle.hc_events.specs.Steps.{Posts, Step, answers_to, entries_after_all}
+use Rattle.hc_events.specs.Steps.{PostsSteady, Step, answers_to, entries_after_all}
 use Rattle.hc_rings.specs.declared.posts.TheConstants.{POSTS_WAITING}
 use Rattle.hc_rings.specs.declared.posts.PostReceiver.{PostReceiver}
 use Rattle.hc_rings.specs.Post.{Post}
@@ -15,7 +15,7 @@ use Rattle.hc_c.specs.declared.seat.taking.TakenPosts.{TakenPosts}
 
 -- a task's post, as an event
 abbrev pub event_of : ℕ → Post → Step
-event_of task post = Posts task post.epoch post.bytes
+event_of task post = PostsSteady task post.epoch post.bytes
 
 -- the post was accepted
 abbrev pub is_posted : Answer → Bool

@@ -2,7 +2,7 @@
 ghost use Rattle.std.specs.Prelude.{◌≡◌, ◌≢◌, None};
 ghost use Rattle.hc_records.specs.Lists.{lowest};
 ghost use Rattle.hc_events.specs.Entries.{Posted};
-ghost use Rattle.hc_events.specs.Steps.{post_faults};
+ghost use Rattle.hc_events.specs.Steps.{post_steady_faults};
 ghost use Rattle.hc_c.specs.Embedded.{embedded_with_entry};
 ghost use Rattle.hc_c.specs.Numbers.{refusal_number};
 ghost use Rattle.hc_c.specs.declared.numbers.TheConstants.{CLOSED};
@@ -11,11 +11,12 @@ ghost use Rattle.hc_c.specs.Handles.{Becomes, IfAnswered};
 use crate::handle::Handle;
 use crate::numbers::DONE;
 
-/// A post of a task, made for an epoch: as many bytes as the task has output bytes in it. `DONE`; else the first of the
-/// faults 8, 15 and 16 that holds, `BUSY` or `CLOSED`, and nothing changed. It takes no memory.
+/// A post of a task, made for an epoch: as many bytes as the task has output bytes. `DONE`; else the first of these faults that
+/// holds: 8 if there is no such task, 15 if the post was made before the last edit that changed the task or for an epoch to come,
+/// 16 if it has another number of bytes; `BUSY` or `CLOSED`. Nothing changed then. It allocates nothing.
 #[unsafe(no_mangle)]
 pub extern "C" fn zangjulf_post(handle: &mut Handle, task: u8, epoch: u32, bytes: &[u8]) -> u8
-    ensures answer_given { IfAnswered handle.old result (λ history. result ≡ refusal_number (lowest (post_faults history task epoch bytes.now))) }
+    ensures answer_given { IfAnswered handle.old result (λ history. result ≡ refusal_number (lowest (post_steady_faults history task epoch bytes.now))) }
     ensures posted { result ≡ DONE → Becomes handle.old handle.new (embedded_with_entry (Posted task bytes.now)) }
     ensures unchanged { result ≢ DONE → handle.new.holding.value ≡ handle.old.holding.value }
     ensures closed { handle.old.holding.value ≡ None → result ≡ CLOSED }
@@ -24,7 +25,7 @@ pub extern "C" fn zangjulf_post(handle: &mut Handle, task: u8, epoch: u32, bytes
         return number;
     }
     let own = handle.holding.line_mut();
-    let answer_given = match own.core.post(task, epoch, bytes) {
+    let answer_given = match own.core.post_steady(task, epoch, bytes) {
         Ok(()) => DONE,
         Err(fault) => fault.number(),
     };

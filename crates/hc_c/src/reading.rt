@@ -21,13 +21,15 @@ use hc_records::limits::TASKS;
 #[repr(C)]
 #[derive(Clone, Copy)]
 pub struct Image {
-    /// The epoch whose places the data are in.
+    /// The present epoch.
     epoch: u32,
+    /// The epoch of the last edit that changed the task, 0 if none did: the data's places are those of each epoch since.
+    task_epoch: u32,
     /// The task's datagrams, at most 16.
     datagrams: usize,
     /// The bytes of the image, outputs and inputs, at most 23,776.
     size: usize,
-    /// Bit d is 1 where datagram d has data in this epoch.
+    /// Bit d is 1 if datagram d has data.
     has: u16,
 }
 
@@ -67,7 +69,7 @@ fn put_data(core: &Core, task: u8, number: u8, datagrams: &[Datagram], out: &mut
         return;
     };
     let (own, others) = out.split_at_mut(usize::from(first.length));
-    put_slot(core.data(task, number), own);
+    put_slot(core.steady_data(task, number), own);
     put_data(core, task, number + 1, rest, others);
 }
 
@@ -81,7 +83,7 @@ fn mask(core: &Core, task: u8, number: u8, datagrams: &[Datagram]) -> u16
     match datagrams {
         [] => 0,
         [_, rest @ ..] => {
-            let own = u16::from(core.data(task, number).is_some());
+            let own = u16::from(core.steady_data(task, number).is_some());
             own + 2 * mask(core, task, number + 1, rest)
         }
     }
@@ -99,7 +101,7 @@ fn put_serials(core: &Core, task: u8, number: u8, datagrams: &[Datagram], serial
     let Some((first, others)) = serials.split_first_mut() else {
         return;
     };
-    *first = core.data_serial(task, number).unwrap_or(0);
+    *first = core.steady_serial(task, number).unwrap_or(0);
     put_serials(core, task, number + 1, rest, others);
 }
 
@@ -129,6 +131,7 @@ fn give_slots(
     put_serials(core, task, 0, datagrams, serials);
     *image = Image {
         epoch: core.plan().epoch(),
+        task_epoch: core.task_epoch(task),
         datagrams: datagrams.len(),
         size,
         has: mask(core, task, 0, datagrams),
@@ -150,7 +153,8 @@ fn give_image(core: &Core, task: u8, out: &mut [u8], serials: &mut [u64], image:
     give_slots(core, task, datagrams, out, serials, image)
 }
 
-/// What a task reads: of each of its datagrams the data of the last good answer in the present epoch, or none. `DONE`: the
+/// What a task reads: of each of its datagrams the data of the last good answer since the last edit that changed the task, or
+/// none. `DONE`: the
 /// data of each are in `out` at the datagram's offset in the task's image, outputs and inputs, and those of one without data
 /// are zeros; `serials` has of each, in the datagrams' order, the serial of the sending that its data answer, 0 where it has
 /// none, as many as there is room for; `image.has` says which have data. Else fault 8 where the task is over 7, `ROOM` where

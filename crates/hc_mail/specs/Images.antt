@@ -5,21 +5,22 @@ use Rattle.std.specs.Prelude.{ℕ, ◌≡◌, List, [], ◌∷◌, ◌++◌, Opt
 abbrev pub Room : Type 0
 Room = ℕ × ℕ
 
--- the image of a task: its epoch, what the task reads of its datagrams, of each datagram the serial that its data answer (none where it has no data), the task's outputs, and the room
+-- the image of a task: the epoch and the task's epoch, what the task reads of its datagrams, of each datagram the serial that its data answer (none where it has no data), the task's outputs, and the room
 pub record Image : Type 0 where
   pub epoch : ℕ
+  pub task_epoch : ℕ
   pub bytes : List ℕ
   pub serials : List (Option ℕ)
   pub outputs : List ℕ
   pub room : Room
 
--- an image of an epoch without a datagram
-abbrev pub begun : ℕ → Room → Image
-begun epoch room = record { epoch = epoch; bytes = []; serials = []; outputs = []; room = room }
+-- an image of an epoch, with the task's epoch, without a datagram
+abbrev pub begun : ℕ → ℕ → Room → Image
+begun epoch task_epoch room = record { epoch = epoch; task_epoch = task_epoch; bytes = []; serials = []; outputs = []; room = room }
 
 -- what a task sees before an image was sent
 abbrev pub blank : Room → Image
-blank = begun 0
+blank = begun 0 0
 
 -- an image with one datagram more, whose data answer the sending with a serial
 abbrev pub with_data : List ℕ → ℕ → Image → Image

@@ -6,11 +6,13 @@ ghost use Rattle.hc_mail.specs.Images.{begun, blank, with_data, with_outputs, wi
 use std::alloc::{AllocError, Global};
 use std::marker::Model;
 
-/// The image of a task: its epoch, what the task reads of its datagrams, one after another, of each datagram the serial of the
-/// sending that its data answer, and the task's outputs. It has room from the start for the most that it may hold.
+/// The image of a task: the epoch and the task's epoch, what the task reads of its datagrams, one after another, of each datagram
+/// the serial of the sending that its data answer, and the task's outputs. It has room from the start for the most that it may
+/// hold.
 #[derive(Drop)]
 pub struct TaskImage {
     epoch: u32,
+    task_epoch: u32,
     // the bytes and the outputs, each at the front of memory for the most of them
     memory: Vec<u8>,
     size: usize,
@@ -27,7 +29,7 @@ impl Model for TaskImage {
 
     ghost Value = { Image };
 
-    ghost view = { λ image. record { epoch = image.epoch; bytes = take image.size image.memory.items; serials = image.serials.items; outputs = take image.output_size image.output_memory.items; room = (length image.memory.items, image.most_datagrams) } };
+    ghost view = { λ image. record { epoch = image.epoch; task_epoch = image.task_epoch; bytes = take image.size image.memory.items; serials = image.serials.items; outputs = take image.output_size image.output_memory.items; room = (length image.memory.items, image.most_datagrams) } };
 
     ghost invariant = { λ image. (image.size ≤ length image.memory.items) × (image.output_size ≤ length image.output_memory.items) × (length image.output_memory.items ≡ length image.memory.items) × (vec_len image.serials ≤ image.most_datagrams) × (image.most_datagrams ≤ vec_capacity image.serials) };
 }
@@ -58,6 +60,7 @@ impl TaskImage {
     {
         Ok(TaskImage {
             epoch: 0,
+            task_epoch: 0,
             memory: vec![in alloc; 0; bytes]?,
             size: 0,
             output_memory: vec![in alloc; 0; bytes]?,
@@ -67,11 +70,18 @@ impl TaskImage {
         })
     }
 
-    /// The epoch where the datagrams got their data.
+    /// The epoch in which the image was made.
     pub fn epoch(&self) -> u32
         ensures { result ≡ self.now.epoch }
     {
         self.epoch
+    }
+
+    /// The task's epoch then: the datagrams have had their places since.
+    pub fn task_epoch(&self) -> u32
+        ensures { result ≡ self.now.task_epoch }
+    {
+        self.task_epoch
     }
 
     /// What the task reads of its datagrams, one after another: as many bytes of each as it has, zeros where it has no data.
@@ -98,11 +108,12 @@ impl TaskImage {
         &self.output_memory[..self.output_size]
     }
 
-    /// The image becomes one of an epoch without a datagram.
-    pub(crate) fn begin(&mut self, epoch: u32)
-        ensures { self.new ≡ begun epoch self.old.room }
+    /// The image becomes one of an epoch, with the task's epoch, without a datagram.
+    pub(crate) fn begin(&mut self, epoch: u32, task_epoch: u32)
+        ensures { self.new ≡ begun epoch task_epoch self.old.room }
     {
         self.epoch = epoch;
+        self.task_epoch = task_epoch;
         self.size = 0;
         self.output_size = 0;
         self.serials.clear();

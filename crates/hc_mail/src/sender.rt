@@ -32,14 +32,14 @@ impl Model for ImageSender {
 }
 
 impl ImageSender {
-    /// An image of an epoch is begun, without a datagram.
-    pub fn begin(&mut self, epoch: u32)
-        ensures own { self.new.own ≡ begun epoch self.old.own.room }
+    /// An image of an epoch, with the task's epoch, is begun, without a datagram.
+    pub fn begin(&mut self, epoch: u32, task_epoch: u32)
+        ensures own { self.new.own ≡ begun epoch task_epoch self.old.own.room }
         ensures same { self.new.place ≡ self.old.place }
     {
         let table = &self.mail.shared;
         let image = self.seat.slot_mut(table, self.slot).image_mut();
-        image.begin(epoch);
+        image.begin(epoch, task_epoch);
     }
 
     /// The image's next datagram has these data, which answer the sending with this serial. The image has room for them.

@@ -14,15 +14,15 @@ const SENDINGS: u32 = 2_000;
 /// So often a look is tried.
 const TURNS: u32 = 100_000_000;
 
-/// Sends an image of an epoch with two datagrams of two bytes. The second has data, the epoch modulo 251, twice: they answer the
-/// sending whose serial is the epoch. The same byte is the only output.
+/// Sends an image of an epoch with two datagrams of two bytes. The task's epoch is half of it. The second datagram has data, the
+/// epoch modulo 251, twice: they answer the sending whose serial is the epoch. The same byte is the only output.
 fn send_epoch(sender: &mut ImageSender, epoch: u32)
     requires { sender.old.own.room ≡ (4, 2) }
     ensures room { sender.new.own.room ≡ (4, 2) }
     ensures one { sender.new.place.table_id ≡ sender.old.place.table_id }
 {
     let byte = (epoch % 251) as u8;
-    sender.begin(epoch);
+    sender.begin(epoch, epoch / 2);
     sender.add_zeros(2);
     sender.add(&[byte, byte], u64::from(epoch));
     sender.add_outputs(&[byte]);
@@ -35,7 +35,8 @@ fn is_whole(image: &TaskImage) -> bool {
     if image.epoch() == 0 {
         return image.bytes().is_empty() && image.serials().is_empty() && image.outputs().is_empty();
     }
-    image.bytes() == [0, 0, byte, byte].as_slice()
+    image.task_epoch() == image.epoch() / 2
+        && image.bytes() == [0, 0, byte, byte].as_slice()
         && image.serials() == [None, Some(u64::from(image.epoch()))].as_slice()
         && image.outputs() == [byte].as_slice()
 }

@@ -21,7 +21,7 @@ fn refusal(image: &TaskImage, epoch: u32, bytes: &[u8]) -> Option<CoreFault>
     ensures fault { result ≡ seat_fault image.now epoch bytes.now }
     ensures most { result ≡ None → length bytes.now ≤ LARGEST_IMAGE }
 {
-    if epoch != image.epoch() {
+    if epoch < image.task_epoch() || image.epoch() < epoch {
         return Some(CoreFault::StalePost);
     }
     if bytes.len() != image.outputs().len() {
@@ -50,8 +50,8 @@ fn post_bytes(posts: &mut PostSender, epoch: u32, bytes: &[u8]) -> u8
     }
 }
 
-/// The seat posts all outputs of its task for the epoch of the image at hand. The post waits until the owner takes
-/// it. `DONE`; fault 15 where the image at hand is of another epoch; fault 16 where it has another number of output bytes;
+/// The seat posts all outputs of its task for an epoch whose places the image at hand has. The post waits until the owner takes
+/// it. `DONE`; fault 15 if the epoch is below the task's in the image at hand, or above the image's; fault 16 where it has another number of output bytes;
 /// `NO_SPARE` where four posts of the seat wait, as far as it has seen what was taken; `CLOSED` where the seat is closed, or
 /// the owner's end of it is gone. Unless it is done nothing is posted. It waits for nobody and takes no memory.
 #[unsafe(no_mangle)]

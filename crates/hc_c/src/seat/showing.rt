@@ -49,8 +49,8 @@ fn add_slots(core: &Core, task: u8, number: u8, datagrams: &[Datagram], images: 
     let Some((first, rest)) = datagrams.split_first() else {
         return;
     };
-    let slot = core.data(task, number);
-    let serial = core.data_serial(task, number);
+    let slot = core.steady_data(task, number);
+    let serial = core.steady_serial(task, number);
     add_slot(images, slot, serial, usize::from(first.length));
     add_slots(core, task, number + 1, rest, images);
 }
@@ -101,7 +101,7 @@ fn show_end(core: &Core, task: u8, end: &mut OwnerEnd)
     let datagrams = places.datagrams(task);
     let (outputs, _) = part_at(core, task);
     let images = &mut end.images;
-    images.begin(plan.epoch());
+    images.begin(plan.epoch(), core.task_epoch(task));
     add_slots(core, task, 0, datagrams, images);
     add_outputs(core, task, 0, datagrams, usize::from(outputs), images);
     images.send();

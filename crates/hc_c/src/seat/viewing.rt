@@ -15,13 +15,16 @@ use hc_mail::image::TaskImage;
 #[repr(C)]
 #[derive(Clone, Copy)]
 pub struct SeatView {
-    /// The epoch whose places the data are in.
+    /// The epoch in which the image was shown.
     epoch: u32,
+    /// The epoch, at that time, of the last edit that changed the task, 0 if none did: the data's places are those of each epoch
+    /// from this one to `epoch`.
+    task_epoch: u32,
     /// The bytes of the task's image, at most 23,776.
     size: usize,
     /// The bytes of the task's outputs, which come first.
     outputs: usize,
-    /// Bit d is 1 where datagram d has data in this epoch.
+    /// Bit d is 1 if datagram d has data.
     has: u16,
 }
 
@@ -89,6 +92,7 @@ fn give_image(image: &TaskImage, out: &mut [u8], serials: &mut [u64], view: &mut
     let has = give_serials(image.serials(), serials);
     *view = SeatView {
         epoch: image.epoch(),
+        task_epoch: image.task_epoch(),
         size: bytes.len(),
         outputs: image.outputs().len(),
         has,

@@ -13,5 +13,5 @@ put_slot-requires t c =
     let few = ap length cut in
     let own = c.split_at_mut-own.ensures.front_len in
     let same = c.from.ensures in
-    slot-fits history c.args.task c.args.number (length c.split_at_mut-own.result.0.now) (option_copied c.data.result)
-    (c.data.ensures.slot c.requires.task (omega (arith, few, c.requires.few))) (own ∙ same ∙ lengths.0)
+    slot-fits history c.args.task c.args.number (length c.split_at_mut-own.result.0.now) (option_copied c.steady_data.result)
+    (c.steady_data.ensures.slot c.requires.task (omega (arith, few, c.requires.few))) (own ∙ same ∙ lengths.0)

@@ -17,7 +17,7 @@ invariant_of-self c =
 pub returns-clause-own : goal.returns-clause-own
 returns-clause-own c =
     let was = c.image_mut-image.ensures.image ∙ (sym (ap in_hand c.slot_mut.ensures.value) ∙ ap (λ (end : SenderEnd). end.own) c.self.view_is) in
-    c.begin.ensures ∙ ap (λ (image : Image). begun c.args.epoch image.room) was
+    c.begin.ensures ∙ ap (λ (image : Image). begun c.args.epoch c.args.task_epoch image.room) was
 
 pub returns-clause-same : goal.returns-clause-same
 returns-clause-same c = ap (λ (end : SenderEnd). end.place) c.self.view_is
