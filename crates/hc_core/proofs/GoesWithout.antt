@@ -12,7 +12,7 @@ use Rattle.hc_events.specs.Calls.{MayAnswer}
 use Rattle.hc_events.specs.Entries.{History, Edited}
 use Rattle.hc_events.specs.Points.{state_of}
 use Rattle.hc_events.specs.Stale.{without_stale}
-use Rattle.hc_events.specs.Steps.{Step, Edits, Posts, SendsTasks, SendsWrite, Arrives, Reads, Forgets, answer_to, answers_to, edit_refused, entries_after, entries_after_all, unless_fault, judged_answer, arrival_answer, edit_answer, unless, with_arrival, SendsWrites, SendsReady, Clears, Unplugs}
+use Rattle.hc_events.specs.Steps.{Step, Edits, Posts, PostsSteady, SendsTasks, SendsWrite, Arrives, Reads, Forgets, answer_to, answers_to, edit_refused, entries_after, entries_after_all, unless_fault, judged_answer, arrival_answer, edit_answer, unless, with_arrival, SendsWrites, SendsReady, Clears, Unplugs}
 use Rattle.hc_events.proofs.lemmas.SameAfter.{SameWithout, same-after, same-answer, same-says, same-stale}
 use Rattle.hc_core.specs.LastData.{GoesWithoutThem, answers_left, events_left, leaves_nothing}
 use Rattle.hc_core.specs.Serving.{MayAnswerAll}
@@ -36,6 +36,7 @@ step_keeps : (history : History) (step : Step) → leaves_nothing (answer_to his
 step_keeps history (Edits edit) e =
     ap without_stale (refused_keeps (edit_refused history edit) history (Edited edit ∷ history) (edit_answer (state_of history) (state_after (state_of history) edit)) refl e)
 step_keeps history (Posts task epoch bytes) e = search rules
+step_keeps history (PostsSteady task epoch bytes) e = search rules
 step_keeps history (SendsTasks tasks) e = search rules
 step_keeps history SendsWrite e = search rules
 step_keeps history SendsWrites e = search rules

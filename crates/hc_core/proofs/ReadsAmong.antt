@@ -14,7 +14,7 @@ use Rattle.hc_events.specs.Arrivals.{Arrival, arrival_in}
 use Rattle.hc_events.specs.Calls.{MayAnswer}
 use Rattle.hc_events.specs.Entries.{History, Came}
 use Rattle.hc_events.specs.Stale.{SameAfter, without_stale}
-use Rattle.hc_events.specs.Steps.{Step, Edits, Posts, SendsTasks, SendsWrite, Arrives, Reads, Forgets, answer_to, entries_after, image_of, read_faults, arrival_answer, sent_write_answer, unless, with_arrival, SendsWrites, writes_answer, SendsReady, Clears, Unplugs}
+use Rattle.hc_events.specs.Steps.{Step, Edits, Posts, PostsSteady, SendsTasks, SendsWrite, Arrives, Reads, Forgets, answer_to, entries_after, image_of, read_faults, arrival_answer, sent_write_answer, unless, with_arrival, SendsWrites, writes_answer, SendsReady, Clears, Unplugs}
 use Rattle.hc_events.proofs.lemmas.SameAfter.{same-after_it, same-stale, same-without}
 use Rattle.hc_core.specs.LastData.{IsAsWithoutStale, ReadsShowLastData, ShowsLastData, StaleLeavesNothing}
 use Rattle.hc_core.specs.Serving.{MayAnswerAll}
@@ -59,6 +59,7 @@ stale_arrival history next (Ok arrival) answer_given entries later =
 stale_step : (history next : History) (step : Step) → answer_to history step ≡ answer.Stale → next ≡ entries_after history step → (later : List Step) → SameAfter next history later
 stale_step history next (Edits edit) answer_given entries later = search (rules, unless_stale)
 stale_step history next (Posts task epoch bytes) answer_given entries later = search (rules, unless_stale)
+stale_step history next (PostsSteady task epoch bytes) answer_given entries later = search (rules, unless_stale)
 stale_step history next (SendsTasks tasks) answer_given entries later = search (rules, unless_stale)
 stale_step history next SendsWrite answer_given entries later = search (rules, unless_stale, no_write_stale)
 stale_step history next SendsWrites answer_given entries later = search (rules, unless_stale, no_writes_stale)

@@ -17,7 +17,7 @@ use Rattle.hc_events.specs.Ready.{with_cleared}
 use Rattle.hc_events.specs.Faults.{edit_refusal}
 use Rattle.hc_events.specs.Owed.{owed_blocks}
 use Rattle.hc_events.specs.Points.{state_of}
-use Rattle.hc_events.specs.Steps.{Step, Edits, Posts, SendsTasks, SendsWrite, SendsWrites, Reads, Forgets, SendsReady, Clears, Unplugs, answer_to, clear_faults, edit_refused, entries_after, forget_faults, post_faults, ready_faults, task_faults, edit_answer, unplug_faults, write_faults}
+use Rattle.hc_events.specs.Steps.{Step, Edits, Posts, PostsSteady, SendsTasks, SendsWrite, SendsWrites, Reads, Forgets, SendsReady, Clears, Unplugs, answer_to, clear_faults, edit_refused, entries_after, forget_faults, post_faults, post_steady_faults, ready_faults, task_faults, edit_answer, unplug_faults, write_faults}
 use Rattle.hc_core.specs.Early.{ShowsEarly}
 use Rattle.hc_core.specs.Serving.{MayAnswerAll, answer_of, answer_of_clear, answer_of_edit, answer_of_forget, answer_of_post, answer_of_unplug, answer_or_memory}
 use Rattle.hc_core.specs.State.{CoreState}
@@ -115,6 +115,10 @@ read-served history task result answers = search rules
 pub post-served : {X : Type 0} (old new : History) (task epoch : ℕ) (bytes : List ℕ) (result : Result X CoreFault) → OnOk result (lowest (post_faults old task epoch bytes) ≡ None) → IfErr result (λ found. lowest (post_faults old task epoch bytes) ≡ Some found)
     → OnOk result (new ≡ Posted task bytes ∷ old) → OnErr result (new ≡ old) → MayAnswer old (Posts task epoch bytes) (answer_of_post result) new
 post-served old new task epoch bytes result accepted names entries same = search rules
+
+pub steady_post-served : {X : Type 0} (old new : History) (task epoch : ℕ) (bytes : List ℕ) (result : Result X CoreFault) → OnOk result (lowest (post_steady_faults old task epoch bytes) ≡ None)
+    → IfErr result (λ found. lowest (post_steady_faults old task epoch bytes) ≡ Some found) → OnOk result (new ≡ Posted task bytes ∷ old) → OnErr result (new ≡ old) → MayAnswer old (PostsSteady task epoch bytes) (answer_of_post result) new
+steady_post-served old new task epoch bytes result accepted names entries same = search rules
 
 -- nor does forgetting a slave
 

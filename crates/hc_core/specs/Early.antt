@@ -12,7 +12,7 @@ use Rattle.hc_events.specs.Entries.{History}
 use Rattle.hc_events.specs.Faults.{edit_refusal, frame_refusal}
 use Rattle.hc_events.specs.Owed.{owed_blocks}
 use Rattle.hc_events.specs.Points.{state_of}
-use Rattle.hc_events.specs.Steps.{Step, Edits, Posts, SendsTasks, SendsWrite, SendsWrites, Arrives, Reads, Forgets, SendsReady, Clears, Unplugs, clear_faults, forget_faults, is_no_task, post_faults, read_faults, unplug_faults, wait_fault, write_faults}
+use Rattle.hc_events.specs.Steps.{Step, Edits, Posts, PostsSteady, SendsTasks, SendsWrite, SendsWrites, Arrives, Reads, Forgets, SendsReady, Clears, Unplugs, clear_faults, forget_faults, is_no_task, post_faults, post_steady_faults, read_faults, unplug_faults, wait_fault, write_faults}
 use Rattle.hc_sendings.specs.Refusals.{early_faults}
 
 -- what refuses ready tasks before any frame is planned, in order: 8 one is no task, 36 the first of them that waits
@@ -23,6 +23,7 @@ early_ready_faults history tasks = (list_any is_no_task tasks, NoSuchTask) ∷ m
 abbrev pub early_fault : History → Step → Option CoreFault
 early_fault history (Edits edit) = option_map edit_refusal (own_fault (state_of history).groups edit)
 early_fault history (Posts task epoch bytes) = lowest (post_faults history task epoch bytes)
+early_fault history (PostsSteady task epoch bytes) = lowest (post_steady_faults history task epoch bytes)
 early_fault history (SendsTasks tasks) = lowest (early_faults (length (owed_blocks history)) tasks)
 early_fault history SendsWrite = lowest (write_faults history (owed_blocks history))
 early_fault history SendsWrites = lowest (write_faults history (owed_blocks history))

@@ -6,8 +6,7 @@ ghost use Rattle.hc_records.specs.Lists.{lowest};
 ghost use Rattle.hc_events.specs.Accepted.{IsPost};
 ghost use Rattle.hc_events.specs.Entries.{Posted};
 ghost use Rattle.hc_events.specs.Points.{line_of};
-ghost use Rattle.hc_events.specs.Steps.{post_faults};
-ghost use Rattle.hc_core.specs.Steady.{is_stale_epoch, post_steady_faults};
+ghost use Rattle.hc_events.specs.Steps.{is_stale_epoch, post_faults, post_steady_faults};
 
 use crate::keeping::Core;
 use hc_events::faults::CoreFault;

@@ -1,7 +1,7 @@
 //! Serves events.
 ghost use Rattle.std.specs.Prelude.{◌≡◌, All, IfOk, OnErr, map};
 ghost use Rattle.hc_events.specs.Calls.{AreSentTogether, MayAnswer};
-ghost use Rattle.hc_events.specs.Steps.{Arrives, Clears, Edits, Forgets, Posts, Reads, SendsReady, SendsTasks, SendsWrite, SendsWrites, Unplugs, step_of};
+ghost use Rattle.hc_events.specs.Steps.{Arrives, Clears, Edits, Forgets, Posts, PostsSteady, Reads, SendsReady, SendsTasks, SendsWrite, SendsWrites, Unplugs, step_of};
 ghost use Rattle.hc_core.specs.Early.{ShowsEarly};
 ghost use Rattle.hc_core.specs.Lines.{IsLineAfter};
 ghost use Rattle.hc_core.specs.LastData.{GoesWithoutThem, IsAsWithoutStale, ReadsShowLastData, StaleLeavesNothing, TasksReadLastData};
@@ -103,6 +103,15 @@ impl Core {
         ensures taken { self.new.taken ≡ self.old.taken }
     {
         answer_of_post(self.post(task, epoch, bytes))
+    }
+
+    /// Serves a steady post.
+    fn serve_post_steady(&mut self, task: u8, epoch: u32, bytes: &[u8]) -> Answer
+        ensures answer { MayAnswer self.old.history (PostsSteady task epoch bytes.now) result self.new.history }
+        ensures early { ShowsEarly self.old.history (PostsSteady task epoch bytes.now) result }
+        ensures taken { self.new.taken ≡ self.old.taken }
+    {
+        answer_of_post(self.post_steady(task, epoch, bytes))
     }
 
     /// Serves a sending of tasks.
@@ -208,6 +217,7 @@ impl Core {
             Event::Read(task) => self.serve_read(alloc, task),
             Event::SendTasks(tasks) => self.serve_tasks(alloc, tasks),
             Event::Post { task, epoch, bytes } => self.serve_post(task, epoch, bytes),
+            Event::PostSteady { task, epoch, bytes } => self.serve_post_steady(task, epoch, bytes),
             Event::Forget(station) => self.serve_forget(station),
             Event::SendReady(tasks) => self.serve_ready(alloc, tasks),
             Event::Cleared(station) => self.serve_clear(station),
