@@ -45,10 +45,10 @@ examples/tool_changer task_epochs task_epochs_that_no_edit_raises s/epochs->task
 examples/tool_changer task_epochs task_epochs_that_each_edit_raises s/if (figures\[task\] == epochs->figures\[task\]) continue;/;/
 examples/tool_changer task_epochs posts_of_epochs_to_come s/ || epoch > epochs->epoch//
 examples/tool_changer task_epochs posts_of_the_present_epoch_alone s/epoch < epochs->tasks\[task\]/epoch < epochs->epoch/
-tools/embed/small_edits task_epochs register_blocks_that_are_not_compared s/take_areas(figures, line, station);/;/
-tools/embed/small_edits task_epochs places_that_are_not_compared s/take_place(figures, line, epochs->variables\[i\]);/;/
-tools/embed/small_edits model data_that_stay_in_a_changed_task s/if (changed >> task \& 1) history->has_data = false;/;/
-examples/tool_changer model data_that_no_edit_leaves s/if (changed >> task \& 1) history->has_data = false;/history->has_data = false;/
+tools/embed/small_edits task_epochs register_blocks_that_are_not_compared s/take_areas(figures, line, station);/if (!line) &/
+tools/embed/small_edits task_epochs places_that_are_not_compared s/take_place(figures, line, epochs->variables\[i\]);/if (!line) &/
+tools/embed/small_edits model data_that_stay_in_a_changed_task s/if (changed >> task \& 1)/if (changed >> task \& 0)/
+examples/tool_changer model data_that_no_edit_leaves s/if (changed >> task \& 1)/if (changed >> task | 1)/
 END
 }
 
