@@ -5,9 +5,9 @@ use Rattle.hc_core.specs.State.{CoreState}
 use Rattle.hc_core.proofs.SteadyReads.{none-of, read-is}
 use Rattle.hc_core.proofs.keeping.Core.data.Goals as goal
 
-pub returns-then-is_present-clause-slot : goal.returns-then-is_present-clause-slot
-returns-then-is_present-clause-slot c = λ low few.
-    sym (none-of (slot_of c.args.self.now.history c.args.task c.args.number) (sym c.is_present.ensures ∙ c.if-is_present.true))
+pub returns-then-not-is_present-clause-slot : goal.returns-then-not-is_present-clause-slot
+returns-then-not-is_present-clause-slot c = λ low few.
+    sym (none-of (slot_of c.args.self.now.history c.args.task c.args.number) (sym c.is_present.ensures ∙ c.if-not-is_present.true))
 
 pub returns-clause-slot : goal.returns-clause-slot
 returns-clause-slot c = λ low few.
@@ -15,4 +15,4 @@ returns-clause-slot c = λ low few.
     let number = c.args.number in
     c.data.ensures ∙ c.self.invariant.slots task number low few
     ∙ ap (λ (state : CoreState). steady_slot state.history task number) c.self.view_is
-    ∙ (read-is c.args.self.now.history task number (sym c.is_present.ensures ∙ c.if-is_present.false)).0
+    ∙ (read-is c.args.self.now.history task number (sym c.is_present.ensures ∙ c.if-not-is_present.false)).0
