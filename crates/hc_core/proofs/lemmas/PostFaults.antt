@@ -1,6 +1,5 @@
 -- Which posts are refused.
-use Rattle.std.proofs.Common.{◌≡◌, ◌≢◌, ℕ, suc, ◌<◌, ◌==◌, Bool, true, false, not, List, [], ◌∷◌, length, refl, ap, arith, Option, Some, None}
-use Rattle.std.proofs.lemmas.Bool.{eq-eqb, ne_eqb}
+use Rattle.std.proofs.Common.{◌≡◌, ℕ, suc, ◌<◌, ◌==◌, Bool, true, false, not, List, [], ◌∷◌, length, refl, ap, arith, Option, Some, None}
 use Rattle.hc_records.specs.declared.limits.TheConstants.{TASKS}
 use Rattle.hc_records.specs.Image.{output_length, task_places}
 use Rattle.hc_records.specs.Line.{Member}
@@ -46,17 +45,16 @@ fits history task bytes = length bytes == output_length (task_places task (line_
 
 -- of a post
 
-pub post-stale : (history : History) (task epoch : ℕ) (bytes : List ℕ) → task < TASKS → epoch ≢ epoch_of history → lowest (post_faults history task epoch bytes) ≡ Some StalePost
-post-stale history task epoch bytes low other =
-    is_stale (is_no_task task) (not (epoch == epoch_of history)) (not (fits history task bytes)) (is_task task low) (ap not (ne_eqb epoch (epoch_of history) other))
+pub post-stale : (history : History) (task epoch : ℕ) (bytes : List ℕ) → task < TASKS → not (epoch == epoch_of history) ≡ true → lowest (post_faults history task epoch bytes) ≡ Some StalePost
+post-stale history task epoch bytes low other = is_stale (is_no_task task) (not (epoch == epoch_of history)) (not (fits history task bytes)) (is_task task low) other
 
-pub post-length : (history : History) (task epoch : ℕ) (bytes : List ℕ) → task < TASKS → epoch ≡ epoch_of history → fits history task bytes ≡ false → lowest (post_faults history task epoch bytes) ≡ Some PostLength
-post-length history task epoch bytes low same other =
-    is_other_length (is_no_task task) (not (epoch == epoch_of history)) (not (fits history task bytes)) (is_task task low) (ap not (eq-eqb epoch (epoch_of history) same)) (ap not other)
+pub post-length : (history : History) (task epoch : ℕ) (bytes : List ℕ) → task < TASKS → not (epoch == epoch_of history) ≡ false → fits history task bytes ≡ false
+    → lowest (post_faults history task epoch bytes) ≡ Some PostLength
+post-length history task epoch bytes low same other = is_other_length (is_no_task task) (not (epoch == epoch_of history)) (not (fits history task bytes)) (is_task task low) same (ap not other)
 
-pub post-accepted : (history : History) (task epoch : ℕ) (bytes : List ℕ) → task < TASKS → epoch ≡ epoch_of history → fits history task bytes ≡ true → lowest (post_faults history task epoch bytes) ≡ None
-post-accepted history task epoch bytes low same size =
-    is_accepted (is_no_task task) (not (epoch == epoch_of history)) (not (fits history task bytes)) (is_task task low) (ap not (eq-eqb epoch (epoch_of history) same)) (ap not size)
+pub post-accepted : (history : History) (task epoch : ℕ) (bytes : List ℕ) → task < TASKS → not (epoch == epoch_of history) ≡ false → fits history task bytes ≡ true
+    → lowest (post_faults history task epoch bytes) ≡ None
+post-accepted history task epoch bytes low same size = is_accepted (is_no_task task) (not (epoch == epoch_of history)) (not (fits history task bytes)) (is_task task low) same (ap not size)
 
 -- of a steady post
 

@@ -13,6 +13,7 @@ pub returns-clause-slot : goal.returns-clause-slot
 returns-clause-slot c = λ low few.
     let task = c.args.task in
     let number = c.args.number in
-    c.data.ensures ∙ c.self.invariant.slots task number low few
-    ∙ ap (λ (state : CoreState). steady_slot state.history task number) c.self.view_is
-    ∙ (read-is c.args.self.now.history task number (sym c.is_present.ensures ∙ c.if-not-is_present.false)).0
+    let is = c.self.invariant.slots task number low few in
+    let view = ap (λ (state : CoreState). steady_slot state.history task number) c.self.view_is in
+    let read = (read-is c.args.self.now.history task number (sym c.is_present.ensures ∙ c.if-not-is_present.false)).0 in
+    cc (c.data.ensures, is, view, read)

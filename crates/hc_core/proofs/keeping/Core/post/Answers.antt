@@ -1,9 +1,8 @@
-use Rattle.std.proofs.Common.{◌≡◌, ◌<◌, ◌∙◌, ℕ, length, ap, arith, sym}
+use Rattle.std.proofs.Common.{◌≡◌, ◌<◌, ◌∙◌, length, arith, sym}
 use Rattle.std.proofs.lemmas.Bool.{eqb-true}
 use Rattle.hc_records.specs.declared.limits.TheConstants.{TASKS}
 use Rattle.hc_records.specs.Image.{output_length, task_places}
-use Rattle.hc_records.specs.Line.{State}
-use Rattle.hc_events.specs.Points.{epoch_of, line_of}
+use Rattle.hc_events.specs.Points.{line_of}
 use Rattle.hc_core.proofs.lemmas.PostFaults.{post-accepted, post-length, post-stale}
 use Rattle.hc_core.proofs.keeping.Core.post.Goals as goal
 
@@ -15,23 +14,17 @@ take_post-requires c = record {
       (sym c.fits_outputs.ensures ∙ c.if-not-fits_outputs.false);
 }
 
-pub returns-then-epoch-clause-refused : goal.returns-then-epoch-clause-refused
-returns-then-epoch-clause-refused c =
-    let history = c.args.self.now.history in
+pub returns-then-is_other_epoch-clause-refused : goal.returns-then-is_other_epoch-clause-refused
+returns-then-is_other_epoch-clause-refused c =
     let low : c.args.task < TASKS = omega (arith, c.if-task-ge-TASKS.false) in
-    let epoch : c.epoch.result ≡ epoch_of history = c.epoch.ensures ∙ ap (λ (state : State). state.epoch) c.plan.ensures.state ∙ c.plan.ensures.epoch in
-    post-stale history c.args.task c.args.epoch c.args.bytes.now low (λ same. c.if-epoch.true (same ∙ sym epoch))
+    post-stale c.args.self.now.history c.args.task c.args.epoch c.args.bytes.now low (sym c.is_other_epoch.ensures ∙ c.if-is_other_epoch.true)
 
 pub returns-then-not-fits_outputs-clause-refused : goal.returns-then-not-fits_outputs-clause-refused
 returns-then-not-fits_outputs-clause-refused c =
-    let history = c.args.self.now.history in
     let low : c.args.task < TASKS = omega (arith, c.if-task-ge-TASKS.false) in
-    let epoch : c.epoch.result ≡ epoch_of history = c.epoch.ensures ∙ ap (λ (state : State). state.epoch) c.plan.ensures.state ∙ c.plan.ensures.epoch in
-    post-length history c.args.task c.args.epoch c.args.bytes.now low (c.if-epoch.false ∙ epoch) (sym c.fits_outputs.ensures ∙ c.if-not-fits_outputs.true)
+    post-length c.args.self.now.history c.args.task c.args.epoch c.args.bytes.now low (sym c.is_other_epoch.ensures ∙ c.if-is_other_epoch.false) (sym c.fits_outputs.ensures ∙ c.if-not-fits_outputs.true)
 
 pub returns-clause-accepted : goal.returns-clause-accepted
 returns-clause-accepted c =
-    let history = c.args.self.now.history in
     let low : c.args.task < TASKS = omega (arith, c.if-task-ge-TASKS.false) in
-    let epoch : c.epoch.result ≡ epoch_of history = c.epoch.ensures ∙ ap (λ (state : State). state.epoch) c.plan.ensures.state ∙ c.plan.ensures.epoch in
-    post-accepted history c.args.task c.args.epoch c.args.bytes.now low (c.if-epoch.false ∙ epoch) (sym c.fits_outputs.ensures ∙ c.if-not-fits_outputs.false)
+    post-accepted c.args.self.now.history c.args.task c.args.epoch c.args.bytes.now low (sym c.is_other_epoch.ensures ∙ c.if-is_other_epoch.false) (sym c.fits_outputs.ensures ∙ c.if-not-fits_outputs.false)
