@@ -61,6 +61,11 @@ ages-after history arrival epoch task d same =
 pub none-steadied : (history : History) (arrival : Arrival) (task d : ℕ) → new_answer_by history arrival ≡ [] → steady_data (Came arrival ∷ history) task d ≡ steady_data history task d
 none-steadied history arrival task d none = ap (fold (steadied arrival.serial (epoch_of history) task d) (steady_data history task d)) none
 
+-- an age has the serial of its data
+pub serial-of_age : (found : Option SteadyData) → option_map (λ (age : DataAge). age.serial) (option_map data_age found) ≡ option_map (λ (one : SteadyData). one.serial) found
+serial-of_age None = refl
+serial-of_age (Some found) = refl
+
 -- edits
 
 pub chosen-mapped : {X Y : Type 0} (f : X → Y) (changes : Bool) (before : Option X) → option_map f (cond changes None before) ≡ cond changes None (option_map f before)

@@ -1,11 +1,11 @@
 //! What tasks post.
-ghost use Rattle.std.specs.Prelude.{◌≡◌, ◌∷◌, ◌<◌, ◌==◌, IfErr, None, OnErr, OnOk, Some, length};
+ghost use Rattle.std.specs.Prelude.{◌≡◌, ◌∷◌, ◌<◌, ◌==◌, IfErr, None, OnErr, OnOk, Some, length, not};
 ghost use Rattle.hc_records.specs.declared.limits.TheConstants.{TASKS};
 ghost use Rattle.hc_records.specs.Image.{output_length, task_places};
 ghost use Rattle.hc_records.specs.Lists.{lowest};
 ghost use Rattle.hc_events.specs.Accepted.{IsPost};
 ghost use Rattle.hc_events.specs.Entries.{Posted};
-ghost use Rattle.hc_events.specs.Points.{line_of};
+ghost use Rattle.hc_events.specs.Points.{epoch_of, line_of};
 ghost use Rattle.hc_events.specs.Steps.{is_stale_epoch, post_faults, post_steady_faults};
 
 use crate::keeping::Core;
@@ -20,6 +20,13 @@ impl Core {
         ensures { result ≡ (length bytes.now == output_length (task_places task (line_of self.now.history))) }
     {
         bytes.len() == usize::from(self.plan.places().part(task).0)
+    }
+
+    /// Whether an epoch is another than the present one.
+    fn is_other_epoch(&self, epoch: u32) -> bool
+        ensures { result ≡ not (epoch == epoch_of self.now.history) }
+    {
+        epoch != self.plan().epoch()
     }
 
     /// Whether an epoch is below the one of the last edit that changed a task, 0 to 7, or above the present one.
@@ -52,7 +59,7 @@ impl Core {
         if task >= TASKS {
             return Err(CoreFault::NoSuchTask);
         }
-        if epoch != self.plan().epoch() {
+        if self.is_other_epoch(epoch) {
             return Err(CoreFault::StalePost);
         }
         if !self.fits_outputs(task, bytes) {

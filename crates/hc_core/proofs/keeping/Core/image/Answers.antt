@@ -1,6 +1,5 @@
-use Rattle.std.proofs.Common.{◌≤◌, ◌∙◌, ap, sym, subst, cond, map, Some, None}
+use Rattle.std.proofs.Common.{◌∙◌, ap, sym, cond, map, Some, None}
 use Rattle.std.specs.List.{range_with_len}
-use Rattle.hc_records.specs.declared.limits.TheConstants.{MOST_DATAGRAMS}
 use Rattle.hc_records.specs.Image.{datagram_count, task_places}
 use Rattle.hc_records.specs.Line.{State, line}
 use Rattle.hc_places.specs.Table.{datagrams_in}
@@ -22,9 +21,9 @@ returns-clause-answer c =
     let history = history_read c.self.inside.history in
     let task = c.args.task in
     let count = listed-count c.self.inside.plan task c.datagrams.result.now c.places.ensures.unchanged (c.datagrams.ensures.datagrams ∙ ap (λ table. datagrams_in table task) c.places.ensures.table) in
-    let few : datagram_count (task_places task (line c.self.inside.plan)) ≤ MOST_DATAGRAMS = subst (λ n. n ≤ MOST_DATAGRAMS) count c.datagrams.ensures.few in
-    let slots = c.in_ok-slots.ensures ∙ ap (λ (core : CoreState). map (slot_of core.history task) (range_with_len 0 c.count)) (sym c.self.view_is)
-    ∙ ap (λ n. map (slot_of history task) (range_with_len 0 n)) count
+    let slots = c.in_ok-slots.ensures
+    ∙ ap (λ n. map (slot_of c.args.self.now.history task) (range_with_len 0 n)) count
+    ∙ ap (λ (core : CoreState). map (slot_of core.history task) (range_with_len 0 (datagram_count (task_places task (line c.self.inside.plan))))) (sym c.self.view_is)
     ∙ ap (λ (state : State). map (slot_of history task) (range_with_len 0 (datagram_count (task_places task (line state))))) unchanged.state in
     let epoch = c.epoch-epoch.ensures ∙ ap (λ (state : State). state.epoch) unchanged.state ∙ epochs-counted history unchanged.accepted in
     ap (λ n. Image n c.in_ok-slots.slots) epoch

@@ -16,9 +16,11 @@ returns-in-Some c =
     let task = c.args.task in
     let number = c.args.number in
     let epoch : c.epoch.result ≡ epoch_of history = c.epoch.ensures ∙ ap (λ (state : State). state.epoch) c.self.invariant.state ∙ epochs-counted history c.self.invariant.accepted in
+    let is : (c.in-Some.age.epoch == c.epoch.result) ≡ is_some (slot_of c.args.self.now.history task number) =
     ap₂ is_of_epoch epoch (sym c.in-Some.is ∙ c.get.ensures ∙ c.self.invariant.dates task number c.requires.task c.requires.number)
     ∙ present-is history task number
-    ∙ ap (λ (core : CoreState). is_some (slot_of core.history task number)) c.self.view_is
+    ∙ ap (λ (core : CoreState). is_some (slot_of core.history task number)) c.self.view_is in
+    cc
 
 pub returns-in-None : goal.returns-in-None
 returns-in-None c =

@@ -23,6 +23,9 @@ returns-in-SendTasks-clause-stale c = search (rules, stale-leaves)
 pub returns-in-Post-clause-stale : goal.returns-in-Post-clause-stale
 returns-in-Post-clause-stale c = search (rules, stale-leaves)
 
+pub returns-in-PostSteady-clause-stale : goal.returns-in-PostSteady-clause-stale
+returns-in-PostSteady-clause-stale c = search (rules, stale-leaves)
+
 pub returns-in-Forget-clause-stale : goal.returns-in-Forget-clause-stale
 returns-in-Forget-clause-stale c = search (rules, stale-leaves)
 
