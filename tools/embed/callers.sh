@@ -77,7 +77,7 @@ callers_of_seats() {
     seats_at_speed 100000 "tasks at full speed, under the thread sanitizer, but for calls of the library" -fsanitize=thread
 }
 
-# callers_in_c CALLS: players, callers that do wrong, the page's cycle, and so many drawn calls
+# callers_in_c CALLS: players, callers that do wrong, the page's cycle, and so many drawn calls over each of two projects
 callers_in_c() {
     compiled play tools/embed/words.c -fsanitize=address,undefined
     report $? "the C player isn't built"
@@ -90,8 +90,12 @@ callers_in_c() {
     threads "threads that meet at one handle, under the address sanitizer" -fsanitize=address,undefined
     compiled gripper -fsanitize=address,undefined && timeout 60 "$scratch/gripper" examples/own_tasks.toml >"$scratch/printed"
     report_run $? "axes that keep their cycles while a tool comes, is silent and stays plugged"
-    compiled_fuzz && timeout 900 "$scratch/fuzz" examples/tool_changer.toml "$1" 1 >"$scratch/printed"
-    report_run $? "$1 drawn calls from C"
+    compiled_fuzz
+    report $? "the caller that draws isn't built"
+    for project in examples/tool_changer tools/embed/small_edits; do
+        timeout 900 "$scratch/fuzz" $project.toml "$1" 1 >"$scratch/printed"
+        report_run $? "$1 drawn calls from C over $project.toml"
+    done
     master master
     master docking examples/master/tool.c
     master tasks examples/master/tool.c
