@@ -105,14 +105,15 @@ fn with_dropped_post(program: &str, arguments: &[String], input: &str) -> std::i
     Ok(whole)
 }
 
-/// What a program prints for an input.
-fn run(program: &str, arguments: &[String], input: String) -> std::io::Result<Output> {
+/// What a program prints for an input, which needn't be text.
+fn run(program: &str, arguments: &[String], input: impl Into<Vec<u8>>) -> std::io::Result<Output> {
     let mut command = Command::new(program);
     command.args(arguments).stdin(Stdio::piped()).stdout(Stdio::piped());
     let mut child = command.spawn()?;
     let mut to = child.stdin.take().expect("a pipe");
+    let input = input.into();
     // a program that stops reading fails by what it prints
-    let writer = spawn(move || drop(to.write_all(input.as_bytes())));
+    let writer = spawn(move || drop(to.write_all(&input)));
     let output = child.wait_with_output();
     writer.join().expect("a writer");
     output
@@ -124,15 +125,17 @@ fn main() -> ExitCode {
         eprintln!("usage: wrong_program byte|line|epoch|document|view|judged|counted|dropped PROGRAM [ARGUMENT..]");
         return ExitCode::from(64);
     };
-    let mut input = String::new();
-    if stdin().read_to_string(&mut input).is_err() {
-        eprintln!("the input isn't text");
+    let mut input = Vec::new();
+    if stdin().read_to_end(&mut input).is_err() {
+        eprintln!("the input can't be read");
         return ExitCode::from(64);
     }
-    if way == "document" {
-        input = with_shorter_documents(&input);
-    }
-    let output = if way == "dropped" { with_dropped_post(program, arguments, &input) } else { run(program, arguments, input) };
+    let text = String::from_utf8_lossy(&input);
+    let output = match way.as_str() {
+        "document" => run(program, arguments, with_shorter_documents(&text)),
+        "dropped" => with_dropped_post(program, arguments, &text),
+        _ => run(program, arguments, input),
+    };
     let Ok(output) = output else {
         eprintln!("{program} can't be run");
         return ExitCode::from(64);
