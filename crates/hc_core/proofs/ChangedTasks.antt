@@ -3,14 +3,15 @@ use Rattle.std.proofs.Common.{◌≡◌, ℕ, ◌<◌, ◌==◌, ◌||◌, ◌�
 use Rattle.std.specs.Prelude.{◌≢◌, filter, find, is_some, not, option_map, slice_get}
 use Rattle.std.specs.List.{list_any}
 use Rattle.std.proofs.lemmas.Bool.{eq-eqb, eqb-true, false_from_ne_true, not-true, or_left}
+use Rattle.std.proofs.lemmas.List.Elements.{All-contains_itself}
 use Rattle.std.proofs.lemmas.Option.{same_Some}
 use Rattle.hc_records.specs.declared.limits.TheConstants.{TASKS}
 use Rattle.hc_records.specs.Image.{VariablePlace}
 use Rattle.hc_records.specs.Line.{Member, line}
-use Rattle.hc_changes.proofs.lemmas.Lists.{found-among}
 use Rattle.hc_places.specs.Swap.{Change, ChangedRow, ChangedTask, ChangesAscend, IsNewTask, SaysWhatDiffers, changed_variables, new_place, same_found, said_of, table_said_of, variables_of_both}
 use Rattle.hc_places.specs.Table.{Table, TaskTable, place_in, table_of, task_table}
 use Rattle.hc_places.proofs.lemmas.DatagramUses.{table-at}
+use Rattle.hc_places.proofs.lemmas.Found.{find-holds}
 use Rattle.hc_places.proofs.lemmas.Same.{found-same}
 use Rattle.hc_plan.proofs.lemmas.Elements.{contains-order, contains-unkept, some-passes, which-passes}
 use Rattle.hc_plan.specs.Prepared.{IsPrepared, PreparedEdit}
@@ -67,10 +68,10 @@ row-found rows row ascends has = by (find (λ (changed : ChangedRow). changed.0 
         sym (some-passes (λ (changed : ChangedRow). changed.0 == row.0) rows row has (eq-eqb row.0 row.0 refl)) ∙ any-found (λ (changed : ChangedRow). changed.0 == row.0) rows ∙ ap (λ (o : Option ChangedRow). is_some o) is in
         cc
     by (Some other) is =
-        let found = found-among (λ (changed : ChangedRow). changed.0 == row.0) rows other is in
-        let same = eqb-true other.0 row.0 found.passes in
+        let found = find-holds (Contains rows) (λ (changed : ChangedRow). changed.0 == row.0) rows other is (All-contains_itself rows) in
+        let same = eqb-true other.0 row.0 found.1 in
         ap (option_map (λ (changed : ChangedRow). changed.1)) is
-        ∙ elim (contains-order (λ (a b : ChangedRow). a.0 < b.0) rows other row ascends found.among has) [
+        ∙ elim (contains-order (λ (a b : ChangedRow). a.0 < b.0) rows other row ascends found.0 has) [
           | inl one ↦ ap (λ (changed : ChangedRow). Some changed.1) one
           | inr (inl less) ↦ absurd (omega (arith, less, same))
           | inr (inr less) ↦ absurd (omega (arith, less, same))
@@ -121,10 +122,10 @@ place-differs old new change task ascends says = both-ways (has_place old change
             → said_of change variable ≡ Some (place_in new variable) → has_place old change task ≡ true
         found variable lies None is said = let never : None ≡ Some (place_in new variable) = sym (ap (option_map (λ (changed : ChangedRow). changed.1)) is) ∙ said in cc
         found variable lies (Some row) is said =
-            let has = found-among (λ (changed : ChangedRow). changed.0 == variable) change.rows row is in
-            let number : row.0 ≡ variable = eqb-true row.0 variable has.passes in
+            let has = find-holds (Contains change.rows) (λ (changed : ChangedRow). changed.0 == variable) change.rows row is (All-contains_itself change.rows) in
+            let number : row.0 ≡ variable = eqb-true row.0 variable has.1 in
             let place : row.1 ≡ place_in new variable = same_Some row.1 (place_in new variable) (sym (ap (option_map (λ (changed : ChangedRow). changed.1)) is) ∙ said) in
-            some-passes (row_lies old task) change.rows row has.among
+            some-passes (row_lies old task) change.rows row has.0
             (ap₂ (λ (v : ℕ) (p : Option VariablePlace). lies_in_task task (place_in old v) || lies_in_task task p) number place ∙ lies)
 
 -- the register blocks

@@ -24,8 +24,8 @@ use Rattle.hc_core.specs.Agreement.{Agree, CoreParts, core_parts, state_in}
 use Rattle.hc_core.specs.State.{CoreState}
 use Rattle.hc_core.proofs.keeping.Core.carry.Goals as goal
 
-pub changed_tasks-requires : goal.changed_tasks-requires
-changed_tasks-requires c =
+pub changed_tasks-changed-requires : goal.changed_tasks-changed-requires
+changed_tasks-changed-requires c =
     let core_edit = still-here (state_in c.self.inside) c.args.self.now c.args.edit c.args.moves c.args.slaves c.args.room.items (vec_capacity c.args.room) c.self.view_is c.requires in
     can-tell (core_parts c.self.inside) (history_read c.self.inside.history) (history_read c.self.inside.taken.value) c.args.edit c.args.moves c.args.slaves c.args.room.items (vec_capacity c.args.room)
     c.places.result.now c.places.ensures.table core_edit c.self.invariant
@@ -105,3 +105,18 @@ returns-clause-answer c =
     ∙ edited-answer_given edit.old edit.new asked edit.report prepared.accepted prepared.answer_given
     ∙ ap (λ (state : State). edit_answer state (state_after state asked)) core_edit.made
     ∙ ap (λ (core : CoreState). edit_answer (state_of core.history) (state_after (state_of core.history) asked)) c.self.view_is
+
+pub carry_out-report-requires : goal.carry_out-report-requires
+carry_out-report-requires c =
+    let core_edit = still-here (state_in c.self.inside) c.args.self.now c.args.edit c.args.moves c.args.slaves c.args.room.items (vec_capacity c.args.room) c.self.view_is c.requires in
+    core_edit.made ∙ sym c.self.invariant.state
+
+pub returns-clause-entries : goal.returns-clause-entries
+returns-clause-entries c =
+    let history = history_read c.self.inside.history in
+    let taken = history_read c.self.inside.taken.value in
+    let asked = c.args.edit.report.swap.edit in
+    let swap = ap (λ (report : Report). report.swap) c.carry_out-report.ensures.report in
+    let grows = c.edited.ensures ∙ ap (λ edit. Edited edit ∷ history) (c.edit.ensures ∙ ap (λ (one : Swap). one.edit) swap) in
+    ap (λ (grown : History). let after : CoreState = record { history = grown; taken = taken } in after) grows
+    ∙ ap (λ (core : CoreState). record core { history = Edited asked ∷ core.history }) c.self.view_is
