@@ -1,25 +1,25 @@
 -- The tasks that an edit changes, by what its swap says of the tables and of the variables' places, and by its register blocks.
-use Rattle.std.proofs.Common.{◌≡◌, ℕ, ◌<◌, ◌==◌, ◌||◌, ◌∙◌, Bool, true, false, cond, Contains, List, [], ◌∷◌, refl, sym, ap, ap₂, subst, arith, ◌⊎◌, inl, inr, Option, Some, None}
-use Rattle.std.specs.Prelude.{◌≢◌, filter, find, is_some, not, option_map, slice_get}
+use Rattle.std.proofs.Common.{◌≡◌, ℕ, ◌<◌, ◌==◌, ◌||◌, ◌∙◌, Bool, true, false, cond, Contains, List, [], ◌∷◌, refl, sym, ap, ap₂, subst, arith, inl, inr, Option, Some, None}
+use Rattle.std.specs.Prelude.{find, is_some, not, option_map, slice_get}
 use Rattle.std.specs.List.{list_any}
-use Rattle.std.proofs.lemmas.Bool.{eq-eqb, eqb-true, false_from_ne_true, not-true, or_left}
+use Rattle.std.proofs.lemmas.Bool.{eq-eqb, eqb-true, false_from_ne_true}
 use Rattle.std.proofs.lemmas.List.Elements.{All-contains_itself}
 use Rattle.std.proofs.lemmas.Option.{same_Some}
 use Rattle.hc_records.specs.declared.limits.TheConstants.{TASKS}
 use Rattle.hc_records.specs.Image.{VariablePlace}
-use Rattle.hc_records.specs.Line.{Member, line}
+use Rattle.hc_records.specs.Line.{Member}
 use Rattle.hc_places.specs.Swap.{Change, ChangedRow, ChangedTask, ChangesAscend, IsNewTask, SaysWhatDiffers, changed_variables, new_place, same_found, said_of, table_said_of, variables_of_both}
 use Rattle.hc_places.specs.Table.{Table, TaskTable, place_in, table_of, task_table}
 use Rattle.hc_places.proofs.lemmas.DatagramUses.{table-at}
 use Rattle.hc_places.proofs.lemmas.Found.{find-holds}
 use Rattle.hc_places.proofs.lemmas.Same.{found-same}
 use Rattle.hc_plan.proofs.lemmas.Elements.{contains-order, contains-unkept, some-passes, which-passes}
-use Rattle.hc_plan.specs.Prepared.{IsPrepared, PreparedEdit}
+use Rattle.hc_plan.specs.Prepared.{PreparedEdit}
 use Rattle.hc_registers.specs.declared.ranked.Gone.{Gone}
 use Rattle.hc_registers.specs.Ranked.{RankedBlock}
 use Rattle.hc_registers.specs.RankDifferences.{Differ}
 use Rattle.hc_registers.specs.RankPlaces.{places}
-use Rattle.hc_events.specs.Steady.{changes_task, lies_in_task, moves_variable, same_task}
+use Rattle.hc_events.specs.Steady.{lies_in_task, moves_variable, same_task}
 use Rattle.hc_events.proofs.lemmas.Unchanged.{place-stays, task-alike}
 use Rattle.hc_owed.proofs.lemmas.SameTask.{tasks-same}
 use Rattle.hc_owed.specs.declared.area.JudgedArea.{JudgedArea}

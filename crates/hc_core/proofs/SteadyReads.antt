@@ -1,15 +1,14 @@
 -- The steady data of a datagram and their age, after good answers and after edits, and what a task reads of them in the present epoch.
-use Rattle.std.proofs.Common.{◌≡◌, ℕ, ◌+◌, ◌==◌, ◌∙◌, Bool, true, false, cond, List, [], ◌∷◌, refl, sym, ap, Option, Some, None}
+use Rattle.std.proofs.Common.{◌≡◌, ℕ, ◌==◌, ◌∙◌, Bool, true, false, cond, List, [], ◌∷◌, refl, sym, ap, Option, Some, None}
 use Rattle.std.specs.Prelude.{fold, is_some, option_map}
 use Rattle.std.specs.Option.{option_map_or}
 use Rattle.std.proofs.lemmas.Bool.{eq-eqb, eqb-true}
-use Rattle.hc_records.specs.declared.edit.Edit.{Edit}
 use Rattle.hc_events.specs.Ages.{data_serial}
 use Rattle.hc_events.specs.Arrivals.{Arrival}
-use Rattle.hc_events.specs.Entries.{History, Edited, Came}
+use Rattle.hc_events.specs.Entries.{History, Came}
 use Rattle.hc_events.specs.Images.{NewAnswer, is_for, new_answer_by, renewed, slot_of}
 use Rattle.hc_events.specs.Points.{epoch_of}
-use Rattle.hc_events.specs.Steady.{SteadyData, edit_changes, steadied, steady_data, steady_serial, steady_slot}
+use Rattle.hc_events.specs.Steady.{SteadyData, steadied, steady_data, steady_serial, steady_slot}
 use Rattle.hc_events.proofs.lemmas.Steady.{slots-steady, steady-slots}
 use Rattle.hc_core.specs.declared.ages.DataAge.{DataAge}
 use Rattle.hc_core.specs.Ages.{aged, data_age, steady_age}

@@ -18,7 +18,7 @@ write_frame_send : IsSend (WriteFrame.the_field).row
 write_frame_send = search (sendable, crosses) depth 400 fits 100000
 
 inside_field_send : IsSend (Inside.the_field).row
-inside_field_send = struct_send (shape Inside.the_type) (plan_send, (search sendable, (awaited_send, (search (sendable, crosses) depth 400 fits 100000, (search (sendable, crosses) depth 400 fits 100000, (search (sendable, crosses) depth 400 fits 100000, (search (sendable, crosses) depth 400 fits 100000, (search (sendable, crosses) depth 400 fits 100000, (search (sendable, crosses) depth 400 fits 100000, (search (sendable, crosses) depth 400 fits 100000, (search (sendable, crosses) depth 400 fits 100000, (search (sendable, crosses) depth 400 fits 100000, (write_frame_send, (search (sendable, crosses) depth 400 fits 100000, (search (sendable, crosses) depth 400 fits 100000, tt)))))))))))))))
+inside_field_send = struct_send (shape Inside.the_type) (plan_send, (search sendable, (awaited_send, (search (sendable, crosses) depth 400 fits 100000, (search (sendable, crosses) depth 400 fits 100000, (search (sendable, crosses) depth 400 fits 100000, (search (sendable, crosses) depth 400 fits 100000, (search (sendable, crosses) depth 400 fits 100000, (search (sendable, crosses) depth 400 fits 100000, (search (sendable, crosses) depth 400 fits 100000, (search (sendable, crosses) depth 400 fits 100000, (search (sendable, crosses) depth 400 fits 100000, (search (sendable, crosses) depth 400 fits 100000, (write_frame_send, (search (sendable, crosses) depth 400 fits 100000, (search (sendable, crosses) depth 400 fits 100000, tt))))))))))))))))
 
 inside_send : IsSend Inside.the_row
 inside_send = recorded_send (Inside.the_field).row _ _ (Inside.the_type).to_one inside_field_send
@@ -41,7 +41,7 @@ write_frame_sync : IsSync (WriteFrame.the_field).row
 write_frame_sync = search (sendable, crosses) depth 400 fits 100000
 
 inside_field_sync : IsSync (Inside.the_field).row
-inside_field_sync = struct_sync (shape Inside.the_type) (plan_sync, (search sendable, (awaited_sync, (search (sendable, crosses) depth 400 fits 100000, (search (sendable, crosses) depth 400 fits 100000, (search (sendable, crosses) depth 400 fits 100000, (search (sendable, crosses) depth 400 fits 100000, (search (sendable, crosses) depth 400 fits 100000, (search (sendable, crosses) depth 400 fits 100000, (search (sendable, crosses) depth 400 fits 100000, (search (sendable, crosses) depth 400 fits 100000, (search (sendable, crosses) depth 400 fits 100000, (write_frame_sync, (search (sendable, crosses) depth 400 fits 100000, (search (sendable, crosses) depth 400 fits 100000, tt)))))))))))))))
+inside_field_sync = struct_sync (shape Inside.the_type) (plan_sync, (search sendable, (awaited_sync, (search (sendable, crosses) depth 400 fits 100000, (search (sendable, crosses) depth 400 fits 100000, (search (sendable, crosses) depth 400 fits 100000, (search (sendable, crosses) depth 400 fits 100000, (search (sendable, crosses) depth 400 fits 100000, (search (sendable, crosses) depth 400 fits 100000, (search (sendable, crosses) depth 400 fits 100000, (search (sendable, crosses) depth 400 fits 100000, (search (sendable, crosses) depth 400 fits 100000, (search (sendable, crosses) depth 400 fits 100000, (write_frame_sync, (search (sendable, crosses) depth 400 fits 100000, (search (sendable, crosses) depth 400 fits 100000, tt))))))))))))))))
 
 inside_sync : IsSync Inside.the_row
 inside_sync = recorded_sync (Inside.the_field).row _ _ (Inside.the_type).to_one inside_field_sync

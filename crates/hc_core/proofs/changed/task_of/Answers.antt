@@ -1,4 +1,4 @@
-use Rattle.std.proofs.Common.{◌≡◌, ℕ, ◌==◌, ap, sym, ◌∙◌}
+use Rattle.std.proofs.Common.{◌==◌, ap, sym, ◌∙◌}
 use Rattle.hc_records.specs.Image.{VariablePlace}
 use Rattle.hc_events.specs.Steady.{lies_in_task}
 use Rattle.hc_owed.proofs.lemmas.TaskSums.{none-has, only-has}

@@ -1,4 +1,4 @@
-use Rattle.std.proofs.Common.{ap, sym, ◌∙◌}
+use Rattle.std.proofs.Common.{sym, ◌∙◌}
 use Rattle.hc_events.specs.Ages.{data_serial}
 use Rattle.hc_events.proofs.lemmas.Ages.{serials-of_data}
 use Rattle.hc_core.proofs.SteadyReads.{none-of, read-is}

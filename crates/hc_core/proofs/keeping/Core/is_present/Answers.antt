@@ -1,10 +1,9 @@
-use Rattle.std.proofs.Common.{◌≡◌, ℕ, ◌==◌, ◌∙◌, Option, Some, ap, ap₂, sym}
+use Rattle.std.proofs.Common.{◌≡◌, ◌==◌, ◌∙◌, ap, ap₂, sym}
 use Rattle.std.specs.Prelude.{is_some}
 use Rattle.hc_records.specs.Line.{State}
 use Rattle.hc_events.specs.Images.{slot_of}
 use Rattle.hc_events.specs.Points.{epoch_of}
 use Rattle.hc_events.proofs.lemmas.Epochs.{epochs-counted}
-use Rattle.hc_core.specs.declared.ages.DataAge.{DataAge}
 use Rattle.hc_core.specs.Records.{history_read}
 use Rattle.hc_core.specs.State.{CoreState}
 use Rattle.hc_core.proofs.SteadyReads.{is_of_epoch, present-is}
