@@ -394,9 +394,9 @@ uint8_t zangjulf_forget(struct zangjulf *handle, uint16_t station);
 
 /* Process data. */
 
-/* A task, 0 to 7, posts its outputs: as many bytes as it has output bytes in the epoch that they were made for. They are sent
- * until it posts again; before its first post zeros are. Over an edit each output variable keeps its value wherever it moves; one
- * that comes into the line begins with 0. ZANGJULF_DONE; 8, 15 or 16; or ZANGJULF_CLOSED, and nothing changed. Takes no memory. */
+/* A task, 0 to 7, posts its outputs: as many bytes as it has output bytes, made for an epoch from the last edit that changed the task
+ * to the present one. They are sent until it posts again; before its first post zeros are. Over an edit each output variable keeps its
+ * value wherever it moves; one that comes into the line begins with 0. ZANGJULF_DONE; 8, 15 or 16; or ZANGJULF_CLOSED, and nothing changed. Takes no memory. */
 uint8_t zangjulf_post(struct zangjulf *handle, uint8_t task, uint32_t epoch, const uint8_t *bytes, size_t length);
 
 /* What was sent. */
@@ -514,20 +514,20 @@ uint8_t zangjulf_arrive(struct zangjulf *handle, const uint8_t *bytes, size_t le
 
 /* A task's image. */
 struct zangjulf_image {
-    uint32_t epoch;      /* the present epoch: it counts the edits */
-    uint32_t task_epoch; /* the epoch of the last edit that changed the task, 0 if none did: its places are those of each epoch since */
-    size_t datagrams; /* how many the task has, at most 16 */
-    size_t size;      /* the bytes of the task's image, at most 23,776 */
-    uint16_t has;     /* bit d: datagram d has data */
+    uint32_t epoch;      /* the present epoch: it counts the accepted edits */
+    uint32_t task_epoch; /* the epoch of the last edit that changed the task, 0 if none did: posts of the task count from it on */
+    size_t datagrams;    /* how many the task has, at most 16 */
+    size_t size;         /* the bytes of the task's image, at most 23,776 */
+    uint16_t has;        /* bit d: datagram d has data */
 };
 
 /* What a task reads: of each of its datagrams the data of its last good answer since the last edit that changed the task, or
- * none. An edit that does not change the task leaves what it reads. They are in
- * `out` at the datagram's offset in the task's image; bytes of a datagram without data are 0. `serials` has of each the
- * serial of the sending that its data answer, 0 where it has none, as many as there is room for. Serials count all frames,
- * register writes too: data are of the last sending where `has` has the datagram's bit and its serial isn't below what
- * `zangjulf_next_serial` answered before that sending. ZANGJULF_DONE, 8, 29 or ZANGJULF_CLOSED. Unless it is done `out` is
- * as it was. Nothing changes. Takes no memory. */
+ * none. An edit changes a task if one of its datagrams (address, length, expected counter, offset), the place of one of its variables,
+ * or a register block of one of its areas differs. The data are in `out` at the datagram's offset in the task's image; bytes of a
+ * datagram without data are 0. `serials` has of each the serial of the sending that its data answer, 0 where it has none, as many as
+ * there is room for. Serials count all frames, register writes too: data are of the last sending where `has` has the datagram's bit
+ * and its serial isn't below what `zangjulf_next_serial` answered before that sending. ZANGJULF_DONE, 8, 29 or ZANGJULF_CLOSED.
+ * Unless it is done `out` is as it was. Nothing changes. Takes no memory. */
 uint8_t zangjulf_read(const struct zangjulf *handle, uint8_t task, uint8_t *out, size_t length, uint64_t *serials, size_t room,
                       struct zangjulf_image *image);
 
@@ -546,7 +546,7 @@ uint8_t zangjulf_counters(const struct zangjulf *handle, uint8_t task, uint8_t d
 
 /* A change of what tasks read. */
 enum {
-    ZANGJULF_SWAPPED = 1, /* an edit was accepted: an epoch began, and no datagram has data in it yet */
+    ZANGJULF_SWAPPED = 1, /* an edit was accepted: an epoch began, and no datagram has a good answer in it yet */
     ZANGJULF_GOOD = 2     /* a datagram has a good answer */
 };
 struct zangjulf_change {
@@ -594,10 +594,10 @@ uint8_t zangjulf_show(struct zangjulf *handle);
 /* An image that a seat views. */
 struct zangjulf_view {
     uint32_t epoch;      /* the epoch in which the image was shown */
-    uint32_t task_epoch; /* the epoch then of the last edit that changed the task, 0 if none did */
-    size_t size;    /* the bytes of the task's image, at most 23,776 */
-    size_t outputs; /* its output bytes, which come first: so many a post has */
-    uint16_t has;   /* bit d: datagram d has data */
+    uint32_t task_epoch; /* the task's epoch then, as in `struct zangjulf_image` */
+    size_t size;         /* the bytes of the task's image, at most 23,776 */
+    size_t outputs;      /* its output bytes, which come first: so many a post has */
+    uint16_t has;        /* bit d: datagram d has data */
 };
 
 /* The seat takes the newest image that was shown, or keeps the one that it has where none is newer; it never goes back to an
@@ -628,8 +628,9 @@ struct zangjulf_taken {
 };
 
 /* The owner takes the posts that wait, at most four of each seat: task 0's first, and the posts of a task in their order. Each
- * is judged and done as by `zangjulf_post`; one that is refused was made before the last edit that changed its task. ZANGJULF_DONE,
- * also where none waits; or ZANGJULF_CLOSED. What is posted meanwhile may be left for the next call. Takes no memory. */
+ * is judged and done as by `zangjulf_post`; one that is refused was made before the last edit that changed its task, or before
+ * anything was shown. ZANGJULF_DONE, also where none waits; or ZANGJULF_CLOSED. What is posted meanwhile may be left for the next
+ * call. Takes no memory. */
 uint8_t zangjulf_take_posts(struct zangjulf *handle, struct zangjulf_taken *taken);
 
 /* Bits of bytes that the caller keeps, counted from the least significant bit of the first byte. None takes memory. */

@@ -17,6 +17,7 @@ static uint64_t digest[MOST], inside[MOST];
 static uint8_t bytes[MOST_BYTES], out[ZANGJULF_FRAMES], frames[FRAMES][ZANGJULF_FRAME];
 static size_t used, frame_sizes[FRAMES];
 static uint64_t state = 0x9e3779b97f4a7c15;
+static uint64_t first; /* the serial from which sendings are of the present epoch */
 
 static uint64_t below(uint64_t n) {
     state ^= state << 13, state ^= state >> 7, state ^= state << 17;
@@ -125,8 +126,9 @@ static uint64_t arrive(struct asked *asked) {
     }
 }
 
+/* A read inside the language gives the data of the present epoch alone. */
 static uint64_t read(struct asked *asked) {
-    struct zangjulf_image image = {0, 0, 0, 0};
+    struct zangjulf_image image = {0};
     struct zangjulf_datagram datagram;
     uint64_t serials[ZANGJULF_DATAGRAMS];
     asked->task = (uint8_t)below(9);
@@ -134,7 +136,7 @@ static uint64_t read(struct asked *asked) {
     if (number) return refused(number);
     uint64_t mix = mixed(mixed(mixed(0, 19), image.epoch), image.datagrams);
     for (size_t i = 0; i < image.datagrams; i++) {
-        bool has = image.has >> i & 1 && !zangjulf_datagram(&line, asked->task, (uint8_t)i, &datagram);
+        bool has = image.has >> i & 1 && serials[i] >= first && !zangjulf_datagram(&line, asked->task, (uint8_t)i, &datagram);
         mix = has ? mixed_bytes(mixed(mix, datagram.length), out + datagram.offset, datagram.length) : mixed(mix, 99);
     }
     return mix;
@@ -153,7 +155,9 @@ static uint64_t edit(struct asked *asked) {
         number = asked->kind == MOVE ? zangjulf_move(&line, asked->name, asked->area, asked->task, false, &cost)
                                      : zangjulf_remap(&line, asked->name, asked->area, pdos, asked->count, false, &cost);
     }
-    return number ? refused(number) : mixed(mixed(mixed(mixed(0, 11), cost.epoch), cost.recut), cost.moved);
+    if (number) return refused(number);
+    zangjulf_next_serial(&line, &first);
+    return mixed(mixed(mixed(mixed(0, 11), cost.epoch), cost.recut), cost.moved);
 }
 
 static uint64_t serve(struct asked *asked) {

@@ -91,10 +91,10 @@ def seats(text):
     seat = line.seat(1)
     for copied in (copy.copy, copy.deepcopy, pickle.dumps):
         raises(TypeError, copied, seat)
-    assert seat.view() == zangjulf.View(0, b"", 0, {}) and seat.outputs() == b""
+    assert seat.view() == zangjulf.View(0, 0, b"", 0, {}) and seat.outputs() == b""
     line.post(1, 0, b"\5")
     line.show()
-    assert seat.view() == zangjulf.View(0, b"\0\0", 1, {})
+    assert seat.view() == zangjulf.View(0, 0, b"\0\0", 1, {})
     outputs = seat.outputs()
     assert outputs == b"\5"
     raises(zangjulf.StalePost, seat.post, 1, outputs)
@@ -105,16 +105,19 @@ def seats(text):
     raises(zangjulf.NoSpare, seat.post, 0, outputs)
     assert line.take_posts() == zangjulf.Taken([1], [])
     seat.post(0, outputs)
+    line.connect(102)
+    assert line.take_posts() == zangjulf.Taken([1], []), "the touch probe is in task 0"
+    seat.post(0, outputs)
     line.connect(100)
     assert line.take_posts() == zangjulf.Taken([], [1])
     other = line.seat(1)
     raises(zangjulf.Closed, seat.post, 0, outputs)
     line.show()
-    assert seat.view().epoch == 0 and other.view().epoch == 1 and other.outputs()[0] == 3
+    assert seat.view().epoch == 0 and other.view()[:2] == (2, 2) and other.outputs()[0] == 5
     line.close()
     raises(zangjulf.Closed, line.show)
-    assert other.view().epoch == 1
-    raises(zangjulf.Closed, other.post, 1, other.outputs())
+    assert other.view().epoch == 2
+    raises(zangjulf.Closed, other.post, 2, other.outputs())
     with seat, other:
         pass
     raises(zangjulf.Closed, seat.view)

@@ -65,6 +65,7 @@ def each_thread_gets_its_own_frames(text):
         line.connect(100)
         line.connect(101)
         assert written(line) == 1, "all owed blocks fit in one frame"
+        changed = [line.read(task).task_epoch for task in range(THREADS)]
         first, serials = line.next_serial, [[] for _ in range(THREADS)]
 
         def work(task):
@@ -81,7 +82,7 @@ def each_thread_gets_its_own_frames(text):
                 arrival = line.arrive(lrw_frame(serial, datagram.address, inputs, datagram.expected))
                 outcome = (zangjulf.OutcomeKind.INPUTS, task, 0, datagram.expected, datagram.expected, inputs)
                 assert arrival.serial == serial and arrival.outcomes == [outcome], f"task {task} gets another outcome"
-                assert line.read(task) == zangjulf.Image(epoch, inputs, [serial]), f"task {task} reads another image"
+                assert line.read(task) == zangjulf.Image(epoch, changed[task], inputs, [serial]), f"task {task} reads another image"
                 serials[task].append(serial)
 
         in_threads(THREADS, work)

@@ -4,8 +4,8 @@
  * three waits for another. Meanwhile the gripper comes and goes (`tool.c`).
  *
  * Each slave answers with what was put out to it in the frame before. So each image that a task views must be whole: outputs
- * and inputs are each of one posting, and neither ever goes back. At the end the last post is followed to its input. The memory
- * of the process is printed after a tenth of the cycles and at the end, and doesn't grow. Where no namespace can be made it
+ * and inputs are each of one posting, and neither ever goes back. The gripper changes neither task: each view has data, and no post
+ * is refused. At the end the last post is followed to its input. The memory of the process is printed after a tenth of the cycles and at the end, and doesn't grow. Where no namespace can be made it
  * says so, and ends with status 77.
  *
  *     tasks PROJECT CYCLES CYCLES_A_SECOND [CAPTURE]
@@ -44,7 +44,6 @@ struct worker {
 static struct tool tool;
 static atomic_bool is_over;
 static long start;
-static unsigned long refused[2];
 
 static void fail(const struct worker *worker, const char *what) {
     printf("tasks: %s, view %lu of epoch %u: ", worker->name, worker->views, worker->view.epoch);
@@ -66,17 +65,17 @@ static uint32_t number_of(const struct worker *worker, const uint8_t *bytes, siz
     return number;
 }
 
-/* Takes the newest image, and the outputs that were shown with it. Epochs and serials never go back. */
+/* Takes the newest image, and the outputs that were shown with it. Epochs and serials never go back, and the data stay over edits. */
 static void view(struct worker *worker) {
     uint64_t serial = 0;
     uint32_t epoch = worker->view.epoch;
     tool_expect(zangjulf_seat_view(&worker->seat, worker->image, sizeof worker->image, &serial, 1, &worker->view), "a view");
     tool_expect(zangjulf_seat_outputs(&worker->seat, worker->outputs, sizeof worker->outputs), "the outputs");
-    bool has = worker->view.has & 1;
-    if (worker->view.epoch < epoch || (has && serial < worker->serial)) fail(worker, "a view goes back");
+    if (worker->view.has != 1 || worker->view.task_epoch) fail(worker, "a view has no data, or the task was changed");
+    if (worker->view.epoch < epoch || serial < worker->serial) fail(worker, "a view goes back");
     worker->views++;
-    worker->images += worker->view.epoch != epoch || (has && serial != worker->serial);
-    if (has) worker->serial = serial;
+    worker->images += worker->view.epoch != epoch || serial != worker->serial;
+    worker->serial = serial;
 }
 
 static void post(struct worker *worker) {
@@ -90,7 +89,7 @@ static void step_motion(struct worker *worker) {
     view(worker);
     if (worker->view.size != OUTPUTS + INPUTS || worker->view.outputs != OUTPUTS) fail(worker, "an image has another size");
     uint32_t put_out = number_of(worker, worker->outputs, OUTPUTS);
-    uint32_t read = worker->view.has & 1 ? number_of(worker, worker->image + OUTPUTS, INPUTS) : worker->read;
+    uint32_t read = number_of(worker, worker->image + OUTPUTS, INPUTS);
     if (read < worker->read || put_out < read || worker->posted < put_out) fail(worker, "an input or an output goes back");
     worker->read = read;
     write_number(worker->outputs, ++worker->posted);
@@ -102,10 +101,9 @@ static void step_motion(struct worker *worker) {
 static void step_machine(struct worker *worker) {
     view(worker);
     if (worker->view.size != 2 || worker->view.outputs != 1) fail(worker, "an image has another size");
-    bool has = worker->view.has & 1;
     unsigned missing = (worker->outputs[0] - worker->image[1]) & 7u;
-    if (has && missing > 1) fail(worker, "an input isn't of the outputs before");
-    if (has && !missing) worker->outputs[0] = (worker->outputs[0] + 1) & 15, worker->read++;
+    if (missing > 1) fail(worker, "an input isn't of the outputs before");
+    if (!missing) worker->outputs[0] = (worker->outputs[0] + 1) & 15, worker->read++;
     post(worker);
 }
 
@@ -130,7 +128,7 @@ static void cycle(unsigned long number) {
     struct zangjulf_arrival arrival;
     struct zangjulf_taken taken;
     tool_expect(zangjulf_take_posts(&tool.line, &taken), "posts are taken");
-    for (int task = MOTION; task <= MACHINE; task++) refused[task] += taken.refused >> task & 1;
+    if (taken.refused) wire_fail("a post is refused");
     size_t size = tool_send(&tool, tasks, number % 4 ? 1 : sizeof tasks, frames, sizeof frames);
     tool_expect(tool_pass(&tool, frames, size, outcomes, &arrival), "a frame answers nothing");
     if (!arrival.datagrams || outcomes[0].task != MOTION) wire_fail("the motion task isn't sent");
@@ -174,9 +172,9 @@ static void follow(struct worker *motion) {
     if (number_of(motion, motion->image + OUTPUTS, INPUTS) != motion->posted) fail(motion, "the last post isn't read");
 }
 
-static void print_counts(const struct worker *worker, unsigned long not_taken) {
-    printf("%s: views %lu, new images %lu, answered up to %u, posts for an earlier epoch %lu, four posts waited %lu times, longest step %ld us\n", worker->name,
-           worker->views, worker->images, worker->read, not_taken, worker->full, worker->longest_step / 1000);
+static void print_counts(const struct worker *worker) {
+    printf("%s: views %lu, new images %lu, answered up to %u, four posts waited %lu times, longest step %ld us\n", worker->name,
+           worker->views, worker->images, worker->read, worker->full, worker->longest_step / 1000);
 }
 
 int main(int count, char **words) {
@@ -202,7 +200,7 @@ int main(int count, char **words) {
     cycle(0);
     follow(&workers[MOTION]);
     wire_close();
-    for (int i = 0; i < 2; i++) print_counts(&workers[i], refused[i]), zangjulf_seat_close(&workers[i].seat);
+    for (int i = 0; i < 2; i++) print_counts(&workers[i]), zangjulf_seat_close(&workers[i].seat);
     zangjulf_close(&tool.line);
     printf("cycles %s, tools docked %lu, tools given up %lu, longest change %ld us, memory %ld KiB early, %ld KiB late\n", words[2], tool.docked, tool.given_up,
            tool.longest_change / 1000, early, late);

@@ -203,7 +203,7 @@ static void exchange(struct zangjulf *line) {
     struct zangjulf_outcome outcomes[2];
     struct zangjulf_arrival arrival;
     struct zangjulf_change change;
-    struct zangjulf_image image = {0, 0, 0, 0};
+    struct zangjulf_image image = {0};
     struct zangjulf_counters counters;
     uint64_t serials[16], value = 0;
     for (int i = 0; i < 6; i++) memories[1][0x1180 + i] = (uint8_t)(0x20 + i), memories[2][0x1180 + i] = (uint8_t)(0x30 + i);
@@ -269,14 +269,15 @@ static void forget(struct zangjulf *line) {
     free(again);
 }
 
-/* A tool comes: asked first, then carried out; inputs are of the epoch before, and the change says so. */
+/* A tool comes in task 1: asked first, then carried out, and the change says so. Task 0 isn't changed: it reads its data of before, and
+ * its posts of before are accepted. Task 1 has no data. */
 static void edit(struct zangjulf *line) {
     struct zangjulf_cost would, cost;
     struct zangjulf_change change;
     struct zangjulf_image image;
     uint32_t epoch = 7;
     uint64_t serials[16];
-    uint8_t *none = slice(0), *blank = slice(26);
+    uint8_t *none = slice(0), *data = slice(26), outputs[14] = {0};
     EXPECT(zangjulf_connect(line, 99, false, &cost) == ZANGJULF_UNKNOWN_ALIAS);
     EXPECT(zangjulf_disconnect(line, 0, false, &cost) == ZANGJULF_MANDATORY);
     EXPECT(zangjulf_disconnect(line, 100, false, &cost) == ZANGJULF_NOT_PRESENT);
@@ -286,9 +287,14 @@ static void edit(struct zangjulf *line) {
     EXPECT(cost.recut == would.recut && cost.moved == would.moved && cost.places == would.places);
     EXPECT(zangjulf_epoch(line, &epoch) == ZANGJULF_DONE && epoch == 1);
     EXPECT(zangjulf_next_change(line, none, 0, &change) == ZANGJULF_DONE && change.kind == ZANGJULF_SWAPPED);
-    EXPECT(zangjulf_read(line, 0, blank, 26, serials, 16, &image) == ZANGJULF_DONE && image.epoch == 1 && image.datagrams == 1 && !image.has && !blank[25]);
+    EXPECT(zangjulf_read(line, 0, data, 26, serials, 16, &image) == ZANGJULF_DONE && image.epoch == 1 && !image.task_epoch && image.datagrams == 1);
+    EXPECT(image.has == 1 && serials[0] > 12 && data[14] == 0x20 && data[25] == 0x35);
+    EXPECT(zangjulf_read(line, 1, data, 26, serials, 16, &image) == ZANGJULF_DONE && image.epoch == 1 && image.task_epoch == 1 && image.datagrams == 1);
+    EXPECT(!image.has && !serials[0] && !data[0] && !data[1]);
+    EXPECT(zangjulf_post(line, 0, 0, outputs, 14) == ZANGJULF_DONE && zangjulf_post(line, 0, 1, outputs, 14) == ZANGJULF_DONE);
+    EXPECT(zangjulf_post(line, 0, 2, outputs, 14) == ZANGJULF_STALE_POST && zangjulf_post(line, 1, 0, outputs, 2) == ZANGJULF_STALE_POST);
     free(none);
-    free(blank);
+    free(data);
 }
 
 /* A group is declared: asked first, then done; it is taken then, and comes when it is connected. A text of no group is refused.

@@ -1,7 +1,7 @@
 /* Draws calls of the C library: any order, any numbers, any bytes, open and closed handles, slices of any length that end where
  * a page that can't be touched begins, refused growths. It ends with status 1 at an answer that include/zangjulf.h doesn't
  * allow, at a slice that was written though the call was refused, at an outcome, an age, a counter, an owed block, a frame of
- * register writes or a task that waits that isn't the plain model's (model.h), at an image, outputs or a post of a seat that isn't its model's
+ * register writes, a task that waits, data or a task's epoch that isn't the plain model's (model.h), at an image, outputs or a post of a seat that isn't its model's
  * (seated.h), at bits that differ from bits taken one by one, at a change that isn't the next of what happened, at a line
  * that is full of changes and isn't answered so, or the other way round, and where memory is live once all handles are
  * closed.
@@ -163,19 +163,17 @@ static void asking(struct line *line, bool was_open) {
 }
 
 static void posting(struct line *line, bool was_open) {
-    uint32_t epoch = 0;
     struct zangjulf_part part = {0, 0};
     uint8_t task = (uint8_t)below(9);
-    zangjulf_epoch(&line->handle, &epoch);
+    uint32_t epoch = some_epoch(&line->model.epochs, task);
     zangjulf_part(&line->handle, task, &part);
     size_t size = below(4) ? part.outputs : below(40);
     uint8_t *in = last(&ins, size);
     for (size_t i = 0; i < size; i++) in[i] = (uint8_t)draw();
     if (folder) memset(in, 0, size);
-    bool is_present = below(4);
-    unsigned number = zangjulf_post(&line->handle, task, is_present ? epoch : (uint32_t)draw(), in, size);
+    unsigned number = zangjulf_post(&line->handle, task, epoch, in, size);
     expect(number, was_open, "\0\x08\x0f\x10");
-    if (was_open && task < 8 && is_present && (number == 0) != (size == part.outputs)) fail("a post's length", number);
+    if (was_open && number != epochs_post(&line->model.epochs, task, epoch, size, part.outputs)) fail("another answer to a post than the model's", number);
 }
 
 static void writing(struct line *line, bool was_open) {
@@ -373,7 +371,7 @@ static void arriving(struct line *line, bool was_open) {
 static void reading(struct line *line, bool was_open) {
     size_t room = some_length(ZANGJULF_IMAGE), many = some_length(16);
     uint64_t *serials = (void *)last(&counts, many * sizeof *serials);
-    struct zangjulf_image image = {0, 0, 0, 0};
+    struct zangjulf_image image = {0};
     struct zangjulf_part part = {0, 0};
     uint8_t *out = out_room(room), task = (uint8_t)below(9);
     unsigned number = zangjulf_read(&line->handle, task, out, room, serials, many, &image);
@@ -381,10 +379,11 @@ static void reading(struct line *line, bool was_open) {
     zangjulf_part(&line->handle, task, &part);
     if (number) expect_untouched(out, room, number);
     if (!number && image.size != (size_t)part.outputs + part.inputs) fail("the bytes of an image", number);
-    if (!number && !model_reads(&line->model, task, &image, serials, many)) fail("another image than the model's", number);
+    if (!number && !model_reads(&line->model, &line->handle, task, &image, out, serials, many)) fail("another image than the model's", number);
     if (!number) expect_untouched(out + image.size, room - image.size, number);
     if (!is_scripted(line, number)) return;
     say(line, "read %u\n", task);
+    if (!number) image.has = model_present(&line->model, task);
     print_image(line->answers, number, &line->handle, task, &image, out);
 }
 
@@ -569,7 +568,7 @@ static void call_once(struct line *line) {
     bool was_open = line->handle.is_open;
     left = below(12) ? -1 : (long)below(6);
     switch (below(was_open ? 2000 : 20) ? below(14) : 14) {
-    case 10: case 11: case 12: case 13: draw_seat_call(&line->handle, &line->owner, folder); break;
+    case 10: case 11: case 12: case 13: draw_seat_call(&line->handle, &line->owner, &line->model.epochs, folder); break;
     case 0:
         if (below(folder ? 150 : 3)) call = "telling", asking(line, was_open);
         else if (below(2)) call = "clearing", clearing(line, was_open);

@@ -1,5 +1,5 @@
-/* Axes that keep their cycles while a tool comes, does not answer, and goes, on simulated slaves. The axes are in task 0, the gripper is
- * in task 2, and so are the outputs of the screwdriver that comes after it. The run ends with status 1 at the first answer or byte that
+/* Axes that keep their cycles, data and posts while a tool comes, does not answer, and goes, on simulated slaves. The axes are in task 0,
+ * the gripper is in task 2, and so are the outputs of the screwdriver that comes after it. The run ends with status 1 at the first answer or byte that
  * is another one.
  *
  *     gripper PROJECT
@@ -38,12 +38,13 @@ static void pass(size_t size) {
         if (answers[i]) EXPECT(zangjulf_slave_process(memory[i], sizeof memory[i], frame, size) == ZANGJULF_DONE);
 }
 
-/* Each byte of a task's outputs is this one. */
+/* Each byte of a task's outputs is this one. What the axes post is made for the epoch of the opening. */
 static void post(uint8_t task, uint8_t byte) {
     uint8_t outputs[ZANGJULF_DATA];
     struct zangjulf_part part;
-    uint32_t epoch;
-    EXPECT(zangjulf_epoch(&line, &epoch) == ZANGJULF_DONE && zangjulf_part(&line, task, &part) == ZANGJULF_DONE);
+    uint32_t epoch = 0;
+    EXPECT(task == AXES || zangjulf_epoch(&line, &epoch) == ZANGJULF_DONE);
+    EXPECT(zangjulf_part(&line, task, &part) == ZANGJULF_DONE);
     memset(outputs, byte, part.outputs);
     EXPECT(zangjulf_post(&line, task, epoch, outputs, part.outputs) == ZANGJULF_DONE);
 }
@@ -76,14 +77,24 @@ static bool is_switched_off(int slave, uint8_t areas) {
     return frame[26 + 16 * areas] == 1;
 }
 
+/* After an edit the axes read their data of before: no edit changed their task. */
+static void goes_on(uint32_t epoch) {
+    static uint8_t data[ZANGJULF_IMAGE];
+    struct zangjulf_image image;
+    EXPECT(zangjulf_read(&line, AXES, data, sizeof data, NULL, 0, &image) == ZANGJULF_DONE);
+    EXPECT(image.epoch == epoch && !image.task_epoch && image.has == 1);
+}
+
 static void connect(uint16_t alias) {
     struct zangjulf_cost cost;
     EXPECT(zangjulf_connect(&line, alias, false, &cost) == ZANGJULF_DONE);
+    goes_on(cost.epoch);
 }
 
 static void disconnect(uint16_t alias) {
     struct zangjulf_cost cost;
     EXPECT(zangjulf_disconnect(&line, alias, false, &cost) == ZANGJULF_DONE);
+    goes_on(cost.epoch);
 }
 
 /* Whether a task waits for just these counts, and this slave alone holds it up. */

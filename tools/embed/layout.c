@@ -34,8 +34,8 @@ static void of_frames(void) {
     FIELD(zangjulf_outcome, station), FIELD(zangjulf_outcome, start);
     STRUCT(zangjulf_arrival), FIELD(zangjulf_arrival, serial), FIELD(zangjulf_arrival, datagrams);
     FIELD(zangjulf_arrival, station), FIELD(zangjulf_arrival, start);
-    STRUCT(zangjulf_image), FIELD(zangjulf_image, epoch), FIELD(zangjulf_image, datagrams), FIELD(zangjulf_image, size);
-    FIELD(zangjulf_image, has);
+    STRUCT(zangjulf_image), FIELD(zangjulf_image, epoch), FIELD(zangjulf_image, task_epoch), FIELD(zangjulf_image, datagrams);
+    FIELD(zangjulf_image, size), FIELD(zangjulf_image, has);
     STRUCT(zangjulf_counters), FIELD(zangjulf_counters, sent), FIELD(zangjulf_counters, good), FIELD(zangjulf_counters, wrong);
     FIELD(zangjulf_counters, again);
     STRUCT(zangjulf_change), FIELD(zangjulf_change, kind), FIELD(zangjulf_change, task), FIELD(zangjulf_change, datagram);
@@ -44,8 +44,8 @@ static void of_frames(void) {
 
 static void of_seats(void) {
     STRUCT(zangjulf_seat), FIELD(zangjulf_seat, is_open), FIELD(zangjulf_seat, at);
-    STRUCT(zangjulf_view), FIELD(zangjulf_view, epoch), FIELD(zangjulf_view, size), FIELD(zangjulf_view, outputs);
-    FIELD(zangjulf_view, has);
+    STRUCT(zangjulf_view), FIELD(zangjulf_view, epoch), FIELD(zangjulf_view, task_epoch), FIELD(zangjulf_view, size);
+    FIELD(zangjulf_view, outputs), FIELD(zangjulf_view, has);
     STRUCT(zangjulf_taken), FIELD(zangjulf_taken, accepted), FIELD(zangjulf_taken, refused);
 }
 

@@ -34,15 +34,28 @@ static uint8_t datagram_of(const struct head *head) { return head->address >> 11
 void model_opened(struct model *model, const struct zangjulf *line, const uint8_t *text, size_t size) {
     memset(model, 0, sizeof *model);
     readiness_opened(&model->readiness, line, text, size);
+    epochs_opened(&model->epochs, line, text, size);
 }
 
-void model_declared(struct model *model, const uint8_t *text, size_t size) { readiness_declared(&model->readiness, text, size); }
+void model_declared(struct model *model, const uint8_t *text, size_t size) {
+    readiness_declared(&model->readiness, text, size);
+    epochs_declared(&model->epochs, text, size);
+}
+
+/* An edit leaves the data of the tasks that it doesn't change; none of them are of the present epoch then. */
+static void left_data(struct model *model, uint8_t changed) {
+    for (int task = 0; task < ZANGJULF_TASKS; task++)
+        for (int d = 0; d < ZANGJULF_DATAGRAMS; d++) {
+            struct history *history = &model->tasks[task][d];
+            if (changed >> task & 1) history->has_data = false;
+            history->is_present = false;
+        }
+}
 
 void model_edited(struct model *model, const struct zangjulf *line) {
     size_t left = 0;
     for (size_t i = 0; i < MODEL_SENDINGS; i++) model->sendings[i].is_open = false;
-    for (int task = 0; task < ZANGJULF_TASKS; task++)
-        for (int d = 0; d < ZANGJULF_DATAGRAMS; d++) model->tasks[task][d].has_data = false;
+    left_data(model, epochs_edited(&model->epochs, line));
     for (size_t i = 0; i < model->known_count; i++) {
         uint32_t position;
         if (!zangjulf_position(line, model->known[i].station, &position)) model->known[left++] = model->known[i];
@@ -183,11 +196,16 @@ static struct zangjulf_outcome outcome_of(const struct model *model, const struc
     return outcome;
 }
 
-static void judged(struct model *model, const struct zangjulf_outcome *outcome, uint64_t serial) {
+/* A datagram of a frame that came is counted; the data of a good one are read from now on. */
+static void judged(struct model *model, const struct zangjulf_outcome *outcome, uint64_t serial, const uint8_t *frame) {
     struct history *history = &model->tasks[outcome->task][outcome->datagram];
     if (outcome->kind == ZANGJULF_SENT_AGAIN) history->counters.again++;
     else if (outcome->kind == ZANGJULF_WRONG_COUNT) history->counters.wrong++;
-    else history->counters.good++, history->has_data = true, history->data = serial;
+    else {
+        history->counters.good++, history->data = serial;
+        history->has_data = history->is_present = true;
+        memcpy(history->bytes, frame + outcome->at, outcome->length);
+    }
 }
 
 static bool is_same(const struct zangjulf_outcome *a, const struct zangjulf_outcome *b) {
@@ -218,7 +236,7 @@ bool model_arrived(struct model *model, const uint8_t *frame, unsigned number, c
     if (number != (is_register_write ? ZANGJULF_WRITTEN : ZANGJULF_DONE) || arrival->datagrams != count || arrival->serial != sending->serial) return false;
     if (arrival->station || arrival->start) return false;
     for (size_t i = 0; i < count; i++) {
-        if (!is_register_write) judged(model, &expected[i], sending->serial);
+        if (!is_register_write) judged(model, &expected[i], sending->serial, frame);
         else if (expected[i].kind == ZANGJULF_BLOCK_WRITTEN) confirm(model, awaited_block(model, sending, i));
         if (i < room && !is_same(&outcomes[i], &expected[i])) return false;
     }
@@ -237,13 +255,25 @@ size_t model_adds(const struct model *model, const uint8_t *frame) {
     return good;
 }
 
-bool model_reads(const struct model *model, uint8_t task, const struct zangjulf_image *image, const uint64_t *serials, size_t room) {
+bool model_reads(const struct model *model, const struct zangjulf *line, uint8_t task, const struct zangjulf_image *image, const uint8_t *bytes,
+                 const uint64_t *serials, size_t room) {
+    static const uint8_t zeros[ZANGJULF_DATA];
+    if (image->epoch != model->epochs.epoch || image->task_epoch != model->epochs.tasks[task]) return false;
     for (size_t d = 0; d < image->datagrams; d++) {
         const struct history *history = &model->tasks[task][d];
-        if ((image->has >> d & 1) != history->has_data) return false;
+        struct zangjulf_datagram datagram;
+        if ((image->has >> d & 1) != history->has_data || zangjulf_datagram(line, task, (uint8_t)d, &datagram)) return false;
+        if (memcmp(bytes + datagram.offset, history->has_data ? history->bytes : zeros, datagram.length)) return false;
         if (d < room && serials[d] != (history->has_data ? history->data : 0)) return false;
     }
     return image->datagrams == 16 || image->has >> image->datagrams == 0;
+}
+
+uint16_t model_present(const struct model *model, uint8_t task) {
+    uint16_t has = 0;
+    for (int d = 0; d < ZANGJULF_DATAGRAMS; d++)
+        if (model->tasks[task][d].is_present) has |= (uint16_t)(1u << d);
+    return has;
 }
 
 bool model_counts(const struct model *model, uint8_t task, uint8_t datagram, const struct zangjulf_counters *counters) {

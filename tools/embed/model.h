@@ -1,6 +1,6 @@
 /* A plain model of what a line answers about its sendings: of each arrival the outcomes with their names, counts and places in
- * the frame; how old each datagram's data are; the counters, and what each slave adds to one; which register blocks are owed, and
- * which tasks wait for them (readiness.h).
+ * the frame; each datagram's data, and how old they are; the counters, and what each slave adds to one; which register blocks are owed,
+ * which tasks wait for them (readiness.h), and which tasks an edit changes (task_epochs.h).
  * It knows the frames and the answers that were accepted, and of the library only its configuration (datagrams, blocks,
  * stations). */
 #ifndef MODEL_H
@@ -11,6 +11,7 @@
 #include <stdint.h>
 
 #include "readiness.h"
+#include "task_epochs.h"
 #include "zangjulf.h"
 
 #define MODEL_SENDINGS 4096
@@ -41,10 +42,12 @@ struct known {
     bool is_confirmed;
 };
 
-/* Of a datagram of a task the serial of its last sending and of its data, and what was counted. */
+/* Of a datagram of a task the serial of its last sending, its data with their serial and whether they came in the present epoch, and
+ * what was counted. */
 struct history {
-    bool was_sent, has_data;
+    bool was_sent, has_data, is_present;
     uint64_t sent, data;
+    uint8_t bytes[ZANGJULF_DATA];
     struct zangjulf_counters counters;
 };
 
@@ -55,13 +58,14 @@ struct model {
     size_t known_count;
     uint64_t forgets, forgets_at_write; /* how many slaves were forgotten, and how many before the last write */
     struct readiness readiness;
+    struct task_epochs epochs;
 };
 
 /* A line was opened with a project's text; a group's text was declared. */
 void model_opened(struct model *model, const struct zangjulf *line, const uint8_t *text, size_t size);
 void model_declared(struct model *model, const uint8_t *text, size_t size);
 
-/* An edit was accepted: after it the line has other datagrams and blocks, and slaves may have gone. */
+/* An edit was accepted: after it the line has other datagrams and blocks, and slaves may have gone. Tasks that it changes have no data. */
 void model_edited(struct model *model, const struct zangjulf *line);
 
 /* A slave was forgotten: its blocks' last writes say nothing any more. A write that is sent then takes the place of all before. */
@@ -88,8 +92,12 @@ bool model_arrived(struct model *model, const uint8_t *frame, unsigned number, c
 /* How many good answers an arrival would be, of a frame that can be read; nothing changes. */
 size_t model_adds(const struct model *model, const uint8_t *frame);
 
-/* Whether a task's datagrams have data as a read says, and of these sendings. */
-bool model_reads(const struct model *model, uint8_t task, const struct zangjulf_image *image, const uint64_t *serials, size_t room);
+/* Whether the epochs of a read are right, and the task's datagrams have data as the read says, these bytes, of these sendings. */
+bool model_reads(const struct model *model, const struct zangjulf *line, uint8_t task, const struct zangjulf_image *image, const uint8_t *bytes,
+                 const uint64_t *serials, size_t room);
+
+/* Bit d is set if a task's datagram d has data that came in the present epoch. */
+uint16_t model_present(const struct model *model, uint8_t task);
 
 /* Whether the counters of a datagram are these. */
 bool model_counts(const struct model *model, uint8_t task, uint8_t datagram, const struct zangjulf_counters *counters);

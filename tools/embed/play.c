@@ -11,6 +11,7 @@
 
 static struct zangjulf line;
 static uint8_t out[ZANGJULF_FRAMES];
+static uint64_t first; /* the serial from which sendings are of the present epoch */
 
 static unsigned long number_in(const char *word) {
     char *end;
@@ -51,10 +52,13 @@ static void arrive(const char *word) {
     print_arrival(stdout, number, outcomes, arrival.datagrams);
 }
 
+/* The program prints the data of the present epoch alone. */
 static void read_task(unsigned long task) {
     uint64_t serials[ZANGJULF_DATAGRAMS];
-    struct zangjulf_image image = {0, 0, 0, 0};
+    struct zangjulf_image image = {0};
     unsigned number = zangjulf_read(&line, (uint8_t)task, out, sizeof out, serials, ZANGJULF_DATAGRAMS, &image);
+    for (size_t d = 0; !number && d < image.datagrams; d++)
+        if (serials[d] < first) image.has &= (uint16_t)~(1u << d);
     print_image(stdout, number, &line, (uint8_t)task, &image, out);
 }
 
@@ -111,6 +115,7 @@ static void run(char **words, size_t count) {
         struct zangjulf_cost would, cost;
         unsigned asked = edit(words, count, true, &would);
         unsigned number = edit(words, count, false, &cost);
+        if (!number) zangjulf_next_serial(&line, &first);
         print_edit(asked, &would, number, &cost);
     } else exit(2);
 }

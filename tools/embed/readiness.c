@@ -3,9 +3,7 @@
 #include <stdlib.h>
 #include <string.h>
 
-/* The tasks that an FMMU's bytes map, as bits: none unless the FMMU is active (ETG.1000.4, 6.6). A task's logical addresses have its
- * number and one in their high byte. */
-static uint8_t named_by(const uint8_t *bytes, size_t size) {
+uint8_t named_by(const uint8_t *bytes, size_t size) {
     bool is_task = size == 16 && bytes[12] == 1 && bytes[3] >= 1 && bytes[3] <= ZANGJULF_TASKS;
     return is_task ? (uint8_t)(1u << (bytes[3] - 1)) : 0;
 }

@@ -41,6 +41,10 @@ struct waiting {
     size_t holder_count, holders_in_line;
 };
 
+/* The tasks that an FMMU's bytes map, as bits: none unless the FMMU is active (ETG.1000.4, 6.6). A task's logical addresses have its
+ * number and one in their high byte. */
+uint8_t named_by(const uint8_t *bytes, size_t size);
+
 /* A line was opened with a project's text, or a group's text was declared. The slaves have their declared order from it. */
 void readiness_opened(struct readiness *readiness, const struct zangjulf *line, const uint8_t *text, size_t size);
 void readiness_declared(struct readiness *readiness, const uint8_t *text, size_t size);

@@ -3,6 +3,7 @@
 #ifndef SEATED_H
 #define SEATED_H
 
+#include "task_epochs.h"
 #include "zangjulf.h"
 
 struct mailbox;
@@ -12,8 +13,8 @@ struct owner {
     struct mailbox *of[ZANGJULF_TASKS];
 };
 
-/* One call of a seat, or of the owner for its seats; posts are of zeros where that is said. */
-void draw_seat_call(struct zangjulf *line, struct owner *owner, bool of_zeros);
+/* One call of a seat, or of the owner for its seats, over a line with these epochs; posts are of zeros where that is said. */
+void draw_seat_call(struct zangjulf *line, struct owner *owner, const struct task_epochs *epochs, bool of_zeros);
 
 /* The line was closed, or opened anew. */
 void owner_left(struct owner *owner);

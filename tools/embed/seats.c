@@ -82,7 +82,7 @@ static uint64_t exchange(struct zangjulf *line, uint8_t task) {
 static void closed(void) {
     struct zangjulf line = {0};
     struct zangjulf_seat seat = {0};
-    struct zangjulf_view view = {7, 7, 7, 7};
+    struct zangjulf_view view = {7, 7, 7, 7, 7};
     struct zangjulf_taken taken = {7, 7};
     uint64_t serial = 7;
     uint8_t byte = 7;
@@ -90,7 +90,7 @@ static void closed(void) {
     EXPECT(zangjulf_show(&line) == ZANGJULF_CLOSED);
     EXPECT(zangjulf_take_posts(&line, &taken) == ZANGJULF_CLOSED && taken.accepted == 7 && taken.refused == 7);
     EXPECT(zangjulf_seat_view(&seat, &byte, 1, &serial, 1, &view) == ZANGJULF_CLOSED && byte == 7 && serial == 7);
-    EXPECT(view.epoch == 7 && view.size == 7 && view.outputs == 7 && view.has == 7);
+    EXPECT(view.epoch == 7 && view.task_epoch == 7 && view.size == 7 && view.outputs == 7 && view.has == 7);
     EXPECT(zangjulf_seat_outputs(&seat, &byte, 1) == ZANGJULF_CLOSED && byte == 7);
     EXPECT(zangjulf_seat_post(&seat, 0, &byte, 1) == ZANGJULF_CLOSED);
     EXPECT(zangjulf_seat_post(&seat, 0, NULL, 0) == ZANGJULF_CLOSED);
@@ -102,7 +102,7 @@ static void closed(void) {
 static void blank(void) {
     struct zangjulf line = {0};
     struct zangjulf_seat seat = {0}, other = {0};
-    struct zangjulf_view view = {7, 7, 7, 7};
+    struct zangjulf_view view = {7, 7, 7, 7, 7};
     struct zangjulf_taken taken = {7, 7};
     uint64_t serial = 7;
     open_line(&line);
@@ -112,7 +112,7 @@ static void blank(void) {
     void *at = seat.at;
     EXPECT(zangjulf_seat_open(&line, 8, &seat) == ZANGJULF_NO_SUCH_TASK && seat.is_open && seat.at == at);
     EXPECT(zangjulf_seat_view(&seat, NULL, 0, &serial, 1, &view) == ZANGJULF_DONE && serial == 7);
-    EXPECT(!view.epoch && !view.size && !view.outputs && !view.has);
+    EXPECT(!view.epoch && !view.task_epoch && !view.size && !view.outputs && !view.has);
     EXPECT(zangjulf_seat_outputs(&seat, NULL, 0) == ZANGJULF_DONE);
     EXPECT(zangjulf_seat_post(&seat, 1, NULL, 0) == ZANGJULF_STALE_POST && zangjulf_seat_post(&seat, 0, (const uint8_t *)"", 1) == ZANGJULF_POST_LENGTH);
     /* so a post that was made before anything was viewed has no byte, and a task with outputs refuses it */
@@ -128,7 +128,7 @@ static void blank(void) {
  * those that the line reads. */
 static void images(struct zangjulf *line, struct zangjulf_seat *seat) {
     uint8_t *data = slice(IMAGE), *whole = slice(IMAGE + 1), *outputs = slice(OUTPUTS), posted[OUTPUTS];
-    struct zangjulf_view view = {7, 7, 7, 7};
+    struct zangjulf_view view = {7, 7, 7, 7, 7};
     struct zangjulf_image image;
     uint64_t serials[2] = {7, 7}, read[1];
     EXPECT(zangjulf_show(line) == ZANGJULF_DONE);
@@ -176,8 +176,9 @@ static void posts(struct zangjulf *line, struct zangjulf_seat *seat, struct zang
     free(out);
 }
 
-/* An edit begins an epoch: what was posted before is refused, and the seat posts again once it has viewed it. */
-static void epochs(struct zangjulf *line, struct zangjulf_seat *seat, struct zangjulf_seat *second) {
+/* The gripper comes in task 1: the first seat's post of before is accepted, the second one's is refused, and the first seat goes on with its
+ * data, for both epochs. */
+static void edit_of_the_other(struct zangjulf *line, struct zangjulf_seat *seat, struct zangjulf_seat *second) {
     uint8_t outputs[OUTPUTS], data[IMAGE], byte = 1;
     struct zangjulf_cost cost;
     struct zangjulf_view view;
@@ -187,13 +188,37 @@ static void epochs(struct zangjulf *line, struct zangjulf_seat *seat, struct zan
     EXPECT(zangjulf_seat_post(seat, 0, outputs, OUTPUTS) == ZANGJULF_DONE);
     EXPECT(zangjulf_connect(line, 100, false, &cost) == ZANGJULF_DONE && cost.epoch == 1);
     EXPECT(zangjulf_seat_post(second, 0, &byte, 1) == ZANGJULF_DONE);
-    EXPECT(zangjulf_take_posts(line, &taken) == ZANGJULF_DONE && !taken.accepted && taken.refused == 3);
+    EXPECT(zangjulf_take_posts(line, &taken) == ZANGJULF_DONE && taken.accepted == 1 && taken.refused == 2);
     write_all(line);
     EXPECT(zangjulf_show(line) == ZANGJULF_DONE);
     EXPECT(zangjulf_seat_post(seat, 1, outputs, OUTPUTS) == ZANGJULF_STALE_POST);
-    EXPECT(zangjulf_seat_view(seat, data, sizeof data, NULL, 0, &view) == ZANGJULF_DONE && view.epoch == 1 && !view.has);
-    EXPECT(zangjulf_seat_outputs(seat, outputs, OUTPUTS) == ZANGJULF_DONE && outputs[0] == 3);
-    EXPECT(zangjulf_seat_post(seat, 0, outputs, OUTPUTS) == ZANGJULF_STALE_POST && zangjulf_seat_post(seat, 1, outputs, OUTPUTS) == ZANGJULF_DONE);
+    EXPECT(zangjulf_seat_view(seat, data, sizeof data, NULL, 0, &view) == ZANGJULF_DONE && view.epoch == 1 && !view.task_epoch && view.has == 1);
+    EXPECT(zangjulf_seat_view(second, data, sizeof data, NULL, 0, &view) == ZANGJULF_DONE && view.epoch == 1 && view.task_epoch == 1 && !view.has);
+    EXPECT(zangjulf_seat_outputs(seat, outputs, OUTPUTS) == ZANGJULF_DONE && outputs[0] == 99);
+    outputs[0] = 98;
+    EXPECT(zangjulf_seat_post(seat, 2, outputs, OUTPUTS) == ZANGJULF_STALE_POST && zangjulf_seat_post(second, 0, data, view.outputs) == ZANGJULF_STALE_POST);
+    EXPECT(zangjulf_seat_post(seat, 0, outputs, OUTPUTS) == ZANGJULF_DONE && zangjulf_seat_post(seat, 1, outputs, OUTPUTS) == ZANGJULF_DONE);
+    EXPECT(zangjulf_take_posts(line, &taken) == ZANGJULF_DONE && taken.accepted == 1 && !taken.refused);
+}
+
+/* PDOs of axis Y change their order, and so places in task 0: what was posted before is refused, and the seat posts again once it has
+ * viewed the new image. */
+static void epochs(struct zangjulf *line, struct zangjulf_seat *seat) {
+    const uint16_t pdos[2] = {0x1600, 0x1601};
+    uint8_t outputs[OUTPUTS], data[IMAGE];
+    struct zangjulf_cost cost;
+    struct zangjulf_view view;
+    struct zangjulf_taken taken;
+    EXPECT(zangjulf_seat_outputs(seat, outputs, OUTPUTS) == ZANGJULF_DONE);
+    outputs[0] = 97;
+    EXPECT(zangjulf_seat_post(seat, 1, outputs, OUTPUTS) == ZANGJULF_DONE);
+    EXPECT(zangjulf_remap(line, 1003, 0, pdos, 2, false, &cost) == ZANGJULF_DONE && cost.epoch == 2);
+    EXPECT(zangjulf_seat_post(seat, 0, outputs, OUTPUTS) == ZANGJULF_DONE);
+    EXPECT(zangjulf_take_posts(line, &taken) == ZANGJULF_DONE && !taken.accepted && taken.refused == 1);
+    EXPECT(zangjulf_show(line) == ZANGJULF_DONE);
+    EXPECT(zangjulf_seat_view(seat, data, sizeof data, NULL, 0, &view) == ZANGJULF_DONE && view.epoch == 2 && view.task_epoch == 2 && !view.has);
+    EXPECT(zangjulf_seat_outputs(seat, outputs, OUTPUTS) == ZANGJULF_DONE && outputs[0] == 98);
+    EXPECT(zangjulf_seat_post(seat, 1, outputs, OUTPUTS) == ZANGJULF_STALE_POST && zangjulf_seat_post(seat, 2, outputs, OUTPUTS) == ZANGJULF_DONE);
     EXPECT(zangjulf_take_posts(line, &taken) == ZANGJULF_DONE && taken.accepted == 1 && !taken.refused);
 }
 
@@ -204,17 +229,17 @@ static void replaced(struct zangjulf *line, struct zangjulf_seat *seat) {
     struct zangjulf_taken taken;
     uint8_t outputs[OUTPUTS], data[IMAGE];
     EXPECT(zangjulf_seat_outputs(seat, outputs, OUTPUTS) == ZANGJULF_DONE);
-    EXPECT(zangjulf_seat_post(seat, 1, outputs, OUTPUTS) == ZANGJULF_DONE);
+    EXPECT(zangjulf_seat_post(seat, 2, outputs, OUTPUTS) == ZANGJULF_DONE);
     EXPECT(zangjulf_seat_open(line, 0, &next) == ZANGJULF_DONE);
-    EXPECT(zangjulf_seat_post(seat, 1, outputs, OUTPUTS) == ZANGJULF_CLOSED);
+    EXPECT(zangjulf_seat_post(seat, 2, outputs, OUTPUTS) == ZANGJULF_CLOSED);
     EXPECT(zangjulf_take_posts(line, &taken) == ZANGJULF_DONE && !taken.accepted && !taken.refused);
     EXPECT(zangjulf_show(line) == ZANGJULF_DONE);
-    EXPECT(zangjulf_seat_view(seat, data, sizeof data, NULL, 0, &view) == ZANGJULF_DONE && view.epoch == 1 && !view.has);
-    EXPECT(zangjulf_seat_view(&next, data, sizeof data, NULL, 0, &view) == ZANGJULF_DONE && view.epoch == 1 && view.outputs == OUTPUTS);
+    EXPECT(zangjulf_seat_view(seat, data, sizeof data, NULL, 0, &view) == ZANGJULF_DONE && view.epoch == 2 && !view.has);
+    EXPECT(zangjulf_seat_view(&next, data, sizeof data, NULL, 0, &view) == ZANGJULF_DONE && view.epoch == 2 && view.outputs == OUTPUTS);
     outputs[0] = 55;
-    EXPECT(zangjulf_seat_post(&next, 1, outputs, OUTPUTS) == ZANGJULF_DONE);
+    EXPECT(zangjulf_seat_post(&next, 2, outputs, OUTPUTS) == ZANGJULF_DONE);
     zangjulf_seat_close(&next);
-    EXPECT(!next.is_open && zangjulf_seat_post(&next, 1, outputs, OUTPUTS) == ZANGJULF_CLOSED);
+    EXPECT(!next.is_open && zangjulf_seat_post(&next, 2, outputs, OUTPUTS) == ZANGJULF_CLOSED);
     EXPECT(zangjulf_show(line) == ZANGJULF_DONE && zangjulf_take_posts(line, &taken) == ZANGJULF_DONE && taken.accepted == 1);
     /* opened in its own place */
     EXPECT(zangjulf_seat_open(line, 0, seat) == ZANGJULF_DONE && zangjulf_seat_open(line, 0, seat) == ZANGJULF_DONE && zangjulf_show(line) == ZANGJULF_DONE);
@@ -228,9 +253,9 @@ static void left_alone(struct zangjulf *line, struct zangjulf_seat *seat, struct
     uint8_t outputs[OUTPUTS], data[IMAGE], byte = 1;
     EXPECT(zangjulf_seat_outputs(seat, outputs, OUTPUTS) == ZANGJULF_DONE);
     open_line(line);
-    EXPECT(zangjulf_show(line) == ZANGJULF_DONE && zangjulf_seat_post(seat, 1, outputs, OUTPUTS) == ZANGJULF_CLOSED);
+    EXPECT(zangjulf_show(line) == ZANGJULF_DONE && zangjulf_seat_post(seat, 2, outputs, OUTPUTS) == ZANGJULF_CLOSED);
     zangjulf_close(line);
-    EXPECT(zangjulf_seat_view(seat, data, sizeof data, NULL, 0, &view) == ZANGJULF_DONE && view.epoch == 1 && view.size == IMAGE);
+    EXPECT(zangjulf_seat_view(seat, data, sizeof data, NULL, 0, &view) == ZANGJULF_DONE && view.epoch == 2 && view.size == IMAGE);
     EXPECT(zangjulf_seat_view(second, data, sizeof data, NULL, 0, &view) == ZANGJULF_DONE && zangjulf_seat_post(second, view.epoch, &byte, 1) == ZANGJULF_CLOSED);
     EXPECT(zangjulf_show(line) == ZANGJULF_CLOSED && zangjulf_seat_open(line, 0, seat) == ZANGJULF_CLOSED && seat->is_open);
 }
@@ -244,7 +269,8 @@ static void of_a_line(void) {
     EXPECT(zangjulf_seat_open(&line, 0, &seat) == ZANGJULF_DONE && zangjulf_seat_open(&line, 1, &second) == ZANGJULF_DONE);
     images(&line, &seat);
     posts(&line, &seat, &second);
-    epochs(&line, &seat, &second);
+    edit_of_the_other(&line, &seat, &second);
+    epochs(&line, &seat);
     replaced(&line, &seat);
     left_alone(&line, &seat, &second);
     zangjulf_seat_close(&seat);

@@ -13,7 +13,9 @@ uint8_t __wrap_zangjulf_place(const struct zangjulf *handle, uint32_t variable, 
 }
 #endif
 
-#ifdef WRONG_read /* another byte in an image, an age of another sending, a datagram that has data though it has none */
+/* another byte in an image, an age of another sending, a datagram that has data though it has none; a task's epoch that each edit raises;
+ * data that are gone after an edit that doesn't change the task */
+#ifdef WRONG_read
 uint8_t __real_zangjulf_read(const struct zangjulf *handle, uint8_t task, uint8_t *out, size_t length, uint64_t *serials, size_t room, struct zangjulf_image *image);
 uint8_t __wrap_zangjulf_read(const struct zangjulf *handle, uint8_t task, uint8_t *out, size_t length, uint64_t *serials, size_t room, struct zangjulf_image *image) {
     unsigned number = __real_zangjulf_read(handle, task, out, length, serials, room, image);
@@ -22,6 +24,10 @@ uint8_t __wrap_zangjulf_read(const struct zangjulf *handle, uint8_t task, uint8_
     if (room) serials[0]++;
 #elif WRONG_read == 3
     image->has |= 1;
+#elif WRONG_read == 4
+    image->task_epoch = image->epoch;
+#elif WRONG_read == 5
+    if (image->epoch > image->task_epoch) image->has = 0;
 #else
     if (image->size) out[image->size - 1] ^= 1;
 #endif
@@ -131,11 +137,22 @@ uint8_t __wrap_zangjulf_preview(const struct zangjulf *handle, uint8_t task, uin
 }
 #endif
 
-#ifdef WRONG_post /* a post on a closed handle that is carried out */
+/* a post on a closed handle that is carried out; posts of the present epoch alone; a post of an epoch to come */
+#ifdef WRONG_post
 uint8_t __real_zangjulf_post(struct zangjulf *handle, uint8_t task, uint32_t epoch, const uint8_t *bytes, size_t length);
 uint8_t __wrap_zangjulf_post(struct zangjulf *handle, uint8_t task, uint32_t epoch, const uint8_t *bytes, size_t length) {
+#if WRONG_post == 2
+    uint32_t now = epoch;
+    zangjulf_epoch(handle, &now);
+    return __real_zangjulf_post(handle, task, epoch < now ? now + 1 : epoch, bytes, length);
+#elif WRONG_post == 3
+    uint32_t now = epoch;
+    zangjulf_epoch(handle, &now);
+    return __real_zangjulf_post(handle, task, epoch > now ? now : epoch, bytes, length);
+#else
     unsigned number = __real_zangjulf_post(handle, task, epoch, bytes, length);
     return number == ZANGJULF_CLOSED ? ZANGJULF_DONE : (uint8_t)number;
+#endif
 }
 #endif
 
@@ -213,7 +230,8 @@ uint8_t __wrap_zangjulf_show(struct zangjulf *handle) {
 }
 #endif
 
-/* data where there are none; an age of another sending; an image of two epochs; a seat that goes back to an image that it had */
+/* data where there are none; an age of another sending; an image of two epochs; a seat that goes back to an image that it had; a task's
+ * epoch that each edit raises */
 #ifdef WRONG_seat_view
 uint8_t __real_zangjulf_seat_view(struct zangjulf_seat *seat, uint8_t *out, size_t length, uint64_t *serials, size_t room, struct zangjulf_view *view);
 uint8_t __wrap_zangjulf_seat_view(struct zangjulf_seat *seat, uint8_t *out, size_t length, uint64_t *serials, size_t room, struct zangjulf_view *view) {
@@ -239,6 +257,8 @@ uint8_t __wrap_zangjulf_seat_view(struct zangjulf_seat *seat, uint8_t *out, size
         image[i] = byte;
     }
     before = now;
+#elif WRONG_seat_view == 5
+    view->task_epoch = view->epoch;
 #else
     view->has |= 1;
 #endif

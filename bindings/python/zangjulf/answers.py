@@ -125,20 +125,23 @@ class Arrival(NamedTuple):
 
 
 class Image(NamedTuple):
-    """What a task reads: the epoch whose places the data are in, the data of all datagrams at their offsets, zeros where there are
-    none, and of each datagram the serial of the sending that its data answer, or None where it has none."""
+    """What a task reads: the present epoch, the epoch of the last edit that changed the task, the data of all datagrams since then at
+    their offsets, zeros where there are none, and of each datagram the serial of the sending that its data answer, or None where it has
+    none."""
 
     epoch: int
+    task_epoch: int
     data: bytes
     serials: list[int | None]
 
 
 class View(NamedTuple):
-    """An image that a seat views: the epoch whose places the data are in, the data of all datagrams at their offsets, zeros where
-    there are none, how many of the bytes are outputs, which come first, and of each datagram with data the serial of the sending that
+    """An image that a seat views: the epoch in which it was shown, the epoch then of the last edit that changed the task, the data of
+    all datagrams since then at their offsets, zeros where there are none, how many of the bytes are outputs, which come first, and of each datagram with data the serial of the sending that
     they answer."""
 
     epoch: int
+    task_epoch: int
     data: bytes
     outputs: int
     serials: dict[int, int]
@@ -162,7 +165,7 @@ class Counters(NamedTuple):
 
 @dataclass(frozen=True)
 class Swapped:
-    """A change: an edit was accepted, an epoch began, and no datagram has data in it yet."""
+    """A change: an edit was accepted, and an epoch began."""
 
 
 class Good(NamedTuple):

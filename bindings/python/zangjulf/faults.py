@@ -114,10 +114,10 @@ class EpochsSpent(Fault):
 
 
 class StalePost(Fault):
-    """The post was made for another epoch."""
+    """The post was made before the last edit that changed its task, or for an epoch to come."""
 
     number = 15
-    text = "the post was made for another epoch"
+    text = "the post was made before the last edit that changed its task, or for an epoch to come"
 
 
 class PostLength(Fault):

@@ -30,7 +30,7 @@ class Seat(ctypes.Structure):
 
 
 class View(ctypes.Structure):
-    _fields_ = [("epoch", c_uint32), ("size", c_size_t), ("outputs", c_size_t), ("has", c_uint16)]
+    _fields_ = [("epoch", c_uint32), ("task_epoch", c_uint32), ("size", c_size_t), ("outputs", c_size_t), ("has", c_uint16)]
 
 
 class Taken(ctypes.Structure):
@@ -96,7 +96,7 @@ class Arrival(ctypes.Structure):
 
 
 class Image(ctypes.Structure):
-    _fields_ = [("epoch", c_uint32), ("datagrams", c_size_t), ("size", c_size_t), ("has", c_uint16)]
+    _fields_ = [("epoch", c_uint32), ("task_epoch", c_uint32), ("datagrams", c_size_t), ("size", c_size_t), ("has", c_uint16)]
 
 
 class Counters(ctypes.Structure):

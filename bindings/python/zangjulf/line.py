@@ -199,7 +199,8 @@ class Line:
         self._done(self._call("forget", station))
 
     def post(self, task: int, epoch: int, data: Bytes) -> None:
-        """A task posts its outputs, as many bytes as it has, made for an epoch. `NoSuchTask`, `StalePost`, `PostLength`."""
+        """A task posts its outputs, as many bytes as it has, made for an epoch. `NoSuchTask`; `StalePost` for an epoch to come, or before
+        the last edit that changed the task; `PostLength`."""
         self._done(self._call("post", task, epoch, *c.slice_of(data)))
 
     def send(self, *tasks: int) -> list[bytes]:
@@ -284,12 +285,12 @@ class Line:
         return [self.arrive(frame) for frame in came if frame is not None]
 
     def read(self, task: int) -> Image:
-        """What a task reads. `NoSuchTask`."""
+        """What a task reads: an edit that doesn't change the task leaves it. `NoSuchTask`."""
         serials, it = (c_uint64 * c.DATAGRAMS)(), c.Image()
         with self._lock:
             self._done(self._call("read", task, *c.slice_of(self._out), serials, c.DATAGRAMS, byref(it)), it.size)
             data = bytes(self._out[: it.size])
-        return Image(it.epoch, data, [serials[d] if it.has >> d & 1 else None for d in range(it.datagrams)])
+        return Image(it.epoch, it.task_epoch, data, [serials[d] if it.has >> d & 1 else None for d in range(it.datagrams)])
 
     def next_change(self) -> Good | Swapped | None:
         """The next change that was not taken yet, or None, also of a line that keeps none."""
@@ -311,8 +312,8 @@ class Line:
         self._done(self._call("show"))
 
     def take_posts(self) -> Taken:
-        """Takes the posts of seats that wait, task 0's first, and does each as `post` does. One that was made for another epoch is
-        refused, and leaves nothing."""
+        """Takes the posts of seats that wait, task 0's first, and does each as `post` does. One that was made before the last edit
+        that changed its task is refused, and leaves nothing."""
         it = c.Taken()
         self._done(self._call("take_posts", byref(it)))
         accepted, refused = ([task for task in range(8) if mask >> task & 1] for mask in (it.accepted, it.refused))

@@ -58,7 +58,7 @@ class Seat:
             self._count = it.outputs
             data = bytes(self._out[: it.size])
         known = {d: serials[d] for d in range(c.DATAGRAMS) if it.has >> d & 1}
-        return View(it.epoch, data, it.outputs, known)
+        return View(it.epoch, it.task_epoch, data, it.outputs, known)
 
     def outputs(self) -> bytearray:
         """The outputs of the image that was viewed last, as they were to be sent when it was shown: change some, and post all."""
@@ -68,7 +68,7 @@ class Seat:
         return out
 
     def post(self, epoch: int, data: Bytes) -> None:
-        """Posts all outputs of the task, made for the epoch that was viewed last. The post waits until `Line.take_posts`. `StalePost`
-        for another epoch, `PostLength`, `NoSpare` where four posts wait, `Closed` also where the line is closed or the task has got
-        another seat."""
+        """Posts all outputs of the task, made for an epoch of the image that was viewed last, from `task_epoch` to `epoch`. The post
+        waits until `Line.take_posts`. `StalePost` for another epoch, `PostLength`, `NoSpare` where four posts wait, `Closed` also where
+        the line is closed or the task has got another seat."""
         self._call("seat_post", epoch, *c.slice_of(data))

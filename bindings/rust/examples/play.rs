@@ -66,11 +66,13 @@ fn place(line: &Line, variable: u32, out: &mut impl Write) -> Printed {
     Ok(writeln!(out, "var {variable} task {task} datagram {datagram} bit {bit} bits {bits} dir {dir}")?)
 }
 
-fn edit(line: &mut Line, edit: Edit<'_>, out: &mut impl Write) -> Printed {
+/// The serial from which sendings are of the epoch that the edit begins is left in `first`.
+fn edit(line: &mut Line, edit: Edit<'_>, first: &mut u64, out: &mut impl Write) -> Printed {
     let asked = line.cost(&edit);
     let cost = line.edit(&edit);
     assert_eq!(asked, cost, "an edit does what it was told to cost");
     let cost = cost?;
+    *first = line.next_serial();
     Ok(writeln!(out, "epoch {} recut {} moved {}", cost.epoch, cost.recut, cost.moved)?)
 }
 
@@ -95,7 +97,8 @@ fn arrive(line: &mut Line, bytes: &[u8], out: &mut impl Write) -> Printed {
     Ok(())
 }
 
-fn read(line: &Line, task: u8, out: &mut impl Write) -> Printed {
+/// What a task reads of sendings from a serial on: the program prints the data of the present epoch alone.
+fn read(line: &Line, task: u8, first: u64, out: &mut impl Write) -> Printed {
     let mut data = vec![0; IMAGE];
     let image = line.read(task, &mut data)?;
     writeln!(out, "epoch {}", image.epoch)?;
@@ -103,8 +106,8 @@ fn read(line: &Line, task: u8, out: &mut impl Write) -> Printed {
         let datagram = line.datagram(task, number).ok_or("a datagram is missing")?;
         let at = usize::from(datagram.offset);
         match image.serial(number) {
-            Some(_) => writeln!(out, "slot {number} {}", hex(&image.bytes[at..at + usize::from(datagram.length)]))?,
-            None => writeln!(out, "slot {number} none")?,
+            Some(serial) if serial >= first => writeln!(out, "slot {number} {}", hex(&image.bytes[at..at + usize::from(datagram.length)]))?,
+            _ => writeln!(out, "slot {number} none")?,
         }
     }
     Ok(())
@@ -121,7 +124,7 @@ fn refused(fault: &Fault, out: &mut impl Write) -> Printed {
     Ok(writeln!(out)?)
 }
 
-fn run(line: &mut Line, words: &[&str], frames: &mut [u8], out: &mut impl Write) -> Printed {
+fn run(line: &mut Line, words: &[&str], first: &mut u64, frames: &mut [u8], out: &mut impl Write) -> Printed {
     let serial = line.next_serial();
     match words {
         ["layout"] => layout(line, out),
@@ -132,15 +135,15 @@ fn run(line: &mut Line, words: &[&str], frames: &mut [u8], out: &mut impl Write)
             None => Ok(writeln!(out, "none")?),
         },
         ["place", variable] => place(line, number(variable)?, out),
-        ["connect", alias] => edit(line, Edit::Connect(number(alias)? as u16), out),
-        ["disconnect", alias] => edit(line, Edit::Disconnect(number(alias)? as u16), out),
+        ["connect", alias] => edit(line, Edit::Connect(number(alias)? as u16), first, out),
+        ["disconnect", alias] => edit(line, Edit::Disconnect(number(alias)? as u16), first, out),
         ["remap", station, area, pdos @ ..] => {
             let pdos = pdos.iter().map(|pdo| Ok(number(pdo)? as u16)).collect::<Result<Vec<_>, Box<dyn Error>>>()?;
-            edit(line, Edit::Remap { station: number(station)? as u16, area: number(area)? as u8, pdos: &pdos }, out)
+            edit(line, Edit::Remap { station: number(station)? as u16, area: number(area)? as u8, pdos: &pdos }, first, out)
         }
         ["move", station, area, task] => {
             let (station, area, task) = (number(station)? as u16, number(area)? as u8, number(task)? as u8);
-            edit(line, Edit::Move { station, area, task }, out)
+            edit(line, Edit::Move { station, area, task }, first, out)
         }
         ["write"] => Ok(writeln!(out, "sent {serial}: {}", hex(line.next_write(frames)?.frame))?),
         ["send", tasks @ ..] => {
@@ -155,7 +158,7 @@ fn run(line: &mut Line, words: &[&str], frames: &mut [u8], out: &mut impl Write)
             Ok(())
         }
         ["arrive", word] => arrive(line, &bytes_in(word)?, out),
-        ["read", task] => read(line, number(task)? as u8, out),
+        ["read", task] => read(line, number(task)? as u8, *first, out),
         _ => Err("bad command".into()),
     }
 }
@@ -166,14 +169,14 @@ fn main() -> Printed {
     let text = String::from_utf8(input)?;
     let (project, commands) = text.split_once("\n%%\n").ok_or("there is no line %%")?;
     let mut line = Line::open(format!("{project}\n").as_bytes())?;
-    let mut frames = vec![0; FRAMES];
+    let (mut frames, mut first) = (vec![0; FRAMES], 0);
     let mut out = io::stdout().lock();
     for command in commands.lines() {
         let words: Vec<&str> = command.split(' ').filter(|word| !word.is_empty()).collect();
         if words.is_empty() {
             continue;
         }
-        if let Err(error) = run(&mut line, &words, &mut frames, &mut out) {
+        if let Err(error) = run(&mut line, &words, &mut first, &mut frames, &mut out) {
             refused(error.downcast_ref::<Fault>().ok_or_else(|| error.to_string())?, &mut out)?;
         }
     }

@@ -201,8 +201,10 @@ pub struct BlockOutcome {
 /// What a task reads.
 #[derive(Clone, Copy, Debug, PartialEq, Eq)]
 pub struct Image<'a> {
-    /// The epoch whose places the data are in.
+    /// The present epoch: it counts the edits.
     pub epoch: u32,
+    /// The epoch of the last edit that changed the task, 0 if none did.
+    pub task_epoch: u32,
     /// How many datagrams the task has, at most 16.
     pub datagrams: usize,
     /// The data of each, at its offset; zeros where it has none.
@@ -212,7 +214,7 @@ pub struct Image<'a> {
 }
 
 impl Image<'_> {
-    /// The serial of the sending that a datagram's data answer; none where it has no data in this epoch.
+    /// The serial of the sending that a datagram's data answer; none where it has no data.
     pub fn serial(&self, datagram: u8) -> Option<u64> {
         serial_in(self.has, &self.serials, datagram)
     }
@@ -221,8 +223,10 @@ impl Image<'_> {
 /// An image that a seat views.
 #[derive(Clone, Copy, Debug, PartialEq, Eq)]
 pub struct View<'a> {
-    /// The epoch whose places the data are in.
+    /// The epoch in which the image was shown.
     pub epoch: u32,
+    /// The task's epoch then: posts are for an epoch from this one to `epoch`.
+    pub task_epoch: u32,
     /// The data of each datagram, at its offset; zeros where it has none.
     pub bytes: &'a [u8],
     /// The task's output bytes, which come first: as many bytes as a post has.
@@ -232,7 +236,7 @@ pub struct View<'a> {
 }
 
 impl View<'_> {
-    /// The serial of the sending that a datagram's data answer; none where it has no data in this epoch.
+    /// The serial of the sending that a datagram's data answer; none where it has no data.
     pub fn serial(&self, datagram: u8) -> Option<u64> {
         serial_in(self.has, &self.serials, datagram)
     }
@@ -281,7 +285,7 @@ pub struct Counters {
 /// A change of what tasks read.
 #[derive(Clone, Copy, Debug, PartialEq, Eq)]
 pub enum Change<'a> {
-    /// An edit was accepted: an epoch began, and no datagram has data in it yet.
+    /// An edit was accepted: an epoch began.
     Swapped,
     /// A datagram has a good answer.
     Good {

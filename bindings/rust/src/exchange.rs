@@ -134,8 +134,8 @@ impl<'a> Iterator for Frames<'a> {
 }
 
 impl Line {
-    /// A task, 0 to 7, posts its outputs, made for an epoch: as many bytes as it has output bytes in it. `NoSuchTask`,
-    /// `StalePost`, `PostLength`; then nothing changed.
+    /// A task, 0 to 7, posts its outputs, made for an epoch: as many bytes as it has output bytes. `NoSuchTask`; `StalePost` for an
+    /// epoch to come, or before the last edit that changed the task; `PostLength`; then nothing changed.
     ///
     /// ```
     /// # fn main() -> Result<(), Box<dyn std::error::Error>> {
@@ -144,6 +144,9 @@ impl Line {
     /// line.post(1, 0, &[0b0101])?;
     /// assert_eq!(line.post(1, 0, &[]), Err(zangjulf::Fault::PostLength));
     /// assert_eq!(line.post(1, 7, &[0]), Err(zangjulf::Fault::StalePost));
+    /// // the touch probe is in task 0
+    /// line.edit(&zangjulf::Edit::Connect(102))?;
+    /// line.post(1, 0, &[0b0101])?;
     /// # Ok(())
     /// # }
     /// ```
@@ -329,8 +332,8 @@ impl Line {
         }
     }
 
-    /// What a task, 0 to 7, reads: of each of its datagrams the data of its last good answer in the present epoch, at the
-    /// datagram's offset in `out`, for which [`crate::IMAGE`] bytes are enough. `NoSuchTask`, `Room` with the bytes needed.
+    /// What a task, 0 to 7, reads: of each of its datagrams the data of its last good answer since the last edit that changed the task,
+    /// at the datagram's offset in `out`, for which [`crate::IMAGE`] bytes are enough. `NoSuchTask`, `Room` with the bytes needed.
     ///
     /// ```
     /// # fn main() -> Result<(), Box<dyn std::error::Error>> {
@@ -351,7 +354,8 @@ impl Line {
             ffi::zangjulf_read(&self.handle, task, bytes, length, serials.as_mut_ptr(), serials.len(), &mut it)
         };
         done(number, it.size)?;
-        Ok(Image { epoch: it.epoch, datagrams: it.datagrams, bytes: &out[..it.size], has: it.has, serials })
+        let ffi::Image { epoch, task_epoch, datagrams, size, has } = it;
+        Ok(Image { epoch, task_epoch, datagrams, bytes: &out[..size], has, serials })
     }
 
     /// The next change that was not taken yet, its data at the front of `out`, for which 1,486 bytes are enough; none where there

@@ -63,7 +63,7 @@ faults! {
     AreaTooBig = 11, "the area would have more bits than a datagram, 11,888";
     TooManyDatagrams(u8) = 12, "a task would need more than 16 datagrams";
     EpochsSpent = 13, "the epoch is the last one, 4,294,967,295";
-    StalePost = 15, "the post was made for another epoch";
+    StalePost = 15, "the post was made before the last edit that changed its task, or for an epoch to come";
     PostLength = 16, "the post does not have the task's number of output bytes";
     Unprogrammed(u32) = 17, "register blocks are owed: no task is sent before they are written";
     NothingOwed = 18, "no register block is owed";

@@ -25,6 +25,7 @@ pub struct SeatHandle {
 #[derive(Default)]
 pub struct View {
     pub epoch: u32,
+    pub task_epoch: u32,
     pub size: usize,
     pub outputs: usize,
     pub has: u16,
@@ -106,6 +107,7 @@ pub struct Arrival {
 #[derive(Default)]
 pub struct Image {
     pub epoch: u32,
+    pub task_epoch: u32,
     pub datagrams: usize,
     pub size: usize,
     pub has: u16,

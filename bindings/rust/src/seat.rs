@@ -70,7 +70,8 @@ impl Seat {
             ffi::zangjulf_seat_view(&mut self.handle, bytes, length, serials.as_mut_ptr(), serials.len(), &mut it)
         };
         done(number, 0)?;
-        Ok(View { epoch: it.epoch, bytes: &out[..it.size], outputs: it.outputs, has: it.has, serials })
+        let ffi::View { epoch, task_epoch, size, outputs, has } = it;
+        Ok(View { epoch, task_epoch, bytes: &out[..size], outputs, has, serials })
     }
 
     /// The outputs of the image that was viewed last, as they were to be sent when it was shown: [`View::outputs`] bytes at the front
@@ -94,9 +95,9 @@ impl Seat {
         Ok(out)
     }
 
-    /// Posts all outputs of the task, made for the epoch that was viewed last. The post waits until [`Line::take_posts`]. `StalePost`
-    /// for another epoch, `PostLength`, `NoSpare` where four posts wait, `Closed` where the line is closed or the task has got
-    /// another seat; then nothing is posted.
+    /// Posts all outputs of the task, made for an epoch of the image that was viewed last: from [`View::task_epoch`] to
+    /// [`View::epoch`]. The post waits until [`Line::take_posts`]. `StalePost` for another epoch, `PostLength`, `NoSpare` where four
+    /// posts wait, `Closed` where the line is closed or the task has got another seat; then nothing is posted.
     ///
     /// ```
     /// # fn main() -> Result<(), Box<dyn std::error::Error>> {
@@ -158,8 +159,8 @@ impl Line {
         unsafe { ffi::zangjulf_show(&mut self.handle) };
     }
 
-    /// Takes the posts that wait, task 0's first, and does each as [`Line::post`] does. One that was made for another epoch is refused,
-    /// and leaves nothing.
+    /// Takes the posts that wait, task 0's first, and does each as [`Line::post`] does. One that was made before the last edit that
+    /// changed its task is refused, and leaves nothing.
     ///
     /// ```
     /// # fn main() -> Result<(), Box<dyn std::error::Error>> {

@@ -23,7 +23,7 @@ use hc_records::limits::TASKS;
 pub struct Image {
     /// The present epoch.
     epoch: u32,
-    /// The epoch of the last edit that changed the task, 0 if none did: the data's places are those of each epoch since.
+    /// The epoch of the last edit that changed the task, 0 if none did: the data have had their places since.
     task_epoch: u32,
     /// The task's datagrams, at most 16.
     datagrams: usize,
@@ -154,12 +154,11 @@ fn give_image(core: &Core, task: u8, out: &mut [u8], serials: &mut [u64], image:
 }
 
 /// What a task reads: of each of its datagrams the data of the last good answer since the last edit that changed the task, or
-/// none. `DONE`: the
-/// data of each are in `out` at the datagram's offset in the task's image, outputs and inputs, and those of one without data
-/// are zeros; `serials` has of each, in the datagrams' order, the serial of the sending that its data answer, 0 where it has
-/// none, as many as there is room for; `image.has` says which have data. Else fault 8 where the task is over 7, `ROOM` where
-/// `out` is shorter than the image, which 23,776 bytes never are, `BUSY` or `CLOSED`; `out`, `serials` and `image` are then as
-/// they were. Nothing changes. It takes no memory.
+/// none (this project's profile). `DONE`: the data of each are in `out` at the datagram's offset in the task's image, outputs and
+/// inputs, and those of one without data are zeros; `serials` has of each, in the datagrams' order, the serial of the sending that
+/// its data answer, 0 if it has none, as many as there is room for; `image.has` says which have data. Else fault 8 if the task is
+/// over 7, `ROOM` if `out` is shorter than the image, which 23,776 bytes never are, `BUSY` or `CLOSED`; `out`, `serials` and
+/// `image` are then as they were. Nothing changes. It allocates nothing.
 #[unsafe(no_mangle)]
 pub extern "C" fn zangjulf_read(
     handle: &mut Handle,

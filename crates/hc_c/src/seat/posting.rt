@@ -50,10 +50,11 @@ fn post_bytes(posts: &mut PostSender, epoch: u32, bytes: &[u8]) -> u8
     }
 }
 
-/// The seat posts all outputs of its task for an epoch whose places the image at hand has. The post waits until the owner takes
-/// it. `DONE`; fault 15 if the epoch is below the task's in the image at hand, or above the image's; fault 16 where it has another number of output bytes;
-/// `NO_SPARE` where four posts of the seat wait, as far as it has seen what was taken; `CLOSED` where the seat is closed, or
-/// the owner's end of it is gone. Unless it is done nothing is posted. It waits for nobody and takes no memory.
+/// The seat posts all outputs of its task for an epoch from the task's epoch to the image's, as the image at hand has them (this
+/// project's profile). The post waits until the owner takes it. `DONE`; fault 15 for another epoch; fault 16 if the image has
+/// another number of output bytes; `NO_SPARE` if four posts of the seat wait, as far as it has seen what was taken; `CLOSED` if the
+/// seat is closed, or the owner's end of it is gone. Unless it is done nothing is posted. It waits for nobody and allocates
+/// nothing.
 #[unsafe(no_mangle)]
 pub extern "C" fn zangjulf_seat_post(seat: &mut SeatHandle, epoch: u32, bytes: &[u8]) -> u8
     ensures answer_given { IfSome seat.old.holding.value (λ old. result ≢ CLOSED → result ≢ NO_SPARE → result ≡ refusal_number (seat_fault (at_hand old) epoch bytes.now)) }

@@ -17,8 +17,7 @@ use hc_mail::image::TaskImage;
 pub struct SeatView {
     /// The epoch in which the image was shown.
     epoch: u32,
-    /// The epoch, at that time, of the last edit that changed the task, 0 if none did: the data's places are those of each epoch
-    /// from this one to `epoch`.
+    /// The epoch of the last edit before it that changed the task, 0 if none did: the data had their places from it on.
     task_epoch: u32,
     /// The bytes of the task's image, at most 23,776.
     size: usize,

@@ -1,4 +1,4 @@
-use Rattle.std.proofs.Common.{◌∙◌, List, [], ◌∷◌, ◌++◌, ap, arith, length}
+use Rattle.std.proofs.Common.{rules, ◌∙◌, List, [], ◌∷◌, ◌++◌, ap, arith, length}
 use Rattle.hc_records.specs.Image.{datagram_count, task_places}
 use Rattle.hc_records.specs.Line.{State, line}
 use Rattle.hc_places.specs.Table.{Table, datagrams_in}
@@ -51,7 +51,7 @@ returns c =
     let here = listed-here history c.plan-plan.result.now c.places-places.result.now c.args.task c.datagrams-datagrams.result.now c.plan-plan.ensures.state c.places-places.ensures.table c.datagrams-datagrams.ensures.datagrams in
     let epoch = c.epoch.ensures ∙ ap (λ (state : State). state.epoch) c.plan-plan.ensures.state ∙ c.plan-plan.ensures.epoch in
     let image = shown_image history c.args.task c.epoch.result c.task_epoch.result c.from.result c.datagrams-datagrams.result.now old.own.room c.begin.new.self.own c.add_slots.new.images.own c.add_outputs.new.images.own
-    c.begin.ensures.own c.add_slots.ensures.own c.add_outputs.ensures.own epoch c.task_epoch.ensures here (c.from.ensures ∙ ap (λ part. part.0) c.part_at-outputs.ensures) c.args.end.now.roomy in
+    c.begin.ensures.own c.add_slots.ensures.own c.add_outputs.ensures.own epoch (search rules) here (c.from.ensures ∙ ap (λ part. part.0) c.part_at-outputs.ensures) c.args.end.now.roomy in
     let place = c.add_outputs.ensures.same ∙ c.add_slots.ensures.same ∙ c.begin.ensures.same in
     let sent = c.send.ensures.sent in
     let same = c.send.ensures.same in record {
