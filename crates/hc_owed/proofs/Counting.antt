@@ -8,12 +8,14 @@ use Rattle.std.proofs.lemmas.Option.{same_Some}
 use Rattle.hc_records.specs.Lists.{changed_at}
 use Rattle.hc_owed.specs.declared.area.JudgedArea.{JudgedArea}
 use Rattle.hc_owed.specs.declared.tally.Tally.{Tally}
-use Rattle.hc_owed.specs.Areas.{blocks_waited, fmmu_concerns, register_concerns, registers_waited, sync_manager_concerns}
+use Rattle.hc_owed.specs.declared.task_set.TaskSet.{TaskSet}
+use Rattle.hc_owed.specs.Areas.{area_written, blocks_waited, fmmu_concerns, register_concerns, registers_waited, sync_manager_concerns}
 use Rattle.hc_owed.specs.Flags.{one}
 use Rattle.hc_owed.specs.Readiness.{no_area}
 use Rattle.hc_owed.specs.TaskSets.{has_task, no_task}
 use Rattle.hc_owed.specs.Tally.{CanPut, Puts, Tallies}
 use Rattle.hc_owed.specs.Waiting.{AreCounted}
+use Rattle.hc_owed.proofs.JudgedAreas.{fmmu-written, register-written, sync_manager-written}
 use Rattle.hc_owed.proofs.TaskLists.{has-where}
 
 pub one-most : (b : Bool) → one b ≤ 1
@@ -98,6 +100,16 @@ area-put areas old new n was now at counts puts = (
       let moves = puts.registers t low in
       omega (arith, put, is, moves),
 )
+
+-- a write that is sent changes no count
+pub written-put : (tally : Tally) (area : JudgedArea) → Puts tally tally area (area_written area)
+written-put tally area = record {
+  blocks = λ t low.
+      let first = ap (λ (set : TaskSet). one (has_task t set)) (sync_manager-written area.own area.held area.owed area.standing) in
+      let second = ap (λ (set : TaskSet). one (has_task t set)) (fmmu-written area.own area.held area.owed area.standing) in
+      omega (arith, first, second);
+  registers = λ t low. let same = ap (λ (set : TaskSet). one (has_task t set)) (register-written area.own area.held area.owed area.standing) in omega (arith, same);
+}
 
 -- an area is added after the others
 
