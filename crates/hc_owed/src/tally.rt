@@ -59,6 +59,7 @@ pub(crate) struct Tally {
 impl Tally {
     ghost use Rattle.std.specs.Prelude.{◌≡◌, ◌<◌, not};
     ghost use Rattle.hc_records.specs.declared.limits.TheConstants.{TASKS};
+    ghost use Rattle.hc_owed.specs.Areas.{fmmu_confirmed, sync_manager_confirmed};
     ghost use Rattle.hc_owed.specs.Tally.{CanPut, Puts, counts_none};
     ghost use Rattle.hc_owed.specs.TaskSets.{tasks_where};
 
@@ -78,6 +79,24 @@ impl Tally {
             was.register_concerns(),
             now.register_concerns(),
         );
+    }
+
+    /// Counts what is left of an area once a write of its sync manager's block was answered well: the block concerns no task.
+    pub(crate) fn confirm_sync_manager(&mut self, was: JudgedArea)
+        requires { CanPut self.old was }
+        ensures { Puts self.old self.new was (sync_manager_confirmed was) }
+    {
+        take_out(&mut self.blocks, was.sync_manager_concerns());
+    }
+
+    /// Counts what is left of an area once a write of its FMMU's block was answered well: neither the block nor a register outside the
+    /// line concerns a task.
+    pub(crate) fn confirm_fmmu(&mut self, was: JudgedArea)
+        requires { CanPut self.old was }
+        ensures { Puts self.old self.new was (fmmu_confirmed was) }
+    {
+        take_out(&mut self.blocks, was.fmmu_concerns());
+        take_out(&mut self.registers, was.register_concerns());
     }
 
     /// Whether nothing is counted for a task, 0 to 7.
