@@ -45,15 +45,15 @@ some-mapped : {X Y : Type 0} (f : X → Y) (found : Option X) → is_some (optio
 some-mapped f None = refl
 some-mapped f (Some x) = refl
 
-told : (a b : TaskTable) (said : Option TaskTable) → IsNewTask (Some a) (Some b) said → is_some said ≡ not (same_task a b)
-told a b None same = sym (ap not (ap (same_task a) (sym (same_Some a b same)) ∙ task-alike a))
-told a b (Some now) is = sym (ap not (false_from_ne_true (same_task a b) (λ same. is.1 (ap (λ (t : TaskTable). Some t) (tasks-same a b same)))))
+new-table : (a b : TaskTable) (said : Option TaskTable) → IsNewTask (Some a) (Some b) said → is_some said ≡ not (same_task a b)
+new-table a b None same = sym (ap not (ap (same_task a) (sym (same_Some a b same)) ∙ task-alike a))
+new-table a b (Some now) is = sym (ap not (false_from_ne_true (same_task a b) (λ same. is.1 (ap (λ (t : TaskTable). Some t) (tasks-same a b same)))))
 
 pub table-differs : (old new : List Member) (change : Change) (task : ℕ) → task < TASKS → SaysWhatDiffers (table_of old) (table_of new) change → has_table change task ≡ not (same_task (task_table old task) (task_table new task))
 table-differs old new change task low says =
     any-found (λ (changed : ChangedTask). changed.0 == task) change.tasks
     ∙ sym (some-mapped (λ (found : ChangedTask). found.1) (find (λ (changed : ChangedTask). changed.0 == task) change.tasks))
-    ∙ told (task_table old task) (task_table new task) (table_said_of change task)
+    ∙ new-table (task_table old task) (task_table new task) (table_said_of change task)
     (subst (λ (a : Option TaskTable). IsNewTask a (Some (task_table new task)) (table_said_of change task)) (table-at old task low)
     (subst (λ (b : Option TaskTable). IsNewTask (slice_get (table_of old).tasks task) b (table_said_of change task)) (table-at new task low) (says.tasks task)))
 

@@ -1,15 +1,19 @@
 -- Why a task isn't sent with others that are ready, and where a slave is (this project's profile).
-use Rattle.std.specs.Prelude.{ℕ, Bool, true, false, if◌then◌else◌, Option, Some, None, length}
+use Rattle.std.specs.Prelude.{ℕ, ◌||◌, not, Bool, true, false, if◌then◌else◌, List, [], ◌∷◌, Option, Some, None}
 use Rattle.hc_records.specs.declared.faults.EditFault.{EditFault}
 use Rattle.hc_records.specs.declared.faults.EditFault.TheVariants.{Absent}
-use Rattle.hc_events.specs.declared.faults.CoreFault.{CoreFault}
-use Rattle.hc_events.specs.declared.faults.CoreFault.TheVariants.{Waits}
 use Rattle.hc_events.specs.Entries.{History}
-use Rattle.hc_events.specs.Ready.{is_ready, waited_for, waited_for_outside}
+use Rattle.hc_events.specs.Ready.{is_ready}
+use Rattle.hc_events.specs.Steps.{is_no_task}
 
--- the fault of a task that waits, with the owed blocks and the registers outside the line that it waits for; none of a ready task
-abbrev pub wait_of : History → ℕ → Option CoreFault
-wait_of history task = if is_ready history task then None else Some (Waits task (length (waited_for history task)) (length (waited_for_outside history task)))
+-- a number is no task's, or its task waits
+abbrev pub is_unready : History → ℕ → Bool
+is_unready history task = is_no_task task || not (is_ready history task)
+
+-- the first such number of several, or none
+abbrev pub first_unready : History → List ℕ → Option ℕ
+first_unready history [] = None
+first_unready history (task ∷ tasks) = if is_unready history task then Some task else first_unready history tasks
 
 -- the fault of a declared slave outside the line
 abbrev pub is_absent : EditFault → Bool

@@ -1,5 +1,5 @@
 //! Ready tasks: which they are, which slaves hold the others up, and their frames.
-ghost use Rattle.std.specs.Prelude.{◌≡◌, ◌≢◌, ◌+◌, ◌<◌, ◌≤◌, ◌*◌, [], All, ◌++◌, Err, IfErr, IfOk, IfSome, None, OnErr, OnOk, Option, Some, drop, length, map, sum_by, vec_capacity};
+ghost use Rattle.std.specs.Prelude.{◌≡◌, ◌≢◌, ◌+◌, ◌<◌, ◌≤◌, ◌*◌, [], All, ◌++◌, Err, IfErr, IfOk, IfSome, None, OnErr, OnOk, Option, Some, drop, length, sum_by, vec_capacity};
 ghost use Rattle.std.specs.List.{flat_map, list_any};
 ghost use Rattle.hc_records.specs.declared.limits.TheConstants.{MOST_DATAGRAMS, TASKS};
 ghost use Rattle.hc_records.specs.Lists.{lowest};
@@ -8,12 +8,12 @@ ghost use Rattle.hc_events.specs.declared.faults.CoreFault.TheVariants.{Memory};
 ghost use Rattle.hc_events.specs.Calls.{AreSentTogether, frames_size, ready_into_faults};
 ghost use Rattle.hc_events.specs.Ready.{waited_for, waited_for_outside};
 ghost use Rattle.hc_events.specs.Sendings.{sent_frame_size};
-ghost use Rattle.hc_events.specs.Steps.{SendsReady, answer_to, entries_after, is_no_task, proposal, ready_faults, sent_text, wait_fault};
+ghost use Rattle.hc_events.specs.Steps.{SendsReady, answer_to, entries_after, is_no_task, proposal, ready_faults, sent_text};
 ghost use Rattle.hc_core.specs.declared.arena.TheConstants.{LARGEST_FRAME};
 ghost use Rattle.hc_core.specs.Early.{early_ready_faults};
 ghost use Rattle.hc_core.specs.Filled.{CanBeFilled};
 ghost use Rattle.hc_core.specs.Proposed.{IsProposal};
-ghost use Rattle.hc_core.specs.Ready.{wait_of};
+ghost use Rattle.hc_core.specs.Ready.{first_unready, is_unready};
 
 use crate::arena::{fill_front, size_of_all};
 use crate::keeping::Core;
@@ -42,36 +42,26 @@ impl Core {
         (self.readiness.waiting(task), self.readiness.outside(task))
     }
 
-    /// The fault of a task that waits, or `None` if it is ready.
-    fn wait_of(&self, task: u8) -> Option<CoreFault>
-        requires { task < TASKS }
-        ensures fault { result ≡ wait_of self.now.history task }
-        ensures other { IfSome result (λ fault. fault ≢ Memory) }
+    /// Whether a number is no task's, or the task waits.
+    fn is_unready(&self, task: u8) -> bool
+        ensures { result ≡ is_unready self.now.history task }
     {
-        let (blocks, outside) = self.waiting_for(task);
-        if blocks == 0 && outside == 0 {
-            return None;
+        if task >= TASKS {
+            return true;
         }
-        Some(CoreFault::Waits {
-            task,
-            blocks,
-            outside,
-        })
+        !self.readiness.is_ready(task)
     }
 
-    /// The fault of the first of these tasks that waits, or `None` if each is ready. The recursion is as deep as there are tasks.
-    fn first_wait(&self, tasks: &[u8]) -> Option<CoreFault>
-        requires { All (λ task. task < TASKS) tasks.now }
-        ensures fault { result ≡ lowest (map (wait_fault self.now.history) tasks.now) }
-        ensures other { IfSome result (λ fault. fault ≢ Memory) }
+    /// The first of these numbers that is no task's or whose task waits, or `None` if each task is ready.
+    fn first_unready(&self, tasks: &[u8]) -> Option<u8>
+        ensures { result ≡ first_unready self.now.history tasks.now }
     {
-        match tasks {
-            [] => None,
-            [task, rest @ ..] => match self.wait_of(*task) {
-                Some(fault) => Some(fault),
-                None => self.first_wait(rest),
-            },
+        for task in tasks {
+            if self.is_unready(*task) {
+                return Some(*task);
+            }
         }
+        None
     }
 
     /// The fault that is judged before any frame is planned: `NoSuchTask`, and after it `Waits` of the first task that waits.
@@ -80,13 +70,18 @@ impl Core {
         ensures refused { IfErr result (λ fault. lowest (early_ready_faults self.now.history tasks.now) ≡ Some fault) }
         ensures other { IfErr result (λ fault. fault ≢ Memory) }
     {
+        let Some(task) = self.first_unready(tasks) else {
+            return Ok(());
+        };
         if names_no_task(tasks) {
             return Err(CoreFault::NoSuchTask);
         }
-        match self.first_wait(tasks) {
-            Some(fault) => Err(fault),
-            None => Ok(()),
-        }
+        let (blocks, outside) = self.waiting_for(task);
+        Err(CoreFault::Waits {
+            task,
+            blocks,
+            outside,
+        })
     }
 
     /// Proposes the frames in which 1 to 8 distinct ready tasks would be sent next, in their order, with the next serials, and

@@ -73,6 +73,7 @@ impl Core {
 
     /// All frames of the present proposal are sent, in their order: each is recorded, and is awaited from now on.
     /// It takes no memory.
+    #[inline(always)]
     pub fn commit(&mut self, frames: &[Sending])
         requires { IsProposal self.old.history frames.now }
         ensures { self.new ≡ record self.old { history = with_sent self.old.history frames.now } }

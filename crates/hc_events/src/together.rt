@@ -9,6 +9,7 @@ use hc_records::limits::TASKS;
 use std::marker::Model;
 
 /// Whether a task is there twice.
+#[inline(always)]
 fn has_repeat(tasks: &[u8]) -> bool
     ensures { result ≡ has_repeat tasks.now }
 {
@@ -23,6 +24,7 @@ fn has_repeat(tasks: &[u8]) -> bool
 }
 
 /// Whether tasks can be sent together: at least one, at most eight, and none twice.
+#[inline(always)]
 fn are_together(tasks: &[u8]) -> bool
     ensures same { result ≡ are_together tasks.now }
     ensures exact { IsTrue result ↔ AreSentTogether tasks.now }
@@ -52,6 +54,7 @@ impl Together {
     ghost use Rattle.hc_events.specs.Calls.{AreSentTogether, if_together};
 
     /// These tasks, where they can be sent together; else none.
+    #[inline(always)]
     pub fn of(tasks: &[u8]) -> Option<Together>
         ensures tasks { result ≡ if_together tasks.now }
         ensures together { IfSome result (λ together. AreSentTogether tasks.now) }

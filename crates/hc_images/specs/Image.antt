@@ -1,4 +1,4 @@
--- The input image: for each datagram the data of its last good answer in the present epoch, or none (this project's profile; a datagram has at most 1,486 bytes of data by ETG.1000.4, 5.3 and 5.4).
+-- The input image: for each datagram the data of its last good answer since they were cleared, or none (this project's profile; a datagram has at most 1,486 bytes of data by ETG.1000.4, 5.3 and 5.4).
 use Rattle.std.specs.Prelude.{◌≡◌, ℕ, ◌+◌, ◌*◌, ◌<◌, ◌==◌, ◌&&◌, if◌then◌else◌, List, length, map, slice_index_or, Option, Some, None}
 use Rattle.std.specs.List.{range_with_len}
 use Rattle.hc_records.specs.declared.limits.TheConstants.{MOST_DATAGRAMS, TASKS}
@@ -20,7 +20,7 @@ data_of image task d = slice_index_or image (slot_number task d) None
 abbrev pub data_of_first : DatagramImage → ℕ → ℕ → List (Option (List ℕ))
 data_of_first image task count = map (data_of image task) (range_with_len 0 count)
 
--- no datagram has data: so an epoch begins
+-- no datagram has data
 abbrev pub HasNone : DatagramImage → Type 0
 HasNone image = (task d : ℕ) → data_of image task d ≡ None
 

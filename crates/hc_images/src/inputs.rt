@@ -40,9 +40,9 @@ fn clear_used(slots: &mut [Slot], used: &mut [u8; 8])
     }
 }
 
-/// For each datagram that a line can have the data of its last good answer in the present epoch, or none.
-/// It has room for the longest data of each, about 190,000 bytes, from the start: so no later epoch and no
-/// answer takes memory.
+/// For each datagram that a line can have the data that were put last since its task was cleared, or none.
+/// It has room for the longest data of each, about 190,000 bytes, from the start, so only `new` and `read`
+/// allocate.
 #[derive(Debug)]
 pub struct Inputs {
     slots: Vec<Slot>,
@@ -89,8 +89,8 @@ impl Inputs {
         })
     }
 
-    /// A new epoch begins: no datagram has data. It takes no memory, and of each task it goes no further than the last
-    /// datagram that had data.
+    /// No datagram has data from now on. It needs no allocation, and goes no further in each task than the last datagram
+    /// that had data.
     pub fn clear(&mut self)
         ensures { HasNone self.new }
     {
@@ -120,8 +120,8 @@ impl Inputs {
         *used = (*used).max(number + 1);
     }
 
-    /// The data of a datagram, lent: those that were put last in this epoch, or none. Its number in the task is
-    /// 0 to 15. It takes no memory.
+    /// The data of a datagram, lent: the data that were put last since its task was cleared, or none. Its number in
+    /// the task is 0 to 15. It needs no allocation.
     pub fn data(&self, task: Task, number: u8) -> Option<&[u8]>
         requires { number < MOST_DATAGRAMS }
         ensures { option_copied result ≡ data_of self.now task number }

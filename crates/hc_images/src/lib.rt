@@ -1,4 +1,4 @@
-//! The process data image. The inputs are each datagram's data of its last good answer in the present epoch, or none.
+//! The process data image. The inputs are each datagram's data of its last good answer since they were cleared, or none.
 //! The outputs are values packed as they are sent, so that posting and sending copy bytes; an edit moves them to
 //! their new places. The core keeps both, a published copy keeps the inputs.
 #![tactic(auto)]

@@ -8,7 +8,7 @@ use hc_records::items::Items;
 use std::alloc::{AllocError, Global};
 use std::marker::Model;
 
-/// The data of a datagram's last good answer in an epoch, or none, with room for the longest data.
+/// The data of a datagram, or none, with room for the longest data.
 #[derive(Debug, Drop)]
 pub(crate) struct Slot {
     is_fresh: bool,
@@ -41,8 +41,8 @@ impl Slot {
         self.is_fresh = false;
     }
 
-    /// From now on it has these data, at most 1,486 bytes. They are as many as before in an epoch, and are then written
-    /// over those, while a list that is cleared is zeroed.
+    /// From now on it has these data, at most 1,486 bytes. If they are as many as before, they are written over the old
+    /// ones; a list that is cleared is zeroed.
     pub(crate) fn put(&mut self, bytes: &[u8])
         requires { length bytes.now ≤ MOST_DATAGRAM_BYTES }
         ensures { self.new ≡ Some bytes.now }

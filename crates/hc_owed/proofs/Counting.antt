@@ -1,6 +1,6 @@
 -- How many blocks and registers tasks wait for, counted area by area.
-use Rattle.std.proofs.Common.{◌≡◌, ℕ, zero, suc, ◌+◌, ◌*◌, ◌<◌, ◌≤◌, Bool, true, false, List, [], ◌∷◌, ◌++◌, length, sum_by, sym, ap, ◌∙◌, arith}
-use Rattle.std.specs.Prelude.{Some, replicate, slice_get, slice_index}
+use Rattle.std.proofs.Common.{◌≡◌, ℕ, zero, suc, ◌+◌, ◌*◌, ◌<◌, ◌≤◌, Bool, true, false, List, [], ◌∷◌, ◌++◌, length, sum_by, sym, ap, subst, ◌∙◌, arith}
+use Rattle.std.specs.Prelude.{Some, replicate, slice_get, slice_index, slice_set}
 use Rattle.std.proofs.lemmas.List.Folds.{sum_by-replicate}
 use Rattle.std.proofs.lemmas.List.Sums.{sum_by-append, sum_by-cons, sum_by_push}
 use Rattle.std.proofs.lemmas.Grind.{common_steps}
@@ -8,12 +8,15 @@ use Rattle.std.proofs.lemmas.Option.{same_Some}
 use Rattle.hc_records.specs.Lists.{changed_at}
 use Rattle.hc_owed.specs.declared.area.JudgedArea.{JudgedArea}
 use Rattle.hc_owed.specs.declared.tally.Tally.{Tally}
-use Rattle.hc_owed.specs.Areas.{blocks_waited, fmmu_concerns, register_concerns, registers_waited, sync_manager_concerns}
+use Rattle.hc_owed.specs.declared.task_set.TaskSet.{TaskSet}
+use Rattle.hc_owed.specs.Areas.{area_written, blocks_waited, fmmu_concerns, fmmu_confirmed, named_set, owes_fmmu, owes_sync_manager, register_concerns, registers_waited, set_if, sync_manager_concerns, sync_manager_confirmed}
 use Rattle.hc_owed.specs.Flags.{one}
 use Rattle.hc_owed.specs.Readiness.{no_area}
-use Rattle.hc_owed.specs.TaskSets.{has_task, no_task}
+use Rattle.hc_owed.specs.TaskSets.{either_set, has_task, no_task}
 use Rattle.hc_owed.specs.Tally.{CanPut, Puts, Tallies}
 use Rattle.hc_owed.specs.Waiting.{AreCounted}
+use Rattle.hc_owed.proofs.JudgedAreas.{fmmu-written, pair-first, pair-second, register-written, sync_manager-written}
+use Rattle.hc_owed.proofs.Lists.{length-changed, set-changed}
 use Rattle.hc_owed.proofs.TaskLists.{has-where}
 
 pub one-most : (b : Bool) → one b ≤ 1
@@ -58,7 +61,7 @@ registers-most task area = one-most (has_task task (register_concerns area))
 
 -- areas that keep no task waiting
 
-none-counts : (task : ℕ) → task < 8 → one (has_task task no_task) ≡ 0
+pub none-counts : (task : ℕ) → task < 8 → one (has_task task no_task) ≡ 0
 none-counts task low = ap one (has-where (λ t. false) task low)
 
 pub no-blocks : (task : ℕ) → task < 8 → blocks_waited task no_area ≡ 0
@@ -98,6 +101,45 @@ area-put areas old new n was now at counts puts = (
       let moves = puts.registers t low in
       omega (arith, put, is, moves),
 )
+
+-- the list and its counts once an area is set and counted in place of the one that was there
+pub area-set : (items now : List JudgedArea) (old new : Tally) (n : ℕ) (was next made : JudgedArea) → items ≡ now → slice_get now n ≡ Some was → made ≡ next → Tallies items old × (length items < 524288) → Puts old new was next
+    → Tallies (slice_set items n made) new × (length (slice_set items n made) < 524288)
+area-set items now old new n was next made same at is counts puts =
+    let own = ap (λ (l : List JudgedArea). slice_get l n) same ∙ at in
+    let set = ap (λ (a : JudgedArea). changed_at n (λ _. a) items) (sym is) ∙ sym (set-changed n made items) in
+    let size = ap length (set-changed n made items) ∙ length-changed n (λ _. made) items in
+    let few = counts.1 in
+    (subst (λ (l : List JudgedArea). Tallies l new) set (area-put items old new n was next own counts.0 puts), omega (arith, size, few))
+
+pub can-put-at : (items now : List JudgedArea) (tally : Tally) (n : ℕ) (was : JudgedArea) → items ≡ now → slice_get now n ≡ Some was → Tallies items tally × (length items < 524288) → CanPut tally was
+can-put-at items now tally n was same at counts = can-put items tally n was counts.1 (ap (λ (l : List JudgedArea). slice_get l n) same ∙ at) counts.0
+
+-- a write that is sent changes no count
+pub written-put : (tally : Tally) (area : JudgedArea) → Puts tally tally area (area_written area)
+written-put tally area = record {
+  blocks = λ t low.
+      let first = ap (λ (set : TaskSet). one (has_task t set)) (sync_manager-written area.own area.held area.owed area.standing) in
+      let second = ap (λ (set : TaskSet). one (has_task t set)) (fmmu-written area.own area.held area.owed area.standing) in
+      omega (arith, first, second);
+  registers = λ t low. let same = ap (λ (set : TaskSet). one (has_task t set)) (register-written area.own area.held area.owed area.standing) in omega (arith, same);
+}
+
+-- a good answer takes its own block's tasks out of the counts
+
+pub sync_manager-out : (area : JudgedArea) (task : ℕ) → task < 8 → blocks_waited task (sync_manager_confirmed area) + one (has_task task (sync_manager_concerns area)) ≡ blocks_waited task area
+sync_manager-out area task low =
+    let first = ap (λ (owed : Bool). one (has_task task (set_if owed area.own))) (pair-first false (owes_fmmu area.owed)) in
+    let second = ap (λ (owed : Bool). one (has_task task (set_if owed (either_set area.own (named_set area.standing area.held))))) (pair-second false (owes_fmmu area.owed)) in
+    let none = none-counts task low in
+    omega (arith, first, second, none)
+
+pub fmmu-out : (area : JudgedArea) (task : ℕ) → task < 8 → blocks_waited task (fmmu_confirmed area) + one (has_task task (fmmu_concerns area)) ≡ blocks_waited task area
+fmmu-out area task low =
+    let first = ap (λ (owed : Bool). one (has_task task (set_if owed area.own))) (pair-first (owes_sync_manager area.owed) false) in
+    let second = ap (λ (owed : Bool). one (has_task task (set_if owed (either_set area.own area.own)))) (pair-second (owes_sync_manager area.owed) false) in
+    let none = none-counts task low in
+    omega (arith, first, second, none)
 
 -- an area is added after the others
 

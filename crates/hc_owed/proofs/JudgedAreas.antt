@@ -1,5 +1,5 @@
 -- What is kept of one area, by what it is made of.
-use Rattle.std.proofs.Common.{◌≡◌, ℕ, ◌+◌, ◌*◌, ◌<◌, ◌==◌, ◌&&◌, ◌||◌, Bool, true, false, refl, sym, ap, ap₂, ◌∙◌}
+use Rattle.std.proofs.Common.{◌≡◌, ℕ, ◌+◌, ◌*◌, ◌<◌, ◌==◌, ◌&&◌, ◌||◌, Bool, true, false, if◌then◌else◌, refl, sym, ap, ap₂, ◌∙◌}
 use Rattle.std.specs.Prelude.{None, Some, Option, is_some}
 use Rattle.std.specs.Option.{option_map_or}
 use Rattle.hc_records.specs.declared.records.Slave.{Slave}
@@ -11,8 +11,8 @@ use Rattle.hc_owed.specs.declared.area.JudgedArea.{JudgedArea}
 use Rattle.hc_owed.specs.declared.task_set.TaskSet.{TaskSet}
 use Rattle.hc_owed.specs.declared.area.OwedPair.{OwedPair}
 use Rattle.hc_owed.specs.declared.area.RegisterStatus.{RegisterStatus}
-use Rattle.hc_owed.specs.declared.area.RegisterStatus.TheVariants.{Sure}
-use Rattle.hc_owed.specs.Areas.{area_written, fmmu_confirmed, owes_fmmu, owes_sync_manager, pair_of, sync_manager_confirmed}
+use Rattle.hc_owed.specs.declared.area.RegisterStatus.TheVariants.{Outside, Sure, Unknown, Unplugged}
+use Rattle.hc_owed.specs.Areas.{area_written, fmmu_concerns, fmmu_confirmed, is_apart, owes_fmmu, owes_sync_manager, pair_of, register_concerns, set_if, sync_manager_concerns, sync_manager_confirmed}
 use Rattle.hc_owed.specs.Readiness.{Holdings, area_slave, fmmu_at, held_set, judged_at, kept_area, no_area, own_set, slot, standing_of}
 use Rattle.hc_owed.specs.ReadinessSteps.{only_contents, with_contents}
 use Rattle.hc_owed.specs.RegisterState.{Knowledge, owed_in}
@@ -104,9 +104,15 @@ inside false p q = refl
 abbrev pub area_from : TaskSet → TaskSet → OwedPair → RegisterStatus → JudgedArea
 area_from own held owed standing = record { own = own; held = held; owed = owed; standing = standing }
 
+no-apart : (unknown p : Bool) → is_apart (standing_of true unknown p) ≡ false
+no-apart true p = refl
+no-apart false p = refl
+
 pub written-area : (a b : Bool) (block : LineBlock) (held : MayHold) (unplugged : Bool) → area_written (area_of a b (Some block) held unplugged) ≡ area_of a b (Some block) (with_contents block.block.bytes held) unplugged
 written-area a b block held unplugged =
-    ap₂ (λ (s : TaskSet) (t : RegisterStatus). area_from (own_set (Some block)) s (pair_of a b) t) (sym (held-more block held))
+    let area = area_of a b (Some block) held unplugged in
+    ap (λ (apart : Bool). if apart then area else area_from area.own (either_set area.own area.held) area.owed area.standing) (no-apart held.unknown (unplugged && some_task (held_set held)))
+    ∙ ap₂ (λ (s : TaskSet) (t : RegisterStatus). area_from (own_set (Some block)) s (pair_of a b) t) (sym (held-more block held))
     (inside held.unknown (unplugged && some_task (held_set held)) (unplugged && some_task (held_set (with_contents block.block.bytes held))))
 
 pub confirmed-fmmu : (a b : Bool) (block : LineBlock) (held : MayHold) (unplugged : Bool) → fmmu_confirmed (area_of a b (Some block) held unplugged) ≡ area_of a false (Some block) (only_contents block.block.bytes held) unplugged
@@ -120,3 +126,32 @@ confirmed-sync_manager a b block held unplugged =
 -- the tasks that a block names, by the one that it names
 pub own-named : (found : LineBlock) (own : Option ℕ) → ((t : ℕ) → t < 8 → names_task t found.block.bytes ≡ option_map_or (λ (one : ℕ). one == t) own false) → only_task own ≡ own_set (Some found)
 own-named found own names = same-where (λ (t : ℕ). option_map_or (λ (one : ℕ). one == t) own false) (λ (t : ℕ). names_task t found.block.bytes) (λ t low. sym (names t low))
+
+-- a write of an FMMU's block that is sent leaves the tasks as they were that the area keeps waiting
+
+or-twice : (a b : Bool) → (a || (a || b)) ≡ (a || b)
+or-twice true b = refl
+or-twice false b = refl
+
+either-twice : (own held : TaskSet) → either_set own (either_set own held) ≡ either_set own held
+either-twice own held =
+    same-where (λ (t : ℕ). has_task t own || has_task t (either_set own held)) (λ (t : ℕ). has_task t own || has_task t held)
+    (λ t low. ap (λ (b : Bool). has_task t own || b) (has-where (λ (s : ℕ). has_task s own || has_task s held) t low) ∙ or-twice (has_task t own) (has_task t held))
+
+pub fmmu-written : (own held : TaskSet) (owed : OwedPair) (standing : RegisterStatus) → fmmu_concerns (area_written (area_from own held owed standing)) ≡ fmmu_concerns (area_from own held owed standing)
+fmmu-written own held owed Outside = refl
+fmmu-written own held owed Unplugged = ap (set_if (owes_fmmu owed)) (either-twice own held)
+fmmu-written own held owed Unknown = refl
+fmmu-written own held owed Sure = ap (set_if (owes_fmmu owed)) (either-twice own held)
+
+pub sync_manager-written : (own held : TaskSet) (owed : OwedPair) (standing : RegisterStatus) → sync_manager_concerns (area_written (area_from own held owed standing)) ≡ sync_manager_concerns (area_from own held owed standing)
+sync_manager-written own held owed Outside = refl
+sync_manager-written own held owed Unplugged = refl
+sync_manager-written own held owed Unknown = refl
+sync_manager-written own held owed Sure = refl
+
+pub register-written : (own held : TaskSet) (owed : OwedPair) (standing : RegisterStatus) → register_concerns (area_written (area_from own held owed standing)) ≡ register_concerns (area_from own held owed standing)
+register-written own held owed Outside = refl
+register-written own held owed Unplugged = refl
+register-written own held owed Unknown = refl
+register-written own held owed Sure = refl

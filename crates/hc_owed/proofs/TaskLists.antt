@@ -1,13 +1,14 @@
 -- Sets of tasks, task by task.
 use Rattle.std.proofs.Common.{◌≡◌, ℕ, zero, suc, ◌<◌, ◌≤◌, ◌==◌, Bool, true, false, List, [], ◌∷◌, map, if◌then◌else◌, get_or, ◌⊎◌, inl, inr, refl, sym, ap, ◌∙◌, arith}
 use Rattle.std.specs.Int.{bit_at}
-use Rattle.std.proofs.lemmas.Bool.{cases_lt}
-use Rattle.std.proofs.lemmas.Nat.Bits.{bit_at-lt, same_from_bits}
+use Rattle.std.specs.Prelude.{not}
+use Rattle.std.proofs.lemmas.Bool.{cases_lt, eqb-true}
+use Rattle.std.proofs.lemmas.Nat.Bits.{bit_at-lt, bit_at-zero, same_from_bits}
 use Rattle.hc_bits.proofs.lemmas.Bits.{bit_at-number_of}
 use Rattle.hc_records.specs.Image.{tasks}
 use Rattle.hc_events.specs.Ready.{mask_of}
 use Rattle.hc_owed.specs.declared.task_set.TaskSet.{TaskSet}
-use Rattle.hc_owed.specs.TaskSets.{has_task, tasks_where}
+use Rattle.hc_owed.specs.TaskSets.{has_task, some_task, tasks_where}
 
 abbrev bit : Bool → ℕ
 bit b = if b then 1 else 0
@@ -87,3 +88,12 @@ set-is bits test same high =
 pub has-bits : (bits task : ℕ) → has_task task (record { bits = bits }) ≡ (bit_at bits task == 1)
 unfolding has_task
 has-bits bits task = refl
+
+-- no task is in an empty set
+twice : (b : Bool) → not (not b) ≡ b
+twice true = refl
+twice false = refl
+
+pub none-in-empty : (set : TaskSet) (task : ℕ) → not (some_task set) ≡ true → has_task task set ≡ false
+unfolding some_task has_task
+none-in-empty set task is = ap (λ (n : ℕ). bit_at n task == 1) (eqb-true set.bits 0 (sym (twice (set.bits == 0)) ∙ is)) ∙ ap (λ (n : ℕ). n == 1) (bit_at-zero task)

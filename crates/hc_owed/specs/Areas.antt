@@ -98,9 +98,9 @@ area_after Unplugs area = record area { standing = standing_unplugged (some_task
 abbrev pub area_entered : JudgedArea → JudgedArea
 area_entered area = if is_inside area.standing then area else record area { held = no_task; standing = Sure }
 
--- a write of an area's FMMU's block was sent: the register may hold what the line configures too
+-- a write of an area's FMMU's block was sent: the register may hold what the line configures too; nothing is sent to a slave outside the line
 abbrev pub area_written : JudgedArea → JudgedArea
-area_written area = record area { held = either_set area.own area.held }
+area_written area = if is_apart area.standing then area else record area { held = either_set area.own area.held }
 
 -- a write of an area's FMMU's block was answered well: the register holds that block alone
 abbrev pub fmmu_confirmed : JudgedArea → JudgedArea

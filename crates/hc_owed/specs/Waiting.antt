@@ -10,6 +10,22 @@ use Rattle.hc_owed.specs.TaskSets.{has_task}
 abbrev pub AreCounted : (ℕ → JudgedArea → ℕ) → List JudgedArea → List ℕ → Type 0
 AreCounted waited areas counts = (task : ℕ) → task < TASKS → slice_index counts task ≡ sum_by (waited task) areas
 
+-- the tasks of a set can be taken out of counts
+abbrev pub CanTakeOut : List ℕ → TaskSet → Type 0
+CanTakeOut counts set = (task : ℕ) → task < TASKS → one (has_task task set) ≤ slice_index counts task
+
+-- they were taken out
+abbrev pub TakesOut : List ℕ → List ℕ → TaskSet → Type 0
+TakesOut old new set = (task : ℕ) → task < TASKS → slice_index new task + one (has_task task set) ≡ slice_index old task
+
+-- one more can be counted of each task
+abbrev pub CanCountIn : List ℕ → Type 0
+CanCountIn counts = (task : ℕ) → task < TASKS → slice_index counts task < 4294967295
+
+-- the tasks of a set were counted
+abbrev pub CountsIn : List ℕ → List ℕ → TaskSet → Type 0
+CountsIn old new set = (task : ℕ) → task < TASKS → slice_index new task ≡ slice_index old task + one (has_task task set)
+
 -- the tasks of a set can be taken out of counts, and those of another counted
 abbrev pub CanRecount : List ℕ → TaskSet → Type 0
 CanRecount counts was = (task : ℕ) → task < TASKS → (one (has_task task was) ≤ slice_index counts task) × (slice_index counts task < 4294967295)

@@ -279,10 +279,13 @@ impl JudgedArea {
         self
     }
 
-    /// The area once a write of its FMMU's block was sent.
+    /// The area once a write of its FMMU's block was sent; nothing is sent to a slave outside the line.
     pub fn written(self) -> JudgedArea
         ensures { result ≡ area_written self }
     {
+        if self.standing.is_apart() {
+            return self;
+        }
         JudgedArea {
             held: self.own.with(self.held),
             ..self

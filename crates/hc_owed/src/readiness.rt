@@ -106,7 +106,7 @@ impl Readiness {
     ghost use Rattle.hc_registers.specs.RankDifferences.{block_place};
     ghost use Rattle.hc_registers.specs.RankPlaces.{stations};
     ghost use Rattle.hc_plan.specs.Reports.{found_name};
-    ghost use Rattle.hc_owed.specs.Areas.{area_after};
+    ghost use Rattle.hc_owed.specs.Areas.{area_after, area_written, fmmu_confirmed, sync_manager_confirmed};
     ghost use Rattle.hc_owed.specs.Laws.{known_over, known_with, known_without};
     ghost use Rattle.hc_owed.specs.Readiness.{none_unplugged, readiness_of, unknown_registers};
     ghost use Rattle.hc_owed.specs.ReadinessLaws.{AreReady, AreWaiting, ClearsSlave, ConfirmsAt, FollowsEdit, ForetellsDeclared, ForgetsSlave, SendsAt, TellsReady, UnplugsSlave, WaitsForBlocks, WaitsForRegisters};
@@ -176,6 +176,15 @@ impl Readiness {
         }
     }
 
+    /// A write of the block of an area's FMMU was sent. No count changes by it: the owed block concerns the tasks that it concerned,
+    /// and no register in the line is counted.
+    fn write_area(&mut self, n: usize, area: JudgedArea)
+        requires { slice_get self.old n ≡ Some area }
+        ensures { self.new ≡ changed_at n (λ _. area_written area) self.old }
+    {
+        self.areas[n] = area.written();
+    }
+
     /// The write of the block at a place was sent: an FMMU's register may hold what the line configures from now on.
     pub fn sent(&mut self, place: u32)
         requires { place < 2 * length self.old }
@@ -184,8 +193,26 @@ impl Readiness {
         if place % 2 == 1 {
             let n = place as usize / 2;
             let area = self.area(n);
-            self.set_area(n, area.written());
+            self.write_area(n, area);
         }
+    }
+
+    /// A write of the block of an area's sync manager was answered well.
+    fn confirm_sync_manager(&mut self, n: usize, area: JudgedArea)
+        requires { slice_get self.old n ≡ Some area }
+        ensures { self.new ≡ changed_at n (λ _. sync_manager_confirmed area) self.old }
+    {
+        self.tally.confirm_sync_manager(area);
+        self.areas[n] = area.sync_manager_confirmed();
+    }
+
+    /// A write of the block of an area's FMMU was answered well.
+    fn confirm_fmmu(&mut self, n: usize, area: JudgedArea)
+        requires { slice_get self.old n ≡ Some area }
+        ensures { self.new ≡ changed_at n (λ _. fmmu_confirmed area) self.old }
+    {
+        self.tally.confirm_fmmu(area);
+        self.areas[n] = area.fmmu_confirmed();
     }
 
     /// The write of the block at a place was answered well, with the bytes that the present line configures: the block is not
@@ -197,9 +224,9 @@ impl Readiness {
         let n = place as usize / 2;
         let area = self.area(n);
         if place % 2 == 1 {
-            self.set_area(n, area.fmmu_confirmed());
+            self.confirm_fmmu(n, area);
         } else {
-            self.set_area(n, area.sync_manager_confirmed());
+            self.confirm_sync_manager(n, area);
         }
     }
 

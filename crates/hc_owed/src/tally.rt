@@ -1,20 +1,40 @@
 //! `Tally`: how many blocks and registers each task waits for.
-ghost use Rattle.std.specs.Prelude.{◌≡◌, ◌<◌};
-ghost use Rattle.hc_records.specs.declared.limits.TheConstants.{TASKS};
-ghost use Rattle.hc_owed.specs.Flags.{one};
-ghost use Rattle.hc_owed.specs.TaskSets.{has_task};
-ghost use Rattle.hc_owed.specs.Waiting.{CanRecount, Recounts};
+ghost use Rattle.hc_owed.specs.Waiting.{CanCountIn, CanRecount, CanTakeOut, CountsIn, Recounts, TakesOut};
 
 use crate::area::JudgedArea;
 use crate::task_set::TaskSet;
 use hc_records::limits::TASKS;
 
-/// 1 for a task that is in a set.
-fn one(set: TaskSet, task: u8) -> u32
-    requires { task < TASKS }
-    ensures { result ≡ one (has_task task set) }
+/// Takes the tasks of a set out of counts.
+fn take_out(counts: &mut [u32; 8], set: TaskSet)
+    requires { CanTakeOut counts.old set }
+    ensures { TakesOut counts.old counts.new set }
 {
-    if set.has(task) { 1 } else { 0 }
+    if set.is_empty() {
+        return;
+    }
+    for task in 0..TASKS {
+        if set.has(task) {
+            let at = usize::from(task);
+            counts[at] = counts[at] - 1;
+        }
+    }
+}
+
+/// Counts the tasks of a set.
+fn count_in(counts: &mut [u32; 8], set: TaskSet)
+    requires { CanCountIn counts.old }
+    ensures { CountsIn counts.old counts.new set }
+{
+    if set.is_empty() {
+        return;
+    }
+    for task in 0..TASKS {
+        if set.has(task) {
+            let at = usize::from(task);
+            counts[at] = counts[at] + 1;
+        }
+    }
 }
 
 /// Takes the tasks of one set out of counts, and counts those of another.
@@ -25,10 +45,8 @@ fn recount(counts: &mut [u32; 8], was: TaskSet, now: TaskSet)
     if was == now {
         return;
     }
-    for task in 0..TASKS {
-        let at = usize::from(task);
-        counts[at] = counts[at] - one(was, task) + one(now, task);
-    }
+    take_out(counts, was);
+    count_in(counts, now);
 }
 
 /// Of each task how many owed blocks concern it, and how many registers of slaves outside the line, counted over areas.
@@ -41,6 +59,7 @@ pub(crate) struct Tally {
 impl Tally {
     ghost use Rattle.std.specs.Prelude.{◌≡◌, ◌<◌, not};
     ghost use Rattle.hc_records.specs.declared.limits.TheConstants.{TASKS};
+    ghost use Rattle.hc_owed.specs.Areas.{fmmu_confirmed, sync_manager_confirmed};
     ghost use Rattle.hc_owed.specs.Tally.{CanPut, Puts, counts_none};
     ghost use Rattle.hc_owed.specs.TaskSets.{tasks_where};
 
@@ -60,6 +79,24 @@ impl Tally {
             was.register_concerns(),
             now.register_concerns(),
         );
+    }
+
+    /// Counts what is left of an area once a write of its sync manager's block was answered well: the block concerns no task.
+    pub(crate) fn confirm_sync_manager(&mut self, was: JudgedArea)
+        requires { CanPut self.old was }
+        ensures { Puts self.old self.new was (sync_manager_confirmed was) }
+    {
+        take_out(&mut self.blocks, was.sync_manager_concerns());
+    }
+
+    /// Counts what is left of an area once a write of its FMMU's block was answered well: neither the block nor a register outside the
+    /// line concerns a task.
+    pub(crate) fn confirm_fmmu(&mut self, was: JudgedArea)
+        requires { CanPut self.old was }
+        ensures { Puts self.old self.new was (fmmu_confirmed was) }
+    {
+        take_out(&mut self.blocks, was.fmmu_concerns());
+        take_out(&mut self.registers, was.register_concerns());
     }
 
     /// Whether nothing is counted for a task, 0 to 7.

@@ -255,6 +255,7 @@ impl Awaited {
     /// that are left without one are awaited no longer, so that at most 128 are awaited: 16 datagrams of
     /// each of the eight tasks. The serials ascend, above those of the frames that are awaited. It takes
     /// no memory.
+    #[inline(always)]
     pub fn send(&mut self, frames: &[Sending])
         requires named { All (λ frame. All IsTaskDatagram frame.datagrams) frames.now }
         requires after_it { ComeAfter self.old frames.now }

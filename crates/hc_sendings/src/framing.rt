@@ -12,6 +12,7 @@ use std::alloc::AllocError;
 
 /// Puts a datagram with so many bytes of data, 1 to 1,486, after frames, the last one open: into that one where it
 /// has room, else it is done and the datagram begins a frame with the next serial, or with the first one.
+#[inline(always)]
 fn place(
     frames: &mut Vec<Sending>,
     serial: u64,
@@ -42,6 +43,7 @@ fn place(
 }
 
 /// Puts the datagrams of a task after the frames, the last one open.
+#[inline(always)]
 fn place_task(
     plan: &Plan,
     frames: &mut Vec<Sending>,
@@ -79,6 +81,7 @@ fn most_frames(plan: &Plan, tasks: &[u8]) -> usize
 /// Puts the frames where tasks are sent, with serials from this one on, into an empty list: datagrams in the tasks'
 /// order; each joins the frame before it where that has room, else begins a frame. A list with room for 128 frames is
 /// never refused a growth, and the list's room never falls.
+#[inline(always)]
 pub(crate) fn put_frames(
     plan: &Plan,
     serial: u64,

@@ -42,6 +42,7 @@ fn refuse_early(owed: u32, tasks: &[u8]) -> Result<(), CoreFault>
 }
 
 /// Puts the frames of tasks into an empty list, where enough serials are left.
+#[inline(always)]
 fn plan_frames(
     plan: &Plan,
     serial: u64,
@@ -77,6 +78,7 @@ fn plan_frames(
 /// `NoSuchTask` where a number is over 7; `Unprogrammed` where register blocks are owed, `owed` of them;
 /// `SerialsSpent` where the frames need more serials than are left; and of several the first of these.
 /// `Memory` where a growth was refused, and only after the first two.
+#[inline(always)]
 pub fn propose_into(
     plan: &Plan,
     serial: u64,

@@ -28,7 +28,10 @@ pub enum Asked {
     Declare(&'static str),
     /// A task's post of an epoch.
     Post(u8, u32, &'static [u8]),
+    /// A task's steady post of an epoch.
+    PostSteady(u8, u32, &'static [u8]),
     Send(&'static [u8]),
+    SendReady(&'static [u8]),
     Write,
     Writes,
     /// These bytes arrive.
@@ -36,8 +39,12 @@ pub enum Asked {
     /// The frame with a serial arrives that carries these datagrams.
     Comes(u64, &'static [Back]),
     Read(u8),
+    /// A task reads its steady data.
+    ReadSteady(u8),
     /// The slave with this station address is forgotten.
     Forget(u16),
+    /// The slave with this station address is cleared.
+    Clear(u16),
 }
 
 /// What a row's event is to be answered.
@@ -57,6 +64,7 @@ pub enum Wanted {
     /// The epoch and the slots.
     Image(u32, &'static [Option<&'static [u8]>]),
     Forgotten,
+    Cleared,
     Refused(CoreFault),
 }
 
@@ -159,6 +167,7 @@ pub fn is_wanted(answer: &Answer, wanted: &Wanted) -> bool {
             *epoch == *number && are_slots(slots.as_slice(), *others)
         }
         (Answer::Forgotten, Wanted::Forgotten) => true,
+        (Answer::Cleared, Wanted::Cleared) => true,
         (Answer::Refused(fault), Wanted::Refused(other)) => *fault == *other,
         _ => false,
     }
@@ -192,7 +201,11 @@ fn edit_of(alloc: Global, asked: Asked) -> Result<Option<Edit>, AllocError> {
 fn other_answer(driven: &mut Driven, alloc: Global, asked: Asked) -> Result<Answer, AllocError> {
     match asked {
         Asked::Post(task, epoch, bytes) => driven.put(alloc, Event::Post { task, epoch, bytes }),
+        Asked::PostSteady(task, epoch, bytes) => {
+            driven.put(alloc, Event::PostSteady { task, epoch, bytes })
+        }
         Asked::Send(tasks) => driven.put(alloc, Event::SendTasks(tasks)),
+        Asked::SendReady(tasks) => driven.put(alloc, Event::SendReady(tasks)),
         Asked::Write => driven.put(alloc, Event::SendWrite),
         Asked::Writes => driven.put(alloc, Event::SendWrites),
         Asked::Arrive(bytes) => driven.put(alloc, Event::Arrive(bytes)),
@@ -201,7 +214,9 @@ fn other_answer(driven: &mut Driven, alloc: Global, asked: Asked) -> Result<Answ
             driven.put(alloc, Event::Arrive(bytes.as_slice()))
         }
         Asked::Read(task) => driven.put(alloc, Event::Read(task)),
+        Asked::ReadSteady(task) => driven.core.steady_read(alloc, task),
         Asked::Forget(station) => driven.put(alloc, Event::Forget(station)),
+        Asked::Clear(station) => driven.put(alloc, Event::Cleared(station)),
         _ => Ok(Answer::Refused(CoreFault::NothingOwed)),
     }
 }

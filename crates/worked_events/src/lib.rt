@@ -39,6 +39,8 @@ mod stages;
 #[cfg(test)]
 mod texts;
 #[cfg(test)]
+mod undisturbed;
+#[cfg(test)]
 mod values;
 #[cfg(test)]
 mod waits;

@@ -10,7 +10,7 @@ pub returns-then-place-eq1 : goal.returns-then-place-eq1
 returns-then-place-eq1 c = λ known held unplugged state block is.
     let n = c.args.place / 2 in
     let area = c.area-area.result in
-    c.set_area.ensures ∙ ap (λ (a : JudgedArea). changed_at n (λ _. a) c.args.self.now) c.fmmu_confirmed.ensures
+    c.confirm_fmmu.ensures
     ∙ ap (λ (l : List JudgedArea). changed_at n (λ _. fmmu_confirmed area) l) is.right
     ∙ confirmed-fmmu-right known held unplugged state c.args.place block area is.project is.is_placed c.if-place-eq1.true
     (ap (λ (l : List JudgedArea). slice_get l n) (sym is.right) ∙ c.area-area.ensures)
@@ -19,7 +19,7 @@ pub returns-else-place-eq1 : goal.returns-else-place-eq1
 returns-else-place-eq1 c = λ known held unplugged state block is.
     let n = c.args.place / 2 in
     let area = c.area-area.result in
-    c.set_area-else-place-eq1.ensures ∙ ap (λ (a : JudgedArea). changed_at n (λ _. a) c.args.self.now) c.sync_manager_confirmed.ensures
+    c.confirm_sync_manager.ensures
     ∙ ap (λ (l : List JudgedArea). changed_at n (λ _. sync_manager_confirmed area) l) is.right
     ∙ confirmed-sync_manager-right known held unplugged state c.args.place block area is.project is.is_placed c.if-place-eq1.false
     (ap (λ (l : List JudgedArea). slice_get l n) (sym is.right) ∙ c.area-area.ensures)

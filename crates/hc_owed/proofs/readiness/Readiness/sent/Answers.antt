@@ -10,7 +10,7 @@ pub returns-then-place-eq1 : goal.returns-then-place-eq1
 returns-then-place-eq1 c = λ known held unplugged state block is lacking.
     let n = c.args.place / 2 in
     let area = c.area-area.result in
-    c.set_area.ensures ∙ ap (λ (a : JudgedArea). changed_at n (λ _. a) c.args.self.now) c.written.ensures
+    c.write_area.ensures
     ∙ ap (λ (l : List JudgedArea). changed_at n (λ _. area_written area) l) is.right
     ∙ sent-fmmu known held unplugged state c.args.place block area is.project is.is_placed lacking c.if-place-eq1.true
     (ap (λ (l : List JudgedArea). slice_get l n) (sym is.right) ∙ c.area-area.ensures)

@@ -1,0 +1,20 @@
+use Rattle.std.proofs.Common.{List, ap, ◌∙◌}
+use Rattle.hc_records.specs.Lists.{changed_at}
+use Rattle.hc_owed.specs.declared.area.JudgedArea.{JudgedArea}
+use Rattle.hc_owed.specs.Areas.{fmmu_confirmed}
+use Rattle.hc_owed.proofs.Counting.{area-set, can-put-at}
+use Rattle.hc_owed.proofs.Lists.{set-changed}
+use Rattle.hc_owed.proofs.readiness.Readiness.confirm_fmmu.Goals as goal
+
+pub confirm_fmmu-requires : goal.confirm_fmmu-requires
+confirm_fmmu-requires c = can-put-at c.self.inside.areas.items c.args.self.now c.self.inside.tally c.args.n c.args.area c.self.view_is c.requires c.self.invariant
+
+pub returns : goal.returns
+returns c =
+    set-changed c.args.n c.fmmu_confirmed.result c.self.inside.areas.items ∙ ap (λ (a : JudgedArea). changed_at c.args.n (λ _. a) c.self.inside.areas.items) c.fmmu_confirmed.ensures
+    ∙ ap (λ (l : List JudgedArea). changed_at c.args.n (λ _. fmmu_confirmed c.args.area) l) c.self.view_is
+
+pub invariant_of-self : goal.invariant_of-self
+invariant_of-self c =
+    area-set c.self.inside.areas.items c.args.self.now c.self.inside.tally c.confirm_fmmu.new.self c.args.n c.args.area (fmmu_confirmed c.args.area) c.fmmu_confirmed.result c.self.view_is c.requires c.fmmu_confirmed.ensures c.self.invariant
+    c.confirm_fmmu.ensures
