@@ -14,7 +14,7 @@ from named_changer import named_changer
 
 from projects.faults import Refusal
 from wire import machine
-from wire.command import run
+from wire.command import run as write_capture
 from wire.frames import APRD, APWR, FPWR, LRW, Datagram, Frame, frame_bytes, read_frame
 
 EXAMPLES = TOOLS.parent / "examples"
@@ -109,7 +109,7 @@ def check_library(checks: Checks, zangjulf: ModuleType) -> None:
     for part, name in ((zangjulf.Slave, "process"), (zangjulf, "alias_read"), (zangjulf, "station_write")):
         with mock.patch.object(part, name, lambda *_: nobody):
             try:
-                said = str(run([str(EXAMPLES / f"{BOTH_WAYS[0]}.in"), str(path), "--program", str(checks.program)]))
+                said = str(write_capture([str(EXAMPLES / f"{BOTH_WAYS[0]}.in"), str(path), "--program", str(checks.program)]))
             except Refusal as refusal:
                 said = str(refusal)
         checks.equal(f"a wrong {name} of the library: {said}", (True, False), ("is worked out" in said, path.exists()))
