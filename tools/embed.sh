@@ -3,14 +3,14 @@
 # sanitizer, from C++, Rust and Python: players play examples/*.in, and what they print is compared with *.out, byte for byte.
 # The C callers also try what a caller may do wrong, each growth of memory refused in turn, seats that are closed in every order and
 # ten million images that are shown at full speed, and two million drawn calls. The cycle of docs/use/EMBEDDING.md and the examples
-# in the pages of the Rust crate are run. A session of tools/line keeps its line in the library. What drawn calls are answered is compared, byte for byte, with what the program hotline
-# prints of the same commands; the comparison is shown wrong programs, wrong libraries and wrong models, and must find each. The
-# library is installed below a folder, and programs outside the repository find it: in C by
-# pkg-config and by CMake, in Rust by cargo, in Python by pip. Each target of tools/release.sh is packed, and plays the examples
-# on the processor that it is made for. A master and its slaves run for five seconds where a network namespace can be made, and
-# tshark reads their capture; where none can be made, that is said. What is missing is named, and counts as failed:
-# tools/embed.packages has the Debian packages. The last line is 'N passed, M failed'. A word after its name is a program to be
-# compared with in place of the built hotline.
+# in the pages of the Rust crate are run. A session of tools/line keeps its line in the library, and tools/capture simulates lines
+# with its slaves. What drawn calls are answered is compared, byte for byte, with what the program hotline prints of the same
+# commands; the comparison is shown wrong programs, wrong libraries and wrong models, and must find each. The library is installed
+# below a folder, and programs outside the repository find it: in C by pkg-config and by CMake, in Rust by cargo, in Python by
+# pip. Each target of tools/release.sh is packed, and plays the examples on the processor that it is made for. A master and its
+# slaves run for five seconds where a network namespace can be made, and tshark reads their capture; where none can be made, that is
+# said. What is missing is named, and counts as failed: tools/embed.packages has the Debian packages. The last line is 'N passed, M
+# failed'. A word after its name is a program to be compared with in place of the built hotline.
 #
 # tools/embed.sh --short, which the gate runs, takes the callers alone, with 20,000 drawn calls, a tenth of the orders and a
 # tenth of the images: what gcc, g++, cargo and Python can see, in some three minutes over a built library.

@@ -114,7 +114,7 @@ callers_in_rust() {
     report_run $? "an example in the crate's pages fails, or its structs are laid out in another way"
 }
 
-# callers_in_python: the package's player, what it refuses, and threads that share a line
+# callers_in_python: the package's player, what it refuses, threads that share a line, and the tools over the library
 callers_in_python() {
     play Python python3 bindings/python/play.py
     timeout 60 python3 bindings/python/refusals.py examples/tool_changer.toml "$scratch/layout.txt" >"$scratch/printed" 2>&1
@@ -122,5 +122,5 @@ callers_in_python() {
     timeout 120 python3 bindings/python/sharing.py examples/own_tasks.toml >"$scratch/printed" 2>&1
     report_run $? "threads that share a line in Python"
     timeout 300 python3 -B tools/tools_check/main.py "${hotline:-crates/hotline/out/hotline}" live >"$scratch/printed" 2>&1
-    report_run $? "a session of tools/line over the library"
+    report_run $? "sessions of tools/line and captures of tools/capture over the library"
 }

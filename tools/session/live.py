@@ -103,8 +103,8 @@ def answer_of(player: object, command: Command, asks: bool = False) -> list[str]
         raise Refusal(f"BadCommand: `{command}` can't be read: a word of it is malformed or out of range") from error
 
 
-def live_of(text: bytes) -> Live | None:
-    """A session over the library, or None where there is none."""
+def library_player() -> ModuleType | None:
+    """The binding's module that answers commands over the library, or None if there is no library."""
     sys.path.append(str(BINDING))
     try:
         import player
@@ -112,4 +112,10 @@ def live_of(text: bytes) -> Live | None:
         return None
     finally:
         sys.path.remove(str(BINDING))
-    return Live(player, text)
+    return player
+
+
+def live_of(text: bytes) -> Live | None:
+    """A session over the library, or None if there is none."""
+    player = library_player()
+    return Live(player, text) if player else None

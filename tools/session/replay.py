@@ -2,13 +2,13 @@
 
 import re
 from collections.abc import Iterator
-from dataclasses import dataclass
+from dataclasses import dataclass, replace
 from itertools import islice
 
 from projects.asking import END, Program, Ran, input_of, said_of, section
 from projects.faults import Refusal
 from projects.files import LONGEST_INPUT
-from wire.frames import frame_bytes, read_frame, with_counters
+from wire.frames import Frame, frame_bytes, read_frame
 
 ACCEPTED = re.compile(r"epoch (\d+) recut (\d+) moved (\d+)")
 UNPROGRAMMED = re.compile(r"refused 17 Unprogrammed (\d+)")
@@ -175,9 +175,10 @@ class Replay:
             if found is None:
                 break
             frame = read_frame(bytes.fromhex(found[2]))
-            back = command_of(["arrive", frame_bytes(with_counters(frame, [1])).hex()])
-            played += [Recorded(write, lines), Recorded(back, ["write done"])]
-            blocks.append((frame.datagrams[0].slave_address(), frame.datagrams[0].register()))
+            [block] = frame.datagrams
+            back = frame_bytes(Frame(frame.serial, [replace(block, counter=1)]))
+            played += [Recorded(write, lines), Recorded(command_of(["arrive", back.hex()]), ["write done"])]
+            blocks.append((block.slave_address(), block.register()))
         return blocks
 
     def undo(self) -> Command | None:

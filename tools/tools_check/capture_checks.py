@@ -1,16 +1,21 @@
-"""Captures: the plain line beside the program, and what is written."""
+"""Captures: the simulated line beside the program, in plain Python and with the library's slaves, and what is written."""
 
+import os
 import re
 import shutil
 import struct
 import subprocess
 from pathlib import Path
+from types import ModuleType
+from unittest import mock
 
 from checks import TOOLS, Checks
 from named_changer import named_changer
 
+from projects.faults import Refusal
+from wire import machine
+from wire.command import run as write_capture
 from wire.frames import APRD, APWR, FPWR, LRW, Datagram, Frame, frame_bytes, read_frame
-from wire.machine import Machine, passed
 
 EXAMPLES = TOOLS.parent / "examples"
 # Frames of each run both ways, counted in its script: a frame by `show`, two by each write and station address along the
@@ -55,6 +60,8 @@ LISTED = [
     "35 back: task 0 motion datagram 0, counter 6; task 1 slow datagram 0, counter 3",
     "36 back: it can't be read",
 ]
+# Inputs with all commands of the simulated line, and with tools that come and go; the first one has a group with an alias.
+BOTH_WAYS = ("declared_tool", "tool_changer_day")
 WRONG_PROGRAMS = [
     ("a program that counts one station too many", "^named 5$/named 6"),
     ("a program that reads another memory", "^mem 0x1100: 01$/mem 0x1100: 00"),
@@ -63,7 +70,7 @@ WRONG_PROGRAMS = [
 
 def check(checks: Checks) -> None:
     """All checks of captures."""
-    check_machine(checks)
+    check_machine(checks, machine)
     check_frames(checks)
     for name, count in RUNS.items():
         check_run(checks, name, count)
@@ -72,21 +79,56 @@ def check(checks: Checks) -> None:
     check_refusals(checks)
 
 
-def machine() -> Machine:
+def slave_of(simulation: ModuleType) -> machine.Slave:
     """The slave of the rows."""
-    slave = Machine(100)
+    slave = simulation.Slave(100)
     for at, content in BLOCKS.items():
-        slave.write(at, bytes.fromhex(content))
+        slave.memory[at : at + len(content) // 2] = bytes.fromhex(content)
     return slave
 
 
-def check_machine(checks: Checks) -> None:
+def check_machine(checks: Checks, simulation: ModuleType) -> None:
     """What a slave makes of a datagram, by rows worked out by hand."""
     for label, sent, data, counter, at, memory in MACHINE_ROWS:
-        slave = machine()
-        back = passed(Frame(0, [sent]), [slave]).datagrams[0]
-        found = back.data.hex(), back.counter, bytes(slave.memory[at : at + len(memory) // 2]).hex()
-        checks.equal(label, (data, counter, memory), found)
+        slave, frame = slave_of(simulation), bytearray(frame_bytes(Frame(0, [sent])))
+        slave.process(frame)
+        back = read_frame(frame).datagrams[0]
+        found = back.data.hex(), back.counter, slave.memory[at : at + len(memory) // 2].hex()
+        checks.equal(f"{label}, in {simulation.__name__}", (data, counter, memory), found)
+
+
+def check_library(checks: Checks, zangjulf: ModuleType) -> None:
+    """The library's slaves obey the same rows, and give the same captures as those in plain Python. They are used if the library
+    is there: with wrong ones the answers differ, and no file is written."""
+    check_machine(checks, zangjulf)
+    for name in BOTH_WAYS:
+        by_library, plain = captured(checks, name), plainly_captured(checks, name)
+        checks.equal(f"the library's slaves give a capture of {name}", True, len(by_library) > 24)
+        checks.equal(f"both captures of {name}", plain.hex(), by_library.hex())
+    path, nobody = checks.scratch / "misled.pcap", zangjulf.fmmu_off(0xFFFF, 1)
+    for part, name in ((zangjulf.Slave, "process"), (zangjulf, "alias_read"), (zangjulf, "station_write")):
+        with mock.patch.object(part, name, lambda *_: nobody):
+            try:
+                said = str(write_capture([str(EXAMPLES / f"{BOTH_WAYS[0]}.in"), str(path), "--program", str(checks.program)]))
+            except Refusal as refusal:
+                said = str(refusal)
+        checks.equal(f"a wrong {name} of the library: {said}", (True, False), ("is worked out" in said, path.exists()))
+        path.unlink(missing_ok=True)
+
+
+def captured(checks: Checks, name: str) -> bytes:
+    """The capture of an example; nothing if none is written."""
+    path = checks.scratch / f"{name}.pcap"
+    path.unlink(missing_ok=True)
+    ended = checks.tool("capture", EXAMPLES / f"{name}.in", path, "--program", checks.program)
+    checks.equal(f"the capture of {name}", (0, ""), (ended.status, ended.complaint))
+    return path.read_bytes() if path.exists() else b""
+
+
+def plainly_captured(checks: Checks, name: str) -> bytes:
+    """The capture of an example with the slaves in plain Python, since no library is found."""
+    with mock.patch.dict(os.environ, ZANGJULF_LIBRARY="/nowhere"):
+        return captured(checks, name)
 
 
 def check_frames(checks: Checks) -> None:
@@ -111,21 +153,19 @@ def frames_in(capture: bytes) -> list[bytes]:
 
 def check_run(checks: Checks, name: str, count: int) -> None:
     """A capture of an example: as many frames as its script sends; tshark marks none malformed."""
-    path = checks.scratch / f"{name}.pcap"
-    ended = checks.tool("capture", EXAMPLES / f"{name}.in", path, "--program", checks.program)
-    checks.equal(f"the capture of {name}", (0, ""), (ended.status, ended.complaint))
-    frames = frames_in(path.read_bytes())
+    frames = frames_in(captured(checks, name))
     checks.equal(f"frames of {name}", count, len(frames))
     written = (EXAMPLES / f"{name}.out").read_text().split("\n")
     sent = [line.split()[2] for line in written if line.startswith(("sent ", "frame "))]
     checks.equal(f"printed frames of {name}", [], [frame for frame in sent if bytes.fromhex(frame) not in frames])
-    check_in_wireshark(checks, name, path, count)
+    check_in_wireshark(checks, name, count)
 
 
-def check_in_wireshark(checks: Checks, name: str, path: Path, count: int) -> None:
+def check_in_wireshark(checks: Checks, name: str, count: int) -> None:
     """What tshark reads in a capture, where it is installed."""
     if shutil.which("tshark") is None:
         return
+    path = checks.scratch / f"{name}.pcap"
     for condition, wanted in (("ecat", count), ("_ws.malformed", 0)):
         run = subprocess.run(["tshark", "-r", path, "-Y", condition], capture_output=True, timeout=60)
         checks.equal(f"{condition} frames of {name}", wanted, len(run.stdout.splitlines()))

@@ -1,16 +1,17 @@
-"""The session over the library, where there is one: it answers as hotline does, and keeps its line."""
+"""The library, if there is one: a session over it answers as hotline does and keeps its line, and captures have its slaves."""
 
 import random
 import tomllib
 from collections.abc import Iterator
 
+from capture_checks import check_library
 from checks import TOOLS, Checks
 from line_checks import Terminal
 from named_changer import DAY, named_changer
 
 from projects.files import parted
 from session.line import Line
-from session.live import Live, live_of
+from session.live import Live, library_player, live_of
 from session.replay import commands_in
 
 SLAVES, COMMANDS = 64, 50
@@ -60,10 +61,12 @@ pdo = [{ index = 1, entries = [[3001, 8]] }]
 
 
 def check(checks: Checks) -> None:
-    """All checks of the session over the library; without one this is said."""
-    if live_of(b"slave = []\n") is None:
-        print("tools: there is no library, and no session over it is tried (tools/embed.sh does)")
+    """All checks of the session and the captures over the library; without one this is said."""
+    player = library_player()
+    if player is None:
+        print("tools: there is no library, and no session and no capture over it is tried (tools/embed.sh does)")
         return
+    check_library(checks, player.zangjulf)
     check_answers(checks)
     for seed in range(SCRIPTS):
         check_drawn(checks, seed)

@@ -1,1 +1,1 @@
-"""EtherCAT frames and slaves in plain Python: what tools read from printed frames, and what a simulated line returns."""
+"""EtherCAT frames in plain Python, and a simulated line: its slaves are the library's, or in plain Python if there is no library."""

@@ -6,6 +6,8 @@ from pathlib import Path
 from projects.asking import add_options, program_of
 from projects.faults import FINE, Refusal
 from projects.files import content_of, parted
+from session.live import library_player
+from wire import machine
 from wire.pcap import capture
 from wire.listing import listing
 from wire.playing import played
@@ -24,7 +26,9 @@ def run(words: list[str]) -> int:
     add_options(parser)
     arguments = parser.parse_args(words)
     text, commands = parted(content_of(arguments.input))
-    play = played(program_of(arguments), Path(arguments.input).stem, text, commands)
+    player = library_player()
+    simulation = player.zangjulf if player else machine
+    play = played(program_of(arguments), simulation, Path(arguments.input).stem, text, commands)
     frames = [passed.content for passed in play.frames]
     try:
         Path(arguments.capture).write_bytes(capture(frames))

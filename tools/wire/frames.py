@@ -5,14 +5,11 @@ of all datagrams, the datagrams, and zeros up to 60 bytes. Each datagram has 10 
 of 2 bytes after them. Numbers in a datagram have their least significant byte first.
 """
 
-from collections.abc import Iterable
-from dataclasses import dataclass, replace
+from dataclasses import dataclass
 
 APRD, APWR, FPWR, LRW = 1, 2, 5, 12
 ETHERTYPE = b"\x88\xa4"
 SHORTEST = 60
-SETUP_SERIAL = 2**40 - 1
-STATION_REGISTER, ALIAS_REGISTER = 0x0010, 0x0012
 TASK_STEP, DATAGRAM_STEP = 0x01000000, 2048
 ADDRESSES = 0x10000
 
@@ -78,25 +75,3 @@ def datagram_bytes(datagram: Datagram, index: int, more: bool) -> bytes:
     size = len(datagram.data) + (0x8000 if more else 0)
     head = bytes([datagram.command, index]) + datagram.address.to_bytes(4, "little") + size.to_bytes(2, "little")
     return head + b"\0\0" + datagram.data + datagram.counter.to_bytes(2, "little")
-
-
-def with_counters(frame: Frame, counters: Iterable[int]) -> Frame:
-    """The frame as it comes back with other working counters and the same data."""
-    pairs = zip(frame.datagrams, counters)
-    return Frame(frame.serial, [replace(datagram, counter=counter) for datagram, counter in pairs])
-
-
-def position_address(position: int, register: int) -> int:
-    """The address by which a slave's position in the line is reached: it counts up to 0 on the way there."""
-    return -position % ADDRESSES + register * ADDRESSES
-
-
-def alias_read(position: int) -> Frame:
-    """The frame that reads the configured station alias of the slave at a position."""
-    return Frame(SETUP_SERIAL, [Datagram(APRD, position_address(position, ALIAS_REGISTER), b"\0\0")])
-
-
-def station_write(position: int, station: int) -> Frame:
-    """The frame that gives the slave at a position its station address."""
-    address = position_address(position, STATION_REGISTER)
-    return Frame(SETUP_SERIAL, [Datagram(APWR, address, station.to_bytes(2, "little"))])

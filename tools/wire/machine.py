@@ -1,13 +1,18 @@
-"""A slave of a simulated line: its memory, and what it makes of the datagrams that pass it (docs/meaning/DEFINITIONS.md)."""
+"""A simulated slave in plain Python, and the frames that set it up (docs/meaning/DEFINITIONS.md).
+
+`Slave`, `alias_read` and `station_write` can be called as those of the library's Python package, which replace them if it is there.
+"""
 
 from collections.abc import Iterator
 from dataclasses import dataclass, replace
 
-from wire.frames import ADDRESSES, ALIAS_REGISTER, APRD, APWR, FPWR, LRW, STATION_REGISTER, Datagram, Frame
+from wire.frames import ADDRESSES, APRD, APWR, FPWR, LRW, Datagram, Frame, frame_bytes, read_frame
 
 MEMORY = 0x3000
+STATION_REGISTER, ALIAS_REGISTER = 0x0010, 0x0012
 FMMUS, FMMU_COUNT, FMMU_SIZE = 0x0600, 16, 16
 COUNTERS = 0x10000
+SETUP_SERIAL = 2**40 - 1
 
 
 @dataclass(frozen=True)
@@ -29,7 +34,7 @@ class Mapping:
                 yield bit - first, memory
 
 
-class Machine:
+class Slave:
     """A slave with an alias of its own or none; its memory is all zeros but for the alias."""
 
     def __init__(self, alias: int = 0) -> None:
@@ -55,6 +60,11 @@ class Machine:
         alias = self.memory[ALIAS_REGISTER : ALIAS_REGISTER + 2]
         self.memory[at : at + len(data)] = data
         self.memory[ALIAS_REGISTER : ALIAS_REGISTER + 2] = alias
+
+    def process(self, frame: bytearray) -> None:
+        """Serves the datagrams of a frame in order, in the frame's place."""
+        sent = read_frame(bytes(frame))
+        frame[:] = frame_bytes(Frame(sent.serial, [self.served(datagram) for datagram in sent.datagrams]))
 
     def served(self, datagram: Datagram) -> Datagram:
         """A datagram as it leaves the slave."""
@@ -122,9 +132,17 @@ def put_bit(data: bytearray, bit: int, value: int) -> None:
     data[bit // 8] = data[bit // 8] & ~(1 << bit % 8) | value << bit % 8
 
 
-def passed(frame: Frame, machines: list[Machine]) -> Frame:
-    """A frame as it comes back from machines in a row; each one serves the frame's datagrams in order."""
-    datagrams = frame.datagrams
-    for machine in machines:
-        datagrams = [machine.served(datagram) for datagram in datagrams]
-    return Frame(frame.serial, datagrams)
+def setup_frame(command: int, position: int, register: int, data: bytes) -> bytes:
+    """A frame for the slave at a position. Its address begins with the negative position, and reaches 0 at this slave."""
+    address = -position % ADDRESSES + register * ADDRESSES
+    return frame_bytes(Frame(SETUP_SERIAL, [Datagram(command, address, data)]))
+
+
+def alias_read(position: int) -> bytes:
+    """The frame that reads the configured station alias of the slave at a position."""
+    return setup_frame(APRD, position, ALIAS_REGISTER, b"\0\0")
+
+
+def station_write(position: int, station: int) -> bytes:
+    """The frame that gives the slave at a position its station address."""
+    return setup_frame(APWR, position, STATION_REGISTER, station.to_bytes(2, "little"))

@@ -1,23 +1,22 @@
 """Plays an input with frames in place of the simulated line's commands, and sees that the program answers the same.
 
-`cycle` becomes `send` and an `arrive` for each frame that comes back from the plain line; `program` becomes `write` and
+`cycle` becomes `send` and an `arrive` for each frame that comes back from the simulated line; `program` becomes `write` and
 `arrive` in turn; `scan` and `name` send the master's setup frames. So every frame of a run is known, both ways.
 """
 
-import re
 from collections.abc import Iterator
 from dataclasses import dataclass
+from types import ModuleType
 
 from pictures.views import project_after
 from projects.asking import Program, input_of
 from projects.faults import Refusal
 from projects.names import number_in
 from projects.records import Project
-from session.replay import ACCEPTED, CHANGES, EDITS, Command, Recorded, Replay, command_of, commands_in
-from wire.frames import Frame, frame_bytes, read_frame
+from session.replay import ACCEPTED, CHANGES, EDITS, SENT, Command, Recorded, Replay, command_of, commands_in
+from wire.frames import Datagram, read_frame
 from wire.line import Slaves
 
-SENT = re.compile(r"(?:sent|frame) \d+: ([0-9a-f]+)")
 DONE = "write done"
 
 
@@ -32,9 +31,9 @@ class Passed:
 class Play:
     """A run of an input, and the frames that went over the line."""
 
-    def __init__(self, program: Program, name: str, text: bytes) -> None:
+    def __init__(self, program: Program, simulation: ModuleType, name: str, text: bytes) -> None:
         self.name, self.replay = name, Replay(program, text)
-        self.slaves = Slaves(self.project().groups)
+        self.slaves = Slaves(simulation, self.project().groups)
         self.frames: list[Passed] = []
 
     def project(self) -> Project:
@@ -63,22 +62,22 @@ class Play:
             self.replay.recorded.append(Recorded(command, lines))
         if command.name == "arrive":
             self.frames.append(Passed(bytes.fromhex(command.words[1]), True))
-        self.frames += [Passed(bytes.fromhex(found[1]), False) for line in lines if (found := SENT.fullmatch(line))]
+        self.frames += [Passed(bytes.fromhex(found[2]), False) for line in lines if (found := SENT.fullmatch(line))]
         if command.name in EDITS and ACCEPTED.fullmatch(lines[-1]):
             self.follow(command)
         return lines
 
     def follow(self, command: Command) -> None:
-        """Takes an accepted edit to the plain line."""
+        """Takes an accepted edit to the simulated line."""
         if command.name != "declare":
             self.slaves.edit(command.words)
             return
         self.slaves.declare(self.project().groups[-1])
 
-    def round_trip(self, frame: Frame) -> Frame:
-        """Sends a frame over the plain line; what comes back is a frame of the capture too."""
+    def round_trip(self, frame: bytes) -> bytes:
+        """Sends a frame over the simulated line; what comes back is a frame of the capture too."""
         back = self.slaves.back(frame)
-        self.frames.append(Passed(frame_bytes(back), True))
+        self.frames.append(Passed(back, True))
         return back
 
     def cycle(self, tasks: list[str]) -> list[str]:
@@ -89,12 +88,12 @@ class Play:
             return lines
         # all frames are on the line before the first one is taken in
         sent = self.frames[len(self.frames) - len(found) :]
-        backs = [self.round_trip(read_frame(passed.content)) for passed in sent]
+        backs = [self.round_trip(passed.content) for passed in sent]
         return [line for back in backs for line in self.taken(back)]
 
-    def taken(self, back: Frame) -> list[str]:
+    def taken(self, back: bytes) -> list[str]:
         """What the program answers to a frame that came back."""
-        command = command_of(["arrive", frame_bytes(back).hex()])
+        command = command_of(["arrive", back.hex()])
         [lines] = self.replay.answers([command])
         self.replay.recorded.append(Recorded(command, lines))
         return lines
@@ -103,25 +102,25 @@ class Play:
         """Owed register blocks, written one after another until one isn't done or none is owed."""
         done = 0
         while found := SENT.fullmatch(self.passed_on(command_of(["write"]))[0]):
-            if self.taken(self.round_trip(read_frame(bytes.fromhex(found[1])))) != [DONE]:
+            if self.taken(self.round_trip(bytes.fromhex(found[2]))) != [DONE]:
                 break
             done += 1
         return [f"written {done} owed {self.replay.owed()}"]
 
-    def setup(self, frames: list[Frame]) -> Iterator[Frame]:
-        """Sends frames that the master's core knows nothing of."""
+    def setup(self, frames: list[bytes]) -> Iterator[Datagram]:
+        """Sends frames that the master's core knows nothing of; their datagrams as they come back."""
         for frame in frames:
-            self.frames.append(Passed(frame_bytes(frame), False))
-            yield self.round_trip(frame)
+            self.frames.append(Passed(frame, False))
+            yield read_frame(self.round_trip(frame)).datagrams[0]
 
     def scan(self) -> list[str]:
         """The aliases by position."""
-        backs = [back.datagrams[0].data for back in self.setup(self.slaves.scan())]
-        return [f"slot {place} alias {int.from_bytes(data, 'little')}" for place, data in enumerate(backs)]
+        backs = enumerate(self.setup(self.slaves.scan()))
+        return [f"slot {place} alias {int.from_bytes(back.data, 'little')}" for place, back in backs]
 
     def give_names(self) -> list[str]:
         """The station addresses by position."""
-        return [f"named {sum(back.datagrams[0].counter == 1 for back in self.setup(self.slaves.name()))}"]
+        return [f"named {sum(back.counter == 1 for back in self.setup(self.slaves.name()))}"]
 
     def memory(self, command: Command) -> list[str]:
         """A look into a machine's memory, or a change of it by the slave's own side."""
@@ -138,11 +137,11 @@ class Play:
         return [f"mem 0x{at:04x}: {memory[at : at + count].hex(' ')}"]
 
 
-def played(program: Program, name: str, text: bytes, commands: bytes) -> Play:
+def played(program: Program, simulation: ModuleType, name: str, text: bytes, commands: bytes) -> Play:
     """The run of an input with all its frames; a difference from the program's answers is a refusal."""
     given = commands_in(commands)
     printed = program.printed(input_of(text, [command.lines for command in given]))
-    play = Play(program, name, text)
+    play = Play(program, simulation, name, text)
     worked_out = play.play(given)
     if worked_out != printed:
         place = next((at for at, pair in enumerate(zip(worked_out, printed)) if pair[0] != pair[1]), 0)
