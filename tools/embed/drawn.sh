@@ -27,7 +27,7 @@ wrong_models() {
         [ "$(diff "tools/embed/$file.c" "$wrong" | grep -c '^>')" -eq 1 ] && eval "$file=\$wrong" && compiled_fuzz
         report $? "the model with $name isn't built"
         eval "$file="
-        ! (timeout 300 "$scratch/fuzz" $project.toml 100000 3 >"$scratch/printed") 2>/dev/null </dev/null
+        ! (timeout 300 "$scratch/fuzz" $project.toml 1000000 3 >"$scratch/printed") 2>/dev/null </dev/null
         report $? "drawn calls don't find the model with $name"
     done <<'END'
 examples/tool_changer model older_frames_that_confirm s/ || known->serial != sending->serial//
