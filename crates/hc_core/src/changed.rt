@@ -46,7 +46,7 @@ fn places_changed(places: &Places, swap: &Swap) -> TaskSet
     let rows = swap.changes();
     let mut set = TaskSet::none();
     for changed in rows {
-        let was = task_of(places.place(changed.variable()));
+        let was = task_of(places.old_place(changed));
         set = set.with(was.with(task_of(changed.place())));
     }
     set

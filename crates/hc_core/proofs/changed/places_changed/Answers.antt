@@ -2,7 +2,6 @@ use Rattle.std.proofs.Common.{◌≡◌, ◌+◌, ◌||◌, Bool, List, ◌∷�
 use Rattle.std.specs.List.{list_any}
 use Rattle.std.proofs.lemmas.List.{drop_all}
 use Rattle.hc_places.specs.Swap.{ChangedRow}
-use Rattle.hc_places.specs.Table.{place_in}
 use Rattle.hc_events.specs.Steady.{lies_in_task}
 use Rattle.hc_owed.specs.TaskSets.{has_task}
 use Rattle.hc_owed.proofs.lemmas.TaskSums.{either-has, more-any, none-any, whole-any}
@@ -23,8 +22,8 @@ loop-changed-preserved c = λ task low.
     let one : has_task task c.with.result ≡ test c.changed-item.result =
     either-has task c.task_of-was.result c.task_of.result c.with.result low c.with.ensures
     ∙ ap₂ (λ (a b : Bool). a || b)
-    (c.task_of-was.ensures task low ∙ ap (lies_in_task task) (c.place.ensures ∙ ap (place_in c.args.places.now) c.variable.ensures))
-    (c.task_of.ensures task low ∙ ap (lies_in_task task) c.place-in-loop-changed.ensures) in
+    (c.task_of-was.ensures task low ∙ ap (lies_in_task task) c.old_place.ensures)
+    (c.task_of.ensures task low ∙ ap (lies_in_task task) c.place.ensures) in
     more-any task c.loop-changed.set c.with.result c.with-set.result (test c.changed-item.result) rest low c.with-set.ensures one
     ∙ ap (λ (b : Bool). has_task task c.loop-changed.set || b) (sym (ap (list_any test) split))
     ∙ c.loop-changed.invariant task low
