@@ -1,9 +1,5 @@
-mod Counted
 mod Earlier
 mod Searched
-mod Flawless
-mod FlawlessLevels
-mod FlawlessDocument
 mod Names
 mod Duplicates
 mod Placed

@@ -42,11 +42,6 @@ unfoldable pub first_some : {P : Type 0} → Option P → Option P → Option P
 first_some None other = other
 first_some (Some found) other = Some found
 
--- the first of several that was found
-abbrev pub first_found : {P : Type 0} → List (Option P) → Option P
-first_found [] = None
-first_found (found ∷ rest) = first_some found (first_found rest)
-
 -- the first item, from an index on, where something is found
 abbrev pub first_from : {X P : Type 0} → (ℕ → X → Option P) → ℕ → List X → Option P
 first_from find index [] = None

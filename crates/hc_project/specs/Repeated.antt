@@ -12,7 +12,7 @@ use Rattle.hc_project.specs.declared.repeats.Extent.{Extent}
 use Rattle.hc_project.specs.declared.places.Key.TheVariants as key
 use Rattle.hc_project.specs.declared.places.Place.{Place}
 use Rattle.hc_project.specs.declared.places.Location.{Location}
-use Rattle.hc_project.specs.Places.{document, first_from, first_found, in_area, in_group, in_pdo, in_slave, pair, place_alone, with_key}
+use Rattle.hc_project.specs.Places.{document, first_from, first_some, in_area, in_group, in_pdo, in_slave, pair, place_alone, with_key}
 
 -- the place of a group; the mandatory one has number 0
 abbrev pub group_at : ℕ → Group → Place
@@ -122,10 +122,7 @@ assigned_unknown area place index number =
 abbrev pub area_unknown : Place → ℕ → Area → Option Location
 area_unknown place index area =
     let here = in_area place index in
-    first_found (
-    first_from (assigned_unknown area here) 0 area.assigned
-    ∷ first_repeat (each_at (offered_at here) 0 area.offered)
-    ∷ [])
+    first_some (first_from (assigned_unknown area here) 0 area.assigned) (first_repeat (each_at (offered_at here) 0 area.offered))
 
 -- an assigned index that brings the area over a datagram's bits
 abbrev pub assigned_wide : Area → Place → ℕ → ℕ → Option Location

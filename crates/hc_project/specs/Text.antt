@@ -1,5 +1,5 @@
 -- The project of a text, the group of a text, or its lowest fault.
-use Rattle.std.specs.Prelude.{ℕ, ◌==◌, Bool, if◌then◌else◌, List, [], ◌∷◌, length, Option, Some, None, Result, Ok, Err}
+use Rattle.std.specs.Prelude.{ℕ, ◌==◌, is_some, Bool, if◌then◌else◌, List, [], ◌∷◌, length, Option, Some, None, Result, Ok, Err}
 use Rattle.std.specs.Option.{ok_or}
 use Rattle.std.specs.Str.{is_utf8}
 use Rattle.toml.specs.Data.{Members, table}
@@ -16,7 +16,7 @@ use Rattle.hc_project.specs.Levels.{declared_groups}
 -- every project
 abbrev pub reading_faults : Reading (List Group) → List (Bool × ProjectFault)
 reading_faults groups =
-    (groups.syntax_faults.missing, MissingField) ∷ (groups.syntax_faults.outside, OutOfRange) ∷ project_faults groups.value
+    (is_some groups.syntax_faults.missing, MissingField) ∷ (is_some groups.syntax_faults.outside, OutOfRange) ∷ project_faults groups.value
 
 -- the groups where there is no fault, else the fault
 abbrev pub unless_refused : Option ProjectFault → List Group → Result (List Group) ProjectFault

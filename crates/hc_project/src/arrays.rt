@@ -1,25 +1,42 @@
 //! The arrays of a project's text: whatever can be read of one value can be read of every item of an
 //! array. Each level reads its lists by these.
-ghost use Rattle.std.specs.Prelude.{◌≡◌, IfOk, option_and_then, option_map};
+ghost use Rattle.std.specs.Prelude.{◌≡◌, ℕ, IfOk, option_and_then, option_map};
 ghost use Rattle.toml.specs.Data.{Data, as_array};
 ghost use Rattle.toml.specs.View.{array_view, items_view, view};
 ghost use Rattle.hc_project.specs.declared.reading.Reading.{Reading};
-ghost use Rattle.hc_project.specs.Arrays.{each, needed_array, optional_array, sized};
+ghost use Rattle.hc_project.specs.declared.places.Place.{Place};
+ghost use Rattle.hc_project.specs.Arrays.{each, needed_array, optional_array, over};
+ghost use Rattle.hc_project.specs.Places.{with_key};
 
+use crate::places::{Key, Place};
 use crate::reading::{Reading, SyntaxFaults};
 use hc_records::items::Items;
 use std::alloc::{AllocError, Global};
 use toml::Value;
 use toml::value::Array;
 
-/// What can be read of a TOML value.
+/// What can be read of an item of an array.
 pub trait Readable: Drop {
-    /// What is read of a value of the tree.
-    ghost reads: { Data → Reading Self };
+    /// What is read of a value of the tree, by how many items its array may have, by the place of its table and by its
+    /// index.
+    ghost reads: { ℕ → Place → ℕ → Data → Reading Self };
 
     /// Reads a value, or answers `AllocError` where a growth was refused.
-    fn read(alloc: Global, value: &Value) -> Result<Reading<Self>, AllocError>
-        ensures { IfOk result (λ reading. reading ≡ reads (view value.now)) };
+    fn read(
+        alloc: Global,
+        most: usize,
+        place: Place,
+        index: usize,
+        value: &Value,
+    ) -> Result<Reading<Self>, AllocError>
+        ensures { IfOk result (λ reading. reading ≡ reads most place index (view value.now)) };
+}
+
+/// That an item is over its array's limit, where so many are before it.
+pub fn over(most: usize, index: usize, place: Place) -> SyntaxFaults
+    ensures { result ≡ over most index place }
+{
+    SyntaxFaults::outside_if(index >= most, place)
 }
 
 /// The array that a key holds, none where it is absent or holds another kind.
@@ -34,13 +51,19 @@ pub fn array_in(found: Option<&Value>) -> Option<&Array>
 }
 
 /// Reads every item.
-fn read_each<T: Readable>(alloc: Global, values: &[Value]) -> Result<Reading<Items<T>>, AllocError>
-    ensures { IfOk result (λ reading. reading ≡ each T.reads (items_view values.now)) }
+#[tactic(auto, using(crate::proofs::Searched::first_grouped, crate::proofs::Searched::first_alone))]
+fn read_each<T: Readable>(
+    alloc: Global,
+    most: usize,
+    place: Place,
+    values: &[Value],
+) -> Result<Reading<Items<T>>, AllocError>
+    ensures { IfOk result (λ reading. reading ≡ each (T.reads most place) 0 (items_view values.now)) }
 {
     let mut items = Items::new(alloc);
     let mut syntax_faults = SyntaxFaults::none();
-    for value in values {
-        let reading = T::read(alloc, value)?;
+    for index in 0..values.len() {
+        let reading = T::read(alloc, most, place, index, &values[index])?;
         syntax_faults = syntax_faults.both(reading.syntax_faults);
         items.push(reading.value)?;
     }
@@ -50,54 +73,36 @@ fn read_each<T: Readable>(alloc: Global, values: &[Value]) -> Result<Reading<Ite
     })
 }
 
-/// A list with the fault of its length beside its own.
-fn size<T>(least: usize, most: usize, list: Reading<Items<T>>) -> Reading<Items<T>>
-    ensures { result ≡ sized least most list }
-{
-    let Reading {
-        value,
-        syntax_faults,
-    } = list;
-    let length_syntax_faults = SyntaxFaults {
-        missing: false,
-        outside: value.len() < least || most < value.len(),
-    };
-    Reading {
-        value,
-        syntax_faults: syntax_faults.both(length_syntax_faults),
-    }
-}
-
-/// Reads a needed array of at least so many items and at most so many.
+/// Reads a needed array of at most so many items, which a key of a table has.
 pub fn read_needed<T: Readable>(
     alloc: Global,
-    least: usize,
     most: usize,
+    place: Place,
+    key: Key,
     found: Option<&Value>,
 ) -> Result<Reading<Items<T>>, AllocError>
     ensures { IfOk result (λ reading. reading
-        ≡ needed_array least most T.reads (option_map (λ v. view v.now) found.entry)) }
+        ≡ needed_array (each (T.reads most place) 0) (with_key place key) (option_map (λ v. view v.now) found.entry)) }
 {
     match array_in(found) {
-        Some(array) => {
-            let list = read_each::<T>(alloc, array.as_slice())?;
-            Ok(size(least, most, list))
-        }
-        None => Ok(Reading::missing(Items::new(alloc))),
+        Some(array) => read_each::<T>(alloc, most, place, array.as_slice()),
+        None => Ok(Reading::missing(place.with_key(key), Items::new(alloc))),
     }
 }
 
-/// Reads an array of at most so many items; where it is absent, the empty one.
+/// The same; where the key is absent, reads the empty array.
 pub fn read_optional<T: Readable>(
     alloc: Global,
     most: usize,
+    place: Place,
+    key: Key,
     found: Option<&Value>,
 ) -> Result<Reading<Items<T>>, AllocError>
     ensures { IfOk result (λ reading. reading
-        ≡ optional_array most T.reads (option_map (λ v. view v.now) found.entry)) }
+        ≡ optional_array (each (T.reads most place) 0) (with_key place key) (option_map (λ v. view v.now) found.entry)) }
 {
     match found {
-        Some(_) => read_needed::<T>(alloc, 0, most, found),
+        Some(_) => read_needed::<T>(alloc, most, place, key, found),
         None => Ok(Reading::right(Items::new(alloc))),
     }
 }

@@ -3,7 +3,6 @@
 #![tactic(auto)]
 
 mod arrays;
-mod flawed;
 pub mod laws;
 mod levels;
 mod located;

@@ -1,17 +1,17 @@
 //! Where a text is no project: its lowest fault and the first place where that fault's condition holds.
 ghost use Rattle.std.specs.Prelude.{◌≡◌, IfOk};
-ghost use Rattle.toml.specs.View.{view};
 ghost use Rattle.hc_project.specs.Located.{LocatesFault, SaysOf, group_location, position_from, location_of};
 
-use crate::flawed::{SyntaxFault, find_in_document};
 use crate::levels::read_groups;
 use crate::places::{Location, Place};
+use crate::reading::{Reading, SyntaxFaults};
 use crate::searches::{
     Aliases, OverlappingAreas, RepeatedManagers, Stations, UnknownPdos, Variables, WideAreas,
     find_repeat, first_in,
 };
 use crate::text::settle;
 use hc_records::faults::ProjectFault;
+use hc_records::items::{Copied, Items};
 use hc_records::records::Group;
 use std::alloc::{AllocError, Global};
 use toml::Value;
@@ -61,21 +61,19 @@ fn find_in_project(
     }
 }
 
-/// The place of a fault in a document.
+/// The place of a fault in a document that was read.
 fn find_fault(
     alloc: Global,
     fault: ProjectFault,
-    document: &Value,
+    syntax_faults: SyntaxFaults,
+    groups: &[Group],
 ) -> Result<Option<Location>, AllocError>
-    ensures { IfOk result (λ found. found ≡ location_of fault (view document.now)) }
+    ensures { IfOk result (λ found. found ≡ location_of fault (record { value = groups.now; syntax_faults = syntax_faults })) }
 {
     match fault {
-        ProjectFault::MissingField => find_in_document(alloc, SyntaxFault::Missing, document),
-        ProjectFault::OutOfRange => find_in_document(alloc, SyntaxFault::Outside, document),
-        other => {
-            let groups = read_groups(alloc, document)?.value;
-            find_in_project(alloc, other, groups.as_slice())
-        }
+        ProjectFault::MissingField => Ok(syntax_faults.missing),
+        ProjectFault::OutOfRange => Ok(syntax_faults.outside),
+        other => find_in_project(alloc, other, groups),
     }
 }
 
@@ -96,18 +94,19 @@ fn position_after(front: &[u8]) -> (usize, usize)
     (line, column)
 }
 
-/// The lowest fault of a document and its place, none where its groups are a project.
-fn find_lowest(alloc: Global, document: &Value) -> Result<Option<Found>, AllocError>
-    ensures { IfOk result (λ found. SaysOf (view document.now) found) }
+/// The lowest fault of a document that was read and its place, none where its groups are a project.
+fn find_lowest(alloc: Global, groups: Reading<Items<Group>>) -> Result<Option<Found>, AllocError>
+    ensures { IfOk result (λ found. SaysOf groups found) }
 {
-    let groups = read_groups(alloc, document)?;
+    let syntax_faults = groups.syntax_faults;
+    let copy = groups.value.copied(alloc)?;
     let Err(fault) = settle(alloc, groups) else {
         return Ok(None);
     };
     if fault == ProjectFault::Memory {
         return Err(AllocError);
     }
-    match find_fault(alloc, fault, document)? {
+    match find_fault(alloc, fault, syntax_faults, copy.as_slice())? {
         Some(location) => Ok(Some(Found::InProject { fault, location })),
         None => unreachable!(),
     }
@@ -121,7 +120,7 @@ fn find_lowest(alloc: Global, document: &Value) -> Result<Option<Found>, AllocEr
 /// one's place counts, and its fault names the earliest that it can't be with. Of too many of something the first over the
 /// limit is reported.
 ///
-/// A refused text is read twice, and what is twice is found in n log n steps.
+/// A text is read once, and what is twice in it is found in n log n steps.
 #[tactic(auto, using(crate::proofs::Texts::unread))]
 pub fn locate(alloc: Global, text: &[u8]) -> Result<Option<Found>, AllocError>
     ensures { IfOk result (λ found. LocatesFault text.now found) }
@@ -136,5 +135,6 @@ pub fn locate(alloc: Global, text: &[u8]) -> Result<Option<Found>, AllocError>
             return Ok(Some(Found::InText { line, column }));
         }
     };
-    find_lowest(alloc, &Value::Table(table))
+    let groups = read_groups(alloc, &Value::Table(table))?;
+    find_lowest(alloc, groups)
 }

@@ -1,6 +1,4 @@
 //! Places of a project's text: which group, slave, area and PDO, and which key there.
-ghost use Rattle.std.specs.Prelude.{◌≡◌};
-ghost use Rattle.hc_project.specs.Places.{first_found};
 
 /// What a place names of the table where it lies.
 #[derive(Clone, Copy, Debug, PartialEq, Eq)]
@@ -160,17 +158,4 @@ impl Location {
             first: Some(first),
         }
     }
-}
-
-/// The first of these that was found.
-#[tactic(auto, unfolding(crate::specs::Places::first_some))]
-pub(crate) fn first_of(found: &[Option<Location>]) -> Option<Location>
-    ensures { result ≡ first_found found.now }
-{
-    for location in found {
-        if location.is_some() {
-            return *location;
-        }
-    }
-    None
 }

@@ -7,7 +7,8 @@ ghost use Rattle.hc_records.specs.Area.{width};
 ghost use Rattle.hc_project.specs.Places.{first_from};
 ghost use Rattle.hc_project.specs.Repeated.{alias_at, area_unknown, offered_variables, area_wide, areas_overlapping, assigned_unknown, assigned_wide, each_at, entry_variable, extent, extent_at, first_repeat, group_at, group_variables, in_areas, in_slaves, index_of, manager_at, managers_repeated, offered_at, pdo_variables, group_slave_place, slave_variables, slave_station, stations_at};
 
-use crate::places::{Key, Location, Place, first_of};
+use crate::places::{Key, Location, Place};
+use crate::reading::first_some;
 use crate::repeats::{Extent, Listed, add_each, first_meeting, first_repeat};
 use hc_records::limits::MOST_AREA_BITS;
 use hc_records::records::{Area, Entry, Group, Pdo, Slave};
@@ -368,7 +369,7 @@ impl Sought<Area> for UnknownPdos {
     ) -> Result<Option<Location>, AllocError> {
         let here = place.in_area(index);
         let offered = find_repeat::<Pdo, Offered>(alloc, here, item.offered.as_slice())?;
-        Ok(first_of(&[find_in_assigned(here, item), offered]))
+        Ok(first_some(find_in_assigned(here, item), offered))
     }
 }
 

@@ -23,10 +23,10 @@ pub fn settle(alloc: Global, groups: Reading<Items<Group>>) -> Result<Project, P
         value,
         syntax_faults,
     } = groups;
-    if syntax_faults.missing {
+    if syntax_faults.missing.is_some() {
         return Err(ProjectFault::MissingField);
     }
-    if syntax_faults.outside {
+    if syntax_faults.outside.is_some() {
         return Err(ProjectFault::OutOfRange);
     }
     Project::checked(alloc, value)
