@@ -1,5 +1,7 @@
 mod Earlier
 mod Searched
+mod Joined
+mod Inspected
 mod Names
 mod Duplicates
 mod Placed

@@ -13,18 +13,6 @@ unfolding first_some
 none_right None b none = none
 none_right (Some x) b none = cc
 
--- a value without a place in front or behind
-pub first_alone : {P : Type 0} (a : Option P) → first_some a None ≡ a
-unfolding first_some
-first_alone None = refl
-first_alone (Some x) = refl
-
--- of three places, however they are grouped, the first
-pub first_grouped : {P : Type 0} (a b c : Option P) → first_some (first_some a b) c ≡ first_some a (first_some b c)
-unfolding first_some
-first_grouped None b c = refl
-first_grouped (Some x) b c = refl
-
 -- a test that each item where nothing is found doesn't meet is met by none
 pub none_meets : {X P : Type 0} (find : ℕ → X → Option P) (test : X → Bool) (index : ℕ) (xs : List X)
     → ((i : ℕ) (x : X) → find i x ≡ None → test x ≡ false) → first_from find index xs ≡ None → list_any test xs ≡ false

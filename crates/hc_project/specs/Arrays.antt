@@ -1,5 +1,5 @@
 -- The arrays of a project's text.
-use Rattle.std.specs.Prelude.{ℕ, suc, not, nat_lt, List, [], ◌∷◌, Option, Some, None, option_and_then}
+use Rattle.std.specs.Prelude.{ℕ, ◌+◌, not, nat_lt, List, [], ◌∷◌, Option, Some, None, option_and_then}
 use Rattle.toml.specs.Data.{Data, Items, no_items, item, as_array}
 use Rattle.hc_project.specs.declared.places.Place.{Place}
 use Rattle.hc_project.specs.declared.reading.SyntaxFaults.{SyntaxFaults}
@@ -15,7 +15,7 @@ abbrev pub each : {X : Type 0} → (ℕ → Data → Reading X) → ℕ → Item
 each one index no_items = right []
 each one index (item d ds) =
     let first = one index d in
-    let rest = each one (suc index) ds in
+    let rest = each one (index + 1) ds in
     record { value = first.value ∷ rest.value; syntax_faults = both first.syntax_faults rest.syntax_faults }
 
 -- a needed array, by what its items are read as

@@ -1,7 +1,7 @@
 -- The levels of a project's text, from the entry of a PDO up to the document. A value that is no table has no keys, so that a
 -- needed one is absent. The keys of a table are gone through in the order of the format's page, the items of an array in the
 -- text's order; an item is read by how many its array may have, by the place of its table and by its index.
-use Rattle.std.specs.Prelude.{ℕ, suc, ◌+◌, ◌-◌, ◌==◌, nat_lt, is_some, List, [], ◌∷◌, length, Some, codes}
+use Rattle.std.specs.Prelude.{ℕ, ◌+◌, ◌-◌, ◌==◌, nat_lt, is_some, List, [], ◌∷◌, length, Some, codes}
 use Rattle.toml.specs.Data.{Data, Items, no_items, item, at, get}
 use Rattle.hc_records.specs.declared.limits.TheConstants.{LAST_SYNC_MANAGER, MEMORY_START, MEMORY_END, MOST_AREAS, MOST_ENTRIES, MOST_ENTRY_BITS, MOST_GROUPS, MOST_PDOS, MOST_SLAVES, TASKS}
 use Rattle.hc_records.specs.declared.records.Pdo.{Pdo}
@@ -119,7 +119,7 @@ abbrev pub groups : ℕ → ℕ → Items → Reading (List Group)
 groups room index no_items = right []
 groups room index (item d ds) =
     let first = group room index d in
-    let rest = groups (room - length first.value.slaves) (suc index) ds in
+    let rest = groups (room - length first.value.slaves) (index + 1) ds in
     record { value = first.value ∷ rest.value; syntax_faults = both first.syntax_faults rest.syntax_faults }
 
 -- the declared groups of a document, the mandatory one first: it has alias 0 and the slaves at the top; the slaves of all are

@@ -1,6 +1,6 @@
 -- Where a text is no project.
 use Rattle.std.specs.Prelude.{◌≡◌, ℕ, ◌+◌, ◌==◌, ◌≤◌, ◌&&◌, nat_le, nat_lt, if◌then◌else◌, List, [], ◌∷◌, length, take, Option, Some, None, Err, IsOk}
-use Rattle.toml.specs.Data.{Members, table}
+use Rattle.toml.specs.Data.{Data, Members, table}
 use Rattle.toml.specs.Parse.{parse_document}
 use Rattle.hc_records.specs.declared.records.Group.{Group}
 use Rattle.hc_records.specs.declared.faults.ProjectFault.{ProjectFault}
@@ -56,9 +56,9 @@ LocatesFault text None = IsOk (project_in text)
 LocatesFault text (Some (InText line column)) = IsUnread text line column
 LocatesFault text (Some (InProject lowest location)) = IsFaulty text lowest location
 
--- the same of what was read of a text
-abbrev pub SaysOf : Reading (List Group) → Option Found → Type 0
-SaysOf groups None = IsOk (groups_or_fault groups)
-SaysOf groups (Some (InText line column)) = ⊥
-SaysOf groups (Some (InProject lowest location)) =
-    (groups_or_fault groups ≡ Err lowest) × (location_of lowest groups ≡ Some location)
+-- the same of the document that a text is read as
+abbrev pub SaysOf : Data → Option Found → Type 0
+SaysOf d None = IsOk (groups_or_fault (declared_groups d))
+SaysOf d (Some (InText line column)) = ⊥
+SaysOf d (Some (InProject lowest location)) =
+    (groups_or_fault (declared_groups d) ≡ Err lowest) × (location_of lowest (declared_groups d) ≡ Some location)

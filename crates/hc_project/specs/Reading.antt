@@ -10,7 +10,7 @@ abbrev pub no_syntax_faults : SyntaxFaults
 no_syntax_faults = record { missing = None; outside = None }
 
 -- what is wrong with two values, of which the text has the first in front: of each fault the first place
-abbrev pub both : SyntaxFaults → SyntaxFaults → SyntaxFaults
+unfoldable pub both : SyntaxFaults → SyntaxFaults → SyntaxFaults
 both a b = record { missing = first_some a.missing b.missing; outside = first_some a.outside b.outside }
 
 -- what is wrong with several values, in their order

@@ -51,7 +51,6 @@ pub fn array_in(found: Option<&Value>) -> Option<&Array>
 }
 
 /// Reads every item.
-#[tactic(auto, using(crate::proofs::Searched::first_grouped, crate::proofs::Searched::first_alone))]
 fn read_each<T: Readable>(
     alloc: Global,
     most: usize,

@@ -226,7 +226,6 @@ fn read_group(
 }
 
 /// Reads the groups that come and go, where so many slaves have room together.
-#[tactic(auto, using(crate::proofs::Searched::first_grouped, crate::proofs::Searched::first_alone))]
 fn read_each_group(
     alloc: Global,
     room: usize,

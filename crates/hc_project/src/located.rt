@@ -1,10 +1,11 @@
 //! Where a text is no project: its lowest fault and the first place where that fault's condition holds.
 ghost use Rattle.std.specs.Prelude.{◌≡◌, IfOk};
+ghost use Rattle.toml.specs.View.{view};
 ghost use Rattle.hc_project.specs.Located.{LocatesFault, SaysOf, group_location, position_from, location_of};
 
 use crate::levels::read_groups;
 use crate::places::{Location, Place};
-use crate::reading::{Reading, SyntaxFaults};
+use crate::reading::Reading;
 use crate::searches::{
     Aliases, OverlappingAreas, RepeatedManagers, Stations, UnknownPdos, Variables, WideAreas,
     find_repeat, first_in,
@@ -61,19 +62,18 @@ fn find_in_project(
     }
 }
 
-/// The place of a fault in a document that was read.
+/// The place of a fault in what was read.
 fn find_fault(
     alloc: Global,
     fault: ProjectFault,
-    syntax_faults: SyntaxFaults,
-    groups: &[Group],
+    groups: &Reading<Items<Group>>,
 ) -> Result<Option<Location>, AllocError>
-    ensures { IfOk result (λ found. found ≡ location_of fault (record { value = groups.now; syntax_faults = syntax_faults })) }
+    ensures { IfOk result (λ found. found ≡ location_of fault groups.now) }
 {
     match fault {
-        ProjectFault::MissingField => Ok(syntax_faults.missing),
-        ProjectFault::OutOfRange => Ok(syntax_faults.outside),
-        other => find_in_project(alloc, other, groups),
+        ProjectFault::MissingField => Ok(groups.syntax_faults.missing),
+        ProjectFault::OutOfRange => Ok(groups.syntax_faults.outside),
+        other => find_in_project(alloc, other, groups.value.as_slice()),
     }
 }
 
@@ -94,19 +94,23 @@ fn position_after(front: &[u8]) -> (usize, usize)
     (line, column)
 }
 
-/// The lowest fault of a document that was read and its place, none where its groups are a project.
-fn find_lowest(alloc: Global, groups: Reading<Items<Group>>) -> Result<Option<Found>, AllocError>
-    ensures { IfOk result (λ found. SaysOf groups found) }
+/// The lowest fault of a document and its place, none where its groups are a project. A copy is judged, so that the
+/// groups that were read are still there where one is refused.
+fn find_lowest(alloc: Global, document: &Value) -> Result<Option<Found>, AllocError>
+    ensures { IfOk result (λ found. SaysOf (view document.now) found) }
 {
-    let syntax_faults = groups.syntax_faults;
-    let copy = groups.value.copied(alloc)?;
-    let Err(fault) = settle(alloc, groups) else {
+    let groups = read_groups(alloc, document)?;
+    let copy = Reading {
+        value: groups.value.copied(alloc)?,
+        syntax_faults: groups.syntax_faults,
+    };
+    let Err(fault) = settle(alloc, copy) else {
         return Ok(None);
     };
     if fault == ProjectFault::Memory {
         return Err(AllocError);
     }
-    match find_fault(alloc, fault, syntax_faults, copy.as_slice())? {
+    match find_fault(alloc, fault, &groups)? {
         Some(location) => Ok(Some(Found::InProject { fault, location })),
         None => unreachable!(),
     }
@@ -135,6 +139,5 @@ pub fn locate(alloc: Global, text: &[u8]) -> Result<Option<Found>, AllocError>
             return Ok(Some(Found::InText { line, column }));
         }
     };
-    let groups = read_groups(alloc, &Value::Table(table))?;
-    find_lowest(alloc, groups)
+    find_lowest(alloc, &Value::Table(table))
 }

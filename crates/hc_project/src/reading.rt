@@ -71,6 +71,7 @@ impl SyntaxFaults {
     }
 
     /// What is wrong with two values, the one in front first.
+    #[tactic(auto, unfolding(crate::specs::Reading::both))]
     pub fn both(self, other: SyntaxFaults) -> SyntaxFaults
         ensures { result ≡ both self other }
     {
@@ -81,13 +82,13 @@ impl SyntaxFaults {
     }
 
     /// What is wrong with several values, in their order.
-    #[tactic(auto, using(crate::proofs::Searched::first_grouped, crate::proofs::Searched::first_alone))]
+    #[tactic(auto, using(crate::proofs::Joined::both_first))]
     pub fn joined(list: &[SyntaxFaults]) -> SyntaxFaults
         ensures { result ≡ faults_joined list.now }
     {
         let mut all = SyntaxFaults::none();
-        for syntax_faults in list {
-            all = all.both(*syntax_faults);
+        for index in 0..list.len() {
+            all = all.both(list[index]);
         }
         all
     }
