@@ -1,6 +1,7 @@
 mod Earlier
 mod Searched
 mod Joined
+mod Areas
 mod Inspected
 mod Names
 mod Duplicates
