@@ -11,7 +11,7 @@ use Rattle.hc_project.specs.Values.{number}
 use Rattle.hc_project.specs.Laws.{RangesAreJudgedWhole}
 
 -- an integer in its range is one that its record holds
-inside-held : (most low high n : ℕ) → high ≤ most → is_outside low high n ≡ false → nat_le n most ≡ true
+pub inside-held : (most low high n : ℕ) → high ≤ most → is_outside low high n ≡ false → nat_le n most ≡ true
 inside-held most low high n within inside = grind (arith, nat_tests)
 
 -- so it is read as it is
