@@ -1,5 +1,5 @@
 -- Where nothing is wrong with what is read, it lies in the ranges of a project.
-use Rattle.std.proofs.Common.{◌≡◌, ℕ, ◌+◌, ◌-◌, ◌<◌, ◌≤◌, ◌==◌, ◌++◌, ◌||◌, pos, negsuc, ℤ, ap, not, nat_lt, nat_le, Bool, true, false, List, [], ◌∷◌, length, Option, Some, None, refl, arith, option_and_then}
+use Rattle.std.proofs.Common.{◌≡◌, ℕ, suc, ◌+◌, ◌-◌, ◌<◌, ◌≤◌, ◌==◌, ◌++◌, ◌||◌, pos, negsuc, ℤ, ap, not, nat_lt, nat_le, Bool, true, false, List, [], ◌∷◌, length, Option, Some, None, refl, arith, option_and_then}
 use Rattle.std.specs.Prelude.{codes, if◌then◌else◌, is_some}
 use Rattle.std.specs.List.{list_any}
 use Rattle.std.proofs.lemmas.Bool.{or_parts, le-ltb}
@@ -116,10 +116,10 @@ area_sound most place index d none =
     let sixth = both_none _ _ fifth.1 in
     let seventh = both_none _ _ sixth.1 in
     let eighth = both_none _ _ seventh.1 in
-    let sm = manager_inside _ (number_inside 255 0 15 (with_key here key.Sm) (get (codes "sm") d) (omega arith) second.0) in
+    let sm = manager_inside (byte 0 15 (with_key here key.Sm) (get (codes "sm") d)).value (number_inside 255 0 15 (with_key here key.Sm) (get (codes "sm") d) (omega arith) second.0) in
     let phys = number_inside 65535 4096 12287 (with_key here key.Phys) (get (codes "phys") d) (omega arith) fourth.0 in
-    let memory = within _ (with_key here key.Phys) fifth.0 in
-    let task = task_inside _ (number_inside 255 0 7 (with_key here key.Task) (get (codes "task") d) (omega arith) sixth.0) in
+    let memory : nat_lt MEMORY_END ((area most place index d).value.phys + reach (area most place index d).value) ≡ false = within _ (with_key here key.Phys) fifth.0 in
+    let task = task_inside (byte 0 7 (with_key here key.Task) (get (codes "task") d)).value (number_inside 255 0 7 (with_key here key.Task) (get (codes "task") d) (omega arith) sixth.0) in
     let assigned = array_sound (λ n. false) assigned_index MOST_PDOS here (with_key here key.Assigned) (option_and_then as_array (get (codes "assigned") d)) index_sound seventh.0 in
     let offered = optional_sound pdo_outside pdo MOST_PDOS here (with_key here key.Pdos) (get (codes "pdo") d) pdo_sound eighth.0 in (
       below_most most index _ first.0,
@@ -136,7 +136,7 @@ slave_sound most place index d none =
     let third = both_none _ _ second.1 in
     let unread = with_key (in_slave place index 0) key.Station in
     let here = in_slave place index (word 1 65535 unread (get (codes "station") d)).value in
-    let station = some_number _ (number_inside 65535 1 65535 unread (get (codes "station") d) (omega arith) second.0) in
+    let station = some_number (word 1 65535 unread (get (codes "station") d)).value (number_inside 65535 1 65535 unread (get (codes "station") d) (omega arith) second.0) in
     let areas = optional_sound area_outside area MOST_AREAS here (with_key here key.Areas) (get (codes "area") d) area_sound third.0 in
     (below_most most index _ first.0, rw (station, le-ltb MOST_AREAS _ areas.1, areas.0) refl)
 
@@ -154,9 +154,9 @@ group_sound room index d none =
     let fourth = both_none _ _ third.1 in
     let unread = with_key (in_group document (index + 1) 0) key.Alias in
     let here = in_group document (index + 1) (word 1 65535 unread (get (codes "alias") d)).value in
-    let alias = some_number _ (number_inside 65535 1 65535 unread (get (codes "alias") d) (omega arith) second.0) in
+    let alias = some_number (word 1 65535 unread (get (codes "alias") d)).value (number_inside 65535 1 65535 unread (get (codes "alias") d) (omega arith) second.0) in
     let slaves = array_sound slave_outside slave room here (with_key here key.Slaves) (option_and_then as_array (get (codes "slave") d)) slave_sound third.0 in
-    let some = within _ (with_key here key.Slaves) fourth.0 in
+    let some : (length (group room index d).value.slaves == 0) ≡ false = within _ (with_key here key.Slaves) fourth.0 in
     record {
       below = below_most (MOST_GROUPS - 1) index _ first.0;
       bare = rw (alias, some) refl;
@@ -206,5 +206,5 @@ groups_inside d none =
     let rest = (optional_array (groups (MOST_SLAVES - length own) 0) (with_key document key.Groups) (get (codes "group") d)).value in
     let few_slaves : length (own ++ slaves_of rest) ≤ MOST_SLAVES = together MOST_SLAVES _ _ _ mandatory.1 others.few_slaves (length-append own (slaves_of rest)) in
     let from_0 = others.few in
-    let few : 1 + length rest ≤ MOST_GROUPS = omega (arith, from_0) in
+    let few : suc (length rest) ≤ MOST_GROUPS = omega (arith, from_0) in
     rw (others.bare, le-ltb MOST_GROUPS _ few, le-ltb MOST_SLAVES _ few_slaves, mandatory.0, others.slaves) refl
