@@ -14,4 +14,4 @@ pub areas-keys : AreasReadTheirKeys
 areas-keys most place index a b sm dir phys task assigned offered = cc
 
 pub pdos-keys : PdosReadTheirKeys
-pdos-keys most place index a b index entries = cc
+pdos-keys most place number a b index entries = cc
