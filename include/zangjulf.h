@@ -396,7 +396,8 @@ uint8_t zangjulf_forget(struct zangjulf *handle, uint16_t station);
 
 /* A task, 0 to 7, posts its outputs: as many bytes as it has output bytes, made for an epoch from the last edit that changed the task
  * to the present one. They are sent until it posts again; before its first post zeros are. Over an edit each output variable keeps its
- * value wherever it moves; one that comes into the line begins with 0. ZANGJULF_DONE; 8, 15 or 16; or ZANGJULF_CLOSED, and nothing changed. Takes no memory. */
+ * value wherever it moves; one that comes into the line begins with 0. ZANGJULF_DONE; 8, 15 or 16; or ZANGJULF_CLOSED, and nothing
+ * changed. Takes no memory. */
 uint8_t zangjulf_post(struct zangjulf *handle, uint8_t task, uint32_t epoch, const uint8_t *bytes, size_t length);
 
 /* What was sent. */
@@ -593,7 +594,7 @@ uint8_t zangjulf_show(struct zangjulf *handle);
 
 /* An image that a seat views. */
 struct zangjulf_view {
-    uint32_t epoch;      /* the epoch in which the image was shown */
+    uint32_t epoch;      /* the line's epoch when the image was shown */
     uint32_t task_epoch; /* the task's epoch then, as in `struct zangjulf_image` */
     size_t size;         /* the bytes of the task's image, at most 23,776 */
     size_t outputs;      /* its output bytes, which come first: so many a post has */

@@ -136,9 +136,9 @@ class Image(NamedTuple):
 
 
 class View(NamedTuple):
-    """An image that a seat views: the epoch in which it was shown, the epoch then of the last edit that changed the task, the data of
-    all datagrams since then at their offsets, zeros where there are none, how many of the bytes are outputs, which come first, and of each datagram with data the serial of the sending that
-    they answer."""
+    """An image that a seat views: the line's epoch when it was shown, the task's epoch then, the data of all datagrams since then at
+    their offsets, zeros where there are none, how many of the bytes are outputs, which come first, and of each datagram with data
+    the serial of the sending that they answer."""
 
     epoch: int
     task_epoch: int

@@ -11,12 +11,16 @@ ghost use Rattle.hc_c.specs.Handles.{Becomes, IfAnswered};
 use crate::handle::Handle;
 use crate::numbers::DONE;
 
-/// A post of a task, made for an epoch: as many bytes as the task has output bytes. `DONE`; else the first of these faults that
-/// holds: 8 if there is no such task, 15 if the post was made before the last edit that changed the task or for an epoch to come,
-/// 16 if it has another number of bytes; `BUSY` or `CLOSED`. Nothing changed then. It allocates nothing.
+/// A task, 0 to 7, posts its outputs for an epoch: as many bytes as it has output bytes (this project's profile). The bytes are
+/// sent from now on. Returns `DONE`. It allocates nothing. It fails with the first of these that holds, and nothing has changed:
+///
+/// - `BUSY` or `CLOSED`: another call is under way, or no line is open.
+/// - 8: the task is over 7.
+/// - 15: the epoch is below the task's epoch, that of the last edit that changed the task, or above the present one.
+/// - 16: there are more or fewer bytes than the task has output bytes.
 #[unsafe(no_mangle)]
 pub extern "C" fn zangjulf_post(handle: &mut Handle, task: u8, epoch: u32, bytes: &[u8]) -> u8
-    ensures answer_given { IfAnswered handle.old result (λ history. result ≡ refusal_number (lowest (post_steady_faults history task epoch bytes.now))) }
+    ensures answer { IfAnswered handle.old result (λ history. result ≡ refusal_number (lowest (post_steady_faults history task epoch bytes.now))) }
     ensures posted { result ≡ DONE → Becomes handle.old handle.new (embedded_with_entry (Posted task bytes.now)) }
     ensures unchanged { result ≢ DONE → handle.new.holding.value ≡ handle.old.holding.value }
     ensures closed { handle.old.holding.value ≡ None → result ≡ CLOSED }
@@ -25,10 +29,10 @@ pub extern "C" fn zangjulf_post(handle: &mut Handle, task: u8, epoch: u32, bytes
         return number;
     }
     let own = handle.holding.line_mut();
-    let answer_given = match own.core.post_steady(task, epoch, bytes) {
+    let answer = match own.core.post_steady(task, epoch, bytes) {
         Ok(()) => DONE,
         Err(fault) => fault.number(),
     };
     own.calls.end_change();
-    answer_given
+    answer
 }

@@ -20,9 +20,9 @@ use Rattle.hc_conductor.specs.Taking.{AreTaken, CountsPosts, TakesFrom, TakesFro
 -- ---- one more post, before the others
 
 -- four at most
-pub four-taken : (rule : PostRule) (task most : ℕ) (before after : CoreState) (old new : PostReceiver) (answer_given : Taken) → most ≤ POSTS_WAITING → TakesFrom rule task most before after old new answer_given
-    → TakesFrom rule task POSTS_WAITING before after old new answer_given
-four-taken rule task most before after old new answer_given few takes = record {
+pub four-taken : (rule : PostRule) (task most : ℕ) (before after : CoreState) (old new : PostReceiver) (taken : Taken) → most ≤ POSTS_WAITING → TakesFrom rule task most before after old new taken
+    → TakesFrom rule task POSTS_WAITING before after old new taken
+four-taken rule task most before after old new taken few takes = record {
   posts = takes.posts;
   ring = record {
     few = let own = takes.ring.few in omega (arith, own, few);

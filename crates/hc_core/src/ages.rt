@@ -13,7 +13,7 @@ use std::marker::Model;
 pub(crate) struct DataAge {
     /// The serial of the sending that their answer answered.
     pub(crate) serial: u64,
-    /// The epoch in which that answer came.
+    /// The epoch of that answer.
     pub(crate) epoch: u32,
 }
 

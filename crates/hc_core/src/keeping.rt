@@ -22,7 +22,7 @@ pub struct Core {
     pub(crate) serial: u64,
     pub(crate) awaited: Awaited,
     pub(crate) inputs: Inputs,
-    // of each datagram's data the sending that they answer, and the epoch in which the answer came
+    // of each datagram's data the serial of the sending that they answer, and the epoch of the answer
     pub(crate) ages: Ages,
     // of each task the epoch of the last edit that changed it
     pub(crate) epochs: [u32; 8],

@@ -46,10 +46,13 @@ impl Core {
         self.history = self.history.posted(task, bytes);
     }
 
-    /// A post of a task, 0 to 7, that was made for an epoch: as many bytes as the task has output bytes in it. Each
-    /// output variable of the task has its bits in them as its value from now on. `NoSuchTask` where the
-    /// number is over 7; `StalePost` where another epoch has begun; `PostLength` where there are more or fewer
-    /// bytes; and of several the first of these. Then nothing changed. It takes no memory.
+    /// A task, 0 to 7, posts its outputs for the present epoch: as many bytes as it has output bytes. Each output variable of
+    /// the task has its bits in the bytes as its value from now on. It allocates nothing (this project's profile). It fails with
+    /// the first of these that holds, and nothing changes:
+    ///
+    /// - `NoSuchTask`: the task is over 7.
+    /// - `StalePost`: the epoch is not the present one.
+    /// - `PostLength`: there are more or fewer bytes than the task has output bytes.
     pub fn post(&mut self, task: u8, epoch: u32, bytes: &[u8]) -> Result<(), CoreFault>
         ensures accepted { OnOk result (lowest (post_faults self.old.history task epoch bytes.now) ≡ None) }
         ensures entries { OnOk result (self.new ≡ record self.old { history = Posted task bytes.now ∷ self.old.history }) }
@@ -69,9 +72,9 @@ impl Core {
         Ok(())
     }
 
-    /// A steady post of a task, 0 to 7: as `post`, for any epoch from the last accepted edit that changed the task to the present
-    /// one. So an edit that does not change the task leaves a post valid that was made before the edit. Each output variable of
-    /// the task has its bits in the bytes as its value from now on. It allocates nothing (this project's profile). It fails with
+    /// A task, 0 to 7, posts its outputs for any epoch from the last accepted edit that changed the task to the present one. So
+    /// an edit that does not change the task leaves a post valid that was made before the edit. Each output variable of the task
+    /// has its bits in the bytes as its value from now on. It allocates nothing (this project's profile). It fails with
     /// the first of these that holds, and nothing changes:
     ///
     /// - `NoSuchTask`: the task is over 7.

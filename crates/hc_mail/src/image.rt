@@ -70,14 +70,14 @@ impl TaskImage {
         })
     }
 
-    /// The epoch in which the image was made.
+    /// The line's epoch when the image was made.
     pub fn epoch(&self) -> u32
         ensures { result ≡ self.now.epoch }
     {
         self.epoch
     }
 
-    /// The task's epoch then: the datagrams have had their places since.
+    /// The task's epoch when the image was made: the epoch of the last edit that had changed the task, 0 if none had.
     pub fn task_epoch(&self) -> u32
         ensures { result ≡ self.now.task_epoch }
     {

@@ -91,8 +91,8 @@ fn take_all(core: &mut Core, task: u8, count: u8, ends: &mut [Option<OwnerEnd>])
 }
 
 /// The owner takes the posts that wait, at most four of each task's seat, and hands each to the core as `zangjulf_post` does: task
-/// 0's first, and those of a task in the order in which they were posted. One that was made before the last edit that changed its
-/// task is refused, and leaves nothing. `DONE`, and `taken` says which tasks' posts were accepted and which refused; `BUSY` or
+/// 0's first, and each seat's posts in their order. A post that was made before the last edit that changed its task is refused,
+/// and leaves nothing. `DONE`, and `taken` says which tasks' posts were accepted and which refused; `BUSY` or
 /// `CLOSED`, and `taken` is as it was. Each buffer goes back to its seat. What is posted meanwhile may be left for the next call.
 /// It waits for nobody and allocates nothing.
 #[unsafe(no_mangle)]

@@ -15,9 +15,9 @@ use hc_mail::image::TaskImage;
 #[repr(C)]
 #[derive(Clone, Copy)]
 pub struct SeatView {
-    /// The epoch in which the image was shown.
+    /// The line's epoch when the image was shown.
     epoch: u32,
-    /// The epoch of the last edit before it that changed the task, 0 if none did: the data had their places from it on.
+    /// The task's epoch when the image was shown: the epoch of the last edit that had changed the task, 0 if none had.
     task_epoch: u32,
     /// The bytes of the task's image, at most 23,776.
     size: usize,
