@@ -16,7 +16,7 @@ use crate::numbers::DONE;
 ///
 /// - `BUSY` or `CLOSED`: another call is under way, or no line is open.
 /// - 8: the task is over 7.
-/// - 15: the epoch is below the task's epoch, that of the last edit that changed the task, or above the present one.
+/// - 15: the epoch is before the last edit that changed the task, or above the present one.
 /// - 16: there are more or fewer bytes than the task has output bytes.
 #[unsafe(no_mangle)]
 pub extern "C" fn zangjulf_post(handle: &mut Handle, task: u8, epoch: u32, bytes: &[u8]) -> u8
