@@ -11,7 +11,9 @@ not refused.
 """
 
 import hashlib
+import os
 import re
+import shutil
 import subprocess
 import sys
 import tempfile
@@ -217,6 +219,15 @@ def unnoted(crate, edit):
     return {key for key, found in sums.items() if found not in noted} if len(sums) > 1 else set()
 
 
+def take_kept(crate, clone):
+    """Takes over into a clone what checks here have built of all crates, as links, and what they have kept of this crate."""
+    for built in (TOP / "crates").glob("*/out/rlib"):
+        shutil.copytree(built, clone / built.relative_to(TOP), copy_function=os.link)
+    kept = TOP / "crates" / crate / "out" / "incremental"
+    if kept.is_dir():
+        shutil.copytree(kept, clone / kept.relative_to(TOP))
+
+
 def try_crate(crate, new_alone):
     """Tries each joined edit of a crate, or its bodies that weren't noted, over what checks here have kept."""
     joined = [edit for edit in edits_of(crate) if len(sums_of_bodies(edit)) > 1]
@@ -229,6 +240,7 @@ def try_crate(crate, new_alone):
     with tempfile.TemporaryDirectory() as scratch:
         clone = Path(scratch) / "clone"
         subprocess.run(["git", "clone", "-q", str(TOP), str(clone)], check=True)
+        take_kept(crate, clone)
         if "logic=proved" not in checked(clone / "crates" / crate):
             print(f"{crate}: it isn't proved as it is")
             return False

@@ -1,4 +1,4 @@
--- The tasks that an edit changes, by what its swap says of the tables and of the variables' places, and by its register blocks.
+-- The tasks that an edit changes, by what its swap says of the tables and of the variables' places.
 use Rattle.std.proofs.Common.{◌≡◌, ℕ, ◌<◌, ◌==◌, ◌||◌, ◌∙◌, Bool, true, false, cond, Contains, List, [], ◌∷◌, refl, sym, ap, ap₂, subst, arith, inl, inr, Option, Some, None}
 use Rattle.std.specs.Prelude.{find, is_some, not, option_map, slice_get}
 use Rattle.std.specs.List.{list_any}
@@ -14,19 +14,12 @@ use Rattle.hc_places.proofs.lemmas.DatagramUses.{table-at}
 use Rattle.hc_places.proofs.lemmas.Found.{find-holds}
 use Rattle.hc_places.proofs.lemmas.Same.{found-same}
 use Rattle.hc_plan.proofs.lemmas.Elements.{contains-order, contains-unkept, some-passes, which-passes}
-use Rattle.hc_plan.specs.Prepared.{PreparedEdit}
-use Rattle.hc_registers.specs.declared.ranked.Gone.{Gone}
-use Rattle.hc_registers.specs.Ranked.{RankedBlock}
-use Rattle.hc_registers.specs.RankDifferences.{Differ}
-use Rattle.hc_registers.specs.RankPlaces.{places}
 use Rattle.hc_events.specs.Steady.{lies_in_task, moves_variable, same_task}
 use Rattle.hc_events.proofs.lemmas.Unchanged.{place-stays, task-alike}
 use Rattle.hc_owed.proofs.lemmas.SameTask.{tasks-same}
-use Rattle.hc_owed.specs.declared.area.JudgedArea.{JudgedArea}
-use Rattle.hc_owed.specs.ChangedTasks.{BlocksAreEdited}
-use Rattle.hc_core.specs.Changed.{CanTellTasks, has_place, has_table, row_lies}
+use Rattle.hc_core.specs.Changed.{has_place, has_table, row_lies}
 
-both-ways : (a b : Bool) → (a ≡ true → b ≡ true) → (b ≡ true → a ≡ true) → a ≡ b
+pub both-ways : (a b : Bool) → (a ≡ true → b ≡ true) → (b ≡ true → a ≡ true) → a ≡ b
 both-ways true b forth back = sym (forth refl)
 both-ways false true forth back = back refl
 both-ways false false forth back = refl
@@ -127,21 +120,3 @@ place-differs old new change task ascends says = both-ways (has_place old change
             let place : row.1 ≡ place_in new variable = same_Some row.1 (place_in new variable) (sym (ap (option_map (λ (changed : ChangedRow). changed.1)) is) ∙ said) in
             some-passes (row_lies old task) change.rows row has.0
             (ap₂ (λ (v : ℕ) (p : Option VariablePlace). lies_in_task task (place_in old v) || lies_in_task task p) number place ∙ lies)
-
--- the register blocks
-
-abbrev pub blocks-edited : (table : Table) (areas : List JudgedArea) (edit : PreparedEdit) (gone : Gone) (moved : List RankedBlock) → CanTellTasks table areas edit → gone ≡ edit.gone → moved ≡ edit.blocks → BlocksAreEdited areas gone moved
-blocks-edited table areas edit gone moved can went stays = record {
-  known = can.known;
-  held = can.held;
-  unplugged = can.unplugged;
-  old = edit.old;
-  edit = edit.report.swap.edit;
-  new = edit.new;
-  right = can.areas;
-  accepted = can.prepared.accepted;
-  uncrowded = can.prepared.crowds.1;
-  blocks = stays ∙ can.prepared.blocks;
-  differ = subst (λ (went : Gone). Differ (places edit.old) (places edit.new) went moved) (sym went)
-      (subst (λ (blocks : List RankedBlock). Differ (places edit.old) (places edit.new) edit.gone blocks) (sym stays) can.prepared.differ);
-}

@@ -55,7 +55,7 @@ use Rattle.hc_core.proofs.Known.{unchanged-alike, known-edited}
 use Rattle.hc_core.specs.Agreement.{Agree, CoreParts}
 use Rattle.hc_core.proofs.SteadyReads.{chosen-mapped}
 use Rattle.hc_core.specs.Ages.{Ages, data_age}
-use Rattle.hc_core.specs.Changed.{CanTellTasks, EmptiesTasks, HasChangedTasks, RaisesTasks, UndatesTasks}
+use Rattle.hc_core.specs.Changed.{EmptiesTasks, HasChangedTasks, RaisesTasks, UndatesTasks}
 use Rattle.hc_core.specs.declared.ages.DataAge.{DataAge}
 use Rattle.hc_owed.specs.declared.task_set.TaskSet.{TaskSet}
 use Rattle.hc_owed.specs.TaskSets.{has_task}
@@ -217,18 +217,6 @@ can-follow unchanged history taken edit moves slaves room capacity core_edit agr
   empty = declared-empty history edit core_edit.made core_edit.prepared agree.accepted;
   prepared = core_edit.prepared;
   slaves = core_edit.slaves;
-}
-
--- so the tasks that it changes can be found
-abbrev pub can-tell : (unchanged : CoreParts) (history taken : History) (edit : PreparedEdit) (moves : Moves) (slaves : Option SlaveRoom) (room : List Change) (capacity : ℕ) (table : Table) → table ≡ table_of (line unchanged.plan)
-    → CanBeCarriedOut (record { history = history; taken = taken }) edit moves slaves room capacity → Agree unchanged history taken → CanTellTasks table unchanged.readiness edit
-can-tell unchanged history taken edit moves slaves room capacity table shown core_edit agree = record {
-  known = known_bytes history;
-  held = may_hold history;
-  unplugged = is_unplugged history;
-  places = shown ∙ ap (λ (state : State). table_of (line state)) (agree.state ∙ sym core_edit.made);
-  areas = subst (λ (state : State). IsReadinessFor (known_bytes history) (may_hold history) (is_unplugged history) state unchanged.readiness) (sym core_edit.made) (kept-right unchanged history taken agree);
-  prepared = core_edit.prepared;
 }
 
 pub agree-carried : (unchanged : CoreParts) (history taken : History) (edit : PreparedEdit) (moves : Moves) (slaves : Option SlaveRoom) (room : List Change) (capacity : ℕ) (changed : TaskSet) (inputs : DatagramImage) (ages : Ages) (epochs : List ℕ) (outputs : Packed) (owed : RegisterState) (readiness : List JudgedArea)

@@ -1,6 +1,7 @@
 -- What is kept of the register blocks and of the areas after an edit that is prepared.
-use Rattle.std.proofs.Common.{◌≡◌, ℕ, ◌+◌, ◌*◌, ◌<◌, ◌≤◌, Bool, false, List, length, map, sym, ap, ◌∙◌, subst, length-append, Option, Some, None, arith}
-use Rattle.std.specs.Prelude.{AllPairs, Contains, Ok}
+use Rattle.std.proofs.Common.{◌≡◌, ℕ, ◌+◌, ◌*◌, ◌<◌, ◌≤◌, Bool, false, List, ◌||◌, length, map, sym, ap, ◌∙◌, subst, length-append, Option, Some, None, arith}
+use Rattle.std.specs.Prelude.{AllPairs, Contains, Ok, not}
+use Rattle.std.proofs.lemmas.Bool.{or_parts}
 use Rattle.std.proofs.lemmas.List.{length-map}
 use Rattle.std.proofs.lemmas.List.Elements.{All-contains}
 use Rattle.std.proofs.lemmas.List.FromFn.{length-map-range_with_len}
@@ -13,6 +14,7 @@ use Rattle.hc_records.specs.Line.{State, groups_of, line}
 use Rattle.hc_records.specs.Project.{lowest_fault, slaves_of}
 use Rattle.hc_records.specs.declared.faults.EditFault.TheVariants.{EpochsSpent}
 use Rattle.hc_records.specs.Lists.{lowest}
+use Rattle.hc_records.proofs.lemmas.Declaring.{line-absent}
 use Rattle.hc_records.proofs.lemmas.Lists.{All-from_none, none-holds}
 use Rattle.hc_records.proofs.lemmas.Projects.{project-few}
 use Rattle.hc_groups.proofs.lemmas.Accepted.{accepted-project, accepted-state}
@@ -21,8 +23,12 @@ use Rattle.hc_registers.specs.Ranked.{RankedBlock}
 use Rattle.hc_registers.specs.RankDifferences.{Differ, block_place}
 use Rattle.hc_registers.specs.RankPlaces.{places, stations}
 use Rattle.hc_registers.proofs.lemmas.RanksDeclared.{declared-stations}
+use Rattle.hc_places.specs.Table.{table_of, task_table}
 use Rattle.hc_plan.specs.Prepared.{IsPrepared, PreparedEdit}
+use Rattle.hc_events.specs.Steady.{moves_variable, same_task}
+use Rattle.hc_events.proofs.lemmas.Unchanged.{same-changes}
 use Rattle.hc_owed.specs.declared.area.JudgedArea.{JudgedArea}
+use Rattle.hc_owed.specs.ChangedTasks.{BlocksAreEdited, changes_blocks}
 use Rattle.hc_owed.specs.EditWaits.{ReadinessWillBeEdited}
 use Rattle.hc_owed.specs.Readiness.{Holdings, judged_at, readiness_of}
 use Rattle.hc_owed.specs.ReadinessRoom.{IsReadinessRoomFor, ReadinessCanAdmit}
@@ -148,6 +154,33 @@ can-foretell owed readiness edit slaves gone blocks can is left moved = record {
   ascend = subst (AllPairs (λ a b. block_place a < block_place b)) (sym (moved ∙ can.prepared.blocks))
       (moved-ascend (line edit.old) edit.new (accepted-project edit.old edit.new edit.report.swap.edit can.prepared.project can.prepared.accepted));
 }
+
+-- the tasks whose register blocks it changes
+
+abbrev pub blocks-edited : (owed : RegisterState) (readiness : List JudgedArea) (edit : PreparedEdit) (slaves : Option SlaveRoom) (gone : Gone) (blocks : List RankedBlock) → CanFollow owed readiness edit slaves → gone ≡ edit.gone → blocks ≡ edit.blocks
+    → BlocksAreEdited readiness gone blocks
+blocks-edited owed readiness edit slaves gone blocks can left moved = record {
+  known = can.known;
+  held = can.held;
+  unplugged = can.unplugged;
+  old = edit.old;
+  edit = edit.report.swap.edit;
+  new = edit.new;
+  right = can.areas;
+  accepted = can.prepared.accepted;
+  uncrowded = can.prepared.crowds.1;
+  blocks = moved ∙ can.prepared.blocks;
+  differ = subst (λ (span : Gone). Differ (places edit.old) (places edit.new) span blocks) (sym left)
+      (subst (λ (list : List RankedBlock). Differ (places edit.old) (places edit.new) edit.gone list) (sym moved) can.prepared.differ);
+}
+
+-- a group that is declared is in no line, so no block changes
+pub declared-blocks : (edit : PreparedEdit) (group : Group) (task : ℕ) → IsPrepared edit → edit.report.swap.edit ≡ Declare group → changes_blocks edit.old edit.new task ≡ false
+declared-blocks edit group task prepared named =
+    let same : line edit.new ≡ line edit.old = ap line (declared-next edit group prepared named) ∙ line-absent 1 edit.old.groups group in
+    let table = not (same_task (task_table (line edit.old) task) (task_table (line edit.new) task)) in
+    let moves = moves_variable (table_of (line edit.old)) (table_of (line edit.new)) task in
+    (or_parts (table || moves) (changes_blocks edit.old edit.new task) (same-changes edit.old edit.new task same)).1
 
 -- the slaves that are declared then are few
 

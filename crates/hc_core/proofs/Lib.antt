@@ -32,6 +32,7 @@ pub mod FewFrames
 pub mod LastData
 pub mod LastSerials
 mod SteadyReads
+mod BlockChanges
 mod ChangedTasks
 pub mod Lines
 pub mod GoesWithout

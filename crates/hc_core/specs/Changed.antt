@@ -1,19 +1,18 @@
 -- The tasks that an edit changes, and what becomes of their data and of their epochs.
-use Rattle.std.specs.Prelude.{◌≡◌, ◌==◌, ◌&&◌, ◌||◌, ℕ, ◌<◌, if◌then◌else◌, Bool, List, slice_index, None}
+use Rattle.std.specs.Prelude.{◌≡◌, ◌==◌, ◌&&◌, ◌||◌, ℕ, ◌<◌, if◌then◌else◌, Bool, true, false, List, slice_index, None}
 use Rattle.std.specs.List.{list_any}
+use Rattle.hc_records.specs.declared.edit.Edit.{Edit}
+use Rattle.hc_records.specs.declared.edit.Edit.TheVariants.{Connect, Declare, Disconnect, Move, Remap}
 use Rattle.hc_records.specs.declared.limits.TheConstants.{MOST_DATAGRAMS, TASKS}
-use Rattle.hc_records.specs.Line.{line}
 use Rattle.hc_places.specs.Swap.{Change, ChangedRow, ChangedTask}
-use Rattle.hc_places.specs.Table.{Table, place_in, table_of}
-use Rattle.hc_plan.specs.Prepared.{IsPrepared, PreparedEdit}
+use Rattle.hc_places.specs.Table.{Table, place_in}
+use Rattle.hc_plan.specs.Prepared.{PreparedEdit}
 use Rattle.hc_images.specs.Image.{DatagramImage, data_of}
-use Rattle.hc_owed.specs.declared.area.JudgedArea.{JudgedArea}
 use Rattle.hc_owed.specs.declared.task_set.TaskSet.{TaskSet}
-use Rattle.hc_owed.specs.Readiness.{Holdings}
-use Rattle.hc_owed.specs.ReadinessSteps.{IsReadinessFor}
-use Rattle.hc_owed.specs.RegisterState.{Knowledge}
+use Rattle.hc_owed.specs.ChangedTasks.{changes_blocks}
 use Rattle.hc_owed.specs.TaskSets.{has_task}
 use Rattle.hc_events.specs.Entries.{History}
+use Rattle.hc_events.specs.Points.{state_of}
 use Rattle.hc_events.specs.Steady.{changes_task, lies_in_task, task_epoch}
 use Rattle.hc_core.specs.Ages.{Ages, age_of}
 
@@ -33,14 +32,22 @@ has_place table change task = list_any (row_lies table task) change.rows
 
 -- by a prepared edit
 
--- what is kept of the areas, and the table, are right for the state before a prepared edit
-pub record CanTellTasks (table : Table) (readiness : List JudgedArea) (edit : PreparedEdit) : Type 0 where
-  pub known : Knowledge
-  pub held : Holdings
-  pub unplugged : ℕ → Bool
-  pub places : table ≡ table_of (line edit.old)
-  pub areas : IsReadinessFor known held unplugged edit.old readiness
-  pub prepared : IsPrepared edit
+-- the edit gives an area other PDOs
+abbrev pub remaps : Edit → Bool
+remaps (Connect alias) = false
+remaps (Disconnect alias) = false
+remaps (Remap station area pdos) = true
+remaps (Move station area task) = false
+remaps (Declare group) = false
+
+-- it is prepared for the line of a record
+pub record IsOfHistory (edit : PreparedEdit) : Type 0 where
+  pub history : History
+  pub made : edit.old ≡ state_of history
+
+-- a set has just the tasks whose register blocks the edit changes
+abbrev pub HasTasksOfBlocks : PreparedEdit → TaskSet → Type 0
+HasTasksOfBlocks edit blocks = (task : ℕ) → task < TASKS → has_task task blocks ≡ changes_blocks edit.old edit.new task
 
 -- a set has just the tasks that the edit changes
 abbrev pub HasChangedTasks : PreparedEdit → TaskSet → Type 0

@@ -1,18 +1,21 @@
 //! The tasks that an edit changes: which they are, and what an edit makes of their data and of their epochs.
 ghost use Rattle.std.specs.Prelude.{◌≡◌, ◌<◌, ℕ, if◌then◌else◌};
 ghost use Rattle.hc_records.specs.declared.limits.TheConstants.{TASKS};
+ghost use Rattle.hc_records.specs.Line.{line};
 ghost use Rattle.hc_places.specs.Swap.{ChangesAscend};
+ghost use Rattle.hc_places.specs.Table.{table_of};
+ghost use Rattle.hc_plan.specs.Prepared.{IsPrepared};
 ghost use Rattle.hc_owed.specs.TaskSets.{has_task};
 ghost use Rattle.hc_events.specs.Steady.{lies_in_task};
-ghost use Rattle.hc_core.specs.Changed.{CanTellTasks, EmptiesIf, EmptiesTasks, HasChangedTasks, RaisesTasks, UndatesIf, UndatesTasks, has_place, has_table};
+ghost use Rattle.hc_core.specs.Changed.{EmptiesIf, EmptiesTasks, HasChangedTasks, HasTasksOfBlocks, IsOfHistory, RaisesTasks, UndatesIf, UndatesTasks, has_place, has_table, remaps};
 
 use crate::ages::Ages;
 use hc_images::inputs::Inputs;
-use hc_owed::readiness::Readiness;
 use hc_owed::task_set::TaskSet;
 use hc_places::swap::Swap;
 use hc_places::table::{Place, Places};
 use hc_plan::prepared::PreparedEdit;
+use hc_records::edit::Edit;
 use hc_records::limits::TASKS;
 use hc_records::task::Task;
 
@@ -52,15 +55,31 @@ fn places_changed(places: &Places, swap: &Swap) -> TaskSet
     set
 }
 
+/// Whether an edit gives an area other PDOs.
+fn remaps(edit: &Edit) -> bool
+    ensures { result ≡ remaps edit.now }
+{
+    match edit {
+        Edit::Remap { .. } => true,
+        Edit::Connect(_) | Edit::Disconnect(_) | Edit::Move { .. } | Edit::Declare(_) => false,
+    }
+}
+
 /// The tasks that a prepared edit changes: a datagram of the task, the place of one of its variables, or a register block of one
-/// of its areas differs between the two lines. `places` and `readiness` are what is kept before the edit. It takes the time of
-/// what the edit touches, and no memory.
-pub(crate) fn changed_tasks(places: &Places, readiness: &Readiness, edit: &PreparedEdit) -> TaskSet
-    requires { CanTellTasks places.now readiness.now edit.now }
+/// of its areas differs between the two lines. `places` is the table before the edit, and `blocks` are the tasks whose register
+/// blocks it changes. A remap changes one task at most, and any other edit just the tasks of `blocks`: the swap is read only for a
+/// remap that changes no block. It allocates nothing.
+pub(crate) fn changed_tasks(places: &Places, edit: &PreparedEdit, blocks: TaskSet) -> TaskSet
+    requires table { places.now ≡ table_of (line edit.now.old) }
+    requires made { IsOfHistory edit.now }
+    requires prepared { IsPrepared edit.now }
+    requires blocks { HasTasksOfBlocks edit.now blocks }
     ensures { HasChangedTasks edit.now result }
 {
     let swap = &edit.report().swap;
-    let blocks = readiness.tasks_changed(edit.gone(), edit.blocks());
+    if !blocks.is_empty() || !remaps(swap.edit()) {
+        return blocks;
+    }
     tables_changed(swap)
         .with(places_changed(places, swap))
         .with(blocks)

@@ -6,6 +6,7 @@ ghost use Rattle.hc_records.specs.declared.records.Group.{Group};
 ghost use Rattle.hc_owed.specs.RegisterState.{register_state_of};
 ghost use Rattle.hc_owed.specs.Laws.{known_over};
 ghost use Rattle.hc_owed.specs.ReadinessLaws.{AreWaiting};
+ghost use Rattle.hc_core.specs.Changed.{HasTasksOfBlocks};
 ghost use Rattle.hc_core.specs.Prepared.{CanFollow, HasSlaveRoom, areas_followed, areas_foretold};
 
 use hc_owed::owed::Owed;
@@ -44,25 +45,28 @@ pub(crate) fn slave_room(
     }
 }
 
-/// Brings what is kept of the blocks and of the areas after a prepared edit. Nothing can be refused.
+/// Brings what is kept of the blocks and of the areas after a prepared edit, and returns the tasks whose register blocks it changes.
+/// Nothing can be refused.
 pub(crate) fn follow(
     owed: &mut Owed,
     readiness: &mut Readiness,
     edit: &PreparedEdit,
     slaves: Option<SlaveRoom>,
-)
+) -> TaskSet
     requires { CanFollow owed.old readiness.old edit.now slaves }
     ensures known { (can : CanFollow owed.old readiness.old edit.now slaves) → owed.new ≡ register_state_of (known_over edit.now.old can.known) edit.now.new }
     ensures ready { (can : CanFollow owed.old readiness.old edit.now slaves) → readiness.new ≡ areas_followed can }
+    ensures tasks { HasTasksOfBlocks edit.now result }
 {
     match slaves {
         Some(room) => {
             owed.admit(room.owed);
             readiness.admit(room.readiness);
+            TaskSet::none()
         }
         None => {
             owed.change(edit.gone(), edit.blocks());
-            readiness.change(owed, edit.gone(), edit.blocks());
+            readiness.change(owed, edit.gone(), edit.blocks())
         }
     }
 }

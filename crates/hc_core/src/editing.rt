@@ -103,10 +103,10 @@ impl Core {
         ensures answer { result ≡ edit_answer (state_of self.old.history) (state_after (state_of self.old.history) edit.report.swap.edit) }
         ensures entries { self.new ≡ record self.old { history = Edited edit.report.swap.edit ∷ self.old.history } }
     {
-        let changed = changed_tasks(self.plan.places(), &self.readiness, &edit);
         self.awaited.clear();
+        let blocks = follow(&mut self.owed, &mut self.readiness, &edit, slaves);
+        let changed = changed_tasks(self.plan.places(), &edit, blocks);
         empty_tasks(&mut self.inputs, &mut self.ages, changed);
-        follow(&mut self.owed, &mut self.readiness, &edit, slaves);
         self.outputs.change(moves, &edit.report().swap);
         let report = self.plan.carry_out(edit);
         raise_epochs(&mut self.epochs, report.epoch, changed);

@@ -198,13 +198,13 @@ row-step from count n low later = by (from == n) refl
         let rest = later (omega (arith, low, apart)) in
         (suc rest.0, omega (arith, rest.1), rest.2)
 
-row-has : (from count n : ℕ) → from ≤ n → n < from + count → Contains (range_with_len from count) n
+pub row-has : (from count n : ℕ) → from ≤ n → n < from + count → Contains (range_with_len from count) n
 row-has from zero n low high = absurd (omega (arith, low, high))
 row-has from (suc count) n low high = row-step from count n low (λ less. row-has (from + 1) count n (omega (arith, less)) (omega (arith, high)))
 
 -- tests
 
-none-pass : {X : Type 0} (test : X → Bool) (xs : List X) (x : X) → Contains xs x → list_any test xs ≡ false → test x ≡ false
+pub none-pass : {X : Type 0} (test : X → Bool) (xs : List X) (x : X) → Contains xs x → list_any test xs ≡ false → test x ≡ false
 none-pass test xs x has none = false_from_ne_true (test x) (λ passes. let never : true ≡ false = sym (some-passes test xs x has passes) ∙ none in cc)
 
 true-either : (a b : Bool) → (a || b) ≡ true → (a ≡ true) ⊎ (b ≡ true)

@@ -12,6 +12,7 @@ mod HoldingUp
 mod Picked
 mod JudgedAreas
 mod Lists
+mod MovedTasks
 mod Opened
 mod ReadyChanging
 mod ReadyEntering

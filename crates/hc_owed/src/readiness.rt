@@ -26,7 +26,7 @@ const TASK_SPAN: u32 = 0x0100_0000;
 
 /// The task, 0 to 7, in whose logical addresses a block's FMMU begins, if the block is an active FMMU's. None for the block of a
 /// sync manager, for an FMMU that is not active, and for addresses of no task (ETG.1000.4, 6.6).
-pub(crate) fn named_task(block: &Block) -> Option<u8>
+fn named_task(block: &Block) -> Option<u8>
     ensures named { (task : ℕ) → task < TASKS → names_task task block.now.bytes ≡ option_map_or (λ own. own == task) result false }
     ensures low { IfSome result (λ task. task < TASKS) }
 {
@@ -97,6 +97,7 @@ impl Model for Readiness {
 
 impl Readiness {
     ghost use Rattle.std.specs.Prelude.{◌≡◌, ℕ, ◌+◌, ◌-◌, ◌*◌, ◌/◌, ◌<◌, ◌≤◌, ◌++◌, [], ◌∷◌, All, Bool, true, false, IfOk, OnOk, is_some, length, slice_get, None, Some};
+    ghost use Rattle.std.specs.List.{list_any};
     ghost use Rattle.hc_records.specs.declared.limits.TheConstants.{TASKS};
     ghost use Rattle.hc_records.specs.Edits.{slave_at};
     ghost use Rattle.hc_records.specs.Line.{State, groups_of};
@@ -107,12 +108,13 @@ impl Readiness {
     ghost use Rattle.hc_registers.specs.RankPlaces.{stations};
     ghost use Rattle.hc_plan.specs.Reports.{found_name};
     ghost use Rattle.hc_owed.specs.Areas.{area_after, area_written, fmmu_confirmed, sync_manager_confirmed};
+    ghost use Rattle.hc_owed.specs.ChangedTasks.{HasChangedBlocks, moves_task};
     ghost use Rattle.hc_owed.specs.Laws.{known_over, known_with, known_without};
     ghost use Rattle.hc_owed.specs.Readiness.{none_unplugged, readiness_of, unknown_registers};
     ghost use Rattle.hc_owed.specs.ReadinessLaws.{AreReady, AreWaiting, ClearsSlave, ConfirmsAt, FollowsEdit, ForetellsDeclared, ForgetsSlave, SendsAt, TellsReady, UnplugsSlave, WaitsForBlocks, WaitsForRegisters};
     ghost use Rattle.hc_owed.specs.ReadinessSteps.{IsReadinessAt, IsReadinessFor, ReadinessIsEdited, area_moved, areas_moved, changed_from, held_over, held_with, held_without, only_contents, unplugged_over, unplugged_with, with_contents};
     ghost use Rattle.hc_owed.specs.RegisterState.{Knowledge, lacks, nothing_known, register_state_of};
-    ghost use Rattle.hc_owed.specs.TaskSets.{tasks_where};
+    ghost use Rattle.hc_owed.specs.TaskSets.{has_task, tasks_where};
 
     /// What is kept of a line whose slaves were just connected: each block of the line is owed, and each FMMU's register is unknown;
     /// `owed` is what is kept of its blocks. `AllocError` where a growth was refused; of the later calls `room_for` alone takes
@@ -259,41 +261,51 @@ impl Readiness {
         self.turn(from, from + 8, Turn::Unplugs);
     }
 
-    /// A block of the line moved with an edit. `owed` is what is kept of the blocks after it.
-    fn move_block(&mut self, owed: &Owed, moved: &RankedBlock)
+    /// A block of the line moved with an edit. `owed` is what is kept of the blocks after it. The tasks that its area was in and is in
+    /// now are returned.
+    fn move_block(&mut self, owed: &Owed, moved: &RankedBlock) -> TaskSet
         requires rank { 1 ≤ moved.now.rank }
         requires area { block_place moved.now < 2 * length self.old }
         requires owed { block_place moved.now < length owed.now.owed }
-        ensures { self.new ≡ changed_at (block_place moved.now / 2) (area_moved owed.now.owed moved.now) self.old }
+        ensures moved { self.new ≡ changed_at (block_place moved.now / 2) (area_moved owed.now.owed moved.now) self.old }
+        ensures tasks { (task : ℕ) → task < TASKS → has_task task result ≡ moves_task self.old task moved.now }
     {
         let place = moved.place();
         let owes = owed.is_owed(place);
-        let area = self.area(place / 2);
-        self.set_area(place / 2, moved_area(moved, owes, area));
+        let was = self.area(place / 2);
+        let now = moved_area(moved, owes, was);
+        self.set_area(place / 2, now);
+        was.own.with(now.own)
     }
 
-    /// Blocks of the line moved with an edit, one after another.
-    fn move_blocks(&mut self, owed: &Owed, moved: &[RankedBlock])
+    /// Blocks of the line moved with an edit, one after another. The tasks that their areas were in and are in now are returned.
+    fn move_blocks(&mut self, owed: &Owed, moved: &[RankedBlock]) -> TaskSet
         requires ranks { All (λ block. 1 ≤ block.rank) moved.now }
         requires areas { All (λ block. block_place block < 2 * length self.old) moved.now }
         requires owed { All (λ block. block_place block < length owed.now.owed) moved.now }
-        ensures { self.new ≡ areas_moved owed.now.owed moved.now self.old }
+        ensures moved { self.new ≡ areas_moved owed.now.owed moved.now self.old }
+        ensures tasks { (task : ℕ) → task < TASKS → has_task task result ≡ list_any (moves_task self.old task) moved.now }
     {
+        let mut set = TaskSet::none();
         for block in moved {
-            self.move_block(owed, block);
+            set = set.with(self.move_block(owed, block));
         }
+        set
     }
 
     /// An edit that declares nothing was accepted: these slaves left the line, and these are its moved blocks; `owed` is what is kept
     /// of the blocks after it. The registers of slaves that came are unknown. What registers may hold stays, and those of slaves that
-    /// left concern the tasks that they name from now on. It takes the time of the blocks that left and moved, and no memory.
-    pub fn change(&mut self, owed: &Owed, gone: Gone, moved: &[RankedBlock])
+    /// left concern the tasks that they name from now on. The tasks whose register blocks the edit changed are returned: a block of
+    /// one of the task's areas left, came, or has other bytes. It takes the time of the blocks that left and moved, and no memory.
+    pub fn change(&mut self, owed: &Owed, gone: Gone, moved: &[RankedBlock]) -> TaskSet
         requires { ReadinessIsEdited self.old owed.now gone moved.now }
-        ensures { FollowsEdit self.old self.new owed.now gone moved.now }
+        ensures areas { FollowsEdit self.old self.new owed.now gone moved.now }
+        ensures tasks { HasChangedBlocks self.old gone moved.now result }
     {
+        let left = self.tasks_left(gone);
         let from = gone.first_place() / 2;
         self.turn(from, from + 8 * usize::from(gone.slaves), Turn::Left);
-        self.move_blocks(owed, moved);
+        left.with(self.move_blocks(owed, moved))
     }
 
     /// How many owed blocks a task, 0 to 7, waits for: those that concern it. It takes no time.

@@ -38,6 +38,7 @@ fn count_in(counts: &mut [u32; 8], set: TaskSet)
 }
 
 /// Takes the tasks of one set out of counts, and counts those of another.
+#[inline(always)]
 fn recount(counts: &mut [u32; 8], was: TaskSet, now: TaskSet)
     requires { CanRecount counts.old was }
     ensures { Recounts counts.old counts.new was now }

@@ -1,5 +1,5 @@
 -- An edit that leaves the areas of a task doesn't change the task.
-use Rattle.std.proofs.Common.{◌≡◌, ℕ, suc, ◌+◌, ◌*◌, ◌<◌, ◌==◌, ◌&&◌, ◌||◌, nat_lt, not, ◌∙◌, Bool, true, false, cond, List, [], ◌∷◌, ◌++◌, filter, map, refl, sym, ap, ap₂, subst, arith, Option, Some, None}
+use Rattle.std.proofs.Common.{◌≡◌, ℕ, suc, ◌+◌, ◌*◌, ◌<◌, ◌==◌, ◌&&◌, ◌||◌, nat_lt, not, length, ◌∙◌, Bool, true, false, cond, List, [], ◌∷◌, ◌++◌, filter, map, refl, sym, ap, ap₂, subst, arith, Option, Some, None}
 use Rattle.std.specs.Prelude.{All, Contains, find, option_and_then, option_map, slice_get, slice_index_or}
 use Rattle.std.specs.Option.{option_map_or}
 use Rattle.std.specs.List.{enumerate_from, flat_map, list_any, zip}
@@ -160,6 +160,15 @@ line_step state task (member ∷ members) project inside =
 blocks_from : (state : State) (task : ℕ) → lowest_fault (groups_of state.groups) ≡ None → task_blocks state task ≡ flat_map (blocks_at (line state)) (areas_in_task task (line state))
 blocks_from state task project =
     filter_pieces (serves_task state task) (member_blocks (line state)) (line state) ∙ line_step state task (line state) project (All-contains_itself (line state))
+
+-- two for each area
+
+two_each : (members : List Member) (owns : List Own) → length (flat_map (blocks_at members) owns) ≡ 2 * length owns
+two_each members [] = refl
+two_each members (own ∷ owns) = let later = two_each members owns in omega (arith, later)
+
+pub blocks_counted : (state : State) (task : ℕ) → lowest_fault (groups_of state.groups) ≡ None → length (task_blocks state task) ≡ 2 * length (areas_in_task task (line state))
+blocks_counted state task project = ap length (blocks_from state task project) ∙ two_each (line state) (areas_in_task task (line state))
 
 -- an area of the task is mapped as its places say
 

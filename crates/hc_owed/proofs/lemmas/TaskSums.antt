@@ -2,8 +2,10 @@
 use Rattle.std.proofs.Common.{◌≡◌, ℕ, ◌<◌, ◌==◌, ◌&&◌, ◌||◌, Bool, true, false, refl, ap, ◌∙◌, Some}
 use Rattle.std.specs.Option.{option_map_or}
 use Rattle.hc_owed.specs.declared.task_set.TaskSet.{TaskSet}
-use Rattle.hc_owed.specs.TaskSets.{either_set, has_task, no_task, only_task, tasks_where}
-use Rattle.hc_owed.proofs.TaskLists.{has-where}
+use Rattle.std.proofs.lemmas.Nat.Bits.{bit_at_above}
+use Rattle.hc_bits.specs.Bits.{number_of}
+use Rattle.hc_owed.specs.TaskSets.{either_set, has_task, no_task, only_task, some_task, tasks_where}
+use Rattle.hc_owed.proofs.TaskLists.{has-where, set-is}
 
 pub none-set : (t : ℕ) → t < 8 → has_task t no_task ≡ false
 none-set t low = has-where (λ task. false) t low
@@ -45,3 +47,8 @@ only-has t task set low is = ap (has_task t) is ∙ has-where (λ other. option_
 
 pub none-has : (t : ℕ) (set : TaskSet) → t < 8 → set ≡ no_task → has_task t set ≡ false
 none-has t set low is = ap (has_task t) is ∙ none-set t low
+
+-- a set without a task is empty
+pub empty-set : (set : TaskSet) → set.bits < 256 → ((t : ℕ) → t < 8 → has_task t set ≡ false) → some_task set ≡ false
+unfolding has_task some_task tasks_where number_of
+empty-set set low none = ap some_task (set-is set.bits (λ task. false) none (λ k high. bit_at_above set.bits 8 k low high))

@@ -5,7 +5,8 @@ use Rattle.hc_owed.specs.Readiness.{readiness_of}
 use Rattle.hc_owed.specs.ReadinessSteps.{held_over, unplugged_over}
 use Rattle.hc_owed.specs.RegisterState.{register_state_of}
 use Rattle.hc_owed.specs.Laws.{known_over}
-use Rattle.hc_core.proofs.Followed.{can-admit, can-admit_areas, can-change, can-change_areas, declared-next, declares-with}
+use Rattle.hc_owed.proofs.lemmas.TaskSums.{none-has}
+use Rattle.hc_core.proofs.Followed.{blocks-edited, can-admit, can-admit_areas, can-change, can-change_areas, declared-blocks, declared-next, declares-with}
 use Rattle.hc_core.proofs.declaring.follow.Goals as goal
 
 pub admit-requires : goal.admit-requires
@@ -46,6 +47,18 @@ returns-in-None-clause-known c = λ can.
 pub returns-in-None-clause-ready : goal.returns-in-None-clause-ready
 returns-in-None-clause-ready c = λ can.
     let edit = c.args.edit.now in
-    c.change-in-None.ensures
+    c.change-in-None.ensures.areas
     (can-change_areas c.args.owed.now c.args.readiness.now edit c.args.slaves c.change.new.self c.gone-in-None.result c.blocks-in-None-2.result.now can c.in-None.is c.gone-in-None.ensures.gone c.blocks-in-None-2.ensures.blocks
     (c.change.ensures (can-change c.args.owed.now c.args.readiness.now edit c.args.slaves c.gone.result c.blocks-in-None.result.now can c.in-None.is c.gone.ensures.gone c.blocks-in-None.ensures.blocks)))
+
+pub returns-in-Some-clause-tasks : goal.returns-in-Some-clause-tasks
+returns-in-Some-clause-tasks c = λ task low.
+    let edit = c.args.edit.now in
+    let can = c.requires in
+    let with = declares-with (length (stations edit.old)) edit.report.swap.edit c.args.slaves c.in-Some.room can.slaves c.in-Some.is in
+    none-has task c.none.result low c.none.ensures ∙ sym (declared-blocks edit with.group task can.prepared with.named)
+
+pub returns-in-None-clause-tasks : goal.returns-in-None-clause-tasks
+returns-in-None-clause-tasks c = λ task low.
+    c.change-in-None.ensures.tasks
+    (blocks-edited c.args.owed.now c.args.readiness.now c.args.edit.now c.args.slaves c.gone-in-None.result c.blocks-in-None-2.result.now c.requires c.gone-in-None.ensures.gone c.blocks-in-None-2.ensures.blocks) task low

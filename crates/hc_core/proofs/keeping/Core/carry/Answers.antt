@@ -18,23 +18,33 @@ use Rattle.hc_events.specs.Entries.{History, Edited}
 use Rattle.hc_events.specs.Points.{state_of}
 use Rattle.hc_events.specs.Steps.{edit_answer}
 use Rattle.hc_core.specs.Records.{history_read}
-use Rattle.hc_core.proofs.Edits.{after-is, agree-carried, can-follow, can-tell, count-waiting, edited-answer_given, new-project, still-here, table-leads}
+use Rattle.hc_core.proofs.Edits.{after-is, agree-carried, can-follow, count-waiting, edited-answer_given, new-project, still-here, table-leads}
 use Rattle.hc_core.specs.Changed.{RaisesTasks}
 use Rattle.hc_core.specs.Agreement.{Agree, CoreParts, core_parts, state_in}
 use Rattle.hc_core.specs.State.{CoreState}
 use Rattle.hc_core.proofs.keeping.Core.carry.Goals as goal
 
-pub changed_tasks-changed-requires : goal.changed_tasks-changed-requires
-changed_tasks-changed-requires c =
-    let core_edit = still-here (state_in c.self.inside) c.args.self.now c.args.edit c.args.moves c.args.slaves c.args.room.items (vec_capacity c.args.room) c.self.view_is c.requires in
-    can-tell (core_parts c.self.inside) (history_read c.self.inside.history) (history_read c.self.inside.taken.value) c.args.edit c.args.moves c.args.slaves c.args.room.items (vec_capacity c.args.room)
-    c.places.result.now c.places.ensures.table core_edit c.self.invariant
-
-pub follow-requires : goal.follow-requires
-follow-requires c =
+pub follow-blocks-requires : goal.follow-blocks-requires
+follow-blocks-requires c =
     let core_edit = still-here (state_in c.self.inside) c.args.self.now c.args.edit c.args.moves c.args.slaves c.args.room.items (vec_capacity c.args.room) c.self.view_is c.requires in
     can-follow (core_parts c.self.inside) (history_read c.self.inside.history) (history_read c.self.inside.taken.value) c.args.edit c.args.moves c.args.slaves c.args.room.items (vec_capacity c.args.room)
     core_edit c.self.invariant
+
+pub changed_tasks-changed-requires-clause-table : goal.changed_tasks-changed-requires-clause-table
+changed_tasks-changed-requires-clause-table c =
+    let core_edit = still-here (state_in c.self.inside) c.args.self.now c.args.edit c.args.moves c.args.slaves c.args.room.items (vec_capacity c.args.room) c.self.view_is c.requires in
+    c.places.ensures.table ∙ ap (λ (state : State). table_of (line state)) (c.self.invariant.state ∙ sym core_edit.made)
+
+pub changed_tasks-changed-requires-clause-made : goal.changed_tasks-changed-requires-clause-made
+changed_tasks-changed-requires-clause-made c =
+    let core_edit = still-here (state_in c.self.inside) c.args.self.now c.args.edit c.args.moves c.args.slaves c.args.room.items (vec_capacity c.args.room) c.self.view_is c.requires in
+    record { history = history_read c.self.inside.history; made = core_edit.made }
+
+pub changed_tasks-changed-requires-clause-prepared : goal.changed_tasks-changed-requires-clause-prepared
+changed_tasks-changed-requires-clause-prepared c = c.requires.prepared
+
+pub changed_tasks-changed-requires-clause-blocks : goal.changed_tasks-changed-requires-clause-blocks
+changed_tasks-changed-requires-clause-blocks c = c.follow-blocks.ensures.tasks
 
 pub change-requires-clause-laid : goal.change-requires-clause-laid
 change-requires-clause-laid c =
@@ -86,13 +96,13 @@ invariant_of-self c =
     let raised = subst (λ (n : ℕ). RaisesTasks c.changed_tasks-changed.result n inside.epochs c.raise_epochs.new.epochs) epoch c.raise_epochs.ensures in
     let changes = c.add_swap.ensures ∙ ap (λ (one : Swap). inside.changes.items ++ change.Swapped one ∷ []) swap in
     let grows = c.edited.ensures ∙ ap (λ asked. Edited asked ∷ history) (c.edit.ensures ∙ ap (λ (one : Swap). one.edit) swap) in
-    let unchanged : State → Waiting → List Change → CoreParts = λ plan awaited changes. record { plan = plan; serial = inside.serial; awaited = awaited; inputs = c.empty_tasks.new.inputs; ages = c.empty_tasks.new.ages; epochs = c.raise_epochs.new.epochs; outputs = c.change.new.self; owed = c.follow.new.owed; readiness = c.follow.new.readiness; changes = changes } in
+    let unchanged : State → Waiting → List Change → CoreParts = λ plan awaited changes. record { plan = plan; serial = inside.serial; awaited = awaited; inputs = c.empty_tasks.new.inputs; ages = c.empty_tasks.new.ages; epochs = c.raise_epochs.new.epochs; outputs = c.change.new.self; owed = c.follow-blocks.new.owed; readiness = c.follow-blocks.new.readiness; changes = changes } in
     subst (λ (after_it : History). Agree (unchanged c.carry_out-report.new.self c.clear.new.self c.add_swap.new.changes.items) after_it taken) (sym grows)
     (subst (λ (plan : State). Agree (unchanged plan c.clear.new.self c.add_swap.new.changes.items) (Edited edit.report.swap.edit ∷ history) taken) (sym c.carry_out-report.ensures.plan)
     (subst (λ (waiting : Waiting). Agree (unchanged edit.new waiting c.add_swap.new.changes.items) (Edited edit.report.swap.edit ∷ history) taken) (sym c.clear.ensures)
     (subst (λ (answer_given : List Change). Agree (unchanged edit.new nothing answer_given) (Edited edit.report.swap.edit ∷ history) taken) (sym changes)
-    (agree-carried (core_parts inside) history taken edit c.args.moves c.args.slaves c.args.room.items (vec_capacity c.args.room) c.changed_tasks-changed.result c.empty_tasks.new.inputs c.empty_tasks.new.ages c.raise_epochs.new.epochs c.change.new.self c.follow.new.owed c.follow.new.readiness
-    core_edit prepared c.changed_tasks-changed.ensures c.empty_tasks.ensures.slots c.empty_tasks.ensures.ages raised (c.follow.ensures.known followed) (c.follow.ensures.ready followed) c.change.ensures c.self.invariant))))
+    (agree-carried (core_parts inside) history taken edit c.args.moves c.args.slaves c.args.room.items (vec_capacity c.args.room) c.changed_tasks-changed.result c.empty_tasks.new.inputs c.empty_tasks.new.ages c.raise_epochs.new.epochs c.change.new.self c.follow-blocks.new.owed c.follow-blocks.new.readiness
+    core_edit prepared c.changed_tasks-changed.ensures c.empty_tasks.ensures.slots c.empty_tasks.ensures.ages raised (c.follow-blocks.ensures.known followed) (c.follow-blocks.ensures.ready followed) c.change.ensures c.self.invariant))))
 
 pub returns-clause-answer : goal.returns-clause-answer
 returns-clause-answer c =
