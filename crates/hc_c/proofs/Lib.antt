@@ -3,6 +3,7 @@ mod Asked
 mod Boxed
 mod BoxedEnd
 mod Crossing
+mod FrameSizes
 mod Images
 mod InFrame
 mod Masks

@@ -6,9 +6,8 @@ ghost use Rattle.hc_places.specs.Ranges.{IsDatagram};
 ghost use Rattle.hc_events.specs.Points.{line_of};
 ghost use Rattle.hc_c.specs.Lists.{put_first};
 ghost use Rattle.hc_c.specs.Pieces.{HaveLengths};
-ghost use Rattle.hc_c.specs.declared.numbers.TheConstants.{CLOSED};
 ghost use Rattle.hc_c.specs.Reads.{HoldsImage, data_or_zeros, fit_number, have_data, image_from, image_size, bit_mask, serials_from, HoldsTask, read_number};
-ghost use Rattle.hc_c.specs.Handles.{IfAnswered, IfAnsweredWith};
+ghost use Rattle.hc_c.specs.Handles.{HoldsAsBefore, IfAnswered, IfAnsweredWith, no_line_number};
 
 use crate::handle::Handle;
 use crate::numbers::{DONE, ROOM};
@@ -157,7 +156,7 @@ fn give_image(core: &Core, task: u8, out: &mut [u8], serials: &mut [u64], image:
 /// none (this project's profile). `DONE`: the data of each are in `out` at the datagram's offset in the task's image, outputs and
 /// inputs, and those of one without data are zeros; `serials` has of each, in the datagrams' order, the serial of the sending that
 /// its data answer, 0 if it has none, as many as there is room for; `image.has` says which have data. Else fault 8 if the task is
-/// over 7, `ROOM` if `out` is shorter than the image, which 23,776 bytes never are, `BUSY` or `CLOSED`; `out`, `serials` and
+/// over 7, `ROOM` if `out` is shorter than the image, which 23,776 bytes never are, `BUSY`, `CLOSED` or `MISUSED`; `out`, `serials` and
 /// `image` are then as they were. Nothing changes. It allocates nothing.
 #[unsafe(no_mangle)]
 pub extern "C" fn zangjulf_read(
@@ -167,18 +166,18 @@ pub extern "C" fn zangjulf_read(
     serials: &mut [u64],
     image: &mut Image,
 ) -> u8
-    ensures answer_given { IfAnswered handle.old result (λ history. result ≡ read_number history task (length out.old)) }
-    ensures unchanged { handle.new.holding.value ≡ handle.old.holding.value }
+    ensures answer { IfAnswered handle.old result (λ history. result ≡ read_number history task (length out.old)) }
+    ensures unchanged { HoldsAsBefore handle.old handle.new }
     ensures image { IfAnsweredWith DONE handle.old result (λ history. HoldsTask history task image.new out.old out.new serials.old serials.new) }
     ensures untouched { result ≢ DONE → out.new ≡ out.old }
     ensures unwritten { result ≢ DONE → (serials.new ≡ serials.old) × (image.new ≡ image.old) }
-    ensures closed { handle.old.holding.value ≡ None → result ≡ CLOSED }
+    ensures closed { handle.old.holding.value ≡ None → result ≡ no_line_number handle.old.mark }
 {
-    if let Err(number) = handle.begin_look() {
-        return number;
-    }
+    let Some(entered) = handle.enter() else {
+        return handle.refusal();
+    };
     let own = handle.holding.line_mut();
     let number = give_image(&own.core, task, out, serials, image);
-    own.calls.end_look();
+    own.calls.end(entered);
     number
 }

@@ -1,9 +1,8 @@
 //! Values of variables, by their numbers, in bytes that C keeps.
 ghost use Rattle.std.specs.Prelude.{◌≡◌, ◌≢◌, ◌≤◌, None};
 ghost use Rattle.hc_c.specs.Looks.{image_bit_of};
-ghost use Rattle.hc_c.specs.declared.numbers.TheConstants.{CLOSED};
 ghost use Rattle.hc_c.specs.Values.{GetsValue, PutsValue, GetsAt, PutsAt};
-ghost use Rattle.hc_c.specs.Handles.{IfAnswered};
+ghost use Rattle.hc_c.specs.Handles.{HoldsAsBefore, IfAnswered, no_line_number};
 
 use crate::handle::Handle;
 use crate::looking::{image_bit_of, place_at};
@@ -66,7 +65,7 @@ fn get_value(core: &Core, variable: u32, image: &[u8], value: &mut u64) -> u8
 /// Puts a value into the outputs of its task, at the place that an output variable has in the present line: as they are
 /// posted by `zangjulf_post`. Every other bit stays. `DONE`; `NOTHING` where the present line has no place for the variable;
 /// `IS_INPUT` where it is an input; `TOO_WIDE` where the value needs more bits than the variable has; `ROOM` where the slice
-/// ends before the place does; `BUSY` or `CLOSED`. Unless it is done the slice is as it was. It takes no memory.
+/// ends before the place does; `BUSY`, `CLOSED` or `MISUSED`. Unless it is done the slice is as it was. It takes no memory.
 #[unsafe(no_mangle)]
 pub extern "C" fn zangjulf_put_value(
     handle: &mut Handle,
@@ -74,23 +73,23 @@ pub extern "C" fn zangjulf_put_value(
     value: u64,
     outputs: &mut [u8],
 ) -> u8
-    ensures answer_given { IfAnswered handle.old result (λ history. PutsAt history variable value result outputs.old outputs.new) }
-    ensures unchanged { handle.new.holding.value ≡ handle.old.holding.value }
+    ensures answer { IfAnswered handle.old result (λ history. PutsAt history variable value result outputs.old outputs.new) }
+    ensures unchanged { HoldsAsBefore handle.old handle.new }
     ensures untouched { result ≢ DONE → outputs.new ≡ outputs.old }
-    ensures closed { handle.old.holding.value ≡ None → result ≡ CLOSED }
+    ensures closed { handle.old.holding.value ≡ None → result ≡ no_line_number handle.old.mark }
 {
-    if let Err(number) = handle.begin_look() {
-        return number;
-    }
+    let Some(entered) = handle.enter() else {
+        return handle.refusal();
+    };
     let own = handle.holding.line_mut();
     let number = put_value(&own.core, variable, value, outputs);
-    own.calls.end_look();
+    own.calls.end(entered);
     number
 }
 
 /// The value of a variable in the image of its task, as `zangjulf_read` gives it, at the place that the variable has in the
 /// present line. `DONE`; `NOTHING` where the present line has no place for the variable; `ROOM` where the slice ends before the
-/// place does; `BUSY` or `CLOSED`. Unless it is done `value` is as it was. Whether the datagram has data is given by the read's
+/// place does; `BUSY`, `CLOSED` or `MISUSED`. Unless it is done `value` is as it was. Whether the datagram has data is given by the read's
 /// mask. It takes no memory.
 #[unsafe(no_mangle)]
 pub extern "C" fn zangjulf_get_value(
@@ -99,16 +98,16 @@ pub extern "C" fn zangjulf_get_value(
     image: &[u8],
     value: &mut u64,
 ) -> u8
-    ensures answer_given { IfAnswered handle.old result (λ history. GetsAt history variable image.now result value.old value.new) }
-    ensures unchanged { handle.new.holding.value ≡ handle.old.holding.value }
+    ensures answer { IfAnswered handle.old result (λ history. GetsAt history variable image.now result value.old value.new) }
+    ensures unchanged { HoldsAsBefore handle.old handle.new }
     ensures unwritten { result ≢ DONE → value.new ≡ value.old }
-    ensures closed { handle.old.holding.value ≡ None → result ≡ CLOSED }
+    ensures closed { handle.old.holding.value ≡ None → result ≡ no_line_number handle.old.mark }
 {
-    if let Err(number) = handle.begin_look() {
-        return number;
-    }
+    let Some(entered) = handle.enter() else {
+        return handle.refusal();
+    };
     let own = handle.holding.line_mut();
     let number = get_value(&own.core, variable, image, value);
-    own.calls.end_look();
+    own.calls.end(entered);
     number
 }

@@ -3,8 +3,9 @@ ghost use Rattle.std.specs.Prelude.{◌≡◌, ◌≢◌, ◌<◌, ◌≤◌, �
 ghost use Rattle.hc_records.specs.declared.limits.TheConstants.{TASKS};
 ghost use Rattle.hc_events.specs.declared.faults.CoreFault.TheVariants.{NoSuchTask};
 ghost use Rattle.hc_events.specs.Faults.{core_fault_number};
+ghost use Rattle.hc_c.specs.Handles.{HoldsAsBefore, no_line_number};
 ghost use Rattle.hc_c.specs.Seats.{AreEnds, OpensSeat, OpensLineSeat};
-ghost use Rattle.hc_c.specs.declared.numbers.TheConstants.{BUSY, CLOSED};
+ghost use Rattle.hc_c.specs.declared.numbers.TheConstants.{BUSY};
 
 use crate::handle::Handle;
 use crate::numbers::{DONE, MEMORY};
@@ -53,7 +54,7 @@ fn open_seat(alloc: Global, ends: &mut OwnerEnds, task: u8, seat: &mut SeatHandl
 }
 
 /// The owner opens the seat of a task, 0 to 7, in place of what `seat` held. A seat that the task had before is shown nothing
-/// more, and what it posts is never taken. `DONE`; fault 8 where the task is over 7; `MEMORY`; `BUSY` or `CLOSED`. Unless it is
+/// more, and what it posts is never taken. `DONE`; fault 8 where the task is over 7; `MEMORY`; `BUSY`, `CLOSED` or `MISUSED`. Unless it is
 /// done line and seat are as they were. It takes all the memory that the seat ever needs.
 #[unsafe(no_mangle)]
 pub extern "C" fn zangjulf_seat_open(
@@ -64,17 +65,17 @@ pub extern "C" fn zangjulf_seat_open(
 ) -> u8
     ensures opened { result ≡ DONE → IfSome handle.old.holding.value (λ old. IfSome handle.new.holding.value (λ new. IfSome seat.new.holding.value (OpensLineSeat task old new))) }
     ensures open { result ≡ DONE → IsSome handle.new.holding.value × IsSome seat.new.holding.value }
-    ensures answer_given { IfSome handle.old.holding.value (λ old. result ≢ BUSY → task < TASKS → (result ≡ DONE) ⊎ (result ≡ MEMORY)) }
+    ensures answer { IfSome handle.old.holding.value (λ old. result ≢ BUSY → task < TASKS → (result ≡ DONE) ⊎ (result ≡ MEMORY)) }
     ensures no_task { IfSome handle.old.holding.value (λ old. result ≢ BUSY → TASKS ≤ task → result ≡ core_fault_number NoSuchTask) }
-    ensures unchanged { result ≢ DONE → (handle.new.holding.value ≡ handle.old.holding.value) × (seat.new.holding.value ≡ seat.old.holding.value) }
-    ensures closed { handle.old.holding.value ≡ None → result ≡ CLOSED }
+    ensures unchanged { result ≢ DONE → HoldsAsBefore handle.old handle.new × (seat.new.holding.value ≡ seat.old.holding.value) }
+    ensures closed { handle.old.holding.value ≡ None → result ≡ no_line_number handle.old.mark }
 {
-    if let Err(number) = handle.begin_change() {
-        return number;
-    }
+    let Some(entered) = handle.enter() else {
+        return handle.refusal();
+    };
     let own = handle.holding.line_mut();
     let number = open_seat(alloc, &mut own.ends, task, seat);
-    own.calls.end_change();
+    own.calls.end(entered);
     number
 }
 

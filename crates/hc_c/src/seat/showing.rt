@@ -5,12 +5,13 @@ ghost use Rattle.hc_records.specs.declared.limits.TheConstants.{MOST_DATAGRAMS, 
 ghost use Rattle.hc_records.specs.Image.{datagram_count, task_places};
 ghost use Rattle.hc_events.specs.Points.{line_of};
 ghost use Rattle.hc_mail.specs.Images.{with_outputs};
+ghost use Rattle.hc_c.specs.Handles.{HoldsAsBefore, no_line_number};
 ghost use Rattle.hc_c.specs.Pieces.{HaveLengths};
 ghost use Rattle.hc_c.specs.Reads.{image_size};
 ghost use Rattle.hc_c.specs.SeatEnds.{has_seat_from};
 ghost use Rattle.hc_c.specs.SeatImages.{ShowsAll, Shows, sent_from, with_slot, with_slots};
 ghost use Rattle.hc_c.specs.Seats.{ShowsLine};
-ghost use Rattle.hc_c.specs.declared.numbers.TheConstants.{BUSY, CLOSED};
+ghost use Rattle.hc_c.specs.declared.numbers.TheConstants.{BUSY};
 
 use crate::handle::Handle;
 use crate::looking::part_at;
@@ -128,19 +129,19 @@ fn show_all(core: &Core, task: u8, count: u8, ends: &mut [Option<OwnerEnd>])
 }
 
 /// Shows the seat of each task what the task reads now, as `zangjulf_read` gives it, and its outputs, as they would be sent now.
-/// `DONE`; `BUSY` or `CLOSED`, and nothing is shown. It waits for nobody and takes no memory.
+/// `DONE`; `BUSY`, `CLOSED` or `MISUSED`, and nothing is shown. It waits for nobody and takes no memory.
 #[unsafe(no_mangle)]
 pub extern "C" fn zangjulf_show(handle: &mut Handle) -> u8
     ensures shown { result ≡ DONE → IfSome handle.old.holding.value (λ old. IfSome handle.new.holding.value (ShowsLine old)) }
-    ensures unchanged { result ≢ DONE → handle.new.holding.value ≡ handle.old.holding.value }
-    ensures closed { handle.old.holding.value ≡ None → result ≡ CLOSED }
-    ensures answer_given { IfSome handle.old.holding.value (λ old. result ≢ BUSY → result ≡ DONE) }
+    ensures unchanged { result ≢ DONE → HoldsAsBefore handle.old handle.new }
+    ensures closed { handle.old.holding.value ≡ None → result ≡ no_line_number handle.old.mark }
+    ensures answer { IfSome handle.old.holding.value (λ old. result ≢ BUSY → result ≡ DONE) }
 {
-    if let Err(number) = handle.begin_change() {
-        return number;
-    }
+    let Some(entered) = handle.enter() else {
+        return handle.refusal();
+    };
     let own = handle.holding.line_mut();
     show_all(&own.core, 0, own.ends.used, &mut own.ends.by_task);
-    own.calls.end_change();
+    own.calls.end(entered);
     DONE
 }

@@ -3,9 +3,10 @@ ghost use Rattle.std.specs.Prelude.{◌≡◌, ◌≢◌, ◌+◌, ◌^◌, ◌<
 ghost use Rattle.hc_records.specs.declared.limits.TheConstants.{TASKS};
 ghost use Rattle.hc_events.specs.Steps.{answer_to, entries_after};
 ghost use Rattle.hc_rings.specs.declared.posts.TheConstants.{POSTS_WAITING};
+ghost use Rattle.hc_c.specs.Handles.{HoldsAsBefore, no_line_number};
 ghost use Rattle.hc_c.specs.SeatEnds.{has_seat_from};
 ghost use Rattle.hc_c.specs.TakenPosts.{TakesAll, TakesEnd, TakesFrom, TakesPosts, event_of, is_posted};
-ghost use Rattle.hc_c.specs.declared.numbers.TheConstants.{BUSY, CLOSED};
+ghost use Rattle.hc_c.specs.declared.numbers.TheConstants.{BUSY};
 
 use crate::handle::Handle;
 use crate::numbers::DONE;
@@ -92,21 +93,21 @@ fn take_all(core: &mut Core, task: u8, count: u8, ends: &mut [Option<OwnerEnd>])
 
 /// The owner takes the posts that wait, at most four of each task's seat, and hands each to the core as `zangjulf_post` does: task
 /// 0's first, and each seat's posts in their order. A post that was made before the last edit that changed its task is refused,
-/// and leaves nothing. `DONE`, and `taken` says which tasks' posts were accepted and which refused; `BUSY` or
-/// `CLOSED`, and `taken` is as it was. Each buffer goes back to its seat. What is posted meanwhile may be left for the next call.
+/// and leaves nothing. `DONE`, and `taken` says which tasks' posts were accepted and which refused; `BUSY`, `CLOSED` or
+/// `MISUSED`, and `taken` is as it was. Each buffer goes back to its seat. What is posted meanwhile may be left for the next call.
 /// It waits for nobody and allocates nothing.
 #[unsafe(no_mangle)]
 pub extern "C" fn zangjulf_take_posts(handle: &mut Handle, taken: &mut TakenPosts) -> u8
     ensures taken { result ≡ DONE → IfSome handle.old.holding.value (λ old. IfSome handle.new.holding.value (TakesPosts taken.new old)) }
-    ensures answer_given { IfSome handle.old.holding.value (λ old. result ≢ BUSY → result ≡ DONE) }
-    ensures unchanged { result ≢ DONE → (handle.new.holding.value ≡ handle.old.holding.value) × (taken.new ≡ taken.old) }
-    ensures closed { handle.old.holding.value ≡ None → result ≡ CLOSED }
+    ensures answer { IfSome handle.old.holding.value (λ old. result ≢ BUSY → result ≡ DONE) }
+    ensures unchanged { result ≢ DONE → HoldsAsBefore handle.old handle.new × (taken.new ≡ taken.old) }
+    ensures closed { handle.old.holding.value ≡ None → result ≡ no_line_number handle.old.mark }
 {
-    if let Err(number) = handle.begin_change() {
-        return number;
-    }
+    let Some(entered) = handle.enter() else {
+        return handle.refusal();
+    };
     let own = handle.holding.line_mut();
     *taken = take_all(&mut own.core, 0, own.ends.used, &mut own.ends.by_task);
-    own.calls.end_change();
+    own.calls.end(entered);
     DONE
 }
