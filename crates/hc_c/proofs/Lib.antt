@@ -6,6 +6,8 @@ mod Crossing
 mod FrameSizes
 mod Images
 mod InFrame
+mod Lookers
+mod Mailed
 mod Masks
 mod Offset
 mod Refusals
@@ -15,4 +17,6 @@ mod SeatEnds
 mod Showing
 mod SteadySlots
 mod Taken
+mod Told
 mod TakenBits
+mod Takings

@@ -9,24 +9,20 @@ use Rattle.hc_records.specs.ProjectFault.{project_fault_number}
 use Rattle.hc_events.specs.Accepted.{just_opened}
 use Rattle.hc_c.specs.Counts.{opening_counts}
 use Rattle.hc_c.specs.Embedded.{core_without_changes}
+use Rattle.hc_c.specs.Seats.{no_seats}
 use Rattle.hc_c.specs.declared.embedded.Embedded.{Embedded}
 use Rattle.hc_c.specs.declared.opening.Options.{Options}
 use Rattle.hc_c.specs.declared.opening.TheConstants.{MOST_LOOKERS, OPTIONS_BYTES}
-use Rattle.hc_c.specs.declared.seat.ends.OwnerEnds.{OwnerEnds}
 use Rattle.hc_c.specs.declared.numbers.TheConstants.{OVER_LIMIT, DONE, PROJECT}
 
--- no task has a seat
-abbrev pub no_ends : OwnerEnds
-no_ends = record { by_task = replicate 8 None; used = 0; none_after = λ _. false }
-
--- a core where nothing has happened, no task sent, nothing counted, no seat and no call that runs
-abbrev pub at_opening : List Group → Embedded
-at_opening groups = record { core = core_without_changes (just_opened groups); sent_from = replicate TASKS 0; counts = opening_counts; ends = no_ends; spare = tt; calls = record { runs = tt } }
+-- a core where nothing has happened, no task sent, nothing counted, no seat, so many numbers for seats that only look, and no call that runs
+abbrev pub at_opening : ℕ → List Group → Embedded
+at_opening lookers groups = record { core = core_without_changes (just_opened groups); sent_from = replicate TASKS 0; counts = opening_counts; ends = no_seats lookers; spare = tt; calls = record { runs = tt } }
 
 -- it, if the text is a project
-abbrev pub opened_by : Result (List Group) ProjectFault → Option Embedded
-opened_by (Ok groups) = Some (at_opening groups)
-opened_by (Err fault) = None
+abbrev pub opened_by : ℕ → Result (List Group) ProjectFault → Option Embedded
+opened_by lookers (Ok groups) = Some (at_opening lookers groups)
+opened_by lookers (Err fault) = None
 
 -- a handle with this mark may be opened with these options: it is closed, the options have the size of this version's, and no more look-only seats than 64 are asked for
 abbrev pub may_open : ℕ → Options → Bool

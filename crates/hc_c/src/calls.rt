@@ -1,6 +1,9 @@
 //! The guard of an opened line: one call with its handle runs at a time, and a call that meets another one does not wait. A call
 //! begins with a token that is not `Drop`, so that each call which begins also ends. Contracts see nothing of the flag, which
 //! another thread may change at any time.
+ghost use Rattle.hc_mail.specs.declared.image.LineState.TheVariants.{Closed};
+ghost use Rattle.hc_c.specs.SeatImages.{EachTold};
+
 use crate::embedded::Embedded;
 use std::sync::atomic::{AtomicBool, Ordering};
 
@@ -10,8 +13,10 @@ pub struct Entered {
 }
 
 impl Entered {
-    /// The call that closes a line ends with it, and the line's memory is given back.
-    pub fn end_with(self, own: Box<Embedded>) {
+    /// The call that closes a line ends with it, and the line's memory is given back. Each seat was told that the line is closed.
+    pub fn end_with(self, own: Box<Embedded>)
+        requires { EachTold Closed own.value.ends }
+    {
         let Entered { only: _ } = self;
         drop(own);
     }

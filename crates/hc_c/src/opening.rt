@@ -13,8 +13,10 @@ use crate::embedded::Embedded;
 use crate::handle::Handle;
 use crate::numbers::{DONE, MEMORY, MISUSED, OVER_LIMIT, PROJECT};
 use crate::seat::ends::OwnerEnds;
+use crate::seat::showing::show_ends;
 use crate::spare::Spare;
 use hc_core::keeping::Core;
+use hc_mail::image::LineState;
 use hc_project::read_project;
 use hc_records::faults::{EditFault, ProjectFault};
 use hc_records::project::Project;
@@ -45,8 +47,13 @@ fn may_open(mark: u64, options: &Options) -> bool
 
 /// Opens a project in a box. Otherwise returns the number to answer: `OVER_LIMIT` with the lowest task that needs more than 16
 /// datagrams, or `MEMORY`.
-fn open_project(alloc: Global, project: Project, task: &mut u8) -> Result<Box<Embedded>, u8>
-    ensures opened { IfOk result (λ own. own.value ≡ at_opening project) }
+fn open_project(
+    alloc: Global,
+    project: Project,
+    lookers: u32,
+    task: &mut u8,
+) -> Result<Box<Embedded>, u8>
+    ensures opened { IfOk result (λ own. own.value ≡ at_opening lookers project) }
     ensures accepted { OnOk result (over_limit_task (line (opened project)) ≡ None) }
     ensures refused { IfErr result (λ number. ((number ≡ MEMORY) × (task.new ≡ task.old)) ⊎ ((number ≡ OVER_LIMIT) × (over_limit_task (line (opened project)) ≡ Some task.new))) }
     ensures unwritten { OnOk result (task.new ≡ task.old) }
@@ -65,11 +72,14 @@ fn open_project(alloc: Global, project: Project, task: &mut u8) -> Result<Box<Em
     let Ok(spare) = Spare::new(alloc) else {
         return Err(MEMORY);
     };
+    let Ok(ends) = OwnerEnds::new(alloc, lookers) else {
+        return Err(MEMORY);
+    };
     let line = Embedded {
         core,
         sent_from: [0; 8],
         counts,
-        ends: OwnerEnds::none(),
+        ends,
         spare,
         calls: Calls::none(),
     };
@@ -98,7 +108,7 @@ pub extern "C" fn zangjulf_open(
 ) -> u8
     ensures answer { may_open handle.old.mark options.now ≡ true → result ≢ MEMORY → result ≡ opening_number (project_in text.now) }
     ensures misused { may_open handle.old.mark options.now ≡ false → result ≡ MISUSED }
-    ensures opened { result ≡ DONE → handle.new.holding.value ≡ opened_by (project_in text.now) }
+    ensures opened { result ≡ DONE → handle.new.holding.value ≡ opened_by options.now.lookers (project_in text.now) }
     ensures open { result ≡ DONE → IsSome handle.new.holding.value }
     ensures crowded { result ≡ OVER_LIMIT → over_limit_in (project_in text.now) ≡ Some task.new }
     ensures unwritten { result ≢ OVER_LIMIT → task.new ≡ task.old }
@@ -112,7 +122,7 @@ pub extern "C" fn zangjulf_open(
         Err(ProjectFault::Memory) => return MEMORY,
         Err(fault) => return PROJECT + fault.number(),
     };
-    match open_project(alloc, project, task) {
+    match open_project(alloc, project, options.lookers, task) {
         Ok(own) => {
             *handle = Handle::of(own);
             DONE
@@ -121,7 +131,7 @@ pub extern "C" fn zangjulf_open(
     }
 }
 
-/// Closes a line and gives its memory back. Returns `DONE`, and the handle may be opened anew. It fails with one of these, and
+/// Closes a line and gives its memory back. Each seat gets a last image, which says that the line is closed. Returns `DONE`, and the handle may be opened anew. It fails with one of these, and
 /// then the handle is as it was:
 ///
 /// - `CLOSED`: no line is open.
@@ -137,6 +147,8 @@ pub extern "C" fn zangjulf_close(alloc: Global, handle: &mut Handle) -> u8
     let Some(entered) = handle.enter() else {
         return handle.refusal();
     };
+    let line = handle.holding.line_mut();
+    show_ends(&line.core, &line.sent_from, LineState::Closed, &mut line.ends);
     let own = handle.take(alloc);
     entered.end_with(own);
     DONE
