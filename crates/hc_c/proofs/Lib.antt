@@ -14,5 +14,4 @@ mod Rooms
 mod SeatEnds
 mod Showing
 mod SteadySlots
-mod Taken
 mod TakenBits
