@@ -17,6 +17,6 @@ mod SeatEnds
 mod Showing
 mod SteadySlots
 mod Taken
-mod Told
 mod TakenBits
 mod Takings
+mod Told

@@ -1,5 +1,5 @@
 -- What a call on C's handle says of its line: all of it if the handle holds a line and the call isn't answered that another one runs.
-use Rattle.std.specs.Prelude.{◌≡◌, ◌≢◌, ◌==◌, ◌⊎◌, ℕ, if◌then◌else◌, IfSome, MatchOption, Option, Some}
+use Rattle.std.specs.Prelude.{◌≡◌, ◌≢◌, ◌==◌, ℕ, if◌then◌else◌, IfSome, MatchOption, Option, Some}
 use Rattle.hc_events.specs.Entries.{History}
 use Rattle.hc_c.specs.declared.embedded.Embedded.{Embedded}
 use Rattle.hc_c.specs.declared.handle.Handle.{Handle}
@@ -29,6 +29,10 @@ IfServedBoth before after number says = IfSome before.holding.value (λ old. IfS
 -- if the answer is this number, this holds of the history of the handle's line
 abbrev pub IfAnsweredWith : ℕ → Handle → ℕ → (History → Type 0) → Type 0
 IfAnsweredWith wanted handle number says = number ≡ wanted → IfSome handle.holding.value (λ old. says (embedded_history old))
+
+-- likewise of the line itself
+abbrev pub IfServedWith : ℕ → Handle → ℕ → (Embedded → Type 0) → Type 0
+IfServedWith wanted handle number says = number ≡ wanted → IfSome handle.holding.value says
 
 -- after the call the handle's line is what this step makes of it
 abbrev pub Becomes : Handle → Handle → (Embedded → Embedded) → Type 0

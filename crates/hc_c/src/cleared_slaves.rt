@@ -25,12 +25,12 @@ pub extern "C" fn zangjulf_cleared(handle: &mut Handle, station: u16) -> u8
         return handle.refusal();
     };
     let own = handle.holding.line_mut();
-    let answer_given = match own.core.cleared(station) {
+    let answer = match own.core.cleared(station) {
         Ok(()) => DONE,
         Err(fault) => fault.number(),
     };
     own.calls.end(entered);
-    answer_given
+    answer
 }
 
 /// The declared slave with a station address, outside the line, is off the wire: it holds no task up until its group is
@@ -47,10 +47,10 @@ pub extern "C" fn zangjulf_unplugged(handle: &mut Handle, station: u16) -> u8
         return handle.refusal();
     };
     let own = handle.holding.line_mut();
-    let answer_given = match own.core.unplugged(station) {
+    let answer = match own.core.unplugged(station) {
         Ok(()) => DONE,
         Err(fault) => fault.number(),
     };
     own.calls.end(entered);
-    answer_given
+    answer
 }

@@ -14,9 +14,9 @@ use crate::numbers::DONE;
 /// are owed again, and a write to it that was sent before confirms nothing. `DONE`; else the lower of the faults 5 and 6
 /// that holds, `BUSY`, `CLOSED` or `MISUSED`, and nothing changed. It takes no memory.
 #[unsafe(no_mangle)]
-pub extern "C" fn zangjulf_forget(handle: &mut Handle, station: u16) -> u8
+pub extern "C" fn zangjulf_slave_lost(handle: &mut Handle, station: u16) -> u8
     ensures answer { IfAnswered handle.old result (λ history. result ≡ refusal_number (lowest (forget_faults history station))) }
-    ensures forgotten { result ≡ DONE → Becomes handle.old handle.new (embedded_with_entry (Forgot station)) }
+    ensures lost { result ≡ DONE → Becomes handle.old handle.new (embedded_with_entry (Forgot station)) }
     ensures unchanged { result ≢ DONE → HoldsAsBefore handle.old handle.new }
     ensures closed { handle.old.holding.value ≡ None → result ≡ no_line_number handle.old.mark }
 {
@@ -24,10 +24,10 @@ pub extern "C" fn zangjulf_forget(handle: &mut Handle, station: u16) -> u8
         return handle.refusal();
     };
     let own = handle.holding.line_mut();
-    let answer_given = match own.core.forget(station) {
+    let answer = match own.core.forget(station) {
         Ok(()) => DONE,
         Err(fault) => fault.number(),
     };
     own.calls.end(entered);
-    answer_given
+    answer
 }

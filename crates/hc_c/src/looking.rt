@@ -1,13 +1,13 @@
 //! Look-ups in the configuration of the present line.
-ghost use Rattle.std.specs.Prelude.{◌≡◌, ◌≢◌, None};
+ghost use Rattle.std.specs.Prelude.{◌≡◌, ◌≢◌, ◌≤◌, ◌++◌, None, drop, length};
 ghost use Rattle.hc_events.specs.Points.{line_of, state_of};
 ghost use Rattle.hc_plan.specs.Configuration.{position_of, station_at};
 ghost use Rattle.hc_c.specs.declared.numbers.TheConstants.{BUSY};
-ghost use Rattle.hc_c.specs.Looks.{GivesBlock, GivesPosition, datagram_at, image_bit_of, task_part_bytes, place_numbered, datagram_out, part_out, place_out, AnswersBlock};
-ghost use Rattle.hc_c.specs.Handles.{GivesFound, HoldsAsBefore, IfAnswered, no_line_number};
+ghost use Rattle.hc_c.specs.Looks.{GivesBlock, GivesPosition, datagram_at, image_bit_of, task_part_bytes, place_numbered, datagram_out, place_out, places_out, place_or_zeros, places_number, sizes_out, AnswersBlock};
+ghost use Rattle.hc_c.specs.Handles.{GivesFound, HoldsAsBefore, IfAnswered, IfAnsweredWith, no_line_number};
 
 use crate::handle::Handle;
-use crate::numbers::{DONE, NOTHING, ROOM};
+use crate::numbers::{DONE, MISUSED, NOTHING, ROOM};
 use hc_core::keeping::Core;
 use hc_events::faults::CoreFault;
 use hc_places::table::{Datagram as LineDatagram, Place as LinePlace};
@@ -49,7 +49,7 @@ pub struct Datagram {
 /// The bytes of a task's image, as C gets them.
 #[repr(C)]
 #[derive(Clone, Copy)]
-pub struct Part {
+pub struct ImageSizes {
     /// Those of its outputs, which come first.
     outputs: u16,
     /// Those of its inputs.
@@ -155,6 +155,65 @@ pub extern "C" fn zangjulf_place(handle: &mut Handle, variable: u32, place: &mut
     number
 }
 
+/// What C gets for the place of a variable; zeros if the present line has none.
+fn place_or_zeros(core: &Core, variable: u32) -> Place
+    ensures { result ≡ place_or_zeros core.now.history variable }
+{
+    match place_at(core, variable) {
+        Some(found) => place_out(core, found),
+        None => Place {
+            task: 0,
+            datagram: 0,
+            bits: 0,
+            is_input: false,
+            bit: 0,
+            image_bit: 0,
+        },
+    }
+}
+
+/// Puts what C gets for the places of variables at the front of a slice.
+fn put_places(core: &Core, variables: &[u32], places: &mut [Place])
+    requires { length variables.now ≤ length places.old }
+    ensures { places.new ≡ places_out core.now.history variables.now ++ drop (length variables.now) places.old }
+{
+    for i in 0..variables.len() {
+        places[i] = place_or_zeros(core, variables[i]);
+    }
+}
+
+/// Where each of several variables is, in their order: `places` begins with as many places as there are variables, and a variable
+/// without a place in the present line has zeros, of which `bits` is 0 of no other. Returns `DONE`. It allocates nothing. It fails
+/// with one of these, and `places` is as it was:
+///
+/// - `BUSY`, `CLOSED` or `MISUSED`.
+/// - `MISUSED`: `places` has room for fewer than there are variables.
+#[unsafe(no_mangle)]
+pub extern "C" fn zangjulf_places(
+    handle: &mut Handle,
+    variables: &[u32],
+    places: &mut [Place],
+) -> u8
+    ensures answer { IfAnswered handle.old result (λ _. result ≡ places_number (length variables.now) (length places.old)) }
+    ensures places { IfAnsweredWith DONE handle.old result (λ history. places.new ≡ places_out history variables.now ++ drop (length variables.now) places.old) }
+    ensures unchanged { HoldsAsBefore handle.old handle.new }
+    ensures untouched { result ≢ DONE → places.new ≡ places.old }
+    ensures closed { handle.old.holding.value ≡ None → result ≡ no_line_number handle.old.mark }
+{
+    let Some(entered) = handle.enter() else {
+        return handle.refusal();
+    };
+    let own = handle.holding.line_mut();
+    let number = if places.len() < variables.len() {
+        MISUSED
+    } else {
+        put_places(&own.core, variables, places);
+        DONE
+    };
+    own.calls.end(entered);
+    number
+}
+
 /// A datagram of a task, 0 to 7, by its number from 0: `DONE`; `NOTHING` where the task has fewer, or there is no such
 /// task; `BUSY`, `CLOSED` or `MISUSED`.
 #[unsafe(no_mangle)]
@@ -162,20 +221,20 @@ pub extern "C" fn zangjulf_datagram(
     handle: &mut Handle,
     task: u8,
     datagram: u8,
-    answer_given: &mut Datagram,
+    found: &mut Datagram,
 ) -> u8
-    ensures answer { IfAnswered handle.old result (λ history. GivesFound (datagram_at history task datagram) datagram_out result answer_given.new) }
+    ensures answer { IfAnswered handle.old result (λ history. GivesFound (datagram_at history task datagram) datagram_out result found.new) }
     ensures unchanged { HoldsAsBefore handle.old handle.new }
-    ensures untouched { result ≢ DONE → answer_given.new ≡ answer_given.old }
-    ensures closed { handle.old.holding.value ≡ None → (result ≡ no_line_number handle.old.mark) × (answer_given.new ≡ answer_given.old) }
+    ensures untouched { result ≢ DONE → found.new ≡ found.old }
+    ensures closed { handle.old.holding.value ≡ None → (result ≡ no_line_number handle.old.mark) × (found.new ≡ found.old) }
 {
     let Some(entered) = handle.enter() else {
         return handle.refusal();
     };
     let own = handle.holding.line_mut();
     let number = match datagram_at(&own.core, task, datagram) {
-        Some(found) => {
-            *answer_given = datagram_out(found);
+        Some(row) => {
+            *found = datagram_out(row);
             DONE
         }
         None => NOTHING,
@@ -186,18 +245,18 @@ pub extern "C" fn zangjulf_datagram(
 
 /// The bytes of a task's image, 0 and 0 where there is no such task: `DONE`, `BUSY`, `CLOSED` or `MISUSED`.
 #[unsafe(no_mangle)]
-pub extern "C" fn zangjulf_part(handle: &mut Handle, task: u8, part: &mut Part) -> u8
-    ensures answer { IfAnswered handle.old result (λ history. (result ≡ DONE) × (part.new ≡ part_out (task_part_bytes history task))) }
+pub extern "C" fn zangjulf_image_sizes(handle: &mut Handle, task: u8, sizes: &mut ImageSizes) -> u8
+    ensures answer { IfAnswered handle.old result (λ history. (result ≡ DONE) × (sizes.new ≡ sizes_out (task_part_bytes history task))) }
     ensures unchanged { HoldsAsBefore handle.old handle.new }
-    ensures busy { result ≡ BUSY → part.new ≡ part.old }
-    ensures closed { handle.old.holding.value ≡ None → (result ≡ no_line_number handle.old.mark) × (part.new ≡ part.old) }
+    ensures busy { result ≡ BUSY → sizes.new ≡ sizes.old }
+    ensures closed { handle.old.holding.value ≡ None → (result ≡ no_line_number handle.old.mark) × (sizes.new ≡ sizes.old) }
 {
     let Some(entered) = handle.enter() else {
         return handle.refusal();
     };
     let own = handle.holding.line_mut();
     let (outputs, inputs) = part_at(&own.core, task);
-    *part = Part { outputs, inputs };
+    *sizes = ImageSizes { outputs, inputs };
     own.calls.end(entered);
     DONE
 }
@@ -288,10 +347,10 @@ pub extern "C" fn zangjulf_block(
         return handle.refusal();
     };
     let own = handle.holding.line_mut();
-    let answer_given = match own.core.plan().block(station, number) {
+    let answer = match own.core.plan().block(station, number) {
         Some(found) => give_block(&found, out, block),
         None => NOTHING,
     };
     own.calls.end(entered);
-    answer_given
+    answer
 }

@@ -25,7 +25,7 @@ fn fill_frame(core: &Core, frame: &Sending, out: &mut [u8])
 
 /// Gives the frame of a datagram: `DONE`; `NOTHING` where there is none; or `ROOM` where `out` is too short.
 fn give_preview(core: &Core, task: u8, datagram: u8, out: &mut [u8], size: &mut usize) -> u8
-    ensures answer_given { AnswersPreview core.now.history task datagram result size.old size.new out.old out.new }
+    ensures answer { AnswersPreview core.now.history task datagram result size.old size.new out.old out.new }
     ensures untouched { result ≢ DONE → out.new ≡ out.old }
 {
     let Some(frame) = core.preview(task, datagram) else {
@@ -61,7 +61,7 @@ pub extern "C" fn zangjulf_preview(
         return handle.refusal();
     };
     let own = handle.holding.line_mut();
-    let answer_given = give_preview(&own.core, task, datagram, out, size);
+    let answer = give_preview(&own.core, task, datagram, out, size);
     own.calls.end(entered);
-    answer_given
+    answer
 }

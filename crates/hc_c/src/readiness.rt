@@ -57,7 +57,7 @@ pub extern "C" fn zangjulf_held_by(
         return handle.refusal();
     };
     let own = handle.holding.line_mut();
-    let answer_given = match holder(&own.core, task, number) {
+    let answer = match holder(&own.core, task, number) {
         Some(found) => {
             *station = found;
             DONE
@@ -65,5 +65,5 @@ pub extern "C" fn zangjulf_held_by(
         None => NOTHING,
     };
     own.calls.end(entered);
-    answer_given
+    answer
 }

@@ -1,5 +1,5 @@
 //! How far what a task reads answers the last sending of the task.
-ghost use Rattle.std.specs.Prelude.{◌≡◌, ◌≤◌, length};
+ghost use Rattle.std.specs.Prelude.{◌≡◌, ◌≤◌, length, slice_index_or};
 ghost use Rattle.hc_records.specs.declared.limits.TheConstants.{MOST_DATAGRAMS};
 ghost use Rattle.hc_c.specs.States.{count_since, is_since, state_number, task_state};
 
@@ -53,4 +53,14 @@ pub fn task_state(first: u64, serials: &[Option<u64>]) -> u8
     ensures { result ≡ task_state first serials.now }
 {
     state_number(count_since(first, serials), serials.len() as u8)
+}
+
+/// The first serial of a task's last sending, 0 before one and of no task.
+pub fn first_serial(sent_from: &[u64], task: u8) -> u64
+    ensures { result ≡ slice_index_or sent_from.now task 0 }
+{
+    match sent_from.get(usize::from(task)) {
+        Some(first) => *first,
+        None => 0,
+    }
 }
