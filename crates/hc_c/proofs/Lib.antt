@@ -3,8 +3,11 @@ mod Asked
 mod Boxed
 mod BoxedEnd
 mod Crossing
+mod FrameSizes
 mod Images
 mod InFrame
+mod Lookers
+mod Mailed
 mod Masks
 mod Offset
 mod Refusals
@@ -15,3 +18,5 @@ mod Showing
 mod SteadySlots
 mod Taken
 mod TakenBits
+mod Takings
+mod Told

@@ -154,11 +154,11 @@ laid-out history task = record {
   sized = λ d. sized-slot history task d (steady_slot history task d) refl;
 }
 
-task-holds : (history : History) (task : ℕ) (image : Image) (before after serials serials' : List ℕ) → task < TASKS
-    → HoldsImage history task (map (datagram_of (line_of history) task) (range_with_len 0 (datagram_count (task_places task (line_of history))))) image before after serials serials'
+task-holds : (history : History) (task first : ℕ) (image : Image) (before after serials serials' : List ℕ) → task < TASKS
+    → HoldsImage history task (map (datagram_of (line_of history) task) (range_with_len 0 (datagram_count (task_places task (line_of history))))) first image before after serials serials'
     → HoldsByOffset history task image after
 unfolding datagram_at task_part_bytes
-task-holds history task image before after serials serials' low holds =
+task-holds history task first image before after serials serials' low holds =
     let members = line_of history in
     let areas = task_places task members in
     let count = datagram_count areas in
@@ -174,7 +174,7 @@ task-holds history task image before after serials serials' low holds =
     let count_is : 0 + count ≡ count = omega arith in
     let whole = ap (datagram_offset areas) count_is in
     let sum : image_size (map row (range_with_len 0 count)) ≡ output_length areas + input_length areas = omega (arith, all, whole, last) in
-    let size = holds.size in
+    let size = ap (λ (one : Image). one.size) holds.reported in
     record {
       each = λ number datagram own at is.
           let found = row-is members task number datagram at in
@@ -195,13 +195,13 @@ task-holds history task image before after serials serials' low holds =
 no-task : (members : List Member) (task : ℕ) → TASKS ≤ task → slice_get (map (task_table members) tasks) task ≡ None
 no-task members task high = slice_get_past (map (task_table members) tasks) task high
 
-none-holds : (history : History) (task : ℕ) (image : Image) (before after serials serials' : List ℕ) → TASKS ≤ task
-    → HoldsImage history task (datagrams_of history task) image before after serials serials' → HoldsByOffset history task image after
+none-holds : (history : History) (task first : ℕ) (image : Image) (before after serials serials' : List ℕ) → TASKS ≤ task
+    → HoldsImage history task (datagrams_of history task) first image before after serials serials' → HoldsByOffset history task image after
 unfolding datagram_at task_part_bytes
-none-holds history task image before after serials serials' high holds =
+none-holds history task first image before after serials serials' high holds =
     let members = line_of history in
     let none = no-task members task high in
-    let size : image.size ≡ 0 = holds.size ∙ ap (λ (o : Option TaskTable). image_size (option_map_or (λ (found : TaskTable). found.datagrams) o [])) none in
+    let size : image.size ≡ 0 = ap (λ (one : Image). one.size) holds.reported ∙ ap (λ (o : Option TaskTable). image_size (option_map_or (λ (found : TaskTable). found.datagrams) o [])) none in
     record {
       each = λ number datagram own at is.
           let nowhere : None ≡ Some datagram = sym (ap (option_and_then (λ (found : TaskTable). slice_get found.datagrams number)) none) ∙ at in
@@ -211,10 +211,10 @@ none-holds history task image before after serials serials' high holds =
     }
 
 pub reads-hold : ReadsHoldByOffset
-reads-hold history task image before after serials serials' holds = elim (cases_lt task TASKS) [
+reads-hold history task first image before after serials serials' holds = elim (cases_lt task TASKS) [
   | inl low ↦
-      task-holds history task image before after serials serials' low
-      (subst (λ (all : List Datagram). HoldsImage history task all image before after serials serials')
+      task-holds history task first image before after serials serials' low
+      (subst (λ (all : List Datagram). HoldsImage history task all first image before after serials serials')
       (ap (λ (o : Option TaskTable). option_map_or (λ (found : TaskTable). found.datagrams) o []) (task-there (line_of history) task low)) holds)
-  | inr high ↦ none-holds history task image before after serials serials' high holds
+  | inr high ↦ none-holds history task first image before after serials serials' high holds
 ]

@@ -2,6 +2,7 @@
 use Rattle.std.proofs.Common.{rules, ◌≡◌, ◌≢◌, ◌∙◌, ℕ, zero, suc, ◌+◌, ◌-◌, ◌<◌, ◌≤◌, true, false, List, [], ◌∷◌, Option, None, Some, set, refl, arith}
 use Rattle.hc_events.specs.Entries.{History}
 use Rattle.hc_core.specs.State.{CoreState}
+use Rattle.hc_mail.specs.declared.image.LineState.{LineState}
 use Rattle.hc_c.specs.SeatEnds.{has_seat_from}
 use Rattle.hc_c.specs.SeatImages.{ShowsAll}
 use Rattle.hc_c.specs.TakenPosts.{TakesAll}
@@ -11,10 +12,10 @@ none_is : true ≡ false → ⊥
 none_is e = cc
 
 -- there nothing is shown
-pub shows-none : (history : History) (task : ℕ) (ends : List (Option OwnerEnd)) → has_seat_from 0 ends ≡ false → ShowsAll history task ends ends
-shows-none history task [] none = tt
-shows-none history task (None ∷ ends) none = (tt, shows-none history (task + 1) ends none)
-shows-none history task (Some end ∷ ends) none = absurd (none_is none)
+pub shows-none : (history : History) (firsts : List ℕ) (line : LineState) (task : ℕ) (ends : List (Option OwnerEnd)) → has_seat_from 0 ends ≡ false → ShowsAll history firsts line task ends ends
+shows-none history firsts line task [] none = tt
+shows-none history firsts line task (None ∷ ends) none = (tt, shows-none history firsts line (task + 1) ends none)
+shows-none history firsts line task (Some end ∷ ends) none = absurd (none_is none)
 
 -- and nothing taken
 pub takes-none : (task : ℕ) (core : CoreState) (ends : List (Option OwnerEnd)) → has_seat_from 0 ends ≡ false → TakesAll task core core ends ends 0 0

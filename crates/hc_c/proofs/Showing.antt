@@ -7,9 +7,9 @@ use Rattle.std.proofs.lemmas.List.Sums.{sum_by-cons}
 use Rattle.hc_places.specs.declared.table.Datagram.{Datagram}
 use Rattle.hc_places.specs.Ranges.{IsDatagram}
 use Rattle.hc_events.specs.Entries.{History}
-use Rattle.hc_events.specs.Points.{epoch_of}
-use Rattle.hc_events.specs.Steady.{task_epoch}
-use Rattle.hc_mail.specs.Images.{Image, Room, begun, with_outputs}
+use Rattle.hc_mail.specs.Contents.{Room}
+use Rattle.hc_mail.specs.Images.{Image, begun, with_outputs}
+use Rattle.hc_mail.specs.declared.image.ImageHead.{ImageHead}
 use Rattle.hc_c.specs.Looks.{task_part_bytes}
 use Rattle.hc_c.specs.Reads.{data_or_zeros, datagrams_of, image_from, image_size}
 use Rattle.hc_c.specs.SeatImages.{image_shown, sent_from, serial_shown, serials_shown, with_slot, with_slots}
@@ -63,15 +63,14 @@ outputs_joined size left sent front rest all image is_front is_left are =
     let joined = append_assoc image.outputs front (take left rest) ∙ ap (λ (l : List ℕ). image.outputs ++ l) whole in
     λ t. record image { outputs = joined t }
 
--- an image that is begun and has all datagrams of a task, and then its outputs, is what the task's seat is shown
-pub shown_image : (history : History) (task epoch own outputs : ℕ) (datagrams : List Datagram) (room : Room) (first second third : Image) → first ≡ begun epoch own room → second ≡ with_slots history task 0 datagrams first
-    → third ≡ with_outputs (take outputs (sent_from history task 0 datagrams)) second → epoch ≡ epoch_of history → own ≡ task_epoch history task → datagrams ≡ datagrams_of history task → outputs ≡ (task_part_bytes history task).0 → room ≡ image_room
-    → third ≡ image_shown history task
-shown_image history task epoch own outputs datagrams room first second third is_first is_second is_third is_epoch is_own are part is_room =
+-- an image that is begun with a head and has all datagrams of a task, and then its outputs, is an image of the task with this head
+pub shown_image : (history : History) (task outputs : ℕ) (head : ImageHead) (datagrams : List Datagram) (room : Room) (first second third : Image) → first ≡ begun head room → second ≡ with_slots history task 0 datagrams first
+    → third ≡ with_outputs (take outputs (sent_from history task 0 datagrams)) second → datagrams ≡ datagrams_of history task → outputs ≡ (task_part_bytes history task).0 → room ≡ image_room
+    → third ≡ image_shown history task head
+shown_image history task outputs head datagrams room first second third is_first is_second is_third are part is_room =
     is_third ∙ (ap (with_outputs (take outputs (sent_from history task 0 datagrams))) is_second ∙ (ap (λ (image : Image). with_outputs (take outputs (sent_from history task 0 datagrams)) (with_slots history task 0 datagrams image)) is_first
     ∙ (λ t. record {
-      epoch = is_epoch t;
-      task_epoch = is_own t;
+      head = head;
       bytes = image_from history task 0 (are t);
       serials = serials_shown history task 0 (length (are t));
       outputs = take (part t) (sent_from history task 0 (are t));

@@ -9,13 +9,13 @@ use Rattle.hc_c.specs.declared.embedded.Embedded.{Embedded}
 use Rattle.hc_c.specs.declared.numbers.TheConstants.{MEMORY, PROJECT}
 use Rattle.hc_c.specs.Edits.{Serves}
 
--- the text is no group's for this fault, which is answered, or a growth was refused; nothing changes
+-- the text is no group's for this fault, which is answered, or an allocation failed; nothing changes
 pub record IsNoGroup (fault : ProjectFault) (old new : Embedded) (number : ℕ) (before after : Cost) : Type 0 where
-  pub answer_given : number ≢ MEMORY → number ≡ PROJECT + project_fault_number fault
+  pub answer : number ≢ MEMORY → number ≡ PROJECT + project_fault_number fault
   pub unchanged : new ≡ old
   pub cost_stays : after ≡ before
 
--- the group of a text is declared, judged as any edit; where the text is no group's its fault is answered
+-- the group of a text is declared, judged as any edit; if the text is no group's its fault is answered
 abbrev pub Declares : Result Group ProjectFault → Embedded → Embedded → Bool → ℕ → Cost → Cost → Type 0
 Declares (Ok group) old new asks number before after = Serves old new (Declare group) asks number before after
 Declares (Err fault) old new asks number before after = IsNoGroup fault old new number before after

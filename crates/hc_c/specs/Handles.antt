@@ -1,26 +1,38 @@
--- What a call on C's handle says of its line: all of it where the handle has a line and isn't busy.
-use Rattle.std.specs.Prelude.{◌≡◌, ◌≢◌, ℕ, IfSome, MatchOption, Option, Some}
+-- What a call on C's handle says of its line: all of it if the handle holds a line and the call isn't answered that another one runs.
+use Rattle.std.specs.Prelude.{◌≡◌, ◌≢◌, ◌==◌, ℕ, if◌then◌else◌, IfSome, MatchOption, Option, Some}
 use Rattle.hc_events.specs.Entries.{History}
 use Rattle.hc_c.specs.declared.embedded.Embedded.{Embedded}
 use Rattle.hc_c.specs.declared.handle.Handle.{Handle}
-use Rattle.hc_c.specs.declared.numbers.TheConstants.{BUSY, DONE, NOTHING}
+use Rattle.hc_c.specs.declared.numbers.TheConstants.{BUSY, CLOSED, DONE, MISUSED, NOTHING}
 use Rattle.hc_c.specs.Embedded.{embedded_history}
 
--- where the handle had a line and wasn't busy, this holds of the line
+-- the answer of a handle that holds no line: 255 if its mark is 0, so that it is closed; with any other mark it was never zeroed, 254
+abbrev pub no_line_number : ℕ → ℕ
+no_line_number mark = if mark == 0 then CLOSED else MISUSED
+
+-- the handle has the same mark, and the line that it holds, if it holds one, is as it was
+abbrev pub HoldsAsBefore : Handle → Handle → Type 0
+HoldsAsBefore before after = (after.mark ≡ before.mark) × (after.holding.value ≡ before.holding.value)
+
+-- if the handle had a line and no other call ran, this holds of the line
 abbrev pub IfServed : Handle → ℕ → (Embedded → Type 0) → Type 0
 IfServed handle number says = IfSome handle.holding.value (λ old. number ≢ BUSY → says old)
 
--- the same of the history of its line
+-- likewise of the history of its line
 abbrev pub IfAnswered : Handle → ℕ → (History → Type 0) → Type 0
 IfAnswered handle number says = IfServed handle number (λ old. says (embedded_history old))
 
--- the same of the line before the call and after it
+-- likewise of the line before the call and after it
 abbrev pub IfServedBoth : Handle → Handle → ℕ → (Embedded → Embedded → Type 0) → Type 0
 IfServedBoth before after number says = IfSome before.holding.value (λ old. IfSome after.holding.value (λ new. number ≢ BUSY → says old new))
 
--- where the answer is this number, this holds of the history of the handle's line
+-- if the answer is this number, this holds of the history of the handle's line
 abbrev pub IfAnsweredWith : ℕ → Handle → ℕ → (History → Type 0) → Type 0
 IfAnsweredWith wanted handle number says = number ≡ wanted → IfSome handle.holding.value (λ old. says (embedded_history old))
+
+-- likewise of the line itself
+abbrev pub IfServedWith : ℕ → Handle → ℕ → (Embedded → Type 0) → Type 0
+IfServedWith wanted handle number says = number ≡ wanted → IfSome handle.holding.value says
 
 -- after the call the handle's line is what this step makes of it
 abbrev pub Becomes : Handle → Handle → (Embedded → Embedded) → Type 0

@@ -7,7 +7,6 @@ use Rattle.std.specs.Coded.{coded_option}
 use Rattle.std.specs.Global.{Global}
 use Rattle.std.specs.declared.option.Option.{Option}
 use Rattle.std.specs.declared.option.Option.TheVariants.{None, Some}
-use Rattle.std_alloc.specs.declared.boxed.Box.{Box}
 use Rattle.std_heap.specs.contracts.GlobalAllocator.TheImpl.{ghosts}
 use Rattle.hc_c.specs.contracts.embedded.Embedded.{the_row}
 
@@ -19,8 +18,3 @@ owns_embedded alloc at (Some value) = box_owns (ghosts.dealloc_token alloc) the_
 -- how the logic stores it
 abbrev pub embedded_coded : Coded (Option the_row.Denot)
 embedded_coded = coded_option the_row.coded
-
--- what is in a box, if there is one
-abbrev pub in_box : Option (Box the_row.Denot Global) → Option the_row.Denot
-in_box None = None
-in_box (Some own) = Some own.value

@@ -7,7 +7,6 @@ use Rattle.std.specs.Coded.{coded_option}
 use Rattle.std.specs.Global.{Global}
 use Rattle.std.specs.declared.option.Option.{Option}
 use Rattle.std.specs.declared.option.Option.TheVariants.{None, Some}
-use Rattle.std_alloc.specs.declared.boxed.Box.{Box}
 use Rattle.std_heap.specs.contracts.GlobalAllocator.TheImpl.{ghosts}
 use Rattle.hc_c.specs.contracts.seat.ends.TaskEnd.{the_row}
 
@@ -19,8 +18,3 @@ owns_end alloc at (Some value) = box_owns (ghosts.dealloc_token alloc) the_row a
 -- how the logic stores it
 abbrev pub end_coded : Coded (Option the_row.Denot)
 end_coded = coded_option the_row.coded
-
--- what is in a box, if there is one
-abbrev pub in_box : Option (Box the_row.Denot Global) → Option the_row.Denot
-in_box None = None
-in_box (Some own) = Some own.value

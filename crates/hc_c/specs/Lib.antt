@@ -7,14 +7,13 @@ pub mod Lists
 pub mod Looks
 pub mod Edits
 pub mod Sends
-pub mod ReadySends
 pub mod Readiness
 pub mod Arrivals
 pub mod Returned
+pub mod States
 pub mod Reads
 pub mod Pieces
 pub mod Owings
-pub mod HandingOut
 pub mod Groups
 pub mod Runs
 pub mod Values

@@ -88,4 +88,4 @@ LocatesAs (Some found) number before after = (number ≡ found_number found) × 
 pub record Locates (text : List ℕ) (number : ℕ) (before after : Location) : Type 0 where
   pub found : Option Found
   pub of_text : LocatesFault text found
-  pub answer_given : LocatesAs found number before after
+  pub answer : LocatesAs found number before after

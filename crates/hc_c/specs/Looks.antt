@@ -1,5 +1,6 @@
 -- What C gets for the configuration of the present line.
-use Rattle.std.specs.Prelude.{◌≡◌, ℕ, ◌≤◌, ◌<◌, ◌++◌, Bool, true, false, List, length, drop, option_and_then, Option, Result, Ok, Err, MatchOption}
+use Rattle.std.specs.Prelude.{◌≡◌, ℕ, ◌≤◌, ◌<◌, ◌++◌, nat_le, if◌then◌else◌, Bool, true, false, List, length, map, drop, option_and_then, Option, Result, Ok, Err, MatchOption}
+use Rattle.std.specs.Option.{option_map_or}
 use Rattle.hc_records.specs.declared.faults.EditFault.{EditFault}
 use Rattle.hc_records.specs.declared.records.Dir.{Dir}
 use Rattle.hc_records.specs.declared.records.Dir.TheVariants.{In, Out}
@@ -12,11 +13,11 @@ use Rattle.hc_events.specs.Entries.{History}
 use Rattle.hc_events.specs.Faults.{core_fault_number, edit_refusal}
 use Rattle.hc_events.specs.Points.{line_of}
 use Rattle.hc_places.specs.Table.{datagram_in, part_in, place_in, table_of}
-use Rattle.hc_c.specs.declared.numbers.TheConstants.{NOTHING, DONE, ROOM}
+use Rattle.hc_c.specs.declared.numbers.TheConstants.{NOTHING, DONE, MISUSED, ROOM}
 use Rattle.hc_places.specs.declared.table.Datagram as line
 use Rattle.hc_c.specs.declared.looking.Block.{Block}
 use Rattle.hc_c.specs.declared.looking.Datagram.{Datagram}
-use Rattle.hc_c.specs.declared.looking.Part.{Part}
+use Rattle.hc_c.specs.declared.looking.ImageSizes.{ImageSizes}
 use Rattle.hc_c.specs.declared.looking.Place.{Place}
 
 -- where the variable with a number is in the present line; 0 is no variable's number
@@ -55,9 +56,25 @@ place_out history place = record {
 abbrev pub datagram_out : line.Datagram → Datagram
 datagram_out datagram = record { address = datagram.address; length = datagram.length; expected = datagram.expected; offset = datagram.offset }
 
+-- no place, as C gets it
+abbrev pub no_place : Place
+no_place = record { task = 0; datagram = 0; bits = 0; is_input = false; bit = 0; image_bit = 0 }
+
+-- the place of the variable with a number, as C gets it; zeros if the present line has none
+abbrev pub place_or_zeros : History → ℕ → Place
+place_or_zeros history number = option_map_or (place_out history) (place_numbered history number) no_place
+
+-- those of several variables, in their order
+abbrev pub places_out : History → List ℕ → List Place
+places_out history variables = map (place_or_zeros history) variables
+
+-- 0 if so many places fit so much room, else 254
+abbrev pub places_number : ℕ → ℕ → ℕ
+places_number count room = if nat_le count room then DONE else MISUSED
+
 -- the bytes of a task's outputs and inputs, as C gets them
-abbrev pub part_out : ℕ × ℕ → Part
-part_out part = record { outputs = part.0; inputs = part.1 }
+abbrev pub sizes_out : ℕ × ℕ → ImageSizes
+sizes_out part = record { outputs = part.0; inputs = part.1 }
 
 -- a position is given, or the fault why there is none
 abbrev pub GivesPosition : Result ℕ EditFault → ℕ → ℕ → Type 0

@@ -31,5 +31,5 @@ pub record HoldsByOffset (history : History) (task : ℕ) (image : Image) (out :
 -- what the contract of a read says one datagram after another holds by offsets
 abbrev pub ReadsHoldByOffset : Type 0
 ReadsHoldByOffset =
-    (history : History) (task : ℕ) (image : Image) (before after serials serials' : List ℕ)
-    → HoldsImage history task (datagrams_of history task) image before after serials serials' → HoldsByOffset history task image after
+    (history : History) (task first : ℕ) (image : Image) (before after serials serials' : List ℕ)
+    → HoldsImage history task (datagrams_of history task) first image before after serials serials' → HoldsByOffset history task image after

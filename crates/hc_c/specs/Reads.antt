@@ -12,7 +12,10 @@ use Rattle.hc_events.specs.Steady.{steady_serial, steady_slot, task_epoch}
 use Rattle.hc_events.specs.Steps.{Reads, answer_to}
 use Rattle.hc_c.specs.declared.numbers.TheConstants.{DONE, NOTHING, ROOM}
 use Rattle.hc_c.specs.declared.reading.Image.{Image}
+use Rattle.hc_c.specs.declared.embedded.Embedded.{Embedded}
+use Rattle.hc_c.specs.Embedded.{embedded_history, task_sent_from}
 use Rattle.hc_c.specs.Lists.{put_first}
+use Rattle.hc_c.specs.States.{task_state}
 
 -- the datagrams of a task in the present line, in order
 abbrev pub datagrams_of : History → ℕ → List Datagram
@@ -22,7 +25,7 @@ datagrams_of history task = datagrams_in (table_of (line_of history)) task
 abbrev pub image_size : List Datagram → ℕ
 image_size datagrams = sum_by (λ datagram. datagram.length) datagrams
 
--- the data of a datagram with so many bytes; where it has none, as many zeros
+-- the data of a datagram with so many bytes; if it has none, as many zeros
 abbrev pub data_or_zeros : ℕ → Option (List ℕ) → List ℕ
 data_or_zeros size None = replicate size 0
 data_or_zeros size (Some bytes) = bytes
@@ -42,11 +45,11 @@ bit_mask (bit ∷ bits) = (if bit then 1 else 0) + 2 * bit_mask bits
 abbrev pub have_data : History → ℕ → ℕ → ℕ → List Bool
 have_data history task number count = map (λ d. is_some (steady_slot history task d)) (range_with_len number count)
 
--- of so many datagrams of a task, from a number on, the serial of the sending that each one's data answer; 0 where it has none
+-- of so many datagrams of a task, from a number on, the serial of the sending that each one's data answer; 0 if it has none
 abbrev pub serials_from : History → ℕ → ℕ → ℕ → List ℕ
 serials_from history task number count = map (λ d. unwrap_or (steady_serial history task d) 0) (range_with_len number count)
 
--- 0 where so many bytes fit a slice of so many, else the number of one that is too short
+-- 0 if so many bytes fit a slice of so many, else the number of one that is too short
 abbrev pub fit_number : ℕ → ℕ → ℕ
 fit_number size room = if nat_le size room then DONE else ROOM
 
@@ -60,16 +63,33 @@ image_number _ size room = NOTHING
 abbrev pub read_number : History → ℕ → ℕ → ℕ
 read_number history task room = image_number (answer_to history (Reads task)) (image_size (datagrams_of history task)) room
 
--- what a task reads of these datagrams: the epoch and the task's epoch, their number and their bytes; those with data by their bits; the bytes of all before what the slice had after them; and each one's serial, as many as there is room for
-pub record HoldsImage (history : History) (task : ℕ) (datagrams : List Datagram) (image : Image) (before after serials serials' : List ℕ) : Type 0 where
-  pub epoch_is : image.epoch ≡ epoch_of history
-  pub task_epoch_is : image.task_epoch ≡ task_epoch history task
-  pub counted : image.datagrams ≡ length datagrams
-  pub size : image.size ≡ image_size datagrams
-  pub has : image.has ≡ bit_mask (have_data history task 0 (length datagrams))
+-- of so many datagrams of a task, from a number on, the serials that their data answer
+abbrev pub serials_read : History → ℕ → ℕ → ℕ → List (Option ℕ)
+serials_read history task number count = map (steady_serial history task) (range_with_len number count)
+
+-- what is reported of a task's datagrams: the first serial of its last sending, the epoch and the task's epoch, their bytes and their number; those with data by their bits; and whether the data answer that sending
+abbrev pub image_out : History → ℕ → List Datagram → ℕ → Image
+image_out history task datagrams first = record {
+  first_serial = first;
+  epoch = epoch_of history;
+  task_epoch = task_epoch history task;
+  size = image_size datagrams;
+  datagrams = length datagrams;
+  has = bit_mask (have_data history task 0 (length datagrams));
+  state = task_state first (serials_read history task 0 (length datagrams));
+  reserved = replicate 7 0;
+}
+
+-- what a task reads of these datagrams: what is reported of them; the bytes of all before what the slice had after them; and each one's serial, as many as there is room for
+pub record HoldsImage (history : History) (task : ℕ) (datagrams : List Datagram) (first : ℕ) (image : Image) (before after serials serials' : List ℕ) : Type 0 where
+  pub reported : image ≡ image_out history task datagrams first
   pub bytes : after ≡ image_from history task 0 datagrams ++ drop (image_size datagrams) before
   pub answered_serials : serials' ≡ put_first (serials_from history task 0 (length datagrams)) serials
 
 -- what a task reads of all its datagrams
-abbrev pub HoldsTask : History → ℕ → Image → List ℕ → List ℕ → List ℕ → List ℕ → Type 0
-HoldsTask history task image before after serials serials' = HoldsImage history task (datagrams_of history task) image before after serials serials'
+abbrev pub HoldsTask : History → ℕ → ℕ → Image → List ℕ → List ℕ → List ℕ → List ℕ → Type 0
+HoldsTask history task first image before after serials serials' = HoldsImage history task (datagrams_of history task) first image before after serials serials'
+
+-- so it is of a line's task, with the first serial of its last sending
+abbrev pub ReadsTask : Embedded → ℕ → Image → List ℕ → List ℕ → List ℕ → List ℕ → Type 0
+ReadsTask old task image before after serials serials' = HoldsTask (embedded_history old) task (task_sent_from old task) image before after serials serials'

@@ -1,8 +1,7 @@
 -- What the code makes of a frame that is answered: outcome beside part, by the part's own address and the table of the present line. No public contract names it.
 use Rattle.std.specs.Prelude.{◌≡◌, ℕ, ◌+◌, ◌≤◌, List, [], ◌∷◌, length}
 use Rattle.std.specs.Option.{option_map_or}
-use Rattle.hc_frames.specs.Arrived.{ArrivedDatagram, Reading}
-use Rattle.hc_frames.specs.FrameText.{WireDatagram}
+use Rattle.hc_frames.specs.Arrived.{ArrivedDatagram}
 use Rattle.hc_places.specs.Table.{Table, datagram_in}
 use Rattle.hc_registers.specs.declared.counters.TheConstants.{WRITE_COUNT}
 use Rattle.hc_events.specs.declared.answer.Arrived.{Arrived}
@@ -13,8 +12,8 @@ use Rattle.hc_events.specs.Names.{named_at, written_at}
 use Rattle.hc_events.specs.Sendings.{Named}
 use Rattle.hc_c.specs.declared.arriving.Arrival.{Arrival}
 use Rattle.hc_c.specs.declared.arriving.Outcome.{Outcome}
-use Rattle.hc_c.specs.declared.arriving.TheConstants.{BLOCK_MISSED, BLOCK_WRITTEN, INPUTS, SENT_AGAIN, WRONG_COUNT}
-use Rattle.hc_c.specs.declared.numbers.TheConstants.{DONE, STALE, WRITE_DONE, WRITE_MISSED, WRITTEN}
+use Rattle.hc_c.specs.declared.arriving.TheConstants.{BLOCK_MISSED, BLOCK_WRITTEN, INPUTS, OF_BLOCKS, OF_TASKS, SENT_AGAIN, STALE, WRONG_COUNT}
+use Rattle.hc_c.specs.Arrivals.{arrival_as}
 
 -- the kind that an outcome gives
 abbrev pub kind_by : core.Outcome → ℕ
@@ -34,6 +33,7 @@ part_outcome_out table one placed = record {
   kind = kind_by one;
   task = (named_at placed.carried.address).0;
   datagram = (named_at placed.carried.address).1;
+  reserved = 0;
   expected = expected_in table (named_at placed.carried.address);
   got = placed.carried.counter;
   at = placed.start + 10;
@@ -54,6 +54,7 @@ block_outcome_out one placed = record {
   kind = kind_by one;
   task = 0;
   datagram = 0;
+  reserved = 0;
   expected = WRITE_COUNT;
   got = placed.carried.counter;
   at = placed.start + 10;
@@ -72,6 +73,8 @@ answered_blocks (one ∷ outcomes) (part ∷ placed) = block_outcome_out one par
 abbrev pub answered_as : Arrived → Table → List core.Outcome → List ArrivedDatagram → List Outcome
 answered_as arrived.Answered table outcomes placed = parts_out table outcomes placed
 answered_as arrived.Written table outcomes placed = answered_blocks outcomes placed
+answered_as arrived.WriteDone table outcomes placed = answered_blocks (outcome.Done ∷ []) placed
+answered_as arrived.WriteMissed table outcomes placed = answered_blocks (outcome.Missed ∷ []) placed
 answered_as _ table outcomes placed = []
 
 -- and what is counted of it
@@ -83,23 +86,10 @@ counted_as _ table outcomes placed = []
 abbrev pub IsInFrame : ArrivedDatagram → Type 0
 IsInFrame placed = placed.start + (12 + length placed.carried.bytes) ≤ 2064
 
--- the station address and the register of the first datagram's address
-abbrev pub first_written : List WireDatagram → ℕ × ℕ
-first_written [] = (0, 0)
-first_written (part ∷ parts) = written_at part.address
-
--- the number of what an arrival is as a whole
-abbrev pub arrived_number : Arrived → ℕ
-arrived_number arrived.Answered = DONE
-arrived_number arrived.WriteDone = WRITE_DONE
-arrived_number arrived.WriteMissed = WRITE_MISSED
-arrived_number arrived.Stale = STALE
-arrived_number arrived.Written = WRITTEN
-
--- what is said of it as a whole, with so many outcomes
-abbrev pub arrival_out : Arrived → ℕ → Reading → Arrival
-arrival_out arrived.Answered count frame = record { serial = frame.serial; datagrams = count; station = 0; start = 0 }
-arrival_out arrived.Written count frame = record { serial = frame.serial; datagrams = count; station = 0; start = 0 }
-arrival_out arrived.WriteDone count frame = record { serial = frame.serial; datagrams = 0; station = (first_written frame.parts).0; start = (first_written frame.parts).1 }
-arrival_out arrived.WriteMissed count frame = record { serial = frame.serial; datagrams = 0; station = (first_written frame.parts).0; start = (first_written frame.parts).1 }
-arrival_out arrived.Stale count frame = record { serial = frame.serial; datagrams = 0; station = 0; start = 0 }
+-- what is said of an arrival as a whole, with so many outcomes in the core's list
+abbrev pub arrival_out : Arrived → ℕ → ℕ → Arrival
+arrival_out arrived.Answered count serial = arrival_as serial count OF_TASKS
+arrival_out arrived.Written count serial = arrival_as serial count OF_BLOCKS
+arrival_out arrived.WriteDone count serial = arrival_as serial 1 OF_BLOCKS
+arrival_out arrived.WriteMissed count serial = arrival_as serial 1 OF_BLOCKS
+arrival_out arrived.Stale count serial = arrival_as serial 0 STALE

@@ -1,17 +1,22 @@
--- What the owner of a line shows a task's seat.
-use Rattle.std.specs.Prelude.{◌≡◌, ℕ, ◌+◌, List, [], ◌∷◌, ◌++◌, Option, None, Some, length, map, take, option_map, unwrap_or}
+-- What the owner of a line shows the seats of its tasks.
+use Rattle.std.specs.Prelude.{◌≡◌, ℕ, ◌+◌, Bool, false, List, [], ◌∷◌, ◌++◌, Option, None, Some, length, map, take, option_map, slice_index_or, unwrap_or}
 use Rattle.std.specs.List.{range_with_len}
 use Rattle.hc_places.specs.declared.table.Datagram.{Datagram}
 use Rattle.hc_events.specs.Entries.{History}
 use Rattle.hc_events.specs.Outputs.{sent_data}
 use Rattle.hc_events.specs.Points.{epoch_of}
 use Rattle.hc_events.specs.Steady.{steady_serial, steady_slot, task_epoch}
-use Rattle.hc_mail.specs.Images.{Image}
-use Rattle.hc_mail.specs.Ends.{reported, seen}
+use Rattle.hc_mail.specs.Contents.{counted, newest}
+use Rattle.hc_mail.specs.Ends.{SenderEnd, reported, seen}
+use Rattle.hc_mail.specs.Images.{Image, image_kind}
+use Rattle.hc_mail.specs.declared.image.ImageHead.{ImageHead}
+use Rattle.hc_mail.specs.declared.image.LineState.{LineState}
 use Rattle.hc_c.specs.Looks.{task_part_bytes}
 use Rattle.hc_c.specs.Reads.{data_or_zeros, datagrams_of, image_from}
 use Rattle.hc_c.specs.SeatRoom.{image_room}
 use Rattle.hc_c.specs.declared.seat.ends.OwnerEnd.{OwnerEnd}
+use Rattle.hc_c.specs.declared.seat.ends.OwnerEnds.{OwnerEnds}
+use Rattle.hc_c.specs.declared.seat.lookers.LookerEnd.{LookerEnd}
 
 -- the serial of the sending that a datagram's data answer; none where it has no data
 abbrev pub serial_shown : Option (List ℕ) → Option ℕ → Option ℕ
@@ -30,11 +35,15 @@ sent_from history task number (datagram ∷ datagrams) = sent_data history task 
 abbrev pub outputs_of : History → ℕ → List ℕ
 outputs_of history task = take (task_part_bytes history task).0 (sent_from history task 0 (datagrams_of history task))
 
--- what a task's seat is shown: what the task reads of its datagrams, the serials that their data answer, and the task's outputs
-abbrev pub image_shown : History → ℕ → Image
-image_shown history task = record {
-  epoch = epoch_of history;
-  task_epoch = task_epoch history task;
+-- what an image of a task says beside its data: the epochs, the first serial of the task's last sending, the number of the post that was taken last and whether it was refused, and what became of the line
+abbrev pub head_of : History → ℕ → ℕ → ℕ → Bool → LineState → ImageHead
+head_of history task first taken is_refused line =
+    record { epoch = epoch_of history; task_epoch = task_epoch history task; first_serial = first; taken = taken; is_refused = is_refused; line = line }
+
+-- an image of a task with this head: what the task reads of its datagrams, the serials that their data answer, and the task's outputs
+abbrev pub image_shown : History → ℕ → ImageHead → Image
+image_shown history task head = record {
+  head = head;
   bytes = image_from history task 0 (datagrams_of history task);
   serials = serials_shown history task 0 (length (datagrams_of history task));
   outputs = outputs_of history task;
@@ -50,21 +59,79 @@ abbrev pub with_slots : History → ℕ → ℕ → List Datagram → Image → 
 with_slots history task number datagrams image =
     record image { bytes = image.bytes ++ image_from history task number datagrams; serials = image.serials ++ serials_shown history task number (length datagrams) }
 
+-- an owner's end of a seat's images sent this image, and no more
+pub record SendsImage (image : Image) (old new : SenderEnd Image) : Type 0 where
+  pub shown : seen new.place ≡ seen old.place ++ image ∷ []
+  pub reported : reported new.place ≡ reported old.place
+  pub one_mail : new.place.table_id ≡ old.place.table_id
+  pub roomy : new.own.room ≡ old.own.room
+
+-- what a task's seat is shown, if the task's last sending begins with a serial and this became of the line: the post that was taken last is the newest of those that the owner saw
+abbrev pub seat_image : History → ℕ → ℕ → LineState → OwnerEnd → Image
+seat_image history task first line end = image_shown history task (head_of history task first (counted (length (seen end.posts.place))) end.is_refused line)
+
+-- what a seat that only looks is shown: it has no post
+abbrev pub looker_image : History → ℕ → ℕ → LineState → Image
+looker_image history task first line = image_shown history task (head_of history task first 0 false line)
+
 -- one image more was shown to a task's seat; what it posted is as it was
-pub record Shows (history : History) (task : ℕ) (old new : OwnerEnd) : Type 0 where
-  pub shown : seen new.images.place ≡ seen old.images.place ++ image_shown history task ∷ []
-  pub reported : reported new.images.place ≡ reported old.images.place
-  pub one_mail : new.images.place.table_id ≡ old.images.place.table_id
+pub record Shows (history : History) (task first : ℕ) (line : LineState) (old new : OwnerEnd) : Type 0 where
+  pub images : SendsImage (seat_image history task first line old) old.images new.images
   pub posts : new.posts ≡ old.posts
+  pub refused : new.is_refused ≡ old.is_refused
 
 -- so it was to the task's seat, if it has one
-abbrev pub ShowsEnd : History → ℕ → Option OwnerEnd → Option OwnerEnd → Type 0
-ShowsEnd history task None None = Unit {0}
-ShowsEnd history task (Some old) (Some new) = Shows history task old new
-ShowsEnd history task old new = ⊥
+abbrev pub ShowsEnd : History → ℕ → ℕ → LineState → Option OwnerEnd → Option OwnerEnd → Type 0
+ShowsEnd history task first line None None = Unit {0}
+ShowsEnd history task first line (Some old) (Some new) = Shows history task first line old new
+ShowsEnd history task first line old new = ⊥
 
--- and to the seats of all tasks from this number on
-abbrev pub ShowsAll : History → ℕ → List (Option OwnerEnd) → List (Option OwnerEnd) → Type 0
-ShowsAll history task [] [] = Unit {0}
-ShowsAll history task (old ∷ olds) (new ∷ updates) = ShowsEnd history task old new × ShowsAll history (task + 1) olds updates
-ShowsAll history task olds updates = ⊥
+-- and to the seats of all tasks from this number on; the list has the first serial of each task's last sending
+abbrev pub ShowsAll : History → List ℕ → LineState → ℕ → List (Option OwnerEnd) → List (Option OwnerEnd) → Type 0
+ShowsAll history firsts line task [] [] = Unit {0}
+ShowsAll history firsts line task (old ∷ olds) (new ∷ updates) = ShowsEnd history task (slice_index_or firsts task 0) line old new × ShowsAll history firsts line (task + 1) olds updates
+ShowsAll history firsts line task olds updates = ⊥
+
+-- one image more of its task was shown to a seat that only looks
+pub record ShowsLooker (history : History) (firsts : List ℕ) (line : LineState) (old new : LookerEnd) : Type 0 where
+  pub images : SendsImage (looker_image history old.task (slice_index_or firsts old.task 0) line) old.images new.images
+  pub task : new.task ≡ old.task
+
+-- so it was to each of some numbers that has a seat
+abbrev pub ShowsLookers : History → List ℕ → LineState → List (Option LookerEnd) → List (Option LookerEnd) → Type 0
+ShowsLookers history firsts line [] [] = Unit {0}
+ShowsLookers history firsts line (None ∷ olds) (None ∷ updates) = ShowsLookers history firsts line olds updates
+ShowsLookers history firsts line (Some old ∷ olds) (Some new ∷ updates) = ShowsLooker history firsts line old new × ShowsLookers history firsts line olds updates
+ShowsLookers history firsts line olds updates = ⊥
+
+-- all seats of a line were shown one image more
+abbrev pub ShowsEnds : History → List ℕ → LineState → OwnerEnds → OwnerEnds → Type 0
+ShowsEnds history firsts line old new = ShowsAll history firsts line 0 old.by_task new.by_task × ShowsLookers history firsts line old.lookers new.lookers
+
+-- the last image that an owner's end sent says this of the line
+abbrev pub SaysLast : LineState → SenderEnd Image → Type 0
+SaysLast line images = (newest image_kind image_room (seen images.place)).head.line ≡ line
+
+-- so does that of a task's seat, if it has one
+abbrev pub SeatTold : LineState → Option OwnerEnd → Type 0
+SeatTold line None = Unit {0}
+SeatTold line (Some end) = SaysLast line end.images
+
+-- and that of a number's, if it has one
+abbrev pub LookerTold : LineState → Option LookerEnd → Type 0
+LookerTold line None = Unit {0}
+LookerTold line (Some end) = SaysLast line end.images
+
+-- all tasks' seats were told so
+abbrev pub SeatsTold : LineState → List (Option OwnerEnd) → Type 0
+SeatsTold line [] = Unit {0}
+SeatsTold line (end ∷ ends) = SeatTold line end × SeatsTold line ends
+
+-- and all seats that only look
+abbrev pub LookersTold : LineState → List (Option LookerEnd) → Type 0
+LookersTold line [] = Unit {0}
+LookersTold line (end ∷ ends) = LookerTold line end × LookersTold line ends
+
+-- each seat of a line was told so
+abbrev pub EachTold : LineState → OwnerEnds → Type 0
+EachTold line ends = SeatsTold line ends.by_task × LookersTold line ends.lookers

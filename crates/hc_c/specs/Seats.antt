@@ -1,47 +1,102 @@
 -- What calls say of a seat's two ends before and after.
-use Rattle.std.specs.Prelude.{◌≡◌, ℕ, ◌+◌, ◌*◌, ◌≤◌, nat_lt, ◌||◌, Bool, List, [], ◌∷◌, ◌++◌, ◌==◌, if◌then◌else◌, not, Option, None, Some, drop, is_some, length, map, set, unwrap_or}
+use Rattle.std.specs.Prelude.{◌≡◌, ◌≢◌, ◌⊎◌, ℕ, ◌+◌, ◌*◌, ◌<◌, ◌≤◌, nat_le, nat_lt, ◌||◌, ◌&&◌, Bool, true, false, List, [], ◌∷◌, ◌++◌, ◌==◌, if◌then◌else◌, not, IfSome, MatchOption, Option, None, Some, drop, is_some, length, map, replicate, set, slice_index_or, unwrap_or}
+use Rattle.hc_records.specs.declared.limits.TheConstants.{TASKS}
 use Rattle.hc_events.specs.declared.faults.CoreFault.{CoreFault}
-use Rattle.hc_events.specs.declared.faults.CoreFault.TheVariants.{PostLength, StalePost}
-use Rattle.hc_mail.specs.Images.{Image, StartsWith, newest}
-use Rattle.hc_mail.specs.Ends.{reported, seen}
-use Rattle.hc_rings.specs.Post.{post_of}
-use Rattle.hc_rings.specs.Ring.{ArePostEnds, SameSender, posted, taken}
-use Rattle.hc_c.specs.Embedded.{embedded_history}
+use Rattle.hc_events.specs.declared.faults.CoreFault.TheVariants.{NoSuchTask, PostLength, StalePost}
+use Rattle.hc_events.specs.Entries.{History}
+use Rattle.hc_events.specs.Faults.{core_fault_number}
+use Rattle.hc_mail.specs.Contents.{StartsWith, counted, newest}
+use Rattle.hc_mail.specs.Ends.{ReceiverEnd, SenderEnd, StaysAtTable, reported, seen}
+use Rattle.hc_mail.specs.Images.{Image, image_kind}
+use Rattle.hc_mail.specs.Posts.{Post, post_kind, post_of}
+use Rattle.hc_mail.specs.declared.image.LineState.{LineState}
+use Rattle.hc_mail.specs.declared.image.LineState.TheVariants.{Closed, Open, Replaced}
+use Rattle.hc_c.specs.Embedded.{embedded_history, task_sent_from}
 use Rattle.hc_c.specs.Lists.{put_first}
+use Rattle.hc_c.specs.Numbers.{refusal_number}
 use Rattle.hc_c.specs.Reads.{bit_mask}
-use Rattle.hc_c.specs.SeatImages.{ShowsAll}
-use Rattle.hc_c.specs.SeatRoom.{image_room}
+use Rattle.hc_c.specs.SeatImages.{ShowsEnds, head_of, image_shown, looker_image}
+use Rattle.hc_c.specs.SeatRoom.{image_room, post_room}
+use Rattle.hc_c.specs.States.{task_state}
 use Rattle.hc_c.specs.declared.embedded.Embedded.{Embedded}
+use Rattle.hc_c.specs.declared.numbers.TheConstants.{CLOSED, DONE, MEMORY, MISUSED}
 use Rattle.hc_c.specs.declared.seat.ends.OwnerEnd.{OwnerEnd}
 use Rattle.hc_c.specs.declared.seat.ends.OwnerEnds.{OwnerEnds}
 use Rattle.hc_c.specs.declared.seat.ends.TaskEnd.{TaskEnd}
+use Rattle.hc_c.specs.declared.seat.ends.TaskPosts.{TaskPosts}
+use Rattle.hc_c.specs.declared.seat.handle.SeatHandle.{SeatHandle}
+use Rattle.hc_c.specs.declared.seat.lookers.LookerEnd.{LookerEnd}
 use Rattle.hc_c.specs.declared.seat.viewing.SeatView.{SeatView}
+
+-- no task has a seat, nor has any of so many numbers
+abbrev pub no_seats : ℕ → OwnerEnds
+no_seats lookers = record { by_task = replicate 8 None; used = 0; lookers = replicate lookers None; none_after = λ _. false }
+
+-- the handle has the same mark, and the end that it holds, if it holds one, is as it was
+abbrev pub SeatAsBefore : SeatHandle → SeatHandle → Type 0
+SeatAsBefore before after = (after.mark ≡ before.mark) × (after.holding.value ≡ before.holding.value)
 
 -- the image at hand: the newest of all that had been shown when the seat looked
 abbrev pub at_hand : TaskEnd → Image
-at_hand end = newest image_room (seen end.images.place)
+at_hand end = newest image_kind image_room (seen end.images.place)
 
--- the two ends of one new seat: nothing was shown, and nothing was posted
-pub record AreEnds (owner : OwnerEnd) (task : TaskEnd) : Type 0 where
-  pub one_mail : owner.images.place.table_id ≡ task.images.place.table_id
-  pub nothing_shown : (seen owner.images.place ≡ []) × (seen task.images.place ≡ [])
-  pub nothing_reported : (reported owner.images.place ≡ []) × (reported task.images.place ≡ [])
-  pub one_ring : ArePostEnds task.posts owner.posts
-  pub nothing_posted : (posted task.posts ≡ []) × (taken owner.posts ≡ [])
+-- the two ends of new images begin with this one, which the task's end has seen
+pub record BeginWith (image : Image) (owner : SenderEnd Image) (task : ReceiverEnd Image) : Type 0 where
+  pub one_mail : owner.place.table_id ≡ task.place.table_id
+  pub shown : seen owner.place ≡ image ∷ []
+  pub viewed : seen task.place ≡ image ∷ []
 
--- a task has a new seat, in place of what it had; the other tasks' seats are as they were
-pub record OpensSeat (task : ℕ) (old new : OwnerEnds) (end : TaskEnd) : Type 0 where
+-- what a task posts by and the owner's end for it: nothing was posted
+pub record ArePostEnds (posts : TaskPosts) (owner : ReceiverEnd Post) : Type 0 where
+  pub one_mail : posts.sender.place.table_id ≡ owner.place.table_id
+  pub nothing_posted : (seen posts.sender.place ≡ []) × (seen owner.place ≡ [])
+  pub nothing_reported : (reported posts.sender.place ≡ []) × (reported owner.place ≡ [])
+  pub roomy : owner.room ≡ post_room
+
+-- the two ends of a new seat of a task whose last sending begins with a serial: a first image was shown and seen, and nothing posted
+pub record AreEnds (history : History) (task first : ℕ) (owner : OwnerEnd) (end : TaskEnd) : Type 0 where
+  pub images : BeginWith (looker_image history task first Open) owner.images end.images
+  pub posts : (posts : TaskPosts) × (end.posts ≡ Some posts) × ArePostEnds posts owner.posts
+  pub refused : owner.is_refused ≡ false
+
+-- the two ends of a new seat that only looks at such a task
+pub record AreLookerEnds (history : History) (task first : ℕ) (owner : LookerEnd) (end : TaskEnd) : Type 0 where
+  pub images : BeginWith (looker_image history task first Open) owner.images end.images
+  pub of_task : owner.task ≡ task
+  pub looks : end.posts ≡ None
+
+-- a task of a line has a new seat, in place of what it had; all else of the line is as it was
+pub record OpensLineSeat (task : ℕ) (old new : Embedded) (end : TaskEnd) : Type 0 where
   pub owner : OwnerEnd
-  pub placed : new.by_task ≡ set old.by_task task (Some owner)
-  pub ends : AreEnds owner end
+  pub placed : new.ends.by_task ≡ set old.ends.by_task task (Some owner)
+  pub lookers : new.ends.lookers ≡ old.ends.lookers
+  pub others : new ≡ record old { ends = new.ends }
+  pub ends : AreEnds (embedded_history old) task (task_sent_from old task) owner end
 
--- so it is in a line; all else of the line is as it was
-abbrev pub OpensLineSeat : ℕ → Embedded → Embedded → TaskEnd → Type 0
-OpensLineSeat task old new end = (new ≡ record old { ends = new.ends }) × OpensSeat task old.ends new.ends end
+-- a number of a line has a new seat that only looks, in place of what it had; all else of the line is as it was
+pub record OpensLineLooker (number task : ℕ) (old new : Embedded) (end : TaskEnd) : Type 0 where
+  pub owner : LookerEnd
+  pub placed : new.ends.lookers ≡ set old.ends.lookers number (Some owner)
+  pub seats : new.ends.by_task ≡ old.ends.by_task
+  pub others : new ≡ record old { ends = new.ends }
+  pub ends : AreLookerEnds (embedded_history old) task (task_sent_from old task) owner end
 
--- each seat of a line is shown what its task reads; all else of the line is as it was
+-- what opening a task's seat in a handle with this mark is answered: 254 unless it is closed, 8 if the task is over 7, else 0, or 28 if an allocation failed
+pub record AnswersOpening (mark task number : ℕ) : Type 0 where
+  pub misused : mark ≢ 0 → number ≡ MISUSED
+  pub no_task : mark ≡ 0 → TASKS ≤ task → number ≡ core_fault_number NoSuchTask
+  pub opens : mark ≡ 0 → task < TASKS → (number ≡ DONE) ⊎ (number ≡ MEMORY)
+
+-- likewise of a seat that only looks, if the line was opened for so many: 254 also if the number is not below that
+pub record AnswersLooking (mark count looker task number : ℕ) : Type 0 where
+  pub misused : mark ≢ 0 → number ≡ MISUSED
+  pub no_looker : count ≤ looker → number ≡ MISUSED
+  pub no_task : mark ≡ 0 → looker < count → TASKS ≤ task → number ≡ core_fault_number NoSuchTask
+  pub opens : mark ≡ 0 → looker < count → task < TASKS → (number ≡ DONE) ⊎ (number ≡ MEMORY)
+
+-- each seat of an open line is shown what its task reads; all else of the line is as it was
 abbrev pub ShowsLine : Embedded → Embedded → Type 0
-ShowsLine old new = (new ≡ record old { ends = new.ends }) × ShowsAll (embedded_history old) 0 old.ends.by_task new.ends.by_task
+ShowsLine old new = (new ≡ record old { ends = new.ends }) × ShowsEnds (embedded_history old) old.sent_from Open old.ends new.ends
 
 -- what had been shown as the seat looked begins with what had been shown as it looked before, and with what a note named; its posts are as they were
 pub record LooksOn (old new : TaskEnd) : Type 0 where
@@ -60,32 +115,86 @@ abbrev pub mask_from : ℕ → List Bool → ℕ
 mask_from bit [] = 0
 mask_from bit (is_set ∷ rest) = (if is_set then bit else 0) + mask_from (2 * bit) rest
 
--- an image, as C gets it: its epoch and its task's epoch, its bytes and its output bytes; those with data by their bits; its bytes before what the slice had after them; and the serials, as many as there is room for
-pub record GivesImage (image : Image) (view : SeatView) (before after : List ℕ) (serials serials' : List ℕ) : Type 0 where
-  pub epoch_is : view.epoch ≡ image.epoch
-  pub task_epoch_is : view.task_epoch ≡ image.task_epoch
-  pub size : view.size ≡ length image.bytes
-  pub outputs : view.outputs ≡ length image.outputs
-  pub has : view.has ≡ bit_mask (map is_some image.serials)
+-- what became of the line, as C gets it: 1 it is open, 2 it was closed, 3 the seat was replaced
+abbrev pub line_number : LineState → ℕ
+line_number Open = 1
+line_number Closed = 2
+line_number Replaced = 3
+
+-- an image of which so many were shown, as C gets it; those with data by their bits
+abbrev pub view_of : ℕ → Image → SeatView
+view_of showing image = record {
+  showing = counted showing;
+  first_serial = image.head.first_serial;
+  taken = image.head.taken;
+  epoch = image.head.epoch;
+  task_epoch = image.head.task_epoch;
+  size = length image.bytes;
+  outputs = length image.outputs;
+  datagrams = length image.serials;
+  has = bit_mask (map is_some image.serials);
+  state = task_state image.head.first_serial image.serials;
+  line = line_number image.head.line;
+  is_refused = if image.head.is_refused then 1 else 0;
+  reserved = 0;
+}
+
+-- an image of which so many were shown is given: the view; the image's bytes before what the slice had after them; and the serials, as many as there is room for
+pub record GivesImage (showing : ℕ) (image : Image) (view : SeatView) (before after : List ℕ) (serials serials' : List ℕ) : Type 0 where
+  pub view_is : view ≡ view_of showing image
   pub bytes : after ≡ image.bytes ++ drop (length image.bytes) before
   pub answered_serials : serials' ≡ put_first (serials_answered image.serials) serials
+
+-- a task's end gives its newest image
+abbrev pub GivesNewest : TaskEnd → SeatView → List ℕ → List ℕ → List ℕ → List ℕ → Type 0
+GivesNewest end view before after serials serials' = GivesImage (length (seen end.images.place)) (at_hand end) view before after serials serials'
+
+-- the post that a seat made last; a blank one before the first
+abbrev pub last_posted : TaskPosts → Post
+last_posted posts = newest post_kind post_room (seen posts.sender.place)
+
+-- a post was made for an epoch from an image's task epoch on, with as many bytes as the image has output bytes
+abbrev pub fits_image : Image → Post → Bool
+fits_image image post = nat_le image.head.task_epoch post.epoch && (length post.bytes == length image.outputs)
+
+-- the outputs to begin with, beside an image: those of the seat's own last post if that fits the image, else the image's
+abbrev pub outputs_beside : Image → Option TaskPosts → List ℕ
+outputs_beside image None = image.outputs
+outputs_beside image (Some posts) = if fits_image image (last_posted posts) then (last_posted posts).bytes else image.outputs
+
+-- the outputs to begin with, beside the image at hand
+abbrev pub outputs_begun : TaskEnd → List ℕ
+outputs_begun end = outputs_beside (at_hand end) end.posts
+
+-- an image says that the line is open and the seat the present one
+abbrev pub is_open : LineState → Bool
+is_open Open = true
+is_open other = false
+
+abbrev pub is_current : Image → Bool
+is_current image = is_open image.head.line
 
 -- what refuses outputs for an epoch beside an image, in order: 15 the epoch is below the task's or above the image's, 16 it has another number of output bytes
 abbrev pub seat_fault : Image → ℕ → List ℕ → Option CoreFault
 seat_fault image epoch bytes =
-    if nat_lt epoch image.task_epoch || nat_lt image.epoch epoch then Some StalePost else (if not (length bytes == length image.outputs) then Some PostLength else None)
+    if nat_lt epoch image.head.task_epoch || nat_lt image.head.epoch epoch then Some StalePost else (if not (length bytes == length image.outputs) then Some PostLength else None)
 
--- the outputs of the task were posted for an epoch from the task's to the one of the image at hand, as many as that has; the image is as it was
-pub record Posts (epoch : ℕ) (bytes : List ℕ) (old new : TaskEnd) : Type 0 where
-  pub from : (at_hand old).task_epoch ≤ epoch
-  pub most : epoch ≤ (at_hand old).epoch
-  pub size : length bytes ≡ length (at_hand old).outputs
-  pub posted : posted new.posts ≡ posted old.posts ++ post_of epoch bytes ∷ []
-  pub ring : SameSender old.posts new.posts
-  pub images : new.images ≡ old.images
+-- what a post beside an image is answered: 255 if the image says that the line is closed or the seat replaced, else 0, or what refuses it
+abbrev pub beside_number : Image → ℕ → List ℕ → ℕ
+beside_number image epoch bytes = if is_current image then refusal_number (seat_fault image epoch bytes) else CLOSED
 
--- nothing was posted, and the image is as it was
-pub record PostsNothing (old new : TaskEnd) : Type 0 where
-  pub posted : posted new.posts ≡ posted old.posts
-  pub ring : SameSender old.posts new.posts
+-- what a post at a seat is answered: 254 if the seat only looks
+abbrev pub post_number : TaskEnd → ℕ → List ℕ → ℕ
+post_number end epoch bytes = if is_some end.posts then beside_number (at_hand end) epoch bytes else MISUSED
+
+-- outputs were posted for an epoch, with this number: the count of the seat's posts
+pub record PostsAt (epoch : ℕ) (bytes : List ℕ) (number : ℕ) (old new : TaskPosts) : Type 0 where
+  pub posted : seen new.sender.place ≡ seen old.sender.place ++ post_of epoch bytes post_room.0 ∷ []
+  pub numbered : number ≡ counted (length (seen new.sender.place))
+  pub table : StaysAtTable old.sender.place new.sender.place
+
+-- so they were at a seat, whose image is as it was
+pub record Posts (epoch : ℕ) (bytes : List ℕ) (number : ℕ) (old new : TaskEnd) : Type 0 where
+  pub posts : IfSome old.posts (λ before. IfSome new.posts (PostsAt epoch bytes number before))
+  pub posts_still : is_some new.posts ≡ is_some old.posts
   pub images : new.images ≡ old.images

@@ -1,34 +1,50 @@
--- What is sent, in the caller's slice.
-use Rattle.std.specs.Prelude.{◌≡◌, ℕ, ◌≤◌, ◌<◌, List, ◌++◌, length, drop, false, MatchOption, Option}
+-- What is sent, in the caller's slices.
+use Rattle.std.specs.Prelude.{◌≡◌, ℕ, ◌+◌, ◌≤◌, ◌<◌, List, [], ◌∷◌, ◌++◌, length, drop, replicate, MatchOption, Option}
 use Rattle.std.specs.List.{flat_map}
 use Rattle.hc_records.specs.Lists.{lowest}
 use Rattle.hc_events.specs.declared.faults.CoreFault.{CoreFault}
-use Rattle.hc_events.specs.Calls.{frames_size, AreSentTogether, preview, send_into_faults}
+use Rattle.hc_events.specs.declared.faults.CoreFault.TheVariants as fault
+use Rattle.hc_events.specs.Calls.{frames_size, preview, ready_into_faults}
 use Rattle.hc_events.specs.Entries.{History}
+use Rattle.hc_events.specs.Points.{next_serial}
 use Rattle.hc_events.specs.Sendings.{Frame, sent_frame_size}
 use Rattle.hc_events.specs.Steps.{proposal, sent_text}
 use Rattle.hc_c.specs.declared.numbers.TheConstants.{DONE, ROOM, NOTHING}
 use Rattle.hc_c.specs.declared.sending.Sent.{Sent}
-use Rattle.hc_c.specs.declared.embedded.Embedded.{Embedded}
-use Rattle.hc_c.specs.Embedded.{is_full}
+use Rattle.hc_c.specs.declared.sending.SentFrame.{SentFrame}
+use Rattle.hc_c.specs.declared.sending.WaitingTask.{WaitingTask}
+use Rattle.hc_c.specs.Lists.{put_first}
 
--- the frames of these tasks, one after another, followed by what the slice had after them, their bytes, and how many they are; no block is owed
-pub record HoldsFrames (history : History) (tasks before after : List ℕ) (sent : Sent) : Type 0 where
-  pub size : sent.size ≡ frames_size history tasks
-  pub frames : sent.frames ≡ length (proposal history tasks)
-  pub owed : sent.owed ≡ 0
+-- where frames lie in a slice, one after another: the first begins at this byte, and each other one where the one before it ends
+abbrev pub table_from : ℕ → List Frame → List SentFrame
+table_from at [] = []
+table_from at (frame ∷ frames) = record { offset = at; size = sent_frame_size frame } ∷ table_from (at + sent_frame_size frame) frames
+
+-- a task waits, with so many owed blocks and so many registers outside the line
+abbrev pub waiting_out : ℕ → ℕ → ℕ → WaitingTask
+waiting_out task blocks outside = record { blocks = blocks; outside = outside; task = task; reserved = replicate 3 0 }
+
+-- what is reported of a sending that is done: its first serial, its bytes and its frames; no task waits
+abbrev pub sent_out : ℕ → ℕ → ℕ → Sent
+sent_out first size frames = record { first_serial = first; size = size; frames = frames; waits = waiting_out 0 0 0; reserved = 0 }
+
+-- the frames of these tasks, one after another, followed by what the slice had after them; where each lies, of as many as there is room for; and the first serial, all bytes and the number of frames
+pub record SendsFrames (history : History) (tasks before after : List ℕ) (table table' : List SentFrame) (sent : Sent) : Type 0 where
+  pub reported : sent ≡ sent_out (next_serial history) (frames_size history tasks) (length (proposal history tasks))
   pub texts : after ≡ flat_map (sent_text history) (proposal history tasks) ++ drop (frames_size history tasks) before
+  pub lie : table' ≡ put_first (table_from 0 (proposal history tasks)) table
 
--- tasks can be sent together, and the line keeps fewer changes than it may
-pub record MaySend (embedded : Embedded) (tasks : List ℕ) : Type 0 where
-  pub together : AreSentTogether tasks
-  pub has_room : is_full embedded ≡ false
-
--- why tasks aren't sent into so many bytes
+-- why ready tasks aren't sent into so many bytes
 abbrev pub send_refusal : History → List ℕ → ℕ → Option CoreFault
-send_refusal history tasks room = lowest (send_into_faults history tasks room)
+send_refusal history tasks room = lowest (ready_into_faults history tasks room)
 
--- a frame's bytes are counted; its text is before what the slice had after it, where it has room there
+-- the refusal is that a task waits: C gets which one, and for how many blocks and registers outside the line; what else it has stays
+pub record TellsWait (refusal : CoreFault) (before after : Sent) : Type 0 where
+  pub fault : refusal ≡ fault.Waits after.waits.task after.waits.blocks after.waits.outside
+  pub reserved : after.waits.reserved ≡ replicate 3 0
+  pub rest : after ≡ record before { waits = after.waits }
+
+-- a frame's bytes are counted; its text is before what the slice had after it, if it has room there
 pub record GivesPreview (history : History) (frame : Frame) (number size : ℕ) (before after : List ℕ) : Type 0 where
   pub sized : size ≡ sent_frame_size frame
   pub number_of : (sent_frame_size frame ≤ length before → number ≡ DONE) × (length before < sent_frame_size frame → number ≡ ROOM)

@@ -1,31 +1,23 @@
 //! Frames arrive.
-ghost use Rattle.std.specs.Prelude.{◌≡◌, ◌≢◌, ◌≤◌, All, IfErr, IfOk, None, OnErr, OnOk, [], false, is_some, true, vec_capacity};
-ghost use Rattle.hc_events.specs.declared.answer.Arrived.TheVariants.{Answered, Written};
-ghost use Rattle.hc_events.specs.Arrivals.{arrival_in};
-ghost use Rattle.hc_events.specs.Outcomes.{arrived_answer};
-ghost use Rattle.hc_events.specs.Steps.{Arrives as ArrivesStep, answer_to, entries_after};
-ghost use Rattle.hc_sendings.specs.declared.awaited.TheConstants.{FRAME_DATAGRAMS};
-ghost use Rattle.hc_c.specs.Arrivals.{Arrives, added_by, overflows, refused_number, with_arrived, ArrivesInto, LeavesAll};
+ghost use Rattle.std.specs.Prelude.{◌≡◌, ◌≢◌, ◌<◌, All, None};
+ghost use Rattle.hc_c.specs.Arrivals.{Arrives, LeavesAll};
 ghost use Rattle.hc_c.specs.Counts.{all_judged};
-ghost use Rattle.hc_c.specs.Embedded.{are_too_many};
+ghost use Rattle.hc_c.specs.Handles.{IfServedBoth, no_line_number};
 ghost use Rattle.hc_c.specs.Lists.{put_first};
-ghost use Rattle.hc_c.specs.Returned.{IsInFrame, arrived_number, counted_as, expected_in, first_written, kind_by, arrival_out, answered_as, block_outcome_out, answered_blocks, part_outcome_out, parts_out};
-ghost use Rattle.hc_c.specs.declared.numbers.TheConstants.{BUSY, CLOSED};
-ghost use Rattle.hc_c.specs.Handles.{IfServed, IfServedBoth};
+ghost use Rattle.hc_c.specs.Returned.{IsInFrame, answered_as, answered_blocks, arrival_out, block_outcome_out, counted_as, expected_in, kind_by, part_outcome_out, parts_out};
+ghost use Rattle.hc_c.specs.declared.numbers.TheConstants.{BUSY};
 
 use crate::counting::Counts;
 use crate::embedded::Embedded;
 use crate::handle::Handle;
-use crate::numbers::{CHANGES_FULL, DONE, MEMORY, STALE, WRITE_DONE, WRITE_MISSED, WRITTEN};
-use hc_core::keeping::Core;
+use crate::numbers::DONE;
 use hc_core::naming::{named_by, written_by};
 use hc_events::answer::{Arrived, Outcome as CoreOutcome};
 use hc_events::faults::CoreFault;
 use hc_frames::limits::DATAGRAM_HEAD_BYTES;
-use hc_frames::reading::{Part, Parts, Returned, read_frame};
+use hc_frames::reading::{Part, Parts, read_frame};
 use hc_places::table::Places;
 use hc_registers::counters::WRITE_COUNT;
-use std::alloc::Global;
 
 /// The datagram's data are what its task reads now.
 pub const INPUTS: u8 = 1;
@@ -42,7 +34,16 @@ pub const BLOCK_WRITTEN: u8 = 4;
 /// No slave took the register block: it stays owed.
 pub const BLOCK_MISSED: u8 = 5;
 
-/// What an arrival is for a datagram of a task, or for a register block among several, as C gets it.
+/// The arrival answers a frame of tasks.
+pub const OF_TASKS: u8 = 1;
+
+/// The arrival answers a frame of register writes, also one of a single block.
+pub const OF_BLOCKS: u8 = 2;
+
+/// The arrival answers nothing that is awaited.
+pub const STALE: u8 = 3;
+
+/// What an arrival is for a datagram of a task, or for a register block, as C gets it.
 #[repr(C)]
 #[derive(Clone, Copy)]
 pub struct Outcome {
@@ -52,6 +53,7 @@ pub struct Outcome {
     task: u8,
     /// The datagram's number in the task, 0 to 15; of a register block 0.
     datagram: u8,
+    reserved: u8,
     /// The expected working counter.
     expected: u16,
     /// The working counter that it came back with.
@@ -70,14 +72,13 @@ pub struct Outcome {
 #[repr(C)]
 #[derive(Clone, Copy)]
 pub struct Arrival {
-    /// The serial that the frame bears: of the sending that it answers, where it is no stale one.
+    /// The serial that the frame bears: of the sending that it answers, unless it is stale.
     serial: u64,
-    /// How many datagrams the frame has, where it answers frames of tasks or several register writes; else 0.
-    datagrams: usize,
-    /// Of a register write of one block that it answers the slave's station address; else 0.
-    station: u16,
-    /// Of a register write of one block that it answers the register where its block begins; else 0.
-    start: u16,
+    /// How many datagrams the frame has, each with an outcome; 0 of a stale one.
+    datagrams: u16,
+    /// `OF_TASKS`, `OF_BLOCKS` or `STALE`.
+    kind: u8,
+    reserved: [u8; 5],
 }
 
 /// The kind that an outcome gives.
@@ -119,6 +120,7 @@ fn part_out(places: &Places, outcome: &CoreOutcome, part: &Part<'_>) -> Outcome
         kind: kind_by(outcome),
         task,
         datagram,
+        reserved: 0,
         expected: expected_in(places, task, datagram),
         got: part.counter,
         at: (part.start + DATAGRAM_HEAD_BYTES) as u16,
@@ -138,6 +140,7 @@ fn block_out(outcome: &CoreOutcome, part: &Part<'_>) -> Outcome
         kind: kind_by(outcome),
         task: 0,
         datagram: 0,
+        reserved: 0,
         expected: WRITE_COUNT,
         got: part.counter,
         at: (part.start + DATAGRAM_HEAD_BYTES) as u16,
@@ -185,17 +188,17 @@ fn put_outcomes(
     let Some(part) = parts.next() else {
         return;
     };
-    let answer_given = part_out(places, outcome, &part);
-    counts.count_arrival(answer_given.kind, answer_given.task, answer_given.datagram);
+    let own = part_out(places, outcome, &part);
+    counts.count_arrival(own.kind, own.task, own.datagram);
     let Some((first, others)) = out.split_first_mut() else {
         put_outcomes(counts, places, rest, parts, &mut []);
         return;
     };
-    *first = answer_given;
+    *first = own;
     put_outcomes(counts, places, rest, parts, others);
 }
 
-/// Answers what an arrival is for each datagram, of as many as there is room for, and counts it of datagrams of tasks.
+/// Reports what an arrival is for each datagram, of as many as there is room for, and counts it of datagrams of tasks.
 fn put_arrived(
     counts: &mut Counts,
     places: &Places,
@@ -214,159 +217,89 @@ fn put_arrived(
             put_outcomes(counts, places, outcomes, &mut left, out);
         }
         Arrived::Written => put_blocks(outcomes, parts, out),
-        Arrived::WriteDone => {}
-        Arrived::WriteMissed => {}
+        Arrived::WriteDone => put_blocks(&[CoreOutcome::Done], parts, out),
+        Arrived::WriteMissed => put_blocks(&[CoreOutcome::Missed], parts, out),
         Arrived::Stale => {}
     }
 }
 
-/// The station address and the register that a frame's first datagram addresses.
-fn first_written(frame: &Returned<'_>) -> (u16, u16)
-    ensures { result ≡ first_written frame.now.parts }
+/// What C gets for an arrival as a whole, with so many outcomes in the core's list.
+fn arrival_out(arrived: Arrived, count: usize, serial: u64) -> Arrival
+    requires { count < 65536 }
+    ensures { result ≡ arrival_out arrived count serial }
 {
-    match frame.parts().next() {
-        Some(part) => written_by(&part),
-        None => (0, 0),
-    }
-}
-
-/// What C gets for an arrival as a whole, with so many outcomes.
-fn arrival_out(arrived: Arrived, count: usize, frame: &Returned<'_>) -> Arrival
-    ensures { result ≡ arrival_out arrived count frame.now }
-{
-    let serial = frame.serial();
-    let (datagrams, (station, start)) = match arrived {
-        Arrived::Answered => (count, (0, 0)),
-        Arrived::Written => (count, (0, 0)),
-        Arrived::WriteDone => (0, first_written(frame)),
-        Arrived::WriteMissed => (0, first_written(frame)),
-        Arrived::Stale => (0, (0, 0)),
+    let (datagrams, kind) = match arrived {
+        Arrived::Answered => (count as u16, OF_TASKS),
+        Arrived::Written => (count as u16, OF_BLOCKS),
+        Arrived::WriteDone => (1, OF_BLOCKS),
+        Arrived::WriteMissed => (1, OF_BLOCKS),
+        Arrived::Stale => (0, STALE),
     };
     Arrival {
         serial,
         datagrams,
-        station,
-        start,
+        kind,
+        reserved: [0; 5],
     }
 }
 
-/// The number of what an arrival is as a whole.
-fn arrived_number(arrived: Arrived) -> u8
-    ensures { result ≡ arrived_number arrived }
-{
-    match arrived {
-        Arrived::Answered => DONE,
-        Arrived::WriteDone => WRITE_DONE,
-        Arrived::WriteMissed => WRITE_MISSED,
-        Arrived::Stale => STALE,
-        Arrived::Written => WRITTEN,
-    }
-}
-
-/// An arrival that was read: a core takes it, and keeps its changes where there is room for changes. `CHANGES_FULL` where the
-/// room is too small for them, and nothing changed; or `MEMORY`, likewise, but never of a core whose changes aren't kept.
-fn take(
-    core: &mut Core,
-    alloc: Global,
-    bytes: &[u8],
-    frame: &Returned<'_>,
-    room: Option<usize>,
-    list: &mut Vec<CoreOutcome>,
-) -> Result<Arrived, u8>
-    requires read { arrival_in bytes.now ≡ Ok frame.now }
-    requires enough { FRAME_DATAGRAMS ≤ vec_capacity list.old }
-    ensures answer { IfOk result (λ arrived. arrived_answer arrived list.new.items ≡ answer_to core.old.history (ArrivesStep bytes.now)) }
-    ensures none { IfOk result (λ arrived. arrived ≢ Answered → arrived ≢ Written → list.new.items ≡ []) }
-    ensures entries { OnOk result (core.new ≡ with_arrived room core.old (entries_after core.old.history (ArrivesStep bytes.now))) }
-    ensures fits { OnOk result (are_too_many room (added_by core.old.history bytes.now) ≡ false) }
-    ensures refused { IfErr result (λ number. number ≡ refused_number room (added_by core.old.history bytes.now)) }
-    ensures room_left { OnErr result (is_some room ≡ true) }
-    ensures unchanged { OnErr result (core.new ≡ core.old) }
-    ensures capacity { vec_capacity list.old ≤ vec_capacity list.new }
-{
-    let Some(room) = room else {
-        return match core.arrive_discarding(bytes, frame, list) {
-            Ok(arrived) => Ok(arrived),
-            Err(_) => Err(MEMORY),
-        };
-    };
-    let Ok(arrived) = core.judge(frame, list) else {
-        return Err(MEMORY);
-    };
-    if room < core.changes_by(frame, arrived, list.as_slice()) {
-        return Err(CHANGES_FULL);
-    }
-    match core.take_arrival(alloc, bytes, frame, arrived, list.as_slice()) {
-        Ok(()) => Ok(arrived),
-        Err(_) => Err(MEMORY),
-    }
-}
-
-/// Gives a line bytes that arrived, and says what they are.
-fn arrive(
-    own: &mut Embedded,
-    alloc: Global,
-    bytes: &[u8],
-    outcomes: &mut [Outcome],
-    arrival: &mut Arrival,
-) -> u8
-    ensures answer_given { overflows own.old bytes.now ≡ false → Arrives own.old own.new bytes.now result outcomes.old outcomes.new arrival.old arrival.new }
-    ensures full { overflows own.old bytes.now ≡ true → (result ≡ CHANGES_FULL) × (own.new ≡ own.old) × (outcomes.new ≡ outcomes.old) × (arrival.new ≡ arrival.old) }
+/// Gives a line bytes that arrived, and reports what they are.
+fn arrive(own: &mut Embedded, bytes: &[u8], outcomes: &mut [Outcome], arrival: &mut Arrival) -> u8
+    ensures answer { Arrives own.old own.new bytes.now result outcomes.old outcomes.new arrival.old arrival.new }
     ensures busy { result ≢ BUSY }
 {
     let frame = match read_frame(bytes) {
         Ok(frame) => frame,
         Err(fault) => return CoreFault::from(fault).number(),
     };
-    let room = own.changes_room();
     let spare = &mut own.spare;
     let list = &mut spare.outcomes;
-    let arrived = match take(&mut own.core, alloc, bytes, &frame, room, list) {
-        Ok(arrived) => arrived,
-        Err(number) => return number,
+    let Ok(arrived) = own.core.arrive_discarding(bytes, &frame, list) else {
+        unreachable!()
     };
-    let answer_given = list.as_slice();
+    let found = list.as_slice();
     let places = own.core.plan().places();
-    *arrival = arrival_out(arrived, answer_given.len(), &frame);
+    *arrival = arrival_out(arrived, found.len(), frame.serial());
     put_arrived(
         &mut own.counts,
         places,
         arrived,
-        answer_given,
+        found,
         frame.parts(),
         outcomes,
     );
-    arrived_number(arrived)
+    DONE
 }
 
-/// Bytes arrive, any, without the check sequence. `DONE` where they answer frames of tasks, and `WRITTEN` where they
-/// answer a frame of several register writes: `outcomes` has of each datagram, in the frame's order, what it is, as
-/// many as there is room for; a frame has at most 115. `WRITE_DONE`, `WRITE_MISSED` or `STALE`; with these five
-/// `arrival` is written, with `DONE` and `WRITTEN` alone `outcomes`, and with `DONE` each datagram is counted. Else a
-/// fault, 20 to 27, of bytes that can't be read; `CHANGES_FULL` where the line keeps changes, and this arrival's good
-/// answers are more than it has room for; `MEMORY`, but never of a line that keeps no changes; `BUSY` or `CLOSED`; then
-/// nothing changed and nothing is written. Where the line keeps no changes, none is made. The answers are this
-/// project's profile over frames of ETG.1000.4, 5.3 and 5.4.
+/// Bytes arrive, any, without the check sequence. Returns `DONE` for each frame that can be read, and `arrival` says what it
+/// answers (this project's profile over frames of ETG.1000.4, 5.3 and 5.4):
+///
+/// - `OF_TASKS`: frames of tasks. `outcomes` has of each datagram, in the frame's order, what it is, and each is counted.
+/// - `OF_BLOCKS`: a frame of register writes. `outcomes` has of each block, also of a single one, what it is.
+/// - `STALE`: nothing that is awaited. `arrival.datagrams` is 0, and `outcomes` is as it was.
+///
+/// `outcomes` has as many as there is room for; a frame has at most 115. It allocates nothing. It fails with the first of these,
+/// nothing has changed and nothing is written:
+///
+/// - `BUSY`, `CLOSED` or `MISUSED`.
+/// - 20 to 27: the bytes can't be read.
 #[unsafe(no_mangle)]
 pub extern "C" fn zangjulf_arrive(
-    alloc: Global,
     handle: &mut Handle,
     bytes: &[u8],
     outcomes: &mut [Outcome],
     arrival: &mut Arrival,
 ) -> u8
-    ensures answer_given { IfServedBoth handle.old handle.new result (λ old new. ArrivesInto old new bytes.now result outcomes.old outcomes.new arrival.old arrival.new) }
-    ensures full { IfServed handle.old result (λ old. overflows old bytes.now ≡ true → result ≡ CHANGES_FULL) }
-    ensures full_leaves { IfServed handle.old result (λ old. overflows old bytes.now ≡ true → LeavesAll handle.old handle.new outcomes.old outcomes.new arrival.old arrival.new) }
-    ensures held { is_some handle.new.holding.value ≡ is_some handle.old.holding.value }
+    ensures answer { IfServedBoth handle.old handle.new result (λ old new. Arrives old new bytes.now result outcomes.old outcomes.new arrival.old arrival.new) }
+    ensures held { handle.new.mark ≡ handle.old.mark }
     ensures busy { result ≡ BUSY → LeavesAll handle.old handle.new outcomes.old outcomes.new arrival.old arrival.new }
-    ensures closed { handle.old.holding.value ≡ None → (result ≡ CLOSED) × (outcomes.new ≡ outcomes.old) × (arrival.new ≡ arrival.old) }
+    ensures closed { handle.old.holding.value ≡ None → (result ≡ no_line_number handle.old.mark) × (outcomes.new ≡ outcomes.old) × (arrival.new ≡ arrival.old) }
 {
-    if let Err(number) = handle.begin_change() {
-        return number;
-    }
+    let Some(entered) = handle.enter() else {
+        return handle.refusal();
+    };
     let own = handle.holding.line_mut();
-    let number = arrive(own, alloc, bytes, outcomes, arrival);
-    own.calls.end_change();
+    let number = arrive(own, bytes, outcomes, arrival);
+    own.calls.end(entered);
     number
 }

@@ -1,48 +1,52 @@
-//! The calls that run with an opened line, counted, so that no change of it meets another call. Each step is one atomic
-//! operation, and none is tried again, so that no call waits. Contracts see nothing of the count: another thread may change
-//! it at any time.
-use std::sync::atomic::{AtomicU64, Ordering};
+//! The guard of an opened line: one call with its handle runs at a time, and a call that meets another one does not wait. A call
+//! begins with a token that is not `Drop`, so that each call which begins also ends. Contracts see nothing of the flag, which
+//! another thread may change at any time.
+ghost use Rattle.hc_mail.specs.declared.image.LineState.TheVariants.{Closed};
+ghost use Rattle.hc_c.specs.SeatImages.{EachTold};
 
-/// Added to the count while a change runs. Fewer look-ups than this run at a time.
-const CHANGE: u64 = 1 << 63;
+use crate::embedded::Embedded;
+use std::sync::atomic::{AtomicBool, Ordering};
 
-/// How many look-ups run, and whether a change does.
+/// A call that runs. It is no value that may be let go: `Calls::end` takes it, or `Entered::end_with`.
+pub struct Entered {
+    only: (),
+}
+
+impl Entered {
+    /// The call that closes a line ends with it, and the line's memory is given back. Each seat was told that the line is closed.
+    pub fn end_with(self, own: Box<Embedded>)
+        requires { EachTold Closed own.value.ends }
+    {
+        let Entered { only: _ } = self;
+        drop(own);
+    }
+}
+
+/// Whether a call with the line's handle runs.
 #[derive(Drop)]
 pub struct Calls {
-    count: AtomicU64,
+    runs: AtomicBool,
 }
 
 impl Calls {
-    /// None runs.
+    /// No call runs.
     pub fn none() -> Calls {
         Calls {
-            count: AtomicU64::new(0),
+            runs: AtomicBool::new(false),
         }
     }
 
-    /// Whether a look-up begins: not while a change runs. Then it isn't counted.
-    pub fn begin_look(&self) -> bool {
-        if self.count.fetch_add(1, Ordering::SeqCst) < CHANGE {
-            return true;
+    /// Begins a call, unless one runs.
+    pub fn begin(&self) -> Option<Entered> {
+        if self.runs.swap(true, Ordering::SeqCst) {
+            return None;
         }
-        self.end_look();
-        false
+        Some(Entered { only: () })
     }
 
-    /// A look-up that began ends.
-    pub fn end_look(&self) {
-        self.count.fetch_sub(1, Ordering::SeqCst);
-    }
-
-    /// Whether a change begins: only while no other call runs.
-    pub fn begin_change(&self) -> bool {
-        self.count
-            .compare_exchange(0, CHANGE, Ordering::SeqCst, Ordering::SeqCst)
-            .is_ok()
-    }
-
-    /// A change that began ends.
-    pub fn end_change(&self) {
-        self.count.fetch_sub(CHANGE, Ordering::SeqCst);
+    /// Ends a call that began.
+    pub fn end(&self, entered: Entered) {
+        let Entered { only: _ } = entered;
+        self.runs.store(false, Ordering::SeqCst);
     }
 }

@@ -1,8 +1,7 @@
 //! How often each datagram was sent, and what arrivals were for it, since the line was opened.
 ghost use Rattle.std.specs.Prelude.{◌≡◌, ◌≢◌, IfSome, None};
 ghost use Rattle.hc_c.specs.Counts.{counters_number, counters_of, judged_as};
-ghost use Rattle.hc_c.specs.declared.numbers.TheConstants.{CLOSED};
-ghost use Rattle.hc_c.specs.Handles.{IfServed};
+ghost use Rattle.hc_c.specs.Handles.{HoldsAsBefore, IfServed, no_line_number};
 
 use crate::arriving::{INPUTS, WRONG_COUNT};
 use crate::handle::Handle;
@@ -185,7 +184,7 @@ impl Counts {
 
 /// How often the datagram of a task with a number was sent, and what arrivals were for it, since the line was opened; no edit
 /// sets any of it back, though the datagram with that number may be another one after it. `DONE`; `NOTHING` where the task is
-/// over 7, or the number over 15; `BUSY` or `CLOSED`. Unless it is done `counters` is as it was. It takes no memory.
+/// over 7, or the number over 15; `BUSY`, `CLOSED` or `MISUSED`. Unless it is done `counters` is as it was. It takes no memory.
 #[unsafe(no_mangle)]
 pub extern "C" fn zangjulf_counters(
     handle: &mut Handle,
@@ -193,15 +192,15 @@ pub extern "C" fn zangjulf_counters(
     datagram: u8,
     counters: &mut Counters,
 ) -> u8
-    ensures answer_given { IfServed handle.old result (λ old. result ≡ counters_number task datagram) }
+    ensures answer { IfServed handle.old result (λ old. result ≡ counters_number task datagram) }
     ensures counters { result ≡ DONE → IfSome handle.old.holding.value (λ old. counters.new ≡ counters_of old.counts task datagram) }
-    ensures unchanged { handle.new.holding.value ≡ handle.old.holding.value }
+    ensures unchanged { HoldsAsBefore handle.old handle.new }
     ensures unwritten { result ≢ DONE → counters.new ≡ counters.old }
-    ensures closed { handle.old.holding.value ≡ None → result ≡ CLOSED }
+    ensures closed { handle.old.holding.value ≡ None → result ≡ no_line_number handle.old.mark }
 {
-    if let Err(number) = handle.begin_look() {
-        return number;
-    }
+    let Some(entered) = handle.enter() else {
+        return handle.refusal();
+    };
     let own = handle.holding.line_mut();
     let number = if task < TASKS && usize::from(datagram) < MOST_DATAGRAMS {
         *counters = own.counts.of(task, datagram);
@@ -209,6 +208,6 @@ pub extern "C" fn zangjulf_counters(
     } else {
         NOTHING
     };
-    own.calls.end_look();
+    own.calls.end(entered);
     number
 }

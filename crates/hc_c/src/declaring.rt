@@ -2,8 +2,8 @@
 ghost use Rattle.std.specs.Prelude.{◌≡◌, None, is_some};
 ghost use Rattle.hc_project.specs.Text.{group_in};
 ghost use Rattle.hc_c.specs.Groups.{Declares};
-ghost use Rattle.hc_c.specs.declared.numbers.TheConstants.{BUSY, CLOSED};
-ghost use Rattle.hc_c.specs.Handles.{IfServedBoth};
+ghost use Rattle.hc_c.specs.declared.numbers.TheConstants.{BUSY};
+ghost use Rattle.hc_c.specs.Handles.{HoldsAsBefore, IfServedBoth, no_line_number};
 
 use crate::editing::{Cost, serve};
 use crate::embedded::Embedded;
@@ -25,12 +25,14 @@ fn serve_text(own: &mut Embedded, alloc: Global, text: &[u8], asks: bool, cost: 
     }
 }
 
-/// The group of a text is declared after the others, and is absent; where `asks`, it is only reported whether it could. The
-/// text is a project's with exactly one group and no mandatory slave. `DONE`, and `cost` gives the epoch that begins with it;
-/// else the lowest of the faults 13 and 31 to 35 that holds; or why the text is no group's: the lowest of a project's faults,
-/// 201 to 210, or after these 212 where it is another project's; `MEMORY`, `BUSY` or `CLOSED`; or, where no fault holds and
-/// it isn't only asked for, `CHANGES_FULL` of a line that keeps no more changes. Unless it is done nothing changed, and
-/// `cost` is as it was.
+/// Declares the group of a text after the others, and it is absent; if `asks`, only whether it could is reported. The text is a
+/// project's with exactly one group and no mandatory slave. Returns `DONE`, and `cost` has the epoch that begins with the edit. It
+/// fails with one of these, nothing has changed and `cost` is as it was:
+///
+/// - the lowest of the faults 13 and 31 to 35 that holds.
+/// - 201 to 210, or after these 212 if it is another project's: the text is no group's. These are judged first.
+/// - `MEMORY`: an allocation failed.
+/// - `BUSY`, `CLOSED` or `MISUSED`.
 #[unsafe(no_mangle)]
 pub extern "C" fn zangjulf_declare(
     alloc: Global,
@@ -40,15 +42,15 @@ pub extern "C" fn zangjulf_declare(
     cost: &mut Cost,
 ) -> u8
     ensures serves { IfServedBoth handle.old handle.new result (λ old new. Declares (group_in text.now) old new asks result cost.old cost.new) }
-    ensures held { is_some handle.new.holding.value ≡ is_some handle.old.holding.value }
-    ensures busy { result ≡ BUSY → (handle.new.holding.value ≡ handle.old.holding.value) × (cost.new ≡ cost.old) }
-    ensures closed { handle.old.holding.value ≡ None → (result ≡ CLOSED) × (cost.new ≡ cost.old) }
+    ensures held { handle.new.mark ≡ handle.old.mark }
+    ensures busy { result ≡ BUSY → HoldsAsBefore handle.old handle.new × (cost.new ≡ cost.old) }
+    ensures closed { handle.old.holding.value ≡ None → (result ≡ no_line_number handle.old.mark) × (cost.new ≡ cost.old) }
 {
-    if let Err(number) = handle.begin_change() {
-        return number;
-    }
+    let Some(entered) = handle.enter() else {
+        return handle.refusal();
+    };
     let own = handle.holding.line_mut();
     let number = serve_text(own, alloc, text, asks, cost);
-    own.calls.end_change();
+    own.calls.end(entered);
     number
 }

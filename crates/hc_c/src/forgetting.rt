@@ -5,30 +5,29 @@ ghost use Rattle.hc_events.specs.Entries.{Forgot};
 ghost use Rattle.hc_events.specs.Steps.{forget_faults};
 ghost use Rattle.hc_c.specs.Embedded.{embedded_with_entry};
 ghost use Rattle.hc_c.specs.Numbers.{refusal_number};
-ghost use Rattle.hc_c.specs.declared.numbers.TheConstants.{CLOSED};
-ghost use Rattle.hc_c.specs.Handles.{Becomes, IfAnswered};
+ghost use Rattle.hc_c.specs.Handles.{Becomes, HoldsAsBefore, IfAnswered, no_line_number};
 
 use crate::handle::Handle;
 use crate::numbers::DONE;
 
 /// The slave with a station address may have lost its registers, as one that was switched off and on: its register blocks
 /// are owed again, and a write to it that was sent before confirms nothing. `DONE`; else the lower of the faults 5 and 6
-/// that holds, `BUSY` or `CLOSED`, and nothing changed. It takes no memory.
+/// that holds, `BUSY`, `CLOSED` or `MISUSED`, and nothing changed. It takes no memory.
 #[unsafe(no_mangle)]
-pub extern "C" fn zangjulf_forget(handle: &mut Handle, station: u16) -> u8
-    ensures answer_given { IfAnswered handle.old result (λ history. result ≡ refusal_number (lowest (forget_faults history station))) }
-    ensures forgotten { result ≡ DONE → Becomes handle.old handle.new (embedded_with_entry (Forgot station)) }
-    ensures unchanged { result ≢ DONE → handle.new.holding.value ≡ handle.old.holding.value }
-    ensures closed { handle.old.holding.value ≡ None → result ≡ CLOSED }
+pub extern "C" fn zangjulf_slave_lost(handle: &mut Handle, station: u16) -> u8
+    ensures answer { IfAnswered handle.old result (λ history. result ≡ refusal_number (lowest (forget_faults history station))) }
+    ensures lost { result ≡ DONE → Becomes handle.old handle.new (embedded_with_entry (Forgot station)) }
+    ensures unchanged { result ≢ DONE → HoldsAsBefore handle.old handle.new }
+    ensures closed { handle.old.holding.value ≡ None → result ≡ no_line_number handle.old.mark }
 {
-    if let Err(number) = handle.begin_change() {
-        return number;
-    }
+    let Some(entered) = handle.enter() else {
+        return handle.refusal();
+    };
     let own = handle.holding.line_mut();
-    let answer_given = match own.core.forget(station) {
+    let answer = match own.core.forget(station) {
         Ok(()) => DONE,
         Err(fault) => fault.number(),
     };
-    own.calls.end_change();
-    answer_given
+    own.calls.end(entered);
+    answer
 }

@@ -2,59 +2,60 @@
 ghost use Rattle.std.specs.Prelude.{◌≡◌, ◌≢◌, IfSome, None, length};
 ghost use Rattle.hc_events.specs.Owed.{owed_blocks};
 ghost use Rattle.hc_events.specs.Points.{epoch_of, next_serial};
+ghost use Rattle.hc_c.specs.Handles.{HoldsAsBefore, no_line_number};
 ghost use Rattle.hc_c.specs.Embedded.{embedded_history};
-ghost use Rattle.hc_c.specs.declared.numbers.TheConstants.{BUSY, CLOSED};
+ghost use Rattle.hc_c.specs.declared.numbers.TheConstants.{BUSY};
 
 use crate::handle::Handle;
 use crate::numbers::DONE;
 
-/// The epoch, which is the number of accepted edits: `DONE`, `BUSY` or `CLOSED`.
+/// The epoch, which is the number of accepted edits: `DONE`, `BUSY`, `CLOSED` or `MISUSED`.
 #[unsafe(no_mangle)]
 pub extern "C" fn zangjulf_epoch(handle: &mut Handle, epoch: &mut u32) -> u8
-    ensures answer_given { IfSome handle.old.holding.value (λ old. result ≢ BUSY → (result ≡ DONE) × (epoch.new ≡ epoch_of (embedded_history old))) }
-    ensures unchanged { handle.new.holding.value ≡ handle.old.holding.value }
+    ensures answer { IfSome handle.old.holding.value (λ old. result ≢ BUSY → (result ≡ DONE) × (epoch.new ≡ epoch_of (embedded_history old))) }
+    ensures unchanged { HoldsAsBefore handle.old handle.new }
     ensures busy { result ≡ BUSY → epoch.new ≡ epoch.old }
-    ensures closed { handle.old.holding.value ≡ None → (result ≡ CLOSED) × (epoch.new ≡ epoch.old) }
+    ensures closed { handle.old.holding.value ≡ None → (result ≡ no_line_number handle.old.mark) × (epoch.new ≡ epoch.old) }
 {
-    if let Err(number) = handle.begin_look() {
-        return number;
-    }
+    let Some(entered) = handle.enter() else {
+        return handle.refusal();
+    };
     let own = handle.holding.line_mut();
     *epoch = own.core.plan().epoch();
-    own.calls.end_look();
+    own.calls.end(entered);
     DONE
 }
 
-/// The serial of the next sending, which is the number of sendings before it: `DONE`, `BUSY` or `CLOSED`.
+/// The serial of the next sending, which is the number of sendings before it: `DONE`, `BUSY`, `CLOSED` or `MISUSED`.
 #[unsafe(no_mangle)]
 pub extern "C" fn zangjulf_next_serial(handle: &mut Handle, serial: &mut u64) -> u8
-    ensures answer_given { IfSome handle.old.holding.value (λ old. result ≢ BUSY → (result ≡ DONE) × (serial.new ≡ next_serial (embedded_history old))) }
-    ensures unchanged { handle.new.holding.value ≡ handle.old.holding.value }
+    ensures answer { IfSome handle.old.holding.value (λ old. result ≢ BUSY → (result ≡ DONE) × (serial.new ≡ next_serial (embedded_history old))) }
+    ensures unchanged { HoldsAsBefore handle.old handle.new }
     ensures busy { result ≡ BUSY → serial.new ≡ serial.old }
-    ensures closed { handle.old.holding.value ≡ None → (result ≡ CLOSED) × (serial.new ≡ serial.old) }
+    ensures closed { handle.old.holding.value ≡ None → (result ≡ no_line_number handle.old.mark) × (serial.new ≡ serial.old) }
 {
-    if let Err(number) = handle.begin_look() {
-        return number;
-    }
+    let Some(entered) = handle.enter() else {
+        return handle.refusal();
+    };
     let own = handle.holding.line_mut();
     *serial = own.core.next_serial();
-    own.calls.end_look();
+    own.calls.end(entered);
     DONE
 }
 
-/// How many register blocks of the present line are owed: `DONE`, `BUSY` or `CLOSED`.
+/// How many register blocks of the present line are owed: `DONE`, `BUSY`, `CLOSED` or `MISUSED`.
 #[unsafe(no_mangle)]
 pub extern "C" fn zangjulf_owed(handle: &mut Handle, count: &mut u32) -> u8
-    ensures answer_given { IfSome handle.old.holding.value (λ old. result ≢ BUSY → (result ≡ DONE) × (count.new ≡ length (owed_blocks (embedded_history old)))) }
-    ensures unchanged { handle.new.holding.value ≡ handle.old.holding.value }
+    ensures answer { IfSome handle.old.holding.value (λ old. result ≢ BUSY → (result ≡ DONE) × (count.new ≡ length (owed_blocks (embedded_history old)))) }
+    ensures unchanged { HoldsAsBefore handle.old handle.new }
     ensures busy { result ≡ BUSY → count.new ≡ count.old }
-    ensures closed { handle.old.holding.value ≡ None → (result ≡ CLOSED) × (count.new ≡ count.old) }
+    ensures closed { handle.old.holding.value ≡ None → (result ≡ no_line_number handle.old.mark) × (count.new ≡ count.old) }
 {
-    if let Err(number) = handle.begin_look() {
-        return number;
-    }
+    let Some(entered) = handle.enter() else {
+        return handle.refusal();
+    };
     let own = handle.holding.line_mut();
     *count = own.core.owed();
-    own.calls.end_look();
+    own.calls.end(entered);
     DONE
 }

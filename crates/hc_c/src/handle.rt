@@ -1,14 +1,17 @@
 //! What C keeps between two calls.
-ghost use Rattle.std.specs.Prelude.{◌≡◌, ◌≢◌, Err, IfErr, IsSome, OnOk, is_some};
+ghost use Rattle.std.specs.Prelude.{◌≡◌, ◌==◌, IfSome, IsSome, is_some};
 ghost use Rattle.std.specs.declared.option.Option.{Option};
 ghost use Rattle.std.specs.declared.option.Option.TheVariants.{None, Some};
-ghost use Rattle.hc_c.specs.Held.{embedded_coded, in_box, owns_embedded};
+ghost use Rattle.hc_c.specs.Held.{embedded_coded, owns_embedded};
 ghost use Rattle.hc_c.specs.declared.embedded.Embedded.{Embedded};
+ghost use Rattle.hc_c.specs.declared.handle.TheConstants.{OPEN};
+ghost use Rattle.hc_c.specs.declared.numbers.TheConstants.{BUSY};
 
 pub mod unboxed;
 
+use crate::calls::Entered;
 use crate::embedded::Embedded;
-use crate::numbers::{BUSY, CLOSED};
+use crate::numbers::{BUSY, CLOSED, MISUSED};
 use std::alloc::Global;
 use std::marker::Model;
 use std::mem;
@@ -74,76 +77,70 @@ impl Holding {
     }
 }
 
-/// What C keeps: zeros where no line is open.
+/// The mark of an open handle: the letters "zangjulf". The mark of a closed one is 0, and with any other the handle is none.
+pub const OPEN: u64 = 0x7a61_6e67_6a75_6c66;
+
+/// What C keeps: zeros if no line is open.
 #[repr(C)]
 #[derive(Drop)]
 pub struct Handle {
-    is_open: bool,
+    pub mark: u64,
     pub holding: Holding,
-    ghost same: { is_open ≡ is_some holding.value },
+    ghost same: { mark == OPEN ≡ is_some holding.value },
 }
 
 impl Handle {
+    ghost use Rattle.hc_c.specs.Handles.{HoldsAsBefore, no_line_number};
+
     /// The handle of an opened line.
     pub fn of(own: Box<Embedded, Global>) -> Handle
         ensures { result.holding.value ≡ Some own.value }
     {
         Handle {
-            is_open: true,
+            mark: OPEN,
             holding: Holding::of(Unboxed::of(own)),
         }
     }
 
-    /// The opened line, if there is one; the handle is then closed.
-    pub fn take(&mut self, alloc: Global) -> Option<Box<Embedded, Global>>
-        ensures taken { in_box result ≡ self.old.holding.value }
-        ensures closed { self.new.holding.value ≡ None }
+    /// Takes the opened line out of the handle, which is closed then. The handle must hold a line.
+    pub fn take(&mut self, alloc: Global) -> Box<Embedded, Global>
+        requires { IsSome self.old.holding.value }
+        ensures taken { self.old.holding.value ≡ Some result.value }
+        ensures closed { (self.new.mark ≡ 0) × (self.new.holding.value ≡ None) }
     {
         let closed = Handle {
-            is_open: false,
+            mark: 0,
             holding: Holding::nothing(alloc),
         };
         let was = mem::replace(self, closed);
-        if was.is_open {
-            Some(was.holding.into_unboxed().into_box())
-        } else {
-            None
-        }
+        was.holding.into_unboxed().into_box()
     }
 
-    /// A look-up begins, which `Calls::end_look` ends: of the line that `Holding::line_mut` lends. `CLOSED` where there is
-    /// none, and `BUSY` while a change of it runs; then no look-up begins.
-    pub fn begin_look(&mut self) -> Result<(), u8>
-        ensures line { OnOk result (IsSome self.new.holding.value) }
-        ensures unchanged { self.new.holding.value ≡ self.old.holding.value }
-        ensures closed { self.old.holding.value ≡ None → result ≡ Err CLOSED }
-        ensures refused { IfErr result (λ number. number ≢ BUSY → (number ≡ CLOSED) × (self.old.holding.value ≡ None)) }
+    /// Begins a call on the line that `Holding::line_mut` lends; `Calls::end` ends it. Returns none if the handle holds no line or
+    /// another call with it runs: `refusal` says which.
+    pub fn enter(&mut self) -> Option<Entered>
+        ensures line { IfSome result (λ _. IsSome self.new.holding.value) }
+        ensures unchanged { HoldsAsBefore self.old self.new }
+        ensures closed { self.old.holding.value ≡ None → result ≡ None }
     {
-        if !self.is_open {
-            return Err(CLOSED);
+        if self.mark != OPEN {
+            return None;
         }
-        if self.holding.line_mut().calls.begin_look() {
-            Ok(())
-        } else {
-            Err(BUSY)
-        }
+        self.holding.line_mut().calls.begin()
     }
 
-    /// A change begins, which `Calls::end_change` ends: of the line that `Holding::line_mut` lends. `CLOSED` where there is
-    /// none, and `BUSY` while another call with the handle runs; then no change begins.
-    pub fn begin_change(&mut self) -> Result<(), u8>
-        ensures line { OnOk result (IsSome self.new.holding.value) }
-        ensures unchanged { self.new.holding.value ≡ self.old.holding.value }
-        ensures closed { self.old.holding.value ≡ None → result ≡ Err CLOSED }
-        ensures refused { IfErr result (λ number. number ≢ BUSY → (number ≡ CLOSED) × (self.old.holding.value ≡ None)) }
+    /// The answer to a call that did not begin: `BUSY` if the handle holds a line, `CLOSED` if it is closed, and `MISUSED` if it
+    /// is none.
+    pub fn refusal(&self) -> u8
+        ensures line { IsSome self.now.holding.value → result ≡ BUSY }
+        ensures closed { self.now.holding.value ≡ None → result ≡ no_line_number self.now.mark }
     {
-        if !self.is_open {
-            return Err(CLOSED);
-        }
-        if self.holding.line_mut().calls.begin_change() {
-            Ok(())
+        if self.mark == OPEN {
+            BUSY
+        } else if self.mark == 0 {
+            CLOSED
         } else {
-            Err(BUSY)
+            MISUSED
         }
     }
 }

@@ -2,14 +2,13 @@
 //! handle holds before and after, what the core's own call says. What a call asks of its caller and C may break is tested,
 //! and answered with a number of its own (`numbers`); a closed handle is answered, and never followed.
 //!
-//! `include/zangjulf.h` gives C of them. It zeroes a handle before its first call, and then nothing but these calls writes
-//! it, one at a time.
+//! `include/zangjulf.h` gives C of them. C zeroes a handle before its first call, and then nothing but these calls writes it, one
+//! at a time.
 #![tactic(auto)]
 
 mod arriving;
 mod beside;
 mod calls;
-mod changing;
 mod cleared_slaves;
 mod counting;
 mod declaring;
@@ -28,15 +27,15 @@ mod posting;
 mod previewing;
 mod readiness;
 mod reading;
-mod ready_sendings;
 mod runs;
 mod seat;
 mod sending;
 mod sharing;
 mod slave;
 mod spare;
+mod states;
 mod too_short;
 mod values;
 mod version;
-mod waiting_changes;
+mod widths;
 mod writing;

@@ -153,7 +153,7 @@ fn position_out(line: usize, column: usize) -> Location
 /// as it was. A text that is a project may still be answered 12 by `zangjulf_open`. It takes memory, and gives it back.
 #[unsafe(no_mangle)]
 pub extern "C" fn zangjulf_locate(alloc: Global, text: &[u8], location: &mut Location) -> u8
-    ensures answer_given { result ≢ MEMORY → Locates text.now result location.old location.new }
+    ensures answer { result ≢ MEMORY → Locates text.now result location.old location.new }
     ensures unwritten { result ≡ MEMORY → location.new ≡ location.old }
 {
     match locate(alloc, text) {

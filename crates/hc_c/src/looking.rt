@@ -1,13 +1,13 @@
 //! Look-ups in the configuration of the present line.
-ghost use Rattle.std.specs.Prelude.{◌≡◌, ◌≢◌, None};
+ghost use Rattle.std.specs.Prelude.{◌≡◌, ◌≢◌, ◌≤◌, ◌++◌, None, drop, length};
 ghost use Rattle.hc_events.specs.Points.{line_of, state_of};
 ghost use Rattle.hc_plan.specs.Configuration.{position_of, station_at};
-ghost use Rattle.hc_c.specs.declared.numbers.TheConstants.{BUSY, CLOSED};
-ghost use Rattle.hc_c.specs.Looks.{GivesBlock, GivesPosition, datagram_at, image_bit_of, task_part_bytes, place_numbered, datagram_out, part_out, place_out, AnswersBlock};
-ghost use Rattle.hc_c.specs.Handles.{IfAnswered, GivesFound};
+ghost use Rattle.hc_c.specs.declared.numbers.TheConstants.{BUSY};
+ghost use Rattle.hc_c.specs.Looks.{GivesBlock, GivesPosition, datagram_at, image_bit_of, task_part_bytes, place_numbered, datagram_out, place_out, places_out, place_or_zeros, places_number, sizes_out, AnswersBlock};
+ghost use Rattle.hc_c.specs.Handles.{GivesFound, HoldsAsBefore, IfAnswered, IfAnsweredWith, no_line_number};
 
 use crate::handle::Handle;
-use crate::numbers::{DONE, NOTHING, ROOM};
+use crate::numbers::{DONE, MISUSED, NOTHING, ROOM};
 use hc_core::keeping::Core;
 use hc_events::faults::CoreFault;
 use hc_places::table::{Datagram as LineDatagram, Place as LinePlace};
@@ -49,7 +49,7 @@ pub struct Datagram {
 /// The bytes of a task's image, as C gets them.
 #[repr(C)]
 #[derive(Clone, Copy)]
-pub struct Part {
+pub struct ImageSizes {
     /// Those of its outputs, which come first.
     outputs: u16,
     /// Those of its inputs.
@@ -131,18 +131,18 @@ fn datagram_out(datagram: LineDatagram) -> Datagram
     }
 }
 
-/// Where a variable is, 1 to 4,294,967,295: `DONE`; `NOTHING` where the present line has no place for it; `BUSY` or
-/// `CLOSED`.
+/// Where a variable is, 1 to 4,294,967,295: `DONE`; `NOTHING` where the present line has no place for it; `BUSY`, `CLOSED` or
+/// `MISUSED`.
 #[unsafe(no_mangle)]
 pub extern "C" fn zangjulf_place(handle: &mut Handle, variable: u32, place: &mut Place) -> u8
-    ensures answer_given { IfAnswered handle.old result (λ history. GivesFound (place_numbered history variable) (place_out history) result place.new) }
-    ensures unchanged { handle.new.holding.value ≡ handle.old.holding.value }
+    ensures answer { IfAnswered handle.old result (λ history. GivesFound (place_numbered history variable) (place_out history) result place.new) }
+    ensures unchanged { HoldsAsBefore handle.old handle.new }
     ensures untouched { result ≢ DONE → place.new ≡ place.old }
-    ensures closed { handle.old.holding.value ≡ None → (result ≡ CLOSED) × (place.new ≡ place.old) }
+    ensures closed { handle.old.holding.value ≡ None → (result ≡ no_line_number handle.old.mark) × (place.new ≡ place.old) }
 {
-    if let Err(number) = handle.begin_look() {
-        return number;
-    }
+    let Some(entered) = handle.enter() else {
+        return handle.refusal();
+    };
     let own = handle.holding.line_mut();
     let number = match place_at(&own.core, variable) {
         Some(found) => {
@@ -151,69 +151,128 @@ pub extern "C" fn zangjulf_place(handle: &mut Handle, variable: u32, place: &mut
         }
         None => NOTHING,
     };
-    own.calls.end_look();
+    own.calls.end(entered);
+    number
+}
+
+/// What C gets for the place of a variable; zeros if the present line has none.
+fn place_or_zeros(core: &Core, variable: u32) -> Place
+    ensures { result ≡ place_or_zeros core.now.history variable }
+{
+    match place_at(core, variable) {
+        Some(found) => place_out(core, found),
+        None => Place {
+            task: 0,
+            datagram: 0,
+            bits: 0,
+            is_input: false,
+            bit: 0,
+            image_bit: 0,
+        },
+    }
+}
+
+/// Puts what C gets for the places of variables at the front of a slice.
+fn put_places(core: &Core, variables: &[u32], places: &mut [Place])
+    requires { length variables.now ≤ length places.old }
+    ensures { places.new ≡ places_out core.now.history variables.now ++ drop (length variables.now) places.old }
+{
+    for i in 0..variables.len() {
+        places[i] = place_or_zeros(core, variables[i]);
+    }
+}
+
+/// Where each of several variables is, in their order: `places` begins with as many places as there are variables, and a variable
+/// without a place in the present line has zeros, of which `bits` is 0 of no other. Returns `DONE`. It allocates nothing. It fails
+/// with one of these, and `places` is as it was:
+///
+/// - `BUSY`, `CLOSED` or `MISUSED`.
+/// - `MISUSED`: `places` has room for fewer than there are variables.
+#[unsafe(no_mangle)]
+pub extern "C" fn zangjulf_places(
+    handle: &mut Handle,
+    variables: &[u32],
+    places: &mut [Place],
+) -> u8
+    ensures answer { IfAnswered handle.old result (λ _. result ≡ places_number (length variables.now) (length places.old)) }
+    ensures places { IfAnsweredWith DONE handle.old result (λ history. places.new ≡ places_out history variables.now ++ drop (length variables.now) places.old) }
+    ensures unchanged { HoldsAsBefore handle.old handle.new }
+    ensures untouched { result ≢ DONE → places.new ≡ places.old }
+    ensures closed { handle.old.holding.value ≡ None → result ≡ no_line_number handle.old.mark }
+{
+    let Some(entered) = handle.enter() else {
+        return handle.refusal();
+    };
+    let own = handle.holding.line_mut();
+    let number = if places.len() < variables.len() {
+        MISUSED
+    } else {
+        put_places(&own.core, variables, places);
+        DONE
+    };
+    own.calls.end(entered);
     number
 }
 
 /// A datagram of a task, 0 to 7, by its number from 0: `DONE`; `NOTHING` where the task has fewer, or there is no such
-/// task; `BUSY` or `CLOSED`.
+/// task; `BUSY`, `CLOSED` or `MISUSED`.
 #[unsafe(no_mangle)]
 pub extern "C" fn zangjulf_datagram(
     handle: &mut Handle,
     task: u8,
     datagram: u8,
-    answer_given: &mut Datagram,
+    found: &mut Datagram,
 ) -> u8
-    ensures answer_given { IfAnswered handle.old result (λ history. GivesFound (datagram_at history task datagram) datagram_out result answer_given.new) }
-    ensures unchanged { handle.new.holding.value ≡ handle.old.holding.value }
-    ensures untouched { result ≢ DONE → answer_given.new ≡ answer_given.old }
-    ensures closed { handle.old.holding.value ≡ None → (result ≡ CLOSED) × (answer_given.new ≡ answer_given.old) }
+    ensures answer { IfAnswered handle.old result (λ history. GivesFound (datagram_at history task datagram) datagram_out result found.new) }
+    ensures unchanged { HoldsAsBefore handle.old handle.new }
+    ensures untouched { result ≢ DONE → found.new ≡ found.old }
+    ensures closed { handle.old.holding.value ≡ None → (result ≡ no_line_number handle.old.mark) × (found.new ≡ found.old) }
 {
-    if let Err(number) = handle.begin_look() {
-        return number;
-    }
+    let Some(entered) = handle.enter() else {
+        return handle.refusal();
+    };
     let own = handle.holding.line_mut();
     let number = match datagram_at(&own.core, task, datagram) {
-        Some(found) => {
-            *answer_given = datagram_out(found);
+        Some(row) => {
+            *found = datagram_out(row);
             DONE
         }
         None => NOTHING,
     };
-    own.calls.end_look();
+    own.calls.end(entered);
     number
 }
 
-/// The bytes of a task's image, 0 and 0 where there is no such task: `DONE`, `BUSY` or `CLOSED`.
+/// The bytes of a task's image, 0 and 0 where there is no such task: `DONE`, `BUSY`, `CLOSED` or `MISUSED`.
 #[unsafe(no_mangle)]
-pub extern "C" fn zangjulf_part(handle: &mut Handle, task: u8, part: &mut Part) -> u8
-    ensures answer_given { IfAnswered handle.old result (λ history. (result ≡ DONE) × (part.new ≡ part_out (task_part_bytes history task))) }
-    ensures unchanged { handle.new.holding.value ≡ handle.old.holding.value }
-    ensures busy { result ≡ BUSY → part.new ≡ part.old }
-    ensures closed { handle.old.holding.value ≡ None → (result ≡ CLOSED) × (part.new ≡ part.old) }
+pub extern "C" fn zangjulf_image_sizes(handle: &mut Handle, task: u8, sizes: &mut ImageSizes) -> u8
+    ensures answer { IfAnswered handle.old result (λ history. (result ≡ DONE) × (sizes.new ≡ sizes_out (task_part_bytes history task))) }
+    ensures unchanged { HoldsAsBefore handle.old handle.new }
+    ensures busy { result ≡ BUSY → sizes.new ≡ sizes.old }
+    ensures closed { handle.old.holding.value ≡ None → (result ≡ no_line_number handle.old.mark) × (sizes.new ≡ sizes.old) }
 {
-    if let Err(number) = handle.begin_look() {
-        return number;
-    }
+    let Some(entered) = handle.enter() else {
+        return handle.refusal();
+    };
     let own = handle.holding.line_mut();
     let (outputs, inputs) = part_at(&own.core, task);
-    *part = Part { outputs, inputs };
-    own.calls.end_look();
+    *sizes = ImageSizes { outputs, inputs };
+    own.calls.end(entered);
     DONE
 }
 
 /// The station address of the slave at a position of the present line, from 0: `DONE`; `NOTHING` where the line is
-/// shorter; `BUSY` or `CLOSED`.
+/// shorter; `BUSY`, `CLOSED` or `MISUSED`.
 #[unsafe(no_mangle)]
 pub extern "C" fn zangjulf_station(handle: &mut Handle, position: u32, station: &mut u16) -> u8
-    ensures answer_given { IfAnswered handle.old result (λ history. GivesFound (station_at (line_of history) position) (λ found. found) result station.new) }
-    ensures unchanged { handle.new.holding.value ≡ handle.old.holding.value }
+    ensures answer { IfAnswered handle.old result (λ history. GivesFound (station_at (line_of history) position) (λ found. found) result station.new) }
+    ensures unchanged { HoldsAsBefore handle.old handle.new }
     ensures untouched { result ≢ DONE → station.new ≡ station.old }
-    ensures closed { handle.old.holding.value ≡ None → (result ≡ CLOSED) × (station.new ≡ station.old) }
+    ensures closed { handle.old.holding.value ≡ None → (result ≡ no_line_number handle.old.mark) × (station.new ≡ station.old) }
 {
-    if let Err(number) = handle.begin_look() {
-        return number;
-    }
+    let Some(entered) = handle.enter() else {
+        return handle.refusal();
+    };
     let own = handle.holding.line_mut();
     let number = match own.core.plan().station(position) {
         Some(found) => {
@@ -222,22 +281,22 @@ pub extern "C" fn zangjulf_station(handle: &mut Handle, position: u32, station: 
         }
         None => NOTHING,
     };
-    own.calls.end_look();
+    own.calls.end(entered);
     number
 }
 
 /// The position in the present line, from 0, of the slave with a station address: `DONE`; fault 5 where no declared slave
-/// has it; 6 where that slave's group isn't present; `BUSY` or `CLOSED`.
+/// has it; 6 where that slave's group isn't present; `BUSY`, `CLOSED` or `MISUSED`.
 #[unsafe(no_mangle)]
 pub extern "C" fn zangjulf_position(handle: &mut Handle, station: u16, position: &mut u32) -> u8
-    ensures answer_given { IfAnswered handle.old result (λ history. GivesPosition (position_of (state_of history) station) result position.new) }
-    ensures unchanged { handle.new.holding.value ≡ handle.old.holding.value }
+    ensures answer { IfAnswered handle.old result (λ history. GivesPosition (position_of (state_of history) station) result position.new) }
+    ensures unchanged { HoldsAsBefore handle.old handle.new }
     ensures untouched { result ≢ DONE → position.new ≡ position.old }
-    ensures closed { handle.old.holding.value ≡ None → (result ≡ CLOSED) × (position.new ≡ position.old) }
+    ensures closed { handle.old.holding.value ≡ None → (result ≡ no_line_number handle.old.mark) × (position.new ≡ position.old) }
 {
-    if let Err(number) = handle.begin_look() {
-        return number;
-    }
+    let Some(entered) = handle.enter() else {
+        return handle.refusal();
+    };
     let own = handle.holding.line_mut();
     let number = match own.core.plan().position(station) {
         Ok(found) => {
@@ -246,7 +305,7 @@ pub extern "C" fn zangjulf_position(handle: &mut Handle, station: u16, position:
         }
         Err(fault) => CoreFault::from(fault).number(),
     };
-    own.calls.end_look();
+    own.calls.end(entered);
     number
 }
 
@@ -269,7 +328,7 @@ fn give_block(found: &LineBlock, out: &mut [u8], block: &mut Block) -> u8
 /// The register block with a number, from 0, in the order of the slave with a station address: for each area in record
 /// order its sync manager block, then its FMMU block. `DONE`, and its bytes are at the front of `out`; `NOTHING` where no
 /// such slave is present or it has fewer blocks; `ROOM` where `out` has fewer than `block.size` bytes, and is as it was;
-/// `BUSY` or `CLOSED`. With `NOTHING`, `BUSY` and `CLOSED` `block` is as it was.
+/// `BUSY`, `CLOSED` or `MISUSED`. With `NOTHING`, `BUSY`, `CLOSED` and `MISUSED` `block` is as it was.
 #[unsafe(no_mangle)]
 pub extern "C" fn zangjulf_block(
     handle: &mut Handle,
@@ -278,20 +337,20 @@ pub extern "C" fn zangjulf_block(
     out: &mut [u8],
     block: &mut Block,
 ) -> u8
-    ensures answer_given { IfAnswered handle.old result (λ history. AnswersBlock history station number result block.old block.new out.old out.new) }
-    ensures unchanged { handle.new.holding.value ≡ handle.old.holding.value }
+    ensures answer { IfAnswered handle.old result (λ history. AnswersBlock history station number result block.old block.new out.old out.new) }
+    ensures unchanged { HoldsAsBefore handle.old handle.new }
     ensures untouched { result ≢ DONE → out.new ≡ out.old }
     ensures busy { result ≡ BUSY → block.new ≡ block.old }
-    ensures closed { handle.old.holding.value ≡ None → (result ≡ CLOSED) × (block.new ≡ block.old) }
+    ensures closed { handle.old.holding.value ≡ None → (result ≡ no_line_number handle.old.mark) × (block.new ≡ block.old) }
 {
-    if let Err(number) = handle.begin_look() {
-        return number;
-    }
+    let Some(entered) = handle.enter() else {
+        return handle.refusal();
+    };
     let own = handle.holding.line_mut();
-    let answer_given = match own.core.plan().block(station, number) {
+    let answer = match own.core.plan().block(station, number) {
         Some(found) => give_block(&found, out, block),
         None => NOTHING,
     };
-    own.calls.end_look();
-    answer_given
+    own.calls.end(entered);
+    answer
 }

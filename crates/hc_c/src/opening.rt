@@ -1,33 +1,59 @@
 //! A handle is opened and closed.
-ghost use Rattle.std.specs.Prelude.{◌≡◌, ◌≢◌, ◌⊎◌, IfErr, IfOk, IsSome, None, OnOk, Some};
+ghost use Rattle.std.specs.Prelude.{◌≡◌, ◌≢◌, ◌⊎◌, IfErr, IfOk, IfSome, IsSome, None, OnOk, Some, false, true};
 ghost use Rattle.hc_records.specs.Edits.{over_limit_task};
 ghost use Rattle.hc_records.specs.Line.{line, opened};
 ghost use Rattle.hc_project.specs.Text.{project_in};
-ghost use Rattle.hc_c.specs.Opening.{over_limit_in, at_opening, opened_by, opening_number};
+ghost use Rattle.hc_c.specs.Handles.{HoldsAsBefore, no_line_number};
+ghost use Rattle.hc_c.specs.Opening.{at_opening, may_open, opened_by, opening_number, over_limit_in};
+ghost use Rattle.hc_c.specs.declared.numbers.TheConstants.{BUSY};
 
 use crate::calls::Calls;
 use crate::counting::Counts;
 use crate::embedded::Embedded;
 use crate::handle::Handle;
-use crate::numbers::{DONE, MEMORY, OVER_LIMIT, PROJECT};
+use crate::numbers::{DONE, MEMORY, MISUSED, OVER_LIMIT, PROJECT};
 use crate::seat::ends::OwnerEnds;
+use crate::seat::showing::show_ends;
 use crate::spare::Spare;
-use crate::waiting_changes::WaitingChanges;
 use hc_core::keeping::Core;
+use hc_mail::image::LineState;
 use hc_project::read_project;
 use hc_records::faults::{EditFault, ProjectFault};
 use hc_records::project::Project;
 use std::alloc::Global;
 
-/// Opens a project in a box. Else the number to answer: `OVER_LIMIT` with the lowest task that needs more than 16 datagrams,
-/// or `MEMORY`.
+/// The bytes of the options in this version.
+pub const OPTIONS_BYTES: u32 = 8;
+
+/// The most seats that only look which a line may have.
+pub const MOST_LOOKERS: u32 = 64;
+
+/// What a line is opened with.
+#[repr(C)]
+#[derive(Clone, Copy)]
+pub struct Options {
+    /// The bytes of this struct, by which a version tells what its caller knows.
+    size: u32,
+    /// How many seats that only look the line may have, at most 64.
+    lookers: u32,
+}
+
+/// Whether a handle with a mark may be opened with these options.
+fn may_open(mark: u64, options: &Options) -> bool
+    ensures { result ≡ may_open mark options.now }
+{
+    mark == 0 && options.size == OPTIONS_BYTES && options.lookers <= MOST_LOOKERS
+}
+
+/// Opens a project in a box. Otherwise returns the number to answer: `OVER_LIMIT` with the lowest task that needs more than 16
+/// datagrams, or `MEMORY`.
 fn open_project(
     alloc: Global,
     project: Project,
-    most_changes: u32,
+    lookers: u32,
     task: &mut u8,
 ) -> Result<Box<Embedded>, u8>
-    ensures opened { IfOk result (λ own. own.value ≡ at_opening most_changes project) }
+    ensures opened { IfOk result (λ own. own.value ≡ at_opening lookers project) }
     ensures accepted { OnOk result (over_limit_task (line (opened project)) ≡ None) }
     ensures refused { IfErr result (λ number. ((number ≡ MEMORY) × (task.new ≡ task.old)) ⊎ ((number ≡ OVER_LIMIT) × (over_limit_task (line (opened project)) ≡ Some task.new))) }
     ensures unwritten { OnOk result (task.new ≡ task.old) }
@@ -46,12 +72,14 @@ fn open_project(
     let Ok(spare) = Spare::new(alloc) else {
         return Err(MEMORY);
     };
+    let Ok(ends) = OwnerEnds::new(alloc, lookers) else {
+        return Err(MEMORY);
+    };
     let line = Embedded {
         core,
-        waiting_changes: WaitingChanges::nothing(alloc),
-        most_changes,
+        sent_from: [0; 8],
         counts,
-        ends: OwnerEnds::none(),
+        ends,
         spare,
         calls: Calls::none(),
     };
@@ -61,33 +89,40 @@ fn open_project(
     }
 }
 
-/// Opens the project of a text in place of what the handle held, and answers `DONE`: the mandatory group alone is present,
-/// and nothing has happened. Otherwise the handle is closed, and the answer is the project's fault, 201 to 210, the lowest
-/// whose condition holds; `OVER_LIMIT` where a task of the opening line needs more than 16 datagrams, and `task` is the lowest
-/// such; or `MEMORY`. With every answer but `OVER_LIMIT` `task` is as it was. The line keeps `changes` changes at most until
-/// `zangjulf_next_change` asks for them, and none where that is 0.
+/// Opens the project of a text: the mandatory group alone is present, and nothing has happened. Returns `DONE`. It allocates the
+/// line's memory. It fails with one of these, and then the handle is as it was:
+///
+/// - `MISUSED`: the handle is open or was never zeroed, the options have another size than 8, or more than 64 seats that only
+///   look are asked for.
+/// - 201 to 210: the lowest fault of the project whose condition holds.
+/// - `OVER_LIMIT`: a task of the opening line needs more than 16 datagrams, and `task` is the lowest such. With any other answer
+///   `task` is as it was.
+/// - `MEMORY`: an allocation failed.
 #[unsafe(no_mangle)]
 pub extern "C" fn zangjulf_open(
     alloc: Global,
     handle: &mut Handle,
+    options: &Options,
     text: &[u8],
-    changes: u32,
     task: &mut u8,
 ) -> u8
-    ensures opened { result ≡ DONE → handle.new.holding.value ≡ opened_by changes (project_in text.now) }
+    ensures answer { may_open handle.old.mark options.now ≡ true → result ≢ MEMORY → result ≡ opening_number (project_in text.now) }
+    ensures misused { may_open handle.old.mark options.now ≡ false → result ≡ MISUSED }
+    ensures opened { result ≡ DONE → handle.new.holding.value ≡ opened_by options.now.lookers (project_in text.now) }
     ensures open { result ≡ DONE → IsSome handle.new.holding.value }
-    ensures answer_given { result ≢ MEMORY → result ≡ opening_number (project_in text.now) }
     ensures crowded { result ≡ OVER_LIMIT → over_limit_in (project_in text.now) ≡ Some task.new }
     ensures unwritten { result ≢ OVER_LIMIT → task.new ≡ task.old }
-    ensures closed { result ≢ DONE → handle.new.holding.value ≡ None }
+    ensures unchanged { result ≢ DONE → HoldsAsBefore handle.old handle.new }
 {
-    drop(handle.take(alloc));
+    if !may_open(handle.mark, options) {
+        return MISUSED;
+    }
     let project = match read_project(alloc, text) {
         Ok(project) => project,
         Err(ProjectFault::Memory) => return MEMORY,
         Err(fault) => return PROJECT + fault.number(),
     };
-    match open_project(alloc, project, changes, task) {
+    match open_project(alloc, project, options.lookers, task) {
         Ok(own) => {
             *handle = Handle::of(own);
             DONE
@@ -96,11 +131,25 @@ pub extern "C" fn zangjulf_open(
     }
 }
 
-/// Frees what the handle holds, which is closed then.
+/// Closes a line and gives its memory back. Each seat gets a last image, which says that the line is closed. Returns `DONE`, and the handle may be opened anew. It fails with one of these, and
+/// then the handle is as it was:
+///
+/// - `CLOSED`: no line is open.
+/// - `MISUSED`: the handle was never zeroed.
+/// - `BUSY`: another call with the handle runs.
 #[unsafe(no_mangle)]
-pub extern "C" fn zangjulf_close(alloc: Global, handle: &mut Handle)
-    ensures { handle.new.holding.value ≡ None }
+pub extern "C" fn zangjulf_close(alloc: Global, handle: &mut Handle) -> u8
+    ensures answer { IfSome handle.old.holding.value (λ _. result ≢ BUSY → result ≡ DONE) }
+    ensures closes { result ≡ DONE → (handle.new.mark ≡ 0) × (handle.new.holding.value ≡ None) }
+    ensures unchanged { result ≢ DONE → HoldsAsBefore handle.old handle.new }
+    ensures closed { handle.old.holding.value ≡ None → result ≡ no_line_number handle.old.mark }
 {
+    let Some(entered) = handle.enter() else {
+        return handle.refusal();
+    };
+    let line = handle.holding.line_mut();
+    show_ends(&line.core, &line.sent_from, LineState::Closed, &mut line.ends);
     let own = handle.take(alloc);
-    drop(own);
+    entered.end_with(own);
+    DONE
 }

@@ -3,8 +3,7 @@ ghost use Rattle.std.specs.Prelude.{◌≡◌, ◌≢◌, None, slice_get};
 ghost use Rattle.hc_core.specs.Firsts.{HasBlockBytes};
 ghost use Rattle.hc_events.specs.Owed.{owed_blocks};
 ghost use Rattle.hc_c.specs.Owings.{first_block_out, block_out};
-ghost use Rattle.hc_c.specs.declared.numbers.TheConstants.{CLOSED};
-ghost use Rattle.hc_c.specs.Handles.{IfAnswered, GivesFound};
+ghost use Rattle.hc_c.specs.Handles.{GivesFound, HoldsAsBefore, IfAnswered, no_line_number};
 
 use crate::handle::Handle;
 use crate::numbers::{DONE, NOTHING};
@@ -21,6 +20,7 @@ pub struct OwedBlock {
     start: u16,
     /// Its bytes, 8 or 16.
     size: u8,
+    reserved: [u8; 3],
 }
 
 /// What C gets for a block.
@@ -32,6 +32,7 @@ fn block_out(block: &LineBlock) -> OwedBlock
         station: block.station,
         start: block.block.register(),
         size: block.block.bytes().len() as u8,
+        reserved: [0; 3],
     }
 }
 
@@ -45,23 +46,24 @@ pub fn first_block_out(core: &Core) -> OwedBlock
             station: 0,
             start: 0,
             size: 0,
+            reserved: [0; 3],
         },
     }
 }
 
 /// The owed register block with an index, from 0, in the order in which they are written: line order, and each slave's in its
-/// own order. `DONE`; `NOTHING` where fewer are owed; `BUSY` or `CLOSED`; unless it is done `block` is as it was. It takes no
+/// own order. `DONE`; `NOTHING` where fewer are owed; `BUSY`, `CLOSED` or `MISUSED`; unless it is done `block` is as it was. It takes no
 /// memory.
 #[unsafe(no_mangle)]
 pub extern "C" fn zangjulf_owed_block(handle: &mut Handle, index: u32, block: &mut OwedBlock) -> u8
-    ensures answer_given { IfAnswered handle.old result (λ history. GivesFound (slice_get (owed_blocks history) index) block_out result block.new) }
-    ensures unchanged { handle.new.holding.value ≡ handle.old.holding.value }
+    ensures answer { IfAnswered handle.old result (λ history. GivesFound (slice_get (owed_blocks history) index) block_out result block.new) }
+    ensures unchanged { HoldsAsBefore handle.old handle.new }
     ensures untouched { result ≢ DONE → block.new ≡ block.old }
-    ensures closed { handle.old.holding.value ≡ None → (result ≡ CLOSED) × (block.new ≡ block.old) }
+    ensures closed { handle.old.holding.value ≡ None → (result ≡ no_line_number handle.old.mark) × (block.new ≡ block.old) }
 {
-    if let Err(number) = handle.begin_look() {
-        return number;
-    }
+    let Some(entered) = handle.enter() else {
+        return handle.refusal();
+    };
     let own = handle.holding.line_mut();
     let number = match own.core.owed_block(index) {
         Some(found) => {
@@ -70,6 +72,6 @@ pub extern "C" fn zangjulf_owed_block(handle: &mut Handle, index: u32, block: &m
         }
         None => NOTHING,
     };
-    own.calls.end_look();
+    own.calls.end(entered);
     number
 }

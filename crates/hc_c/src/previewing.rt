@@ -4,9 +4,9 @@ ghost use Rattle.hc_core.specs.Filled.{CanBeFilled};
 ghost use Rattle.hc_events.specs.Calls.{preview};
 ghost use Rattle.hc_events.specs.Sendings.{sent_frame_size};
 ghost use Rattle.hc_events.specs.Steps.{sent_text};
-ghost use Rattle.hc_c.specs.declared.numbers.TheConstants.{BUSY, CLOSED};
+ghost use Rattle.hc_c.specs.declared.numbers.TheConstants.{BUSY};
 ghost use Rattle.hc_c.specs.Sends.{AnswersPreview};
-ghost use Rattle.hc_c.specs.Handles.{IfAnswered};
+ghost use Rattle.hc_c.specs.Handles.{HoldsAsBefore, IfAnswered, no_line_number};
 
 use crate::handle::Handle;
 use crate::numbers::{DONE, NOTHING, ROOM};
@@ -25,7 +25,7 @@ fn fill_frame(core: &Core, frame: &Sending, out: &mut [u8])
 
 /// Gives the frame of a datagram: `DONE`; `NOTHING` where there is none; or `ROOM` where `out` is too short.
 fn give_preview(core: &Core, task: u8, datagram: u8, out: &mut [u8], size: &mut usize) -> u8
-    ensures answer_given { AnswersPreview core.now.history task datagram result size.old size.new out.old out.new }
+    ensures answer { AnswersPreview core.now.history task datagram result size.old size.new out.old out.new }
     ensures untouched { result ≢ DONE → out.new ≡ out.old }
 {
     let Some(frame) = core.preview(task, datagram) else {
@@ -41,8 +41,8 @@ fn give_preview(core: &Core, task: u8, datagram: u8, out: &mut [u8], size: &mut 
 
 /// The frame of one datagram of a task alone, as it would be sent next, whether or not blocks are owed; nothing is sent by
 /// it. `DONE`, and it is at the front of `out`, its bytes in `size`; `NOTHING` where the task has no such datagram, there
-/// is no such task, or no serial is left; `ROOM` where `out` has fewer than `size` bytes, and is as it was; `BUSY` or
-/// `CLOSED`. With `NOTHING`, `BUSY` and `CLOSED` `size` is as it was. It takes no memory.
+/// is no such task, or no serial is left; `ROOM` where `out` has fewer than `size` bytes, and is as it was; `BUSY`, `CLOSED` or
+/// `MISUSED`. With `NOTHING`, `BUSY`, `CLOSED` and `MISUSED` `size` is as it was. It takes no memory.
 #[unsafe(no_mangle)]
 pub extern "C" fn zangjulf_preview(
     handle: &mut Handle,
@@ -51,17 +51,17 @@ pub extern "C" fn zangjulf_preview(
     out: &mut [u8],
     size: &mut usize,
 ) -> u8
-    ensures answer_given { IfAnswered handle.old result (λ history. AnswersPreview history task datagram result size.old size.new out.old out.new) }
-    ensures unchanged { handle.new.holding.value ≡ handle.old.holding.value }
+    ensures answer { IfAnswered handle.old result (λ history. AnswersPreview history task datagram result size.old size.new out.old out.new) }
+    ensures unchanged { HoldsAsBefore handle.old handle.new }
     ensures untouched { result ≢ DONE → out.new ≡ out.old }
     ensures busy { result ≡ BUSY → size.new ≡ size.old }
-    ensures closed { handle.old.holding.value ≡ None → (result ≡ CLOSED) × (size.new ≡ size.old) }
+    ensures closed { handle.old.holding.value ≡ None → (result ≡ no_line_number handle.old.mark) × (size.new ≡ size.old) }
 {
-    if let Err(number) = handle.begin_look() {
-        return number;
-    }
+    let Some(entered) = handle.enter() else {
+        return handle.refusal();
+    };
     let own = handle.holding.line_mut();
-    let answer_given = give_preview(&own.core, task, datagram, out, size);
-    own.calls.end_look();
-    answer_given
+    let answer = give_preview(&own.core, task, datagram, out, size);
+    own.calls.end(entered);
+    answer
 }

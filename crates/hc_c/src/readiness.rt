@@ -2,29 +2,29 @@
 ghost use Rattle.std.specs.Prelude.{◌≡◌, ◌≢◌, IfSome, None};
 ghost use Rattle.hc_events.specs.Ready.{ready_mask};
 ghost use Rattle.hc_c.specs.Embedded.{embedded_history};
-ghost use Rattle.hc_c.specs.Handles.{GivesFound, IfAnswered};
+ghost use Rattle.hc_c.specs.Handles.{GivesFound, HoldsAsBefore, IfAnswered, no_line_number};
 ghost use Rattle.hc_c.specs.Readiness.{holder_of};
-ghost use Rattle.hc_c.specs.declared.numbers.TheConstants.{BUSY, CLOSED};
+ghost use Rattle.hc_c.specs.declared.numbers.TheConstants.{BUSY};
 
 use crate::handle::Handle;
 use crate::numbers::{DONE, NOTHING};
 use hc_core::keeping::Core;
 use hc_records::limits::TASKS;
 
-/// The ready tasks, as bits: bit t is 1 if task t is ready. `DONE`, `BUSY` or `CLOSED`. It takes no memory.
+/// The ready tasks, as bits: bit t is 1 if task t is ready. `DONE`, `BUSY`, `CLOSED` or `MISUSED`. It takes no memory.
 #[unsafe(no_mangle)]
 pub extern "C" fn zangjulf_ready(handle: &mut Handle, tasks: &mut u8) -> u8
-    ensures answer_given { IfSome handle.old.holding.value (λ old. result ≢ BUSY → (result ≡ DONE) × (tasks.new ≡ ready_mask (embedded_history old))) }
-    ensures unchanged { handle.new.holding.value ≡ handle.old.holding.value }
+    ensures answer { IfSome handle.old.holding.value (λ old. result ≢ BUSY → (result ≡ DONE) × (tasks.new ≡ ready_mask (embedded_history old))) }
+    ensures unchanged { HoldsAsBefore handle.old handle.new }
     ensures busy { result ≡ BUSY → tasks.new ≡ tasks.old }
-    ensures closed { handle.old.holding.value ≡ None → (result ≡ CLOSED) × (tasks.new ≡ tasks.old) }
+    ensures closed { handle.old.holding.value ≡ None → (result ≡ no_line_number handle.old.mark) × (tasks.new ≡ tasks.old) }
 {
-    if let Err(number) = handle.begin_look() {
-        return number;
-    }
+    let Some(entered) = handle.enter() else {
+        return handle.refusal();
+    };
     let own = handle.holding.line_mut();
     *tasks = own.core.ready();
-    own.calls.end_look();
+    own.calls.end(entered);
     DONE
 }
 
@@ -39,8 +39,8 @@ fn holder(core: &Core, task: u8, number: u32) -> Option<u16>
 }
 
 /// The station address of the slave with a number, from 0, among those that hold a task up: first those of the line, in line
-/// order, then those outside it, in declared order. `DONE`; `NOTHING` if fewer slaves do, or there is no such task; `BUSY` or
-/// `CLOSED`; unless it is done `station` is as it was. It takes no memory.
+/// order, then those outside it, in declared order. `DONE`; `NOTHING` if fewer slaves do, or there is no such task; `BUSY`, `CLOSED` or
+/// `MISUSED`; unless it is done `station` is as it was. It takes no memory.
 #[unsafe(no_mangle)]
 pub extern "C" fn zangjulf_held_by(
     handle: &mut Handle,
@@ -48,22 +48,22 @@ pub extern "C" fn zangjulf_held_by(
     number: u32,
     station: &mut u16,
 ) -> u8
-    ensures answer_given { IfAnswered handle.old result (λ history. GivesFound (holder_of history task number) (λ found. found) result station.new) }
-    ensures unchanged { handle.new.holding.value ≡ handle.old.holding.value }
+    ensures answer { IfAnswered handle.old result (λ history. GivesFound (holder_of history task number) (λ found. found) result station.new) }
+    ensures unchanged { HoldsAsBefore handle.old handle.new }
     ensures untouched { result ≢ DONE → station.new ≡ station.old }
-    ensures closed { handle.old.holding.value ≡ None → (result ≡ CLOSED) × (station.new ≡ station.old) }
+    ensures closed { handle.old.holding.value ≡ None → (result ≡ no_line_number handle.old.mark) × (station.new ≡ station.old) }
 {
-    if let Err(number) = handle.begin_look() {
-        return number;
-    }
+    let Some(entered) = handle.enter() else {
+        return handle.refusal();
+    };
     let own = handle.holding.line_mut();
-    let answer_given = match holder(&own.core, task, number) {
+    let answer = match holder(&own.core, task, number) {
         Some(found) => {
             *station = found;
             DONE
         }
         None => NOTHING,
     };
-    own.calls.end_look();
-    answer_given
+    own.calls.end(entered);
+    answer
 }

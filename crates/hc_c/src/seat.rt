@@ -3,8 +3,12 @@
 
 pub mod ends;
 mod handle;
+pub mod limits;
+mod looking;
+pub mod lookers;
 mod opening;
+mod placing;
 mod posting;
-mod showing;
+pub mod showing;
 mod taking;
 mod viewing;

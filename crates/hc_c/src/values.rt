@@ -1,24 +1,33 @@
 //! Values of variables, by their numbers, in bytes that C keeps.
 ghost use Rattle.std.specs.Prelude.{◌≡◌, ◌≢◌, ◌≤◌, None};
-ghost use Rattle.hc_c.specs.Looks.{image_bit_of};
-ghost use Rattle.hc_c.specs.declared.numbers.TheConstants.{CLOSED};
+ghost use Rattle.hc_events.specs.Steps.{is_stale_epoch};
 ghost use Rattle.hc_c.specs.Values.{GetsValue, PutsValue, GetsAt, PutsAt};
-ghost use Rattle.hc_c.specs.Handles.{IfAnswered};
+ghost use Rattle.hc_c.specs.Handles.{HoldsAsBefore, IfAnswered, no_line_number};
 
 use crate::handle::Handle;
 use crate::looking::{image_bit_of, place_at};
-use crate::numbers::{DONE, IS_INPUT, NOTHING, ROOM, TOO_WIDE};
+use crate::numbers::{DONE, IS_INPUT, NOTHING, ROOM, STALE_POST, TOO_WIDE};
 use crate::runs::{is_run, is_too_wide};
 use hc_bits::{get_bits, put_bits};
 use hc_core::keeping::Core;
 use hc_places::table::Place as LinePlace;
 use hc_records::records::Dir;
 
-/// Puts a value where a variable is placed in its task's outputs.
-fn put_at(place: LinePlace, bit: usize, value: u64, outputs: &mut [u8]) -> u8
-    requires { place.bits ≤ 64 }
-    ensures { PutsValue place bit value result outputs.old outputs.new }
+/// Whether an epoch is below that of the last edit that changed a variable's task, or above the present one.
+fn is_stale(core: &Core, place: LinePlace, epoch: u32) -> bool
+    ensures { result ≡ is_stale_epoch core.now.history place.task epoch }
 {
+    epoch < core.task_epoch(place.task) || core.plan().epoch() < epoch
+}
+
+/// Puts a value where a variable is placed in its task's outputs.
+fn put_at(place: LinePlace, stale: bool, bit: usize, value: u64, outputs: &mut [u8]) -> u8
+    requires { place.bits ≤ 64 }
+    ensures { PutsValue place stale bit value result outputs.old outputs.new }
+{
+    if stale {
+        return STALE_POST;
+    }
     if place.dir == Dir::In {
         return IS_INPUT;
     }
@@ -33,9 +42,12 @@ fn put_at(place: LinePlace, bit: usize, value: u64, outputs: &mut [u8]) -> u8
 }
 
 /// Gives the value of a variable from its task's image.
-fn get_at(place: LinePlace, bit: usize, image: &[u8], value: &mut u64) -> u8
-    ensures { GetsValue place bit image.now result value.old value.new }
+fn get_at(place: LinePlace, stale: bool, bit: usize, image: &[u8], value: &mut u64) -> u8
+    ensures { GetsValue place stale bit image.now result value.old value.new }
 {
+    if stale {
+        return STALE_POST;
+    }
     if !is_run(image.len(), bit, place.bits) {
         return ROOM;
     }
@@ -44,71 +56,85 @@ fn get_at(place: LinePlace, bit: usize, image: &[u8], value: &mut u64) -> u8
 }
 
 /// Puts a value where a variable is placed in the present line.
-fn put_value(core: &Core, variable: u32, value: u64, outputs: &mut [u8]) -> u8
-    ensures { PutsAt core.now.history variable value result outputs.old outputs.new }
+fn put_value(core: &Core, variable: u32, epoch: u32, value: u64, outputs: &mut [u8]) -> u8
+    ensures { PutsAt core.now.history variable epoch value result outputs.old outputs.new }
 {
-    match place_at(core, variable) {
-        Some(place) => put_at(place, image_bit_of(core, place) as usize, value, outputs),
-        None => NOTHING,
-    }
+    let Some(place) = place_at(core, variable) else {
+        return NOTHING;
+    };
+    let bit = image_bit_of(core, place) as usize;
+    put_at(place, is_stale(core, place, epoch), bit, value, outputs)
 }
 
 /// Gives the value of a variable that is placed in the present line.
-fn get_value(core: &Core, variable: u32, image: &[u8], value: &mut u64) -> u8
-    ensures { GetsAt core.now.history variable image.now result value.old value.new }
+fn get_value(core: &Core, variable: u32, epoch: u32, image: &[u8], value: &mut u64) -> u8
+    ensures { GetsAt core.now.history variable epoch image.now result value.old value.new }
 {
-    match place_at(core, variable) {
-        Some(place) => get_at(place, image_bit_of(core, place) as usize, image, value),
-        None => NOTHING,
-    }
+    let Some(place) = place_at(core, variable) else {
+        return NOTHING;
+    };
+    let bit = image_bit_of(core, place) as usize;
+    get_at(place, is_stale(core, place, epoch), bit, image, value)
 }
 
-/// Puts a value into the outputs of its task, at the place that an output variable has in the present line: as they are
-/// posted by `zangjulf_post`. Every other bit stays. `DONE`; `NOTHING` where the present line has no place for the variable;
-/// `IS_INPUT` where it is an input; `TOO_WIDE` where the value needs more bits than the variable has; `ROOM` where the slice
-/// ends before the place does; `BUSY` or `CLOSED`. Unless it is done the slice is as it was. It takes no memory.
+/// Puts a value into the outputs of its task that are to be posted for an epoch, at the place that an output variable has in the
+/// present line. Every other bit stays. Returns `DONE`. It allocates nothing. It fails with the first of these, and the slice is as
+/// it was:
+///
+/// - `BUSY`, `CLOSED` or `MISUSED`.
+/// - `NOTHING`: the present line has no place for the variable.
+/// - `STALE_POST`: the epoch is before the last edit that changed the variable's task, or above the present one.
+/// - `IS_INPUT`: the variable is an input.
+/// - `TOO_WIDE`: the value needs more bits than the variable has.
+/// - `ROOM`: the slice ends before the place does.
 #[unsafe(no_mangle)]
 pub extern "C" fn zangjulf_put_value(
     handle: &mut Handle,
     variable: u32,
+    epoch: u32,
     value: u64,
     outputs: &mut [u8],
 ) -> u8
-    ensures answer_given { IfAnswered handle.old result (λ history. PutsAt history variable value result outputs.old outputs.new) }
-    ensures unchanged { handle.new.holding.value ≡ handle.old.holding.value }
+    ensures answer { IfAnswered handle.old result (λ history. PutsAt history variable epoch value result outputs.old outputs.new) }
+    ensures unchanged { HoldsAsBefore handle.old handle.new }
     ensures untouched { result ≢ DONE → outputs.new ≡ outputs.old }
-    ensures closed { handle.old.holding.value ≡ None → result ≡ CLOSED }
+    ensures closed { handle.old.holding.value ≡ None → result ≡ no_line_number handle.old.mark }
 {
-    if let Err(number) = handle.begin_look() {
-        return number;
-    }
+    let Some(entered) = handle.enter() else {
+        return handle.refusal();
+    };
     let own = handle.holding.line_mut();
-    let number = put_value(&own.core, variable, value, outputs);
-    own.calls.end_look();
+    let number = put_value(&own.core, variable, epoch, value, outputs);
+    own.calls.end(entered);
     number
 }
 
-/// The value of a variable in the image of its task, as `zangjulf_read` gives it, at the place that the variable has in the
-/// present line. `DONE`; `NOTHING` where the present line has no place for the variable; `ROOM` where the slice ends before the
-/// place does; `BUSY` or `CLOSED`. Unless it is done `value` is as it was. Whether the datagram has data is given by the read's
-/// mask. It takes no memory.
+/// Gives the value of a variable from the image of its task that was read in an epoch, as `zangjulf_read` gives it, at the place
+/// that the variable has in the present line. Whether the datagram has data is given by the read's mask. Returns `DONE`. It
+/// allocates nothing. It fails with the first of these, and `value` is as it was:
+///
+/// - `BUSY`, `CLOSED` or `MISUSED`.
+/// - `NOTHING`: the present line has no place for the variable.
+/// - `STALE_POST`: the epoch is before the last edit that changed the variable's task, or above the present one.
+/// - `ROOM`: the slice ends before the place does.
 #[unsafe(no_mangle)]
 pub extern "C" fn zangjulf_get_value(
     handle: &mut Handle,
     variable: u32,
+    epoch: u32,
     image: &[u8],
     value: &mut u64,
 ) -> u8
-    ensures answer_given { IfAnswered handle.old result (λ history. GetsAt history variable image.now result value.old value.new) }
-    ensures unchanged { handle.new.holding.value ≡ handle.old.holding.value }
+    ensures answer { IfAnswered handle.old result (λ history. GetsAt history variable epoch image.now result value.old value.new) }
+    ensures unchanged { HoldsAsBefore handle.old handle.new }
     ensures unwritten { result ≢ DONE → value.new ≡ value.old }
-    ensures closed { handle.old.holding.value ≡ None → result ≡ CLOSED }
+    ensures closed { handle.old.holding.value ≡ None → result ≡ no_line_number handle.old.mark }
 {
-    if let Err(number) = handle.begin_look() {
-        return number;
-    }
+    let Some(entered) = handle.enter() else {
+        return handle.refusal();
+    };
     let own = handle.holding.line_mut();
-    let number = get_value(&own.core, variable, image, value);
-    own.calls.end_look();
+    let number = get_value(&own.core, variable, epoch, image, value);
+    own.calls.end(entered);
     number
 }

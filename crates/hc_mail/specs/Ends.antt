@@ -1,32 +1,64 @@
 -- What contracts see of the two ends and of a note.
-use Rattle.std.specs.Prelude.{ℕ, List, [], ◌∷◌, ◌≡◌}
+use Rattle.std.specs.Prelude.{ℕ, ◌<◌, List, [], ◌∷◌, ◌≡◌}
+use Rattle.atomic_table.specs.Seated.{TableId}
 use Rattle.atomic_table.specs.declared.shared.Seat.{Seat}
+use Rattle.hc_mail.specs.declared.letter.Letter.{Letter}
 use Rattle.hc_mail.specs.declared.table.Insight.{Insight}
 use Rattle.hc_mail.specs.declared.table.Role.{Role}
-use Rattle.hc_mail.specs.Images.{Image}
-use Rattle.hc_mail.specs.Rule.{in_hand, insight}
+use Rattle.hc_mail.specs.declared.table.Role.TheVariants.{Sends, Looks}
+use Rattle.hc_mail.specs.Contents.{Kind, Room, counted, newest_letter}
+use Rattle.hc_mail.specs.Rule.{IsRoomy, IsSized, in_hand, insight}
+use Rattle.std.specs.Prelude.{length}
 
 -- an end's place at the table
-abbrev pub Place : Type 0
-Place = Seat Image Insight
+abbrev pub Place : Type 0 → Type 0
+Place X = Seat (Letter X) (Insight X)
 
--- the images that it sent, or that had been sent when it looked
-abbrev pub seen : Place → List Image
+-- the contents that it sent, or that had been sent when it looked
+abbrev pub seen : {X : Type 0} → Place X → List X
 seen place = place.me.0.seen
 
--- the images that a note of the other end named
-abbrev pub reported : Place → List Image
+-- the contents that a note of the other end named
+abbrev pub reported : {X : Type 0} → Place X → List X
 reported place = place.me.0.reported
 
--- an end stays at its table, with what was reported to it, and the image at hand has the same room
-abbrev pub StaysAtTable : Place → Image → Place → Image → Type 0
-StaysAtTable place held place' held' =
-    (place'.table_id ≡ place.table_id) × (held'.room ≡ held.room) × (reported place' ≡ reported place)
+-- an end stays at its table, with what was reported to it
+abbrev pub StaysAtTable : {X : Type 0} → Place X → Place X → Type 0
+StaysAtTable place place' = (place'.table_id ≡ place.table_id) × (reported place' ≡ reported place)
 
--- the place in a role, with one slot in hand, and what lies there
-abbrev pub posed : Place → Role → ℕ → Place
-posed place role slot = record place { me = (insight role (seen place) (reported place), (slot, in_hand place.me.1) ∷ []) }
+module _ {X : Type 0} (kind : Kind X) where
+  -- the place in a role, with one slot in hand, and what lies there
+  abbrev pub posed : Place X → Role → ℕ → Place X
+  posed place role slot = record place { me = (insight role (seen place) (reported place), (slot, in_hand kind place.me.1) ∷ []) }
+
+  -- it is at this table, with its own slot in hand, where a letter with this room lies; it counts what it sent
+  pub record IsSender (place : Place X) (slot count : ℕ) (table : TableId) (room : Room) : Type 0 where
+    pub seated : place.table_id ≡ table
+    pub sized : IsSized table
+    pub roomy : IsRoomy kind room (in_hand kind place.me.1).content
+    pub small : slot < 4
+    pub counts : count ≡ counted (length (seen place))
+    pub sends : place ≡ posed place (Sends slot) slot
+
+  -- it is at this table, with its own slot in hand; its letter has this room, and is the newest of those that it saw
+  pub record IsReceiver (place : Place X) (slot : ℕ) (shown : Letter X) (table : TableId) (room : Room) : Type 0 where
+    pub seated : place.table_id ≡ table
+    pub sized : IsSized table
+    pub roomy : IsRoomy kind room shown.content
+    pub small : slot < 4
+    pub looks : place ≡ posed place (Looks slot) slot
+    pub shows : shown ≡ newest_letter kind room (seen place)
 
 -- the place without the slot in hand
-abbrev pub with_nothing : Place → Place
+abbrev pub with_nothing : {X : Type 0} → Place X → Place X
 with_nothing place = record place { me = (place.me.0, []) }
+
+-- the sender: its place at the table, without the slot in hand, and the content in that slot
+pub record SenderEnd (X : Type 0) : Type 0 where
+  pub place : Place X
+  pub own : X
+
+-- the receiver: its place at the table, without the slot in hand, and the mailbox's room
+pub record ReceiverEnd (X : Type 0) : Type 0 where
+  pub place : Place X
+  pub room : Room

@@ -1,26 +1,32 @@
--- What a mailbox carries.
-use Rattle.std.specs.Prelude.{ℕ, ◌≡◌, List, [], ◌∷◌, ◌++◌, Option, None, Some, replicate}
+-- The images of a task, as a mailbox carries them.
+use Rattle.std.specs.Prelude.{ℕ, false, List, [], ◌∷◌, ◌++◌, Option, None, Some, replicate}
+use Rattle.hc_mail.specs.Contents.{Kind, Room}
+use Rattle.hc_mail.specs.declared.image.ImageHead.{ImageHead}
+use Rattle.hc_mail.specs.declared.image.LineState.TheVariants as line
 
--- the most bytes and the most datagrams that an image has room for
-abbrev pub Room : Type 0
-Room = ℕ × ℕ
-
--- the image of a task: the epoch and the task's epoch, what the task reads of its datagrams, of each datagram the serial that its data answer (none where it has no data), the task's outputs, and the room
+-- the image of a task: its head, what the task reads of its datagrams, of each datagram the serial that its data answer (none where it has no data), the task's outputs, and the room
 pub record Image : Type 0 where
-  pub epoch : ℕ
-  pub task_epoch : ℕ
+  pub head : ImageHead
   pub bytes : List ℕ
   pub serials : List (Option ℕ)
   pub outputs : List ℕ
   pub room : Room
 
--- an image of an epoch, with the task's epoch, without a datagram
-abbrev pub begun : ℕ → ℕ → Room → Image
-begun epoch task_epoch room = record { epoch = epoch; task_epoch = task_epoch; bytes = []; serials = []; outputs = []; room = room }
+-- an image with this head, without a datagram
+abbrev pub begun : ImageHead → Room → Image
+begun head room = record { head = head; bytes = []; serials = []; outputs = []; room = room }
+
+-- the head of a blank image: of epoch 0 on an open line, without a sending and a post
+abbrev pub blank_head : ImageHead
+blank_head = record { epoch = 0; task_epoch = 0; first_serial = 0; taken = 0; is_refused = false; line = line.Open }
 
 -- what a task sees before an image was sent
-abbrev pub blank : Room → Image
-blank = begun 0 0
+abbrev pub blank_image : Room → Image
+blank_image = begun blank_head
+
+-- images as contents of a mailbox
+abbrev pub image_kind : Kind Image
+image_kind = record { room = λ image. image.room; blank = blank_image }
 
 -- an image with one datagram more, whose data answer the sending with a serial
 abbrev pub with_data : List ℕ → ℕ → Image → Image
@@ -33,16 +39,3 @@ with_zeros size image = record image { bytes = image.bytes ++ replicate size 0; 
 -- an image with more outputs
 abbrev pub with_outputs : List ℕ → Image → Image
 with_outputs outputs image = record image { outputs = image.outputs ++ outputs }
-
--- the last of some images after one
-abbrev pub last_after : Image → List Image → Image
-last_after image [] = image
-last_after image (next ∷ rest) = last_after next rest
-
--- the newest of the images that were sent
-abbrev pub newest : Room → List Image → Image
-newest room sent = last_after (blank room) sent
-
--- a list begins with another
-abbrev pub StartsWith : List Image → List Image → Type 0
-StartsWith whole front = (rest : List Image) × (whole ≡ front ++ rest)

@@ -1,5 +1,5 @@
-pub mod Images
+pub mod Contents
 pub mod Rule
 pub mod Ends
-pub mod Sender
-pub mod Lending
+pub mod Images
+pub mod Posts

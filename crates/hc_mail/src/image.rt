@@ -1,18 +1,60 @@
 //! The image of a task, as a mailbox carries it.
-ghost use Rattle.std.specs.Prelude.{◌≡◌, ◌≤◌, ◌<◌, ◌+◌, ◌++◌, IfOk, length, replicate, take};
-ghost use Rattle.std.specs.Borrow.{sem};
-ghost use Rattle.hc_mail.specs.Images.{begun, blank, with_data, with_outputs, with_zeros};
+ghost use Rattle.std.specs.Prelude.{◌≡◌, ◌≤◌, ◌<◌, ◌+◌, ◌++◌, length, replicate, take};
+ghost use Rattle.hc_mail.specs.Images.{begun, blank_head, with_data, with_outputs, with_zeros};
 
+use crate::content::Content;
 use std::alloc::{AllocError, Global};
 use std::marker::Model;
 
-/// The image of a task: the epoch and the task's epoch, what the task reads of its datagrams, one after another, of each datagram
-/// the serial of the sending that its data answer, and the task's outputs. It has room from the start for the most that it may
-/// hold.
+/// What had become of the line and of the seat when an image was shown.
+#[derive(Clone, Copy)]
+pub enum LineState {
+    /// The line is open.
+    Open,
+    /// The line was closed.
+    Closed,
+    /// Another seat stands in place of this one.
+    Replaced,
+}
+
+/// What an image says beside its data.
+#[derive(Clone, Copy)]
+pub struct ImageHead {
+    /// The line's epoch when the image was made.
+    pub epoch: u32,
+    /// The task's epoch when the image was made: the epoch of the last edit that had changed the task, 0 if none had.
+    pub task_epoch: u32,
+    /// The first serial of the task's last sending, 0 before one.
+    pub first_serial: u64,
+    /// The number of the seat's post that was taken last, 0 before one.
+    pub taken: u64,
+    /// Whether the core refused that post.
+    pub is_refused: bool,
+    /// What had become of the line and of the seat.
+    pub line: LineState,
+}
+
+impl ImageHead {
+    /// The head of a blank image.
+    pub fn blank() -> ImageHead
+        ensures { result ≡ blank_head }
+    {
+        ImageHead {
+            epoch: 0,
+            task_epoch: 0,
+            first_serial: 0,
+            taken: 0,
+            is_refused: false,
+            line: LineState::Open,
+        }
+    }
+}
+
+/// The image of a task: its head, what the task reads of its datagrams, one after another, of each datagram the serial of the
+/// sending that its data answer, and the task's outputs. It has room from the start for the most that it may hold.
 #[derive(Drop)]
 pub struct TaskImage {
-    epoch: u32,
-    task_epoch: u32,
+    head: ImageHead,
     // the bytes and the outputs, each at the front of memory for the most of them
     memory: Vec<u8>,
     size: usize,
@@ -29,13 +71,13 @@ impl Model for TaskImage {
 
     ghost Value = { Image };
 
-    ghost view = { λ image. record { epoch = image.epoch; task_epoch = image.task_epoch; bytes = take image.size image.memory.items; serials = image.serials.items; outputs = take image.output_size image.output_memory.items; room = (length image.memory.items, image.most_datagrams) } };
+    ghost view = { λ image. record { head = image.head; bytes = take image.size image.memory.items; serials = image.serials.items; outputs = take image.output_size image.output_memory.items; room = (length image.memory.items, image.most_datagrams) } };
 
     ghost invariant = { λ image. (image.size ≤ length image.memory.items) × (image.output_size ≤ length image.output_memory.items) × (length image.output_memory.items ≡ length image.memory.items) × (vec_len image.serials ≤ image.most_datagrams) × (image.most_datagrams ≤ vec_capacity image.serials) };
 }
 
 /// Puts bytes at a place of a slice.
-fn put(out: &mut [u8], at: usize, bytes: &[u8])
+pub(crate) fn put(out: &mut [u8], at: usize, bytes: &[u8])
     requires { at + length bytes.now ≤ length out.old }
     ensures put { take (at + length bytes.now) out.new ≡ take at out.old ++ bytes.now }
     ensures len { length out.new ≡ length out.old }
@@ -53,35 +95,11 @@ fn put_zeros(out: &mut [u8], at: usize, size: usize)
 }
 
 impl TaskImage {
-    /// An image of epoch 0 without a datagram, with room for so many bytes and datagrams, and for as many bytes of outputs.
-    /// `AllocError` where a growth was refused.
-    fn blank(alloc: Global, bytes: usize, datagrams: usize) -> Result<TaskImage, AllocError>
-        ensures { IfOk result (λ image. image ≡ blank (bytes, datagrams)) }
+    /// What the image says beside its data.
+    pub fn head(&self) -> ImageHead
+        ensures { result ≡ self.now.head }
     {
-        Ok(TaskImage {
-            epoch: 0,
-            task_epoch: 0,
-            memory: vec![in alloc; 0; bytes]?,
-            size: 0,
-            output_memory: vec![in alloc; 0; bytes]?,
-            output_size: 0,
-            serials: Vec::with_capacity(alloc, datagrams)?,
-            most_datagrams: datagrams,
-        })
-    }
-
-    /// The line's epoch when the image was made.
-    pub fn epoch(&self) -> u32
-        ensures { result ≡ self.now.epoch }
-    {
-        self.epoch
-    }
-
-    /// The task's epoch when the image was made: the epoch of the last edit that had changed the task, 0 if none had.
-    pub fn task_epoch(&self) -> u32
-        ensures { result ≡ self.now.task_epoch }
-    {
-        self.task_epoch
+        self.head
     }
 
     /// What the task reads of its datagrams, one after another: as many bytes of each as it has, zeros where it has no data.
@@ -108,12 +126,11 @@ impl TaskImage {
         &self.output_memory[..self.output_size]
     }
 
-    /// The image becomes one of an epoch, with the task's epoch, without a datagram.
-    pub(crate) fn begin(&mut self, epoch: u32, task_epoch: u32)
-        ensures { self.new ≡ begun epoch task_epoch self.old.room }
+    /// The image becomes one with this head, without a datagram.
+    pub(crate) fn begin(&mut self, head: ImageHead)
+        ensures { self.new ≡ begun head self.old.room }
     {
-        self.epoch = epoch;
-        self.task_epoch = task_epoch;
+        self.head = head;
         self.size = 0;
         self.output_size = 0;
         self.serials.clear();
@@ -151,48 +168,20 @@ impl TaskImage {
     }
 }
 
-/// An image in memory of its own: to hand it over moves a pointer, and none of its bytes. Contracts see the image.
-#[derive(Drop)]
-pub struct ImageBox {
-    own: Box<TaskImage>,
-}
+impl Content for TaskImage {
+    ghost use Rattle.hc_mail.specs.Images.{image_kind};
 
-impl Model for ImageBox {
-    ghost use Rattle.hc_mail.specs.Images.{Image};
+    ghost kind = { image_kind };
 
-    ghost Value = { Image };
-
-    ghost view = { λ boxed. boxed.own.value };
-}
-
-impl ImageBox {
-    ghost use Rattle.hc_mail.specs.Lending.{LendsBoxed};
-
-    /// A blank image. `AllocError` where a growth was refused.
-    pub(crate) fn blank(
-        alloc: Global,
-        bytes: usize,
-        datagrams: usize,
-    ) -> Result<ImageBox, AllocError>
-        ensures { IfOk result (λ image. image ≡ blank (bytes, datagrams)) }
-    {
-        let image = TaskImage::blank(alloc, bytes, datagrams)?;
-        let own = Box::new(alloc, image)?;
-        Ok(ImageBox { own })
-    }
-
-    /// The image.
-    pub(crate) fn image(&self) -> &TaskImage
-        ensures { result.now ≡ self.now }
-    {
-        &self.own
-    }
-
-    /// The image, lent for writing.
-    pub(crate) fn image_mut(&mut self) -> &mut TaskImage
-        ensures* lent { sem 𝓛 (LendsBoxed self.entry result) }
-        ensures image { result.now ≡ self.old }
-    {
-        &mut self.own
+    fn blank(alloc: Global, bytes: usize, datagrams: usize) -> Result<TaskImage, AllocError> {
+        Ok(TaskImage {
+            head: ImageHead::blank(),
+            memory: vec![in alloc; 0; bytes]?,
+            size: 0,
+            output_memory: vec![in alloc; 0; bytes]?,
+            output_size: 0,
+            serials: Vec::with_capacity(alloc, datagrams)?,
+            most_datagrams: datagrams,
+        })
     }
 }

@@ -1,10 +1,16 @@
 //! The table that both ends share, and what each of them knows. The table has one word and three slots. The word is the number
-//! of the slot in the middle, and 4 more where an image was sent since the last look. The owner's image and the middle one lie
-//! in their slots. The task's end has its image beside it, so that a task may read without changing the end; in its slot lies
+//! of the slot in the middle, and 4 more if a letter was sent since the last look. The sender's letter and the middle one lie
+//! in their slots. The receiver has its letter beside it, so that it may be read without changing the end; in its slot lies
 //! one without room.
-use crate::image::{ImageBox, TaskImage};
+ghost use Rattle.std.specs.Prelude.{List};
+ghost use base.Fml.{ftrue};
+ghost use base.Stored.{coded_list};
+
+use crate::content::Content;
+use crate::letter::Letter;
 use atomic_table::{Seat, Shared, Table, TableRule};
 use std::alloc::Global;
+use std::marker::{Model, PhantomData};
 
 /// What a seat at the table does. No value of it is made: it is for the proofs.
 pub enum Role {
@@ -12,38 +18,43 @@ pub enum Role {
     Rests,
     /// Both ends in one, before they are parted.
     Opens,
-    /// The owner's end, before it takes its slot.
+    /// The sender, before it takes its slot.
     Enters,
-    /// The owner's end with its slot.
+    /// The sender with its slot.
     Sends(u64),
-    /// The task's end, before it takes its slot.
+    /// The receiver, before it takes its slot.
     Waits,
-    /// The task's end with its slot.
+    /// The receiver with its slot.
     Looks(u64),
-    /// The same, after it found that the middle image is newer than its own.
+    /// The receiver with its slot, after it found that the middle letter is newer than its own.
     Takes(u64),
 }
 
-/// What a seat knows. No value of it is made: a clause reads an array as a list of any length.
-pub struct Insight {
+/// What a seat knows. No value of it is made.
+pub struct Insight<T> {
     pub role: Role,
-    /// The images that it sent, or that had been sent when it looked.
-    pub seen: [TaskImage; 0],
-    /// The images that a note of the other end named.
-    pub reported: [TaskImage; 0],
+    marker: PhantomData<T>,
+    /// The contents that it sent, or that had been sent when it looked.
+    pub ghost seen: { List T } by { coded_list T.code },
+    /// The contents that a note of the other end named.
+    pub ghost reported: { List T } by { coded_list T.code },
+}
+
+impl<T> Model for Insight<T> {
+    ghost also_owns = { λ _. ftrue };
 }
 
 /// The rule of the table, whose key is the mailbox's room.
 pub struct MailRule;
 
-impl TableRule<ImageBox, Insight, (usize, usize)> for MailRule {
+impl<T: Content> TableRule<Letter<T>, Insight<T>, (usize, usize)> for MailRule {
     ghost use Rattle.hc_mail.specs.Rule.{IsMail, opener};
 
-    ghost holds = { IsMail };
+    ghost holds = { IsMail T.kind };
 
     ghost first = { λ _. opener };
 }
 
-pub(crate) type MailTable = Table<ImageBox, Insight, (usize, usize), MailRule, Global>;
+pub(crate) type MailTable<T> = Table<Letter<T>, Insight<T>, (usize, usize), MailRule, Global>;
 
-pub(crate) type Place = Seat<ImageBox, Insight>;
+pub(crate) type Place<T> = Seat<Letter<T>, Insight<T>>;

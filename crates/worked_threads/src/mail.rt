@@ -1,48 +1,72 @@
-//! The newest image goes from one thread to another through a mailbox.
+//! The newest content goes from one thread to another through a mailbox: images of a task one way, its posts the other way.
 ghost use Rattle.std.specs.Prelude.{◌≡◌};
 
-use hc_mail::image::TaskImage;
+use hc_mail::image::{ImageHead, LineState, TaskImage};
 use hc_mail::opening::open;
-use hc_mail::receiver::ImageReceiver;
-use hc_mail::sender::ImageSender;
+use hc_mail::post::TaskPost;
+use hc_mail::receiver::Receiver;
+use hc_mail::sender::Sender;
 use std::test::Fail;
 use std::thread;
 
-/// So many images are sent at full speed.
+/// So many contents are sent at full speed.
 const SENDINGS: u32 = 2_000;
 
 /// So often a look is tried.
 const TURNS: u32 = 100_000_000;
 
-/// Sends an image of an epoch with two datagrams of two bytes. The task's epoch is half of it. The second datagram has data, the
-/// epoch modulo 251, twice: they answer the sending whose serial is the epoch. The same byte is the only output.
-fn send_epoch(sender: &mut ImageSender, epoch: u32)
+/// The head of an image of an epoch. The task's epoch is half of it, the first serial twice, the post that was taken last has the
+/// next number, and it was refused if the epoch is odd.
+fn head_of(epoch: u32) -> ImageHead {
+    ImageHead {
+        epoch,
+        task_epoch: epoch / 2,
+        first_serial: 2 * u64::from(epoch),
+        taken: u64::from(epoch) + 1,
+        is_refused: epoch % 2 == 1,
+        line: LineState::Open,
+    }
+}
+
+/// Sends an image of an epoch with two datagrams of two bytes. The second datagram has data, the epoch modulo 251, twice: they
+/// answer the sending whose serial is the epoch. The same byte is the only output. Returns its number.
+fn send_epoch(sender: &mut Sender<TaskImage>, epoch: u32) -> u64
     requires { sender.old.own.room ≡ (4, 2) }
     ensures room { sender.new.own.room ≡ (4, 2) }
     ensures one { sender.new.place.table_id ≡ sender.old.place.table_id }
 {
     let byte = (epoch % 251) as u8;
-    sender.begin(epoch, epoch / 2);
+    sender.begin(head_of(epoch));
     sender.add_zeros(2);
     sender.add(&[byte, byte], u64::from(epoch));
     sender.add_outputs(&[byte]);
-    sender.send();
+    sender.send()
+}
+
+/// Whether the head of an image is the one that `head_of` gives.
+fn has_head(image: &TaskImage) -> bool {
+    let head = image.head();
+    head.task_epoch == head.epoch / 2
+        && head.first_serial == 2 * u64::from(head.epoch)
+        && head.taken == u64::from(head.epoch) + 1
+        && head.is_refused == (head.epoch % 2 == 1)
 }
 
 /// Whether an image is whole: an epoch's as it was sent, or the blank one.
 fn is_whole(image: &TaskImage) -> bool {
-    let byte = (image.epoch() % 251) as u8;
-    if image.epoch() == 0 {
+    let epoch = image.head().epoch;
+    let byte = (epoch % 251) as u8;
+    if epoch == 0 {
         return image.bytes().is_empty() && image.serials().is_empty() && image.outputs().is_empty();
     }
-    image.task_epoch() == image.epoch() / 2
+    has_head(image)
         && image.bytes() == [0, 0, byte, byte].as_slice()
-        && image.serials() == [None, Some(u64::from(image.epoch()))].as_slice()
+        && image.serials() == [None, Some(u64::from(epoch))].as_slice()
         && image.outputs() == [byte].as_slice()
 }
 
 /// Sends the images of all epochs, one after another.
-fn send_all(mut sender: ImageSender)
+fn send_all(mut sender: Sender<TaskImage>)
     requires { sender.own.room ≡ (4, 2) }
 {
     for epoch in 1..=SENDINGS {
@@ -50,15 +74,16 @@ fn send_all(mut sender: ImageSender)
     }
 }
 
-/// Looks until the last image is there, and at most so often: whether each image was whole and none older than the one before,
-/// and the epoch of the last one.
-fn watch(mut receiver: ImageReceiver) -> (bool, u32) {
+/// Looks until the last image is there, and at most so often: whether each image was whole, with its epoch as its number, and none
+/// older than the one before, and the epoch of the last one.
+fn watch(mut receiver: Receiver<TaskImage>) -> (bool, u32) {
     let mut epoch = 0;
     for _ in 0..TURNS {
         receiver.look();
-        let image = receiver.image();
-        let is_newer = is_whole(image) && epoch <= image.epoch();
-        epoch = image.epoch();
+        let image = receiver.content();
+        let now = image.head().epoch;
+        let is_newer = is_whole(image) && epoch <= now && receiver.number() == u64::from(now);
+        epoch = now;
         if !is_newer {
             return (false, epoch);
         }
@@ -79,28 +104,34 @@ fn images_go_from_thread_to_thread(rt: HostRuntime) -> Result<(), Fail> {
     Ok(())
 }
 
-/// The epoch and the last byte of what is shown; no byte where it has none.
-fn shown(receiver: &ImageReceiver) -> (u32, Option<u8>) {
-    let image = receiver.image();
-    (image.epoch(), image.bytes().last().copied())
+/// The epoch, the last byte and the number of what is shown; no byte if it has none.
+fn shown(receiver: &Receiver<TaskImage>) -> (u32, Option<u8>, u64) {
+    let image = receiver.content();
+    (
+        image.head().epoch,
+        image.bytes().last().copied(),
+        receiver.number(),
+    )
 }
 
-/// A look shows the last image that was sent. Without a look the one before stays.
+/// A look shows the last image that was sent, with its number. Without a look the one before stays.
 #[test]
 fn a_look_shows_the_newest(rt: HostRuntime) -> Result<(), Fail> {
     let (mut sender, mut receiver) = open(rt.alloc(), 4, 2)?;
-    receiver.look();
+    let is_early = receiver.look();
     let blank = shown(&receiver);
-    send_epoch(&mut sender, 1);
-    send_epoch(&mut sender, 2);
+    let first = send_epoch(&mut sender, 5);
+    let second = send_epoch(&mut sender, 2);
     let before = shown(&receiver);
-    receiver.look();
-    let second = shown(&receiver);
-    receiver.look();
-    let again = shown(&receiver);
+    let is_newer = receiver.look();
+    let after = shown(&receiver);
+    let is_again = receiver.look();
+    assert_eq!(rt; (first, second), (1, 2));
+    assert_eq!(rt; (is_early, is_newer, is_again), (false, true, false));
+    assert_eq!(rt; (blank, before), ((0, None, 0), (0, None, 0)));
     assert_eq!(rt;
-        (blank, before, second, again),
-        ((0, None), (0, None), (2, Some(2)), (2, Some(2)))
+        (after, shown(&receiver)),
+        ((2, Some(2), 2), (2, Some(2), 2))
     );
     Ok(())
 }
@@ -113,8 +144,8 @@ fn an_end_goes_on_alone(rt: HostRuntime) -> Result<(), Fail> {
     receiver.learn(sender.note());
     drop(sender.moved());
     receiver.look();
-    let is_last = is_whole(receiver.image());
-    assert_eq!(rt; (shown(&receiver), is_last), ((7, Some(7)), true));
+    let is_last = is_whole(receiver.content());
+    assert_eq!(rt; (shown(&receiver), is_last), ((7, Some(7), 1), true));
     Ok(())
 }
 
@@ -126,6 +157,66 @@ fn what_was_seen_was_sent(rt: HostRuntime) -> Result<(), Fail> {
     let mut receiver = receiver.moved();
     receiver.look();
     sender.check(receiver.note());
-    assert_eq!(rt; shown(&receiver), (3, Some(3)));
+    assert_eq!(rt; shown(&receiver), (3, Some(3), 1));
+    Ok(())
+}
+
+/// Posts for all epochs, one after another, the epoch modulo 251 as the only byte.
+fn post_all(mut sender: Sender<TaskPost>)
+    requires { sender.own.room ≡ 4 }
+{
+    for epoch in 1..=SENDINGS {
+        sender.write(epoch, &[(epoch % 251) as u8]);
+        sender.send();
+    }
+}
+
+/// Takes posts until the last one is there, and at most so often: whether each was whole, with its epoch as its number, and newer
+/// than the one before, and the epoch of the last one.
+fn take_all(mut receiver: Receiver<TaskPost>) -> (bool, u32) {
+    let mut epoch = 0;
+    for _ in 0..TURNS {
+        if receiver.look() {
+            let post = receiver.content();
+            let now = post.epoch();
+            let is_whole = post.bytes() == [(now % 251) as u8].as_slice();
+            if !is_whole || now <= epoch || receiver.number() != u64::from(now) {
+                return (false, now);
+            }
+            epoch = now;
+        }
+        if epoch == SENDINGS {
+            break;
+        }
+        thread::yield_now();
+    }
+    (true, epoch)
+}
+
+/// A thread that takes while 2,000 posts are made takes each one whole, newer than the one before, and the last one.
+#[test]
+fn posts_go_from_thread_to_thread(rt: HostRuntime) -> Result<(), Fail> {
+    let (sender, receiver) = open(rt.alloc(), 4, 0)?;
+    let ((), taken) = thread::join(&rt, move || post_all(sender), move || take_all(receiver));
+    assert_eq!(rt; taken, (true, SENDINGS));
+    Ok(())
+}
+
+/// A newer post replaces the one that waits, also a shorter one, and each is taken once.
+#[test]
+fn the_newest_post_is_taken(rt: HostRuntime) -> Result<(), Fail> {
+    let (mut sender, mut receiver) = open::<TaskPost>(rt.alloc(), 4, 0)?;
+    sender.write(1, &[1, 2, 3, 4]);
+    let first = sender.send();
+    sender.write(2, &[5]);
+    let second = sender.send();
+    let is_newer = receiver.look();
+    let post = receiver.content();
+    assert_eq!(rt;
+        (first, second, is_newer, receiver.number()),
+        (1, 2, true, 2)
+    );
+    assert_eq!(rt; (post.epoch(), post.bytes()), (2, [5].as_slice()));
+    assert_eq!(rt; receiver.look(), false);
     Ok(())
 }

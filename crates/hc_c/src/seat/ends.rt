@@ -1,60 +1,53 @@
-//! The two ends of a task's seat.
-ghost use Rattle.std.specs.Prelude.{◌≡◌, false};
-ghost use Rattle.hc_rings.specs.Ring.{PostsEach};
+//! The two ends of a seat.
+ghost use Rattle.std.specs.Prelude.{◌≡◌, ◌<◌, false};
+ghost use Rattle.hc_records.specs.declared.limits.TheConstants.{TASKS};
+ghost use Rattle.hc_mail.specs.Contents.{newest};
+ghost use Rattle.hc_mail.specs.Ends.{seen};
+ghost use Rattle.hc_mail.specs.Posts.{post_kind};
 ghost use Rattle.hc_c.specs.SeatEnds.{has_seat_from};
-ghost use Rattle.hc_c.specs.SeatRoom.{image_room};
+ghost use Rattle.hc_c.specs.SeatRoom.{image_room, post_room};
 
-use hc_mail::receiver::ImageReceiver;
-use hc_mail::sender::ImageSender;
-use hc_rings::{PostReceiver, PostSender};
+use crate::seat::lookers::Lookers;
+use hc_mail::image::TaskImage;
+use hc_mail::post::TaskPost;
+use hc_mail::receiver::Receiver;
+use hc_mail::sender::Sender;
 
-/// The owner's end: it sends images and takes posts.
+/// The owner's end of a task's seat: it sends images and takes posts.
 #[derive(Drop)]
 pub struct OwnerEnd {
-    pub images: ImageSender,
-    pub posts: PostReceiver,
-    ghost roomy: { images.own.room ≡ image_room },
+    pub images: Sender<TaskImage>,
+    pub posts: Receiver<TaskPost>,
+    /// Whether the core refused the post that was taken last.
+    pub is_refused: bool,
+    ghost shows_images: { images.own.room ≡ image_room },
+    ghost takes_posts: { posts.room ≡ post_room },
 }
 
-/// The task's end: it looks at images and posts.
+/// What a task posts by. It keeps the post that it made last, beside the one that waits.
+#[derive(Drop)]
+pub struct TaskPosts {
+    pub sender: Sender<TaskPost>,
+    pub last: TaskPost,
+    ghost sends_posts: { sender.own.room ≡ post_room.0 },
+    ghost keeps_posts: { last.room ≡ post_room.0 },
+    ghost newest: { last ≡ newest post_kind post_room (seen sender.place) },
+}
+
+/// The task's end: it looks at images, and posts unless it only looks.
 #[derive(Drop)]
 pub struct TaskEnd {
-    pub images: ImageReceiver,
-    pub posts: PostSender,
-    ghost roomy: { images.shown.room ≡ image_room },
-    ghost posts_each: { PostsEach posts },
+    pub images: Receiver<TaskImage>,
+    pub posts: Option<TaskPosts>,
+    ghost roomy: { images.room ≡ image_room },
 }
 
-/// The owner's end of the seat of each task, 0 to 7; none where the task has no seat.
+/// The owner's ends of the seats of tasks 0 to 7, none if the task has no seat, and of those that only look, by their numbers.
 #[derive(Drop)]
 pub struct OwnerEnds {
     pub by_task: [Option<OwnerEnd>; 8],
     /// The tasks from this number on have none.
     pub used: u8,
+    pub lookers: Lookers,
     ghost none_after: { has_seat_from used by_task ≡ false },
-}
-
-impl OwnerEnds {
-    ghost use Rattle.std.specs.Prelude.{◌≡◌, ◌<◌, Some, set};
-    ghost use Rattle.hc_records.specs.declared.limits.TheConstants.{TASKS};
-    ghost use Rattle.hc_c.specs.Opening.{no_ends};
-
-    /// No task has a seat.
-    pub fn none() -> OwnerEnds
-        ensures { result ≡ no_ends }
-    {
-        OwnerEnds {
-            by_task: [None, None, None, None, None, None, None, None],
-            used: 0,
-        }
-    }
-
-    /// A task has this end, in place of what it had.
-    pub fn place(&mut self, task: u8, owner: OwnerEnd)
-        requires { task < TASKS }
-        ensures { self.new.by_task ≡ set self.old.by_task task (Some owner) }
-    {
-        self.used = self.used.max(task + 1);
-        self.by_task[usize::from(task)] = Some(owner);
-    }
 }

@@ -1,13 +1,16 @@
 //! What C keeps of a seat between two calls.
-ghost use Rattle.std.specs.Prelude.{◌≡◌, IsSome, is_some};
+ghost use Rattle.std.specs.Prelude.{◌≡◌, ◌==◌, IsSome, is_some};
 ghost use Rattle.std.specs.declared.option.Option.{Option};
 ghost use Rattle.std.specs.declared.option.Option.TheVariants.{None, Some};
-ghost use Rattle.hc_c.specs.HeldSeat.{end_coded, in_box, owns_end};
+ghost use Rattle.hc_c.specs.HeldSeat.{end_coded, owns_end};
 ghost use Rattle.hc_c.specs.declared.seat.ends.TaskEnd.{TaskEnd};
+ghost use Rattle.hc_c.specs.declared.seat.limits.TheConstants.{OPEN_SEAT};
 
 use crate::handle::crosses;
 use crate::handle::unboxed::Unboxed;
+use crate::numbers::{CLOSED, MISUSED};
 use crate::seat::ends::TaskEnd;
+use crate::seat::limits::OPEN_SEAT;
 use std::alloc::Global;
 use std::marker::Model;
 use std::mem;
@@ -72,22 +75,24 @@ impl SeatHolding {
     }
 }
 
-/// What C keeps of a seat: zeros where none is open.
+/// What C keeps of a seat: zeros if none is open.
 #[repr(C)]
 #[derive(Drop)]
 pub struct SeatHandle {
-    is_open: bool,
+    pub mark: u64,
     pub holding: SeatHolding,
-    ghost same: { is_open ≡ is_some holding.value },
+    ghost same: { mark == OPEN_SEAT ≡ is_some holding.value },
 }
 
 impl SeatHandle {
+    ghost use Rattle.hc_c.specs.Handles.{no_line_number};
+
     /// The handle of an open seat.
     pub fn of(own: Box<TaskEnd, Global>) -> SeatHandle
         ensures { result.holding.value ≡ Some own.value }
     {
         SeatHandle {
-            is_open: true,
+            mark: OPEN_SEAT,
             holding: SeatHolding::of(Unboxed::of(own)),
         }
     }
@@ -96,24 +101,33 @@ impl SeatHandle {
     pub fn is_open(&self) -> bool
         ensures { result ≡ is_some self.now.holding.value }
     {
-        self.is_open
+        self.mark == OPEN_SEAT
     }
 
-    /// The task's end, if the seat is open; the handle is then closed.
-    pub fn take(&mut self, alloc: Global) -> Option<Box<TaskEnd, Global>>
-        ensures taken { in_box result ≡ self.old.holding.value }
-        ensures closed { self.new.holding.value ≡ None }
+    /// The answer of a handle that holds no seat: `CLOSED` if it is closed, and `MISUSED` if it is none.
+    pub fn refusal(&self) -> u8
+        requires { self.now.holding.value ≡ None }
+        ensures { result ≡ no_line_number self.now.mark }
+    {
+        if self.mark == 0 {
+            CLOSED
+        } else {
+            MISUSED
+        }
+    }
+
+    /// Takes the task's end out of the handle, which is closed then. The handle must hold one.
+    pub fn take(&mut self, alloc: Global) -> Box<TaskEnd, Global>
+        requires { IsSome self.old.holding.value }
+        ensures taken { self.old.holding.value ≡ Some result.value }
+        ensures closed { (self.new.mark ≡ 0) × (self.new.holding.value ≡ None) }
     {
         let closed = SeatHandle {
-            is_open: false,
+            mark: 0,
             holding: SeatHolding::nothing(alloc),
         };
         let was = mem::replace(self, closed);
-        if was.is_open {
-            Some(was.holding.into_unboxed().into_box())
-        } else {
-            None
-        }
+        was.holding.into_unboxed().into_box()
     }
 }
 

@@ -1,60 +1,116 @@
-//! A task's seat is opened and closed.
-ghost use Rattle.std.specs.Prelude.{◌≡◌, ◌≢◌, ◌<◌, ◌≤◌, ◌⊎◌, IfOk, IfSome, IsSome, None};
+//! A seat is opened and closed.
+ghost use Rattle.std.specs.Prelude.{◌≡◌, ◌≢◌, ◌⊎◌, ◌<◌, IfOk, IfSome, IsSome, None, is_some, slice_index_or};
 ghost use Rattle.hc_records.specs.declared.limits.TheConstants.{TASKS};
-ghost use Rattle.hc_events.specs.declared.faults.CoreFault.TheVariants.{NoSuchTask};
-ghost use Rattle.hc_events.specs.Faults.{core_fault_number};
-ghost use Rattle.hc_c.specs.Seats.{AreEnds, OpensSeat, OpensLineSeat};
-ghost use Rattle.hc_c.specs.declared.numbers.TheConstants.{BUSY, CLOSED};
+ghost use Rattle.hc_c.specs.Handles.{HoldsAsBefore, IfServed, no_line_number};
+ghost use Rattle.hc_c.specs.SeatImages.{head_of, image_shown};
+ghost use Rattle.hc_c.specs.SeatRoom.{image_room};
+ghost use Rattle.hc_c.specs.Seats.{AnswersOpening, AreEnds, ArePostEnds, BeginWith, OpensLineSeat, SeatAsBefore};
+ghost use Rattle.hc_mail.specs.declared.image.LineState.TheVariants.{Open};
+ghost use Rattle.hc_c.specs.declared.numbers.TheConstants.{BUSY};
 
+use crate::embedded::Embedded;
 use crate::handle::Handle;
-use crate::numbers::{DONE, MEMORY};
-use crate::seat::ends::{OwnerEnd, OwnerEnds, TaskEnd};
+use crate::numbers::{DONE, MEMORY, MISUSED};
+use crate::seat::ends::{OwnerEnd, TaskEnd, TaskPosts};
 use crate::seat::handle::SeatHandle;
+use crate::seat::limits::LARGEST_IMAGE;
+use crate::seat::showing::{head_of, send_image};
+use hc_core::keeping::Core;
 use hc_events::faults::CoreFault;
+use hc_mail::content::Content;
+use hc_mail::image::{ImageHead, LineState, TaskImage};
 use hc_mail::opening::open;
+use hc_mail::post::TaskPost;
+use hc_mail::receiver::Receiver;
+use hc_mail::sender::Sender;
 use hc_records::limits::{MOST_DATAGRAMS, TASKS};
-use hc_rings::{LARGEST_IMAGE, post_ring};
 use std::alloc::{AllocError, Global};
 
-/// The two ends of a new seat. `AllocError` where a growth was refused.
-fn make_ends(alloc: Global) -> Result<(OwnerEnd, Box<TaskEnd>), AllocError>
-    ensures { IfOk result (λ ends. AreEnds ends.0 ends.1.value) }
+/// The two ends of a new mailbox for the images of a task. It begins with an image with this head, which the task's end has seen.
+/// `AllocError` if an allocation fails.
+pub fn open_images(
+    alloc: Global,
+    core: &Core,
+    task: u8,
+    head: ImageHead,
+) -> Result<(Sender<TaskImage>, Receiver<TaskImage>), AllocError>
+    requires { task < TASKS }
+    ensures begins { IfOk result (λ ends. BeginWith (image_shown core.now.history task head) ends.0 ends.1) }
+    ensures rooms { IfOk result (λ ends. (ends.0.own.room ≡ image_room) × (ends.1.room ≡ image_room)) }
 {
-    let (sender, receiver) = open(alloc, LARGEST_IMAGE, MOST_DATAGRAMS)?;
-    let (posts, taken) = post_ring(alloc)?;
+    let (mut sender, mut receiver) = open(alloc, LARGEST_IMAGE, MOST_DATAGRAMS)?;
+    send_image(core, task, head, &mut sender);
+    receiver.learn(sender.note());
+    receiver.look();
+    sender.check(receiver.note());
+    Ok((sender, receiver))
+}
+
+/// What a task posts by, and the owner's end for it. `AllocError` if an allocation fails.
+fn open_posts(alloc: Global) -> Result<(TaskPosts, Receiver<TaskPost>), AllocError>
+    ensures { IfOk result (λ ends. ArePostEnds ends.0 ends.1) }
+{
+    let (sender, receiver) = open(alloc, LARGEST_IMAGE, 0)?;
+    let last = TaskPost::blank(alloc, LARGEST_IMAGE, 0)?;
+    Ok((TaskPosts { sender, last }, receiver))
+}
+
+/// The two ends of a new seat of a task, whose last sending begins with the serial `first`. `AllocError` if an allocation fails.
+fn make_ends(
+    alloc: Global,
+    core: &Core,
+    task: u8,
+    first: u64,
+) -> Result<(OwnerEnd, Box<TaskEnd>), AllocError>
+    requires { task < TASKS }
+    ensures { IfOk result (λ ends. AreEnds core.now.history task first ends.0 ends.1.value) }
+{
+    let head = head_of(core, task, first, 0, false, LineState::Open);
+    let (sender, receiver) = open_images(alloc, core, task, head)?;
+    let (posts, taken) = open_posts(alloc)?;
     let owner = OwnerEnd {
         images: sender,
         posts: taken,
+        is_refused: false,
     };
     let end = TaskEnd {
         images: receiver,
-        posts,
+        posts: Some(posts),
     };
     Ok((owner, Box::new(alloc, end)?))
 }
 
-/// Opens a task's seat in place of what the handle held: `DONE`, or why it is refused.
-fn open_seat(alloc: Global, ends: &mut OwnerEnds, task: u8, seat: &mut SeatHandle) -> u8
-    ensures answer_given { (TASKS ≤ task → result ≡ core_fault_number NoSuchTask) × (task < TASKS → (result ≡ DONE) ⊎ (result ≡ MEMORY)) }
-    ensures opened { result ≡ DONE → IfSome seat.new.holding.value (OpensSeat task ends.old ends.new) }
+/// Opens a task's seat in a handle: `DONE`, or why it is refused.
+fn open_seat(alloc: Global, own: &mut Embedded, task: u8, seat: &mut SeatHandle) -> u8
+    ensures answer { AnswersOpening seat.old.mark task result }
+    ensures opened { result ≡ DONE → IfSome seat.new.holding.value (OpensLineSeat task own.old own.new) }
     ensures open { result ≡ DONE → IsSome seat.new.holding.value }
-    ensures unchanged { result ≢ DONE → (ends.new ≡ ends.old) × (seat.new.holding.value ≡ seat.old.holding.value) }
+    ensures unchanged { result ≢ DONE → (own.new ≡ own.old) × SeatAsBefore seat.old seat.new }
 {
+    if seat.mark != 0 {
+        return MISUSED;
+    }
     if task >= TASKS {
         return CoreFault::NoSuchTask.number();
     }
-    let Ok((owner, end)) = make_ends(alloc) else {
+    let first = own.sent_from[usize::from(task)];
+    let Ok((owner, end)) = make_ends(alloc, &own.core, task, first) else {
         return MEMORY;
     };
-    ends.place(task, owner);
-    drop(seat.take(alloc));
+    drop(own.ends.place(&own.core, task, first, owner));
     *seat = SeatHandle::of(end);
     DONE
 }
 
-/// The owner opens the seat of a task, 0 to 7, in place of what `seat` held. A seat that the task had before is shown nothing
-/// more, and what it posts is never taken. `DONE`; fault 8 where the task is over 7; `MEMORY`; `BUSY` or `CLOSED`. Unless it is
-/// done line and seat are as they were. It takes all the memory that the seat ever needs.
+/// Opens the seat of a task, 0 to 7, in a closed handle, and shows it a first image. It allocates all memory that the seat ever
+/// needs. If the task had a seat, that gets a last image which says that it is replaced; what it posts is never taken. Returns
+/// `DONE`. It fails with one of these, and line and seat are as they were:
+///
+/// - `CLOSED` or `MISUSED`: no line is open, or its handle was never zeroed.
+/// - `BUSY`: another call with the line's handle runs.
+/// - `MISUSED`: the seat is open, or its handle was never zeroed.
+/// - 8: the task is over 7.
+/// - `MEMORY`: an allocation failed.
 #[unsafe(no_mangle)]
 pub extern "C" fn zangjulf_seat_open(
     alloc: Global,
@@ -62,27 +118,34 @@ pub extern "C" fn zangjulf_seat_open(
     task: u8,
     seat: &mut SeatHandle,
 ) -> u8
+    ensures answer { IfServed handle.old result (λ _. AnswersOpening seat.old.mark task result) }
     ensures opened { result ≡ DONE → IfSome handle.old.holding.value (λ old. IfSome handle.new.holding.value (λ new. IfSome seat.new.holding.value (OpensLineSeat task old new))) }
     ensures open { result ≡ DONE → IsSome handle.new.holding.value × IsSome seat.new.holding.value }
-    ensures answer_given { IfSome handle.old.holding.value (λ old. result ≢ BUSY → task < TASKS → (result ≡ DONE) ⊎ (result ≡ MEMORY)) }
-    ensures no_task { IfSome handle.old.holding.value (λ old. result ≢ BUSY → TASKS ≤ task → result ≡ core_fault_number NoSuchTask) }
-    ensures unchanged { result ≢ DONE → (handle.new.holding.value ≡ handle.old.holding.value) × (seat.new.holding.value ≡ seat.old.holding.value) }
-    ensures closed { handle.old.holding.value ≡ None → result ≡ CLOSED }
+    ensures unchanged { result ≢ DONE → HoldsAsBefore handle.old handle.new × SeatAsBefore seat.old seat.new }
+    ensures closed { handle.old.holding.value ≡ None → result ≡ no_line_number handle.old.mark }
 {
-    if let Err(number) = handle.begin_change() {
-        return number;
-    }
+    let Some(entered) = handle.enter() else {
+        return handle.refusal();
+    };
     let own = handle.holding.line_mut();
-    let number = open_seat(alloc, &mut own.ends, task, seat);
-    own.calls.end_change();
+    let number = open_seat(alloc, own, task, seat);
+    own.calls.end(entered);
     number
 }
 
-/// Frees what the seat holds, which is closed then. Posts that weren't taken yet can still be taken.
+/// Closes a seat and gives its memory back. A post that was not taken yet can still be taken. Returns `DONE`, and the handle may be
+/// opened anew. It fails with `CLOSED` if the seat is closed, and with `MISUSED` if its handle was never zeroed.
 #[unsafe(no_mangle)]
-pub extern "C" fn zangjulf_seat_close(alloc: Global, seat: &mut SeatHandle)
-    ensures { seat.new.holding.value ≡ None }
+pub extern "C" fn zangjulf_seat_close(alloc: Global, seat: &mut SeatHandle) -> u8
+    ensures answer { IsSome seat.old.holding.value → result ≡ DONE }
+    ensures closes { result ≡ DONE → (seat.new.mark ≡ 0) × (seat.new.holding.value ≡ None) }
+    ensures unchanged { result ≢ DONE → SeatAsBefore seat.old seat.new }
+    ensures closed { seat.old.holding.value ≡ None → result ≡ no_line_number seat.old.mark }
 {
+    if !seat.is_open() {
+        return seat.refusal();
+    }
     let own = seat.take(alloc);
     drop(own);
+    DONE
 }

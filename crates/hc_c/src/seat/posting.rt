@@ -1,27 +1,23 @@
 //! A task's thread posts at its seat.
-ghost use Rattle.std.specs.Prelude.{◌≡◌, ◌≢◌, ◌≤◌, ◌⊎◌, ◌++◌, ◌∷◌, [], IfSome, None, is_some, length};
-ghost use Rattle.hc_rings.specs.declared.post_buffer.TheConstants.{LARGEST_IMAGE};
-ghost use Rattle.hc_rings.specs.Post.{post_of};
-ghost use Rattle.hc_rings.specs.Ring.{FourWait, PostsEach, SameSender, held, posted};
-ghost use Rattle.hc_c.specs.Numbers.{refusal_number};
-ghost use Rattle.hc_c.specs.SeatRoom.{image_room};
-ghost use Rattle.hc_c.specs.Seats.{Posts, PostsNothing, at_hand, seat_fault};
-ghost use Rattle.hc_c.specs.declared.numbers.TheConstants.{CLOSED, NO_SPARE};
+ghost use Rattle.std.specs.Prelude.{◌≡◌, ◌≢◌, ◌≤◌, IfSome, None, is_some, length};
+ghost use Rattle.hc_c.specs.Handles.{no_line_number};
+ghost use Rattle.hc_c.specs.SeatRoom.{image_room, post_room};
+ghost use Rattle.hc_c.specs.Seats.{Posts, PostsAt, SeatAsBefore, is_current, post_number, seat_fault};
 
-use crate::numbers::{CLOSED, DONE, NO_SPARE};
-use crate::seat::ends::TaskEnd;
+use crate::numbers::{CLOSED, DONE, MISUSED};
+use crate::seat::ends::{TaskEnd, TaskPosts};
 use crate::seat::handle::SeatHandle;
 use hc_events::faults::CoreFault;
-use hc_mail::image::TaskImage;
-use hc_rings::PostSender;
+use hc_mail::image::{LineState, TaskImage};
 
-/// Why outputs can't be posted for an epoch beside an image, if they can't.
+/// Why outputs cannot be posted for an epoch beside an image, if they cannot.
 fn refusal(image: &TaskImage, epoch: u32, bytes: &[u8]) -> Option<CoreFault>
     requires { image.now.room ≡ image_room }
     ensures fault { result ≡ seat_fault image.now epoch bytes.now }
-    ensures most { result ≡ None → length bytes.now ≤ LARGEST_IMAGE }
+    ensures most { result ≡ None → length bytes.now ≤ post_room.0 }
 {
-    if epoch < image.task_epoch() || image.epoch() < epoch {
+    let head = image.head();
+    if epoch < head.task_epoch || head.epoch < epoch {
         return Some(CoreFault::StalePost);
     }
     if bytes.len() != image.outputs().len() {
@@ -30,50 +26,80 @@ fn refusal(image: &TaskImage, epoch: u32, bytes: &[u8]) -> Option<CoreFault>
     None
 }
 
-/// Posts outputs for an epoch: `DONE`, or `NO_SPARE`.
-fn post_bytes(posts: &mut PostSender, epoch: u32, bytes: &[u8]) -> u8
-    requires { length bytes.now ≤ LARGEST_IMAGE }
-    ensures answer_given { (result ≡ DONE) ⊎ (result ≡ NO_SPARE) }
-    ensures posted { result ≡ DONE → posted posts.new ≡ posted posts.old ++ post_of epoch bytes.now ∷ [] }
-    ensures refused { result ≢ DONE → posted posts.new ≡ posted posts.old }
-    ensures waiting { PostsEach posts.old → result ≡ NO_SPARE → FourWait posts.new }
-    ensures ring { SameSender posts.old posts.new }
-    ensures each { PostsEach posts.old → PostsEach posts.new }
+/// Posts outputs for an epoch, and returns the post's number.
+fn post_bytes(posts: &mut TaskPosts, epoch: u32, bytes: &[u8]) -> u64
+    requires { length bytes.now ≤ post_room.0 }
+    ensures { PostsAt epoch bytes.now result posts.old posts.new }
 {
-    if posts.hold(epoch, bytes.len()).is_err() {
-        return NO_SPARE;
-    }
-    posts.held_mut().copy_from_slice(bytes);
-    match posts.post_held() {
-        Ok(()) => DONE,
-        Err(_) => NO_SPARE,
+    posts.last.write(epoch, bytes);
+    posts.sender.write(epoch, bytes);
+    posts.sender.send()
+}
+
+/// Whether an image says that the line is open and the seat the present one.
+fn is_current(image: &TaskImage) -> bool
+    ensures { result ≡ is_current image.now }
+{
+    match image.head().line {
+        LineState::Open => true,
+        LineState::Closed | LineState::Replaced => false,
     }
 }
 
-/// The seat posts all outputs of its task for an epoch from the task's epoch to the image's, as the image at hand has them (this
-/// project's profile). The post waits until the owner takes it. `DONE`; fault 15 for another epoch; fault 16 if the image has
-/// another number of output bytes; `NO_SPARE` if four posts of the seat wait, as far as it has seen what was taken; `CLOSED` if the
-/// seat is closed, or the owner's end of it is gone. Unless it is done nothing is posted. It waits for nobody and allocates
-/// nothing.
+/// The answer to a post at a seat: `DONE`, or why nothing is posted.
+fn answer_of(end: &TaskEnd, epoch: u32, bytes: &[u8]) -> u8
+    ensures answer { result ≡ post_number end.now epoch bytes.now }
+    ensures most { result ≡ DONE → length bytes.now ≤ post_room.0 }
+{
+    if end.posts.is_none() {
+        return MISUSED;
+    }
+    let image = end.images.content();
+    if !is_current(image) {
+        return CLOSED;
+    }
+    match refusal(image, epoch, bytes) {
+        Some(fault) => fault.number(),
+        None => DONE,
+    }
+}
+
+/// Posts all outputs of the seat's task for an epoch from the task's epoch to the viewed image's, as many bytes as that image has
+/// output bytes (this project's profile). The post replaces the one that waits, and waits until the owner takes it. It waits for
+/// nobody and allocates nothing. Returns `DONE`, and `number` is the post's number: the posts of a seat are numbered from 1. It
+/// fails with the first of these that holds, and nothing is posted:
+///
+/// - `CLOSED` or `MISUSED`: the seat is closed, or its handle was never zeroed.
+/// - `MISUSED`: the seat only looks.
+/// - `CLOSED`: the viewed image says that the line is closed, or that the seat is replaced.
+/// - 15: the epoch is another one.
+/// - 16: the image has another number of output bytes.
 #[unsafe(no_mangle)]
-pub extern "C" fn zangjulf_seat_post(seat: &mut SeatHandle, epoch: u32, bytes: &[u8]) -> u8
-    ensures answer_given { IfSome seat.old.holding.value (λ old. result ≢ CLOSED → result ≢ NO_SPARE → result ≡ refusal_number (seat_fault (at_hand old) epoch bytes.now)) }
-    ensures posted { result ≡ DONE → IfSome seat.old.holding.value (λ old. IfSome seat.new.holding.value (Posts epoch bytes.now old)) }
-    ensures refused { result ≢ DONE → IfSome seat.old.holding.value (λ old. IfSome seat.new.holding.value (PostsNothing old)) }
-    ensures spare { result ≡ NO_SPARE → IfSome seat.old.holding.value (λ old. seat_fault (at_hand old) epoch bytes.now ≡ None) }
-    ensures waiting { result ≡ NO_SPARE → IfSome seat.new.holding.value (λ new. FourWait new.posts) }
+pub extern "C" fn zangjulf_seat_post(
+    seat: &mut SeatHandle,
+    epoch: u32,
+    bytes: &[u8],
+    number: &mut u64,
+) -> u8
+    ensures answer { IfSome seat.old.holding.value (λ old. result ≡ post_number old epoch bytes.now) }
+    ensures posted { result ≡ DONE → IfSome seat.old.holding.value (λ old. IfSome seat.new.holding.value (Posts epoch bytes.now number.new old)) }
     ensures held { is_some seat.new.holding.value ≡ is_some seat.old.holding.value }
-    ensures closed { seat.old.holding.value ≡ None → result ≡ CLOSED }
+    ensures unchanged { result ≢ DONE → SeatAsBefore seat.old seat.new × (number.new ≡ number.old) }
+    ensures closed { seat.old.holding.value ≡ None → result ≡ no_line_number seat.old.mark }
 {
     if !seat.is_open() {
-        return CLOSED;
+        return seat.refusal();
     }
     let end = seat.holding.end_mut();
-    if end.posts.is_abandoned() {
-        return CLOSED;
+    let answer = answer_of(end, epoch, bytes);
+    if answer != DONE {
+        return answer;
     }
-    match refusal(end.images.image(), epoch, bytes) {
-        Some(fault) => fault.number(),
-        None => post_bytes(&mut end.posts, epoch, bytes),
+    match &mut end.posts {
+        Some(posts) => {
+            *number = post_bytes(posts, epoch, bytes);
+            DONE
+        }
+        None => MISUSED,
     }
 }

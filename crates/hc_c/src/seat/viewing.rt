@@ -1,30 +1,51 @@
 //! A task's thread looks at the newest image of its seat.
-ghost use Rattle.std.specs.Prelude.{◌≡◌, ◌≢◌, ◌+◌, ◌*◌, ◌^◌, ◌<◌, ◌≤◌, ◌++◌, if◌then◌else◌, IfSome, None, Option, drop, is_some, length, map};
+ghost use Rattle.std.specs.Prelude.{◌≡◌, ◌≢◌, ◌+◌, ◌*◌, ◌^◌, ◌<◌, ◌≤◌, ◌++◌, if◌then◌else◌, IfSome, None, ℕ, Option, drop, is_some, length, map};
 ghost use Rattle.hc_records.specs.declared.limits.TheConstants.{MOST_DATAGRAMS};
+ghost use Rattle.hc_mail.specs.Contents.{counted};
+ghost use Rattle.hc_c.specs.Handles.{no_line_number};
 ghost use Rattle.hc_c.specs.Lists.{put_first};
 ghost use Rattle.hc_c.specs.Reads.{fit_number, bit_mask};
 ghost use Rattle.hc_c.specs.SeatRoom.{image_room};
-ghost use Rattle.hc_c.specs.Seats.{LooksOn, GivesImage, at_hand, mask_from, serials_answered};
-ghost use Rattle.hc_c.specs.declared.numbers.TheConstants.{CLOSED};
+ghost use Rattle.hc_c.specs.Seats.{GivesImage, GivesNewest, LooksOn, SeatAsBefore, at_hand, fits_image, line_number, mask_from, outputs_beside, outputs_begun, serials_answered, view_of};
 
-use crate::numbers::{CLOSED, DONE, ROOM};
+use crate::numbers::{DONE, ROOM};
+use crate::seat::ends::TaskPosts;
 use crate::seat::handle::SeatHandle;
-use hc_mail::image::TaskImage;
+use crate::states::task_state;
+use crate::widths::{in_16_bits, in_32_bits};
+use hc_mail::image::{LineState, TaskImage};
+use hc_mail::post::TaskPost;
 
 /// An image that a seat views, as C gets it.
 #[repr(C)]
 #[derive(Clone, Copy)]
 pub struct SeatView {
+    /// How many images the seat was shown, this one among them.
+    showing: u64,
+    /// The first serial of the task's last sending, 0 before one.
+    first_serial: u64,
+    /// The number of the seat's post that was taken last when the image was shown, 0 before one.
+    taken: u64,
     /// The line's epoch when the image was shown.
     epoch: u32,
     /// The task's epoch when the image was shown: the epoch of the last edit that had changed the task, 0 if none had.
     task_epoch: u32,
     /// The bytes of the task's image, at most 23,776.
-    size: usize,
+    size: u32,
     /// The bytes of the task's outputs, which come first.
-    outputs: usize,
+    outputs: u32,
+    /// The task's datagrams, at most 16.
+    datagrams: u16,
     /// Bit d is 1 if datagram d has data.
     has: u16,
+    /// How far the data answer the task's last sending.
+    state: u8,
+    /// What had become of the line and the seat.
+    line: u8,
+    /// 1 if the post that was taken last was refused.
+    is_refused: u8,
+    /// 0.
+    reserved: u8,
 }
 
 /// Puts bytes at the front of a slice.
@@ -35,7 +56,7 @@ fn put_front(bytes: &[u8], out: &mut [u8])
     out[..bytes.len()].copy_from_slice(bytes);
 }
 
-/// The bits of some datagrams, and one more bit where it is set.
+/// The bits of some datagrams, and one more bit if it is set.
 fn with_bit(has: u32, bit: u32, is_set: bool) -> u32
     requires { has + bit ≤ 65536 }
     ensures { result ≡ has + (if is_set then bit else 0) }
@@ -65,7 +86,7 @@ fn put_serials(serials: &[Option<u64>], out: &mut [u64], bit: u32, has: u32) -> 
     }
 }
 
-/// Gives the serial of each datagram, as many as there is room for, and answers which have data: the first one's bit is the least
+/// Gives the serial of each datagram, as many as there is room for, and returns which have data: the first one's bit is the least
 /// significant.
 fn give_serials(serials: &[Option<u64>], out: &mut [u64]) -> u16
     requires { length serials.now ≤ MOST_DATAGRAMS }
@@ -75,11 +96,52 @@ fn give_serials(serials: &[Option<u64>], out: &mut [u64]) -> u16
     put_serials(serials, out, 1, 0) as u16
 }
 
-/// Gives an image: `DONE`, or `ROOM` where `out` is too short.
-fn give_image(image: &TaskImage, out: &mut [u8], serials: &mut [u64], view: &mut SeatView) -> u8
+/// What became of the line, as C gets it.
+fn line_number(line: LineState) -> u8
+    ensures { result ≡ line_number line }
+{
+    match line {
+        LineState::Open => 1,
+        LineState::Closed => 2,
+        LineState::Replaced => 3,
+    }
+}
+
+/// An image, as C gets it; `showing` is its number, and `has` the bits of the datagrams with data.
+fn view_of(showing: u64, has: u16, image: &TaskImage) -> SeatView
+    requires { image.now.room ≡ image_room }
+    ensures { (shown : ℕ) → showing ≡ counted shown → has ≡ bit_mask (map is_some image.now.serials) → result ≡ view_of shown image.now }
+{
+    let head = image.head();
+    let serials = image.serials();
+    SeatView {
+        showing,
+        first_serial: head.first_serial,
+        taken: head.taken,
+        epoch: head.epoch,
+        task_epoch: head.task_epoch,
+        size: in_32_bits(image.bytes().len()),
+        outputs: in_32_bits(image.outputs().len()),
+        datagrams: in_16_bits(serials.len()),
+        has,
+        state: task_state(head.first_serial, serials),
+        line: line_number(head.line),
+        is_refused: u8::from(head.is_refused),
+        reserved: 0,
+    }
+}
+
+/// Gives an image with its number: `DONE`, or `ROOM` if `out` is too short.
+fn give_image(
+    showing: u64,
+    image: &TaskImage,
+    out: &mut [u8],
+    serials: &mut [u64],
+    view: &mut SeatView,
+) -> u8
     requires { image.now.room ≡ image_room }
     ensures number { result ≡ fit_number (length image.now.bytes) (length out.old) }
-    ensures answer_given { result ≡ DONE → GivesImage image.now view.new out.old out.new serials.old serials.new }
+    ensures image { result ≡ DONE → (shown : ℕ) → showing ≡ counted shown → GivesImage shown image.now view.new out.old out.new serials.old serials.new }
     ensures untouched { result ≢ DONE → out.new ≡ out.old }
     ensures unwritten { result ≢ DONE → (serials.new ≡ serials.old) × (view.new ≡ view.old) }
 {
@@ -89,23 +151,23 @@ fn give_image(image: &TaskImage, out: &mut [u8], serials: &mut [u64], view: &mut
     }
     put_front(bytes, out);
     let has = give_serials(image.serials(), serials);
-    *view = SeatView {
-        epoch: image.epoch(),
-        task_epoch: image.task_epoch(),
-        size: bytes.len(),
-        outputs: image.outputs().len(),
-        has,
-    };
+    *view = view_of(showing, has, image);
     DONE
 }
 
-/// Gives the outputs of an image: `DONE`, or `ROOM` where `out` is too short.
-fn give_outputs(image: &TaskImage, out: &mut [u8]) -> u8
-    ensures number { result ≡ fit_number (length image.now.outputs) (length out.old) }
-    ensures answer_given { result ≡ DONE → out.new ≡ image.now.outputs ++ drop (length image.now.outputs) out.old }
+/// Whether a post was made for an epoch from an image's task epoch on, with as many bytes as the image has output bytes.
+fn fits_image(image: &TaskImage, post: &TaskPost) -> bool
+    ensures { result ≡ fits_image image.now post.now }
+{
+    image.head().task_epoch <= post.epoch() && post.bytes().len() == image.outputs().len()
+}
+
+/// Gives outputs: `DONE`, or `ROOM` if `out` is too short.
+fn give_bytes(outputs: &[u8], out: &mut [u8]) -> u8
+    ensures number { result ≡ fit_number (length outputs.now) (length out.old) }
+    ensures bytes { result ≡ DONE → out.new ≡ outputs.now ++ drop (length outputs.now) out.old }
     ensures untouched { result ≢ DONE → out.new ≡ out.old }
 {
-    let outputs = image.outputs();
     if out.len() < outputs.len() {
         return ROOM;
     }
@@ -113,12 +175,24 @@ fn give_outputs(image: &TaskImage, out: &mut [u8]) -> u8
     DONE
 }
 
-/// The seat takes the newest image that was shown, or keeps the one at hand where none is newer: never an older one. `DONE`: the
-/// image's bytes are at the front of `out`, each datagram's at its offset, zeros where it has no data; `serials` has of each
-/// datagram, in their order, the serial of the sending that its data answer, 0 where it has none, as many as there is room for;
-/// and `view` gives the rest. `ROOM` where `out` is shorter than the image, which 23,776 bytes never are: the image is at hand.
-/// `CLOSED` where the seat is closed. With these two `out`, `serials` and `view` are as they were. Before anything was shown the
-/// image at hand is of epoch 0 and has no datagram. It waits for nobody and takes no memory.
+/// The outputs to begin with: those of the seat's own last post if that fits the image, else the image's.
+fn outputs_beside<'a>(image: &'a TaskImage, posts: &'a Option<TaskPosts>) -> &'a [u8]
+    ensures { result.now ≡ outputs_beside image.now posts.now }
+{
+    match posts {
+        Some(posts) if fits_image(image, &posts.last) => posts.last.bytes(),
+        _ => image.outputs(),
+    }
+}
+
+/// Takes the newest image that was shown, or keeps the viewed one if none is newer: never an older one. It waits for nobody and
+/// allocates nothing. Returns `DONE`: the image's bytes are at the front of `out`, each datagram's at its offset, zeros where it has
+/// no data; `serials` has of each datagram, in their order, the serial of the sending that its data answer, 0 where it has none, as
+/// many as there is room for; and `view` gives the rest. It fails with one of these, and `out`, `serials` and `view` are as they
+/// were:
+///
+/// - `CLOSED` or `MISUSED`: the seat is closed, or its handle was never zeroed.
+/// - `ROOM`: `out` is shorter than the image, which 23,776 bytes never are. The image is viewed nevertheless.
 #[unsafe(no_mangle)]
 pub extern "C" fn zangjulf_seat_view(
     seat: &mut SeatHandle,
@@ -127,34 +201,44 @@ pub extern "C" fn zangjulf_seat_view(
     view: &mut SeatView,
 ) -> u8
     ensures looked { IfSome seat.old.holding.value (λ old. IfSome seat.new.holding.value (LooksOn old)) }
-    ensures number { IfSome seat.new.holding.value (λ new. result ≡ fit_number (length (at_hand new).bytes) (length out.old)) }
-    ensures answer_given { result ≡ DONE → IfSome seat.new.holding.value (λ new. GivesImage (at_hand new) view.new out.old out.new serials.old serials.new) }
+    ensures answer { IfSome seat.new.holding.value (λ new. result ≡ fit_number (length (at_hand new).bytes) (length out.old)) }
+    ensures image { result ≡ DONE → IfSome seat.new.holding.value (λ new. GivesNewest new view.new out.old out.new serials.old serials.new) }
     ensures untouched { result ≢ DONE → out.new ≡ out.old }
     ensures unwritten { result ≢ DONE → (serials.new ≡ serials.old) × (view.new ≡ view.old) }
-    ensures held { is_some seat.new.holding.value ≡ is_some seat.old.holding.value }
-    ensures closed { seat.old.holding.value ≡ None → result ≡ CLOSED }
+    ensures held { (seat.new.mark ≡ seat.old.mark) × (is_some seat.new.holding.value ≡ is_some seat.old.holding.value) }
+    ensures closed { seat.old.holding.value ≡ None → result ≡ no_line_number seat.old.mark }
 {
     if !seat.is_open() {
-        return CLOSED;
+        return seat.refusal();
     }
     let end = seat.holding.end_mut();
     end.images.look();
-    give_image(end.images.image(), out, serials, view)
+    give_image(
+        end.images.number(),
+        end.images.content(),
+        out,
+        serials,
+        view,
+    )
 }
 
-/// The outputs of the image at hand, as they were to be sent when it was shown. `DONE`: they are at the front of `out`. `ROOM`
-/// where `out` is shorter, or `CLOSED` where the seat is closed; `out` is then as it was. Nothing changes. It takes no memory.
+/// Gives the outputs to begin with: the seat's own last post, if it was made for an epoch from the viewed image's task epoch on and
+/// has as many bytes as the image has output bytes, and otherwise the image's, as they were to be sent when it was shown. It
+/// allocates nothing. Returns `DONE`: they are at the front of `out`. It fails with one of these, and `out` is as it was:
+///
+/// - `CLOSED` or `MISUSED`: the seat is closed, or its handle was never zeroed.
+/// - `ROOM`: `out` is shorter.
 #[unsafe(no_mangle)]
 pub extern "C" fn zangjulf_seat_outputs(seat: &mut SeatHandle, out: &mut [u8]) -> u8
-    ensures number { IfSome seat.old.holding.value (λ old. result ≡ fit_number (length (at_hand old).outputs) (length out.old)) }
-    ensures answer_given { result ≡ DONE → IfSome seat.old.holding.value (λ old. out.new ≡ (at_hand old).outputs ++ drop (length (at_hand old).outputs) out.old) }
+    ensures answer { IfSome seat.old.holding.value (λ old. result ≡ fit_number (length (outputs_begun old)) (length out.old)) }
+    ensures outputs { result ≡ DONE → IfSome seat.old.holding.value (λ old. out.new ≡ outputs_begun old ++ drop (length (outputs_begun old)) out.old) }
     ensures untouched { result ≢ DONE → out.new ≡ out.old }
-    ensures unchanged { seat.new.holding.value ≡ seat.old.holding.value }
-    ensures closed { seat.old.holding.value ≡ None → result ≡ CLOSED }
+    ensures unchanged { SeatAsBefore seat.old seat.new }
+    ensures closed { seat.old.holding.value ≡ None → result ≡ no_line_number seat.old.mark }
 {
     if !seat.is_open() {
-        return CLOSED;
+        return seat.refusal();
     }
     let end = seat.holding.end_mut();
-    give_outputs(end.images.image(), out)
+    give_bytes(outputs_beside(end.images.content(), &end.posts), out)
 }

@@ -11,7 +11,7 @@ use Rattle.hc_c.proofs.declaring.serve_text.Goals as goal
 -- where memory was refused nothing is said
 cost_stays : (found : Result Group ProjectFault) (own : Embedded) (asks : Bool) (cost : Cost) → Declares found own own asks MEMORY cost cost
 cost_stays (Ok group) own asks cost = record {
-  answer_given = λ other. absurd (other refl);
+  answer = λ other. absurd (other refl);
   own = tt;
   cost = λ is. absurd (omega arith);
   carried = λ is it. absurd (omega arith);
@@ -20,7 +20,7 @@ cost_stays (Ok group) own asks cost = record {
   unwritten = λ other crowds. refl;
   crowds = λ task other is. absurd (other refl);
 }
-cost_stays (Err fault) own asks cost = record { answer_given = λ other. absurd (other refl); unchanged = refl; cost_stays = refl }
+cost_stays (Err fault) own asks cost = record { answer = λ other. absurd (other refl); unchanged = refl; cost_stays = refl }
 
 pub returns-in-Ok : goal.returns-in-Ok
 returns-in-Ok c =

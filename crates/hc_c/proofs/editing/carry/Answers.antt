@@ -7,8 +7,8 @@ use Rattle.hc_c.proofs.editing.carry.Goals as goal
 
 pub returns-in-Ok-clause-cost : goal.returns-in-Ok-clause-cost
 returns-in-Ok-clause-cost c =
-    let answer_given = c.cost_of.ensures in let core_edit = c.in-Ok.ensures in
-    carried-cost c.edit.result.now c.in-Ok.core_edit c.args.own.now.core c.args.edit.now c.cost_of.result c.edit.ensures.edit c.edit.ensures.made answer_given.cost answer_given.prepared core_edit.made core_edit.edit
+    let cost = c.cost_of.ensures in let core_edit = c.in-Ok.ensures in
+    carried-cost c.edit.result.now c.will_wait.result c.in-Ok.core_edit c.args.own.now.core c.args.edit.now c.cost_of.result c.edit.ensures.edit c.edit.ensures.made c.will_wait.ensures cost.cost cost.prepared core_edit.made core_edit.edit
 
 pub returns-in-Ok-clause-own : goal.returns-in-Ok-clause-own
 returns-in-Ok-clause-own c = done-own (own_fault (state_of (embedded_history c.args.own.now)).groups c.args.edit.now) c.in-Ok.core_edit (Ok tt) c.in-Ok.ensures.own

@@ -7,7 +7,7 @@ use Rattle.hc_records.specs.Line.{State}
 use Rattle.hc_groups.specs.Edits.{own_fault}
 use Rattle.hc_groups.proofs.lemmas.Refusals.{own-refuses}
 use Rattle.hc_events.specs.Points.{state_of}
-use Rattle.hc_c.specs.Edits.{Serves, edit_number, is_full_for}
+use Rattle.hc_c.specs.Edits.{Serves, edit_number}
 use Rattle.hc_c.specs.Embedded.{embedded_history}
 use Rattle.hc_c.proofs.Refusals.{not_done, own-found, same_fault}
 use Rattle.hc_c.proofs.editing.serve_remap.Goals as goal
@@ -20,7 +20,7 @@ returns-in-Some c =
     let found : own_fault state.groups edit ≡ Some fault = sym (c.in-Some.ensures ∙ ap (λ (it : List Declared). own_fault it edit) groups) in
     let refused : edited state edit ≡ Err fault = own-refuses state edit fault found in
     record {
-      answer_given = λ other. number ∙ sym (ap (edit_number (is_full_for c.args.own.now c.args.asks)) refused);
+      answer = λ other. number ∙ sym (ap edit_number refused);
       own = own-found (own_fault state.groups edit) fault c.refuse.result number found;
       cost = λ is. absurd (not_done fault (sym number ∙ is));
       carried = λ is asks. absurd (not_done fault (sym number ∙ is));

@@ -17,4 +17,4 @@ returns-clause-number c =
 pub returns-clause-image : goal.returns-clause-image
 returns-clause-image c done =
     let here = listed-here c.args.core.now.history c.plan.result.now c.places.result.now c.args.task c.datagrams-datagrams.result.now c.plan.ensures.state c.places.ensures.table c.datagrams-datagrams.ensures.datagrams in
-    subst (λ (all : List Datagram). HoldsImage c.args.core.now.history c.args.task all c.give_slots.new.image c.args.out.now c.give_slots.new.out c.args.serials.now c.give_slots.new.serials) here (c.give_slots.ensures.image done)
+    subst (λ (all : List Datagram). HoldsImage c.args.core.now.history c.args.task all c.args.first c.give_slots.new.image c.args.out.now c.give_slots.new.out c.args.serials.now c.give_slots.new.serials) here (c.give_slots.ensures.image done)

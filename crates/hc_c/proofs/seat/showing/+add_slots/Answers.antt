@@ -1,7 +1,7 @@
 use Rattle.std.proofs.Common.{rules, ◌∙◌, ap, arith, length, subst}
 use Rattle.std.specs.Option.{option_copied}
 use Rattle.hc_events.specs.Points.{line_of}
-use Rattle.hc_mail.specs.Images.{Room}
+use Rattle.hc_mail.specs.Contents.{Room}
 use Rattle.hc_c.specs.Pieces.{HaveLengths}
 use Rattle.hc_c.proofs.Images.{slot-fits}
 use Rattle.hc_c.proofs.Showing.{sizes-cons, slot_added}

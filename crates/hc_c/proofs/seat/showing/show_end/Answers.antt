@@ -1,62 +1,12 @@
-use Rattle.std.proofs.Common.{rules, ◌∙◌, List, [], ◌∷◌, ◌++◌, ap, arith, length}
-use Rattle.hc_records.specs.Image.{datagram_count, task_places}
-use Rattle.hc_records.specs.Line.{State, line}
-use Rattle.hc_places.specs.Table.{Table, datagrams_in}
-use Rattle.hc_sendings.proofs.lemmas.Listed.{listed-count}
-use Rattle.hc_mail.specs.Ends.{Place, reported, seen}
-use Rattle.hc_mail.specs.Images.{Image, Room}
-use Rattle.hc_c.proofs.Images.{listed-here, listed-lengths}
-use Rattle.hc_c.proofs.Showing.{shown_image, sizes-most}
+use Rattle.std.proofs.Common.{◌∙◌, ap, sym}
+use Rattle.hc_mail.specs.declared.image.ImageHead.{ImageHead}
+use Rattle.hc_c.specs.SeatImages.{SendsImage, head_of, image_shown}
 use Rattle.hc_c.proofs.seat.showing.show_end.Goals as goal
 
-pub add_slots-requires-clause-lengths : goal.add_slots-requires-clause-lengths
-add_slots-requires-clause-lengths c =
-    listed-lengths c.args.core.now.history c.plan-plan.result.now c.places-places.result.now c.args.task c.datagrams-datagrams.result.now c.plan-plan.ensures.state c.places-places.ensures.unchanged c.places-places.ensures.table c.datagrams-datagrams.ensures.datagrams
-
-pub add_slots-requires-clause-bytes : goal.add_slots-requires-clause-bytes
-add_slots-requires-clause-bytes c =
-    let own = c.begin.ensures.own in
-    let none = ap (λ (image : Image). length image.bytes) own in
-    let room = ap (λ (image : Image). image.room.0) own in
-    let roomy = ap (λ (it : Room). it.0) c.args.end.now.roomy in
-    let most = sizes-most c.datagrams-datagrams.result.now c.datagrams-datagrams.ensures.ranges in
-    omega (arith, none, room, roomy, most, c.datagrams-datagrams.ensures.few)
-
-pub add_outputs-requires-clause-count : goal.add_outputs-requires-clause-count
-add_outputs-requires-clause-count c =
-    let plan = c.plan-plan.result.now in
-    let are = c.datagrams-datagrams.ensures.datagrams ∙ ap (λ (it : Table). datagrams_in it c.args.task) c.places-places.ensures.table in
-    let count = listed-count plan c.args.task c.datagrams-datagrams.result.now c.places-places.ensures.unchanged are in
-    let here = ap (λ (state : State). datagram_count (task_places c.args.task (line state))) c.plan-plan.ensures.state in
-    omega (arith, count, here)
-
-pub add_outputs-requires-clause-lengths : goal.add_outputs-requires-clause-lengths
-add_outputs-requires-clause-lengths c =
-    listed-lengths c.args.core.now.history c.plan-plan.result.now c.places-places.result.now c.args.task c.datagrams-datagrams.result.now c.plan-plan.ensures.state c.places-places.ensures.unchanged c.places-places.ensures.table c.datagrams-datagrams.ensures.datagrams
-
-pub add_outputs-requires-clause-room : goal.add_outputs-requires-clause-room
-add_outputs-requires-clause-room c =
-    let own = c.begin.ensures.own in
-    let slots = c.add_slots.ensures.own in
-    let none = ap (λ (image : Image). length image.outputs) slots ∙ ap (λ (image : Image). length image.outputs) own in
-    let room = ap (λ (image : Image). image.room.0) slots ∙ ap (λ (image : Image). image.room.0) own in
-    let roomy = ap (λ (it : Room). it.0) c.args.end.now.roomy in
-    let most = sizes-most c.datagrams-datagrams.result.now c.datagrams-datagrams.ensures.ranges in
-    omega (arith, none, room, roomy, most, c.datagrams-datagrams.ensures.few)
-
 pub returns : goal.returns
-returns c =
-    let history = c.args.core.now.history in
-    let old = c.args.end.now.images in
-    let here = listed-here history c.plan-plan.result.now c.places-places.result.now c.args.task c.datagrams-datagrams.result.now c.plan-plan.ensures.state c.places-places.ensures.table c.datagrams-datagrams.ensures.datagrams in
-    let epoch = c.epoch.ensures ∙ ap (λ (state : State). state.epoch) c.plan-plan.ensures.state ∙ c.plan-plan.ensures.epoch in
-    let image = shown_image history c.args.task c.epoch.result c.task_epoch.result c.from.result c.datagrams-datagrams.result.now old.own.room c.begin.new.self.own c.add_slots.new.images.own c.add_outputs.new.images.own
-    (search rules) c.add_slots.ensures.own c.add_outputs.ensures.own epoch (search rules) here (c.from.ensures ∙ ap (λ part. part.0) c.part_at-outputs.ensures) c.args.end.now.roomy in
-    let place = c.add_outputs.ensures.same ∙ c.add_slots.ensures.same ∙ c.begin.ensures.same in
-    let sent = c.send.ensures.sent in
-    let same = c.send.ensures.same in record {
-      shown = sent ∙ ap (λ (l : List Image). l ++ c.add_outputs.new.images.own ∷ []) (ap seen place) ∙ ap (λ (it : Image). seen old.place ++ it ∷ []) image;
-      reported = same.2 ∙ ap reported place;
-      one_mail = same.0 ∙ ap (λ (it : Place). it.table_id) place;
-      posts = λ _. c.args.end.now.posts;
+returns c = let args = c.args in let end = args.end.now in let history = args.core.now.history in
+    let head = c.head_of-head.ensures ∙ ap (λ taken. head_of history args.task args.first taken end.is_refused args.line) c.number.ensures in record {
+      images = rw (sym head) c.send_image.ensures;
+      posts = λ _. end.posts;
+      refused = λ _. end.is_refused;
     }

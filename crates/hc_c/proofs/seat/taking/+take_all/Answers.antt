@@ -9,16 +9,16 @@ use Rattle.hc_c.proofs.seat.taking.+take_all.Goals as goal
 pub returns-clause-taken : goal.returns-clause-taken
 returns-clause-taken t c =
     let others = c.take_all-others.result in
-    let accepted = c.from.result + 2 * others.accepted in
-    let refused = c.from-2.result + 2 * others.refused in
+    let accepted = c.from.result + 2 * others.0 in
+    let refused = c.from-2.result + 2 * others.1 in
     subst (λ (ends : List (Option OwnerEnd)). TakesAll c.args.task c.args.core.now c.take_all-others.new.core ends (c.take_end-accepted.new.end ∷ c.take_all-others.new.ends) accepted refused) (sym c.in-Some.ensures.cases.0) (
       c.take_end-accepted.new.core,
       c.take_end-accepted.result,
-      (others.accepted, others.refused),
+      (others.0, others.1),
       c.take_end-accepted.ensures,
       c.take_all-others.ensures.taken,
-      ap (λ n. n + 2 * others.accepted) (c.from.ensures ∙ byte_is _),
-      ap (λ n. n + 2 * others.refused) (c.from-2.ensures ∙ byte_is _),
+      ap (λ n. n + 2 * others.0) (c.from.ensures ∙ byte_is _),
+      ap (λ n. n + 2 * others.1) (c.from-2.ensures ∙ byte_is _),
     )
 
 pub returns-then-count-eq0-clause-taken : goal.returns-then-count-eq0-clause-taken

@@ -1,0 +1,5 @@
+use Rattle.std.proofs.Common.{length}
+use Rattle.hc_c.proofs.states.+count_since.Given as goal
+
+abbrev pub decreases-count_since : goal.decreases-count_since
+decreases-count_since l = length l.serials.now

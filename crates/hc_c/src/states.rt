@@ -1,0 +1,66 @@
+//! How far what a task reads answers the last sending of the task.
+ghost use Rattle.std.specs.Prelude.{◌≡◌, ◌≤◌, length, slice_index_or};
+ghost use Rattle.hc_records.specs.declared.limits.TheConstants.{MOST_DATAGRAMS};
+ghost use Rattle.hc_c.specs.States.{count_since, is_since, state_number, task_state};
+
+/// No datagram of the task has data that answer its last sending.
+pub const NO_DATA: u8 = 0;
+
+/// Some datagrams of the task have data that answer its last sending, and others do not.
+pub const INCOMPLETE: u8 = 1;
+
+/// Each datagram of the task has data that answer its last sending.
+pub const COMPLETE: u8 = 2;
+
+/// Whether a datagram has data, and they answer a serial or a later one.
+pub fn is_since(first: u64, serial: Option<u64>) -> bool
+    ensures { result ≡ is_since first serial }
+{
+    match serial {
+        Some(serial) => first <= serial,
+        None => false,
+    }
+}
+
+/// The state of a task so many of whose datagrams have data that answer its last sending.
+pub fn state_number(since: u8, all: u8) -> u8
+    ensures { result ≡ state_number since all }
+{
+    if since == all {
+        COMPLETE
+    } else if since == 0 {
+        NO_DATA
+    } else {
+        INCOMPLETE
+    }
+}
+
+/// How many datagrams have data that answer a serial or a later one. A task has 16 datagrams at most, so deep is this recursion.
+fn count_since(first: u64, serials: &[Option<u64>]) -> u8
+    requires { length serials.now ≤ MOST_DATAGRAMS }
+    ensures count { result ≡ count_since first serials.now }
+    ensures most { result ≤ length serials.now }
+{
+    match serials {
+        [] => 0,
+        [serial, rest @ ..] => u8::from(is_since(first, *serial)) + count_since(first, rest),
+    }
+}
+
+/// The state of a task whose last sending begins with a serial, by the serials that its datagrams' data answer.
+pub fn task_state(first: u64, serials: &[Option<u64>]) -> u8
+    requires { length serials.now ≤ MOST_DATAGRAMS }
+    ensures { result ≡ task_state first serials.now }
+{
+    state_number(count_since(first, serials), serials.len() as u8)
+}
+
+/// The first serial of a task's last sending, 0 before one and of no task.
+pub fn first_serial(sent_from: &[u64], task: u8) -> u64
+    ensures { result ≡ slice_index_or sent_from.now task 0 }
+{
+    match sent_from.get(usize::from(task)) {
+        Some(first) => *first,
+        None => 0,
+    }
+}
