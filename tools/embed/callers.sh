@@ -9,10 +9,11 @@ compiled() {
     gcc -std=c11 -g -O1 $warnings "$@" -Iinclude "tools/embed/$caller.c" build/libzangjulf.a -o "$scratch/$caller"
 }
 
-# compiled_fuzz WORDS..: the caller that draws, likewise, over the plain models or those that `model`, `readiness` and `task_epochs` name
+# compiled_fuzz WORDS..: the caller that draws, likewise, over the plain models or those that `model`, `readiness`, `seated` and
+# `task_epochs` name
 compiled_fuzz() {
     compiled fuzz -Itools/embed tools/embed/draws.c tools/embed/growths.c tools/embed/judge.c "${model:-tools/embed/model.c}" \
-        tools/embed/pending.c "${readiness:-tools/embed/readiness.c}" tools/embed/seated.c "${task_epochs:-tools/embed/task_epochs.c}" \
+        "${readiness:-tools/embed/readiness.c}" "${seated:-tools/embed/seated.c}" "${task_epochs:-tools/embed/task_epochs.c}" \
         tools/embed/words.c $wrapped "$@"
 }
 
