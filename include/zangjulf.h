@@ -97,7 +97,7 @@ extern "C" {
     ANSWER(AREA_TOO_BIG, 11, "the area would have more bits than a datagram, 11,888") \
     ANSWER(TOO_MANY_DATAGRAMS, 12, "a task would need more than 16 datagrams") \
     ANSWER(EPOCHS_SPENT, 13, "the epoch is the last one, 4,294,967,295") \
-    ANSWER(STALE_POST, 15, "the epoch is below that of the last edit that changed the task, or above the present one") \
+    ANSWER(STALE_POST, 15, "the epoch is before the last edit that changed the task, or above the present one") \
     ANSWER(POST_LENGTH, 16, "the post does not have as many bytes as the task has outputs") \
     ANSWER(NOTHING_OWED, 18, "no register block is owed") \
     ANSWER(SERIALS_SPENT, 19, "too few serials are left below 2^40 - 1") \
@@ -274,7 +274,7 @@ ZANGJULF_CHECKED uint8_t zangjulf_owed(const struct zangjulf *handle, uint32_t *
 
 /* ------ The configuration of the present line. None of these calls changes anything or allocates. ------
  *
- * The configuration is that of the groups, areas, tasks and PDOs in the line, whatever edits led to them. */
+ * The groups, areas, tasks and PDOs in the line decide it, whatever edits led to them. */
 
 /* The place of a variable. */
 struct zangjulf_place {
@@ -354,7 +354,7 @@ struct zangjulf_cost {
     uint32_t recut;      /* how many datagrams are cut anew; a task that becomes empty counts as one */
     uint32_t moved;      /* how many register blocks the new line has that the old line did not have with these bytes */
     uint32_t places;     /* how many variables move, appear or go */
-    uint8_t crowded;     /* of TOO_MANY_DATAGRAMS the lowest task that would need more than 16; else 0 */
+    uint8_t crowded;     /* of TOO_MANY_DATAGRAMS the lowest task that would need more than 16; 0 after DONE */
     uint8_t waits;       /* bit t: task t waits after the edit, once each slave that comes is cleared (`zangjulf_cleared`) */
     uint8_t reserved[2]; /* zeros */
 };
@@ -682,14 +682,13 @@ ZANGJULF_CHECKED uint8_t zangjulf_get_bits(const uint8_t *bytes, size_t length, 
  * bits do not lie within the slice; TOO_WIDE, if the number needs more bits. */
 ZANGJULF_CHECKED uint8_t zangjulf_put_bits(uint8_t *bytes, size_t length, size_t bit, uint8_t bits, uint64_t value);
 
-/* Puts a value into a task's outputs at the place of an output variable; every other bit stays. `epoch` is that for which the outputs
- * will be posted. Answers: DONE; NOTHING, if the line has no place for the variable; STALE_POST, if the epoch is below the task epoch
- * of the variable's task or above the present one; IS_INPUT; TOO_WIDE, if the value needs more bits; ROOM, if the slice ends before
- * the place does. */
+/* Puts a value into a task's outputs at the place of an output variable; every other bit stays. The outputs will be posted for `epoch`.
+ * Answers: DONE; NOTHING, if the line has no place for the variable; STALE_POST, if the epoch is below the task epoch of the variable's
+ * task or above the present one; IS_INPUT; TOO_WIDE, if the value needs more bits; ROOM, if the slice ends before the place does. */
 ZANGJULF_CHECKED uint8_t zangjulf_put_value(const struct zangjulf *handle, uint32_t variable, uint32_t epoch, uint64_t value,
                                             uint8_t *outputs, size_t length);
 
-/* The value of a variable in its task's image. `epoch` is that of the image (`zangjulf_read`). The value is 0 if the variable's datagram
+/* The value of a variable in its task's image, whose epoch is `epoch` (`zangjulf_read`). The value is 0 if the variable's datagram
  * has no data: `has` of the image tells. Answers: DONE; NOTHING, if the line has no place for the variable; STALE_POST, if the epoch is
  * below the task epoch of the variable's task or above the present one; ROOM, if the slice ends before the place does. */
 ZANGJULF_CHECKED uint8_t zangjulf_get_value(const struct zangjulf *handle, uint32_t variable, uint32_t epoch, const uint8_t *image,

@@ -11,7 +11,7 @@
 
 struct mailbox;
 
-/* What the present seats of a line share with it, or NULL: that of each task, and those that only look. */
+/* What the present seats of a line share with it, or NULL: one of each task, and those that only look. */
 struct owner {
     struct mailbox *of[ZANGJULF_TASKS], *looking[MOST_LOOKERS];
     uint32_t lookers;

@@ -43,7 +43,7 @@ static void open_line(struct zangjulf *line) {
     EXPECT(zangjulf_open(line, &options, text, length, &task) == ZANGJULF_DONE);
 }
 
-/* The seat's newest image of task 0 or of another, and how it stands. */
+/* The seat's newest image. */
 static struct zangjulf_view viewed(struct zangjulf_seat *seat) {
     uint8_t data[IMAGE];
     struct zangjulf_view view;
@@ -57,7 +57,7 @@ static uint64_t post(struct zangjulf_seat *seat, uint32_t epoch, const uint8_t *
     return number;
 }
 
-/* What a post is answered that isn't made. */
+/* The answer to a post that isn't made. */
 static uint8_t refused_post(struct zangjulf_seat *seat, uint32_t epoch, const uint8_t *bytes, size_t size) {
     uint64_t number = 77;
     uint8_t answer = zangjulf_seat_post(seat, epoch, bytes, size, &number);

@@ -116,10 +116,10 @@ class EpochsSpent(Fault):
 
 
 class StalePost(Fault):
-    """The epoch is below that of the last edit that changed the task, or above the present one."""
+    """The epoch is before the last edit that changed the task, or above the present one."""
 
     number = 15
-    text = "the epoch is below that of the last edit that changed the task, or above the present one"
+    text = "the epoch is before the last edit that changed the task, or above the present one"
 
 
 class PostLength(Fault):

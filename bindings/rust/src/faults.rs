@@ -91,7 +91,7 @@ faults! {
     AreaTooBig = 11, "the area would have more bits than a datagram, 11,888";
     TooManyDatagrams(u8) = 12, "a task would need more than 16 datagrams";
     EpochsSpent = 13, "the epoch is the last one, 4,294,967,295";
-    StalePost = 15, "the epoch is below that of the last edit that changed the task, or above the present one";
+    StalePost = 15, "the epoch is before the last edit that changed the task, or above the present one";
     PostLength = 16, "the post does not have as many bytes as the task has outputs";
     NothingOwed = 18, "no register block is owed";
     SerialsSpent = 19, "too few serials are left below 2^40 - 1";

@@ -224,7 +224,7 @@ impl Line {
         Ok(Seat { end })
     }
 
-    /// Opens a seat that only looks at a task, 0 to 7, with a number below that of [`Line::open_with_lookers`], and shows it a first
+    /// Opens a seat that only looks at a task, 0 to 7, with a number below the lookers of [`Line::open_with_lookers`], and shows it a first
     /// image. A seat that had the number before is shown a last one ([`LineState::Replaced`]). `Misused` of another number,
     /// `NoSuchTask`, `Memory`; nothing changed then.
     ///
