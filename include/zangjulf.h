@@ -595,12 +595,12 @@ struct zangjulf_seat {
     void *at;
 };
 
-/* Opens the seat of a task, 0 to 7, for a closed handle `seat`, and shows it a first image. A task has one seat: an earlier one is
+/* Opens the seat of a task, 0 to 7, for a closed handle `seat`. It has a first image from then on. A task has one seat: an earlier one is
  * shown a last image, with line ZANGJULF_SEAT_REPLACED, and a post of it that waits is dropped. The owner's call.
  * Answers: DONE; MISUSED, if the seat is open or was never set to zeros; NO_SUCH_TASK; MEMORY. */
 ZANGJULF_CHECKED uint8_t zangjulf_seat_open(struct zangjulf *handle, uint8_t task, struct zangjulf_seat *seat);
 
-/* Opens a seat that only looks at a task, 0 to 7, for a closed handle `seat`, and shows it a first image. It takes the number
+/* Opens a seat that only looks at a task, 0 to 7, for a closed handle `seat`. It has a first image from then on. It takes the number
  * `number`, from 0: an earlier seat with this number is shown a last image, with line ZANGJULF_SEAT_REPLACED. The owner's call.
  * Answers: DONE; MISUSED, if the seat is open or was never set to zeros, or `number` is not below the `lookers` of the opening;
  * NO_SUCH_TASK; MEMORY. */
@@ -623,7 +623,7 @@ enum {
 
 /* An image that a seat views. */
 struct zangjulf_view {
-    uint64_t showing;      /* how many images the seat was shown, with this one, from 1; 0 before its first view */
+    uint64_t showing;      /* how many images the seat was shown, with this one: 1 of the first image */
     uint64_t first_serial; /* as in `struct zangjulf_image`, and so are epoch, task_epoch, size, datagrams, has and state */
     uint64_t taken;        /* the number of the seat's post that was taken last when the image was shown; 0 before one */
     uint32_t epoch;

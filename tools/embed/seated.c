@@ -117,6 +117,7 @@ static void opening(struct zangjulf *line, struct owner *owner, const struct tas
     leave(line, epochs, shared, ZANGJULF_SEAT_REPLACED);
     seat->box = *shared = new_box(task, only_looks);
     show_to(line, epochs, seat->box, ZANGJULF_LINE_OPEN);
+    seat->box->viewed = seat->box->last_shown;
 }
 
 static void showing(struct zangjulf *line, const struct owner *owner, const struct task_epochs *epochs) {

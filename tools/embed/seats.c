@@ -156,6 +156,9 @@ static void first_images(void) {
     EXPECT(zangjulf_look_open(&line, 2, 0, &seat) == ZANGJULF_MISUSED && !seat.mark);
     EXPECT(zangjulf_seat_open(&line, 0, &seat) == ZANGJULF_DONE && zangjulf_seat_open(&line, 7, &other) == ZANGJULF_DONE);
     EXPECT(zangjulf_look_open(&line, 1, 0, &look) == ZANGJULF_DONE);
+    /* the seat has it before the first view */
+    EXPECT(zangjulf_seat_outputs(&seat, outputs, OUTPUTS - 1) == ZANGJULF_ROOM && zangjulf_seat_outputs(&seat, outputs, OUTPUTS) == ZANGJULF_DONE);
+    EXPECT(refused_post(&seat, 0, NULL, 0) == ZANGJULF_POST_LENGTH);
     view = viewed(&seat);
     EXPECT(view.showing == 1 && !view.first_serial && !view.taken && !view.epoch && !view.task_epoch && view.size == IMAGE && view.outputs == OUTPUTS);
     EXPECT(view.datagrams == 1 && !view.has && view.state == ZANGJULF_NO_DATA && view.line == ZANGJULF_LINE_OPEN && !view.is_refused && !view.reserved);
