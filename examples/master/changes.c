@@ -1,5 +1,5 @@
 /* Tools that come, go and fail while two axes keep their cycles: an owner and two task threads on the wire of `wire.c`, 1,000 cycles a
- * second. The axes are in task 0, the machine's inputs and outputs in task 1, and the tools in task 2, which alone waits for them.
+ * second unless another number is given. The axes are in task 0, the machine's inputs and outputs in task 1, and the tools in task 2, which alone waits for them.
  *
  *   a  a tool comes and goes 50 times; it stays on the wire with its FMMUs switched off
  *   b  the same, with 100 further input areas in the tool's task, whose register blocks each change owes too
@@ -13,7 +13,7 @@
  * as the machine's fault, if the owner woke more than 0.5 ms late; if more than 5 % are, the run fails. If no namespaces can be made it
  * says so, and ends with status 77.
  *
- *     changes PROJECT [LETTERS]
+ *     changes PROJECT [LETTERS [CYCLES_A_SECOND]]
  *
  * PROJECT is examples/own_tasks.toml. */
 #include <pthread.h>
@@ -32,9 +32,7 @@ enum { AXES, MACHINE, TOOL, TASKS };
 enum { GRIPPER_SLAVE = 4, OTHER_SLAVE, FIRST_SENSOR };
 #define SENSORS 25 /* each with four input areas */
 #define SLAVES (FIRST_SENSOR + SENSORS)
-#define RATE 1000
-#define CYCLE (SECOND / RATE)
-#define LATE (CYCLE / 2)
+#define LATE (SECOND / 2000)
 #define MOST_WRONG 3 /* so many wrong counters in a row, and the tool is given up */
 
 /* A tool: its alias, its slave, and what is put out to it. */
@@ -52,11 +50,11 @@ struct counts {
     unsigned long cycles, apart, unexchanged, refused, exchanges_of_tool, changed, views, empty, old;
 };
 
-/* A thread of a task: its seat, its turn in cycles, and a variable that it posts. */
+/* A thread of a task: its seat, in which cycles it works, and a variable that it posts. */
 struct worker {
     struct zangjulf_seat seat;
     struct zangjulf_place target;
-    unsigned long turn;
+    unsigned long each;
     int priority;
 };
 
@@ -67,7 +65,7 @@ static const struct tool *present; /* the tool in the line, or NULL */
 static unsigned wrong;
 static atomic_ulong apart_until; /* the last cycle that counts apart */
 static atomic_bool is_over;
-static long start;
+static long start, turn = SECOND / 1000; /* of the cycles */
 
 static void must(uint8_t answer, const char *what) {
     if (!answer) return;
@@ -98,12 +96,12 @@ static void *work(void *given) {
     struct zangjulf_view view;
     uint64_t number;
     wire_priority(worker->priority);
-    for (unsigned long cycle = 1; !atomic_load(&is_over); cycle += worker->turn) {
-        wire_wait(start + (long)cycle * CYCLE + CYCLE / 2);
+    for (unsigned long cycle = 1; !atomic_load(&is_over); cycle += worker->each) {
+        wire_wait(start + (long)cycle * turn + turn / 2);
         must(zangjulf_seat_view(&worker->seat, image, sizeof image, NULL, 0, &view), "a view");
         if (worker == &workers[AXES] && view.line == ZANGJULF_LINE_OPEN) count_view(&view, cycle);
         must(zangjulf_seat_outputs(&worker->seat, outputs, sizeof outputs), "the outputs");
-        must(zangjulf_put_bits(outputs, view.outputs, worker->target.image_bit, worker->target.bits, cycle % 8), "a value");
+        must(zangjulf_put_bits(outputs, view.outputs, worker->target.image_bit, worker->target.bits, cycle % 2), "a value");
         must(zangjulf_seat_post(&worker->seat, view.epoch, outputs, view.outputs, &number), "a post");
     }
     return NULL;
@@ -131,7 +129,7 @@ static bool hand_in(const uint8_t *frame, size_t size) {
 static bool is_taken(const uint8_t *frame, size_t size, size_t counter) {
     const struct zangjulf_frame all = {0, (uint32_t)size};
     uint8_t returned[ZANGJULF_FRAME];
-    long until = wire_now() + CYCLE / 3;
+    long until = wire_now() + turn / 3;
     wire_send(frame, &all, 1);
     for (size_t came; (came = wire_receive(returned, until)); hand_in(returned, came))
         if (came == size && !memcmp(returned + 7, frame + 7, 17)) return returned[counter] == 1; /* its serial and its first datagram */
@@ -203,7 +201,7 @@ static void cycle(unsigned long number) {
     struct zangjulf_frame table[ZANGJULF_FRAME_COUNT + 1];
     struct zangjulf_taken taken;
     bool is_exchanged = false;
-    long wake = start + (long)number * CYCLE;
+    long wake = start + (long)number * turn;
     wire_wait(wake);
     bool is_apart = wire_now() - wake > LATE;
     if (is_apart) atomic_store(&apart_until, number + 1), counts.apart++;
@@ -212,7 +210,7 @@ static void cycle(unsigned long number) {
     if (present) post_tool();
     size_t count = write_frames(frames, table, number);
     wire_send(frames, table, count);
-    long until = wire_now() + CYCLE * 6 / 10;
+    long until = wire_now() + turn * 6 / 10;
     for (size_t came; count && (came = wire_receive(returned, until)); count--) is_exchanged |= hand_in(returned, came);
     must(zangjulf_show(&line), "images are shown");
     counts.unexchanged += !is_exchanged && !is_apart;
@@ -308,7 +306,7 @@ static void open_line(const char *project, bool has_sensors) {
     for (uint8_t i = 0; i < 2; i++) {
         must(zangjulf_seat_open(&line, i, &workers[i].seat), "a seat");
         must(zangjulf_place(&line, targets[i], &workers[i].target), "a variable");
-        workers[i].turn = i ? 4 : 1, workers[i].priority = 25 - i;
+        workers[i].each = i ? 4 : 1, workers[i].priority = 25 - i;
     }
 }
 
@@ -335,7 +333,7 @@ static int run(const struct change *change, const char *project) {
     write_all();
     mlockall(MCL_CURRENT | MCL_FUTURE);
     wire_priority(30);
-    start = wire_now() + CYCLE;
+    start = wire_now() + turn;
     cycle(0);
     for (int i = 0; i < 2; i++) check(!pthread_create(&threads[i], NULL, work, &workers[i]), "there is no thread");
     for (unsigned long number = 1; number < change->cycles; number++) cycle(number), change->step(number);
@@ -352,10 +350,11 @@ static int run(const struct change *change, const char *project) {
 
 int main(int count, char **words) {
     int worst = 0;
-    if ((count != 2 && count != 3) || zangjulf_abi() != ZANGJULF_ABI) return 2;
+    if (count < 2 || count > 4 || zangjulf_abi() != ZANGJULF_ABI) return 2;
+    if (count == 4 && atol(words[3]) > 0) turn = SECOND / atol(words[3]);
     for (size_t i = 0; i < sizeof CHANGES / sizeof *CHANGES; i++) {
         int status = 1;
-        if (count == 3 && !strchr(words[2], CHANGES[i].letter)) continue;
+        if (count > 2 && !strchr(words[2], CHANGES[i].letter)) continue;
         fflush(stdout);
         pid_t child = fork();
         if (!child) exit(run(&CHANGES[i], words[1]));
