@@ -151,8 +151,8 @@ int main(void) {
         expect(zangjulf_open(&line, &options, (const uint8_t *)text, write_project(text, sizeof text), &over_limit), ZANGJULF_DONE, "open");
         program(&line);
         for (uint8_t i = 0; i < count; i++) expect(zangjulf_seat_open(&line, i, &seats[i]), ZANGJULF_DONE, "seat_open");
-        for (uint32_t i = 0; i < FIRST; i++) whole_cycle(&line, seats, &look, count, i);
         expect(zangjulf_look_open(&line, 0, 0, &look), ZANGJULF_DONE, "look_open");
+        for (uint32_t i = 0; i < FIRST; i++) whole_cycle(&line, seats, &look, count, i);
         long before = taken;
         for (uint32_t i = 0; i < CYCLES; i++) whole_cycle(&line, seats, &look, count, i);
         printf("steady: %d cycles of %zu tasks took or grew memory %ld times\n", CYCLES, count, taken - before);
