@@ -31,6 +31,7 @@
 enum { AXES, MACHINE, TOOL, TASKS };
 enum { GRIPPER_SLAVE = 4, OTHER_SLAVE, FIRST_SENSOR };
 #define SENSORS 25 /* each with four input areas */
+#define MOST_CYCLES 4096
 #define SLAVES (FIRST_SENSOR + SENSORS)
 #define LATE (SECOND / 2000)
 #define MOST_WRONG 3 /* so many wrong counters in a row, and the tool is given up */
@@ -63,7 +64,14 @@ static struct worker workers[2];
 static struct counts counts;
 static const struct tool *present; /* the tool in the line, or NULL */
 static unsigned wrong;
-static atomic_ulong apart_until; /* the last cycle that counts apart */
+static uint64_t first_serial; /* of the frames of the present cycle */
+static bool is_exchanged;     /* whether the axes have an answer in it */
+static struct seen {
+    uint64_t showing;
+    uint16_t has;
+    uint8_t state;
+} seen[MOST_CYCLES];            /* what the axes viewed in each cycle */
+static bool is_late[MOST_CYCLES]; /* the cycles that count apart */
 static atomic_bool is_over;
 static long start, turn = SECOND / 1000; /* of the cycles */
 
@@ -81,13 +89,16 @@ static void check(bool fact, const char *what) {
 
 /* --- the tasks' threads ---------------------------------------------------------------------------------------------------- */
 
-/* The axes' view in a cycle is counted: of the present cycle's image, or of the one before. The owner shows one a cycle, and the
- * first one is shown as the seat is opened. */
-static void count_view(const struct zangjulf_view *view, unsigned long cycle) {
-    if (cycle <= atomic_load(&apart_until)) return;
-    counts.views++;
-    counts.empty += view->has == 0;
-    counts.old += view->showing + 1 < cycle + 2 || view->state != ZANGJULF_COMPLETE;
+/* The axes' views are counted once all is over: a cycle that counts apart may be told late. A view is of the present cycle's image, or of
+ * the one before. The owner shows one a cycle, and the first one is there as the seat is opened. */
+static void count_views(unsigned long cycles) {
+    for (unsigned long cycle = 1; cycle < cycles; cycle++) {
+        const struct seen *it = &seen[cycle];
+        if (!it->showing || is_late[cycle] || is_late[cycle - 1]) continue;
+        counts.views++;
+        counts.empty += !it->has;
+        counts.old += it->showing + 1 < cycle + 2 || it->state != ZANGJULF_COMPLETE;
+    }
 }
 
 static void *work(void *given) {
@@ -99,7 +110,7 @@ static void *work(void *given) {
     for (unsigned long cycle = 1; !atomic_load(&is_over); cycle += worker->each) {
         wire_wait(start + (long)cycle * turn + turn / 2);
         must(zangjulf_seat_view(&worker->seat, image, sizeof image, NULL, 0, &view), "a view");
-        if (worker == &workers[AXES] && view.line == ZANGJULF_LINE_OPEN) count_view(&view, cycle);
+        if (worker == &workers[AXES] && cycle < MOST_CYCLES) seen[cycle] = (struct seen){view.showing, view.has, view.state};
         must(zangjulf_seat_outputs(&worker->seat, outputs, sizeof outputs), "the outputs");
         must(zangjulf_put_bits(outputs, view.outputs, worker->target.image_bit, worker->target.bits, cycle % 2), "a value");
         must(zangjulf_seat_post(&worker->seat, view.epoch, outputs, view.outputs, &number), "a post");
@@ -109,19 +120,18 @@ static void *work(void *given) {
 
 /* --- the owner ------------------------------------------------------------------------------------------------------------- */
 
-/* What returned is handed in; whether the axes have an answer. A tool whose datagram comes back with a wrong counter may be gone. */
+/* What returned is handed in; whether it is a frame of this cycle. A late one has an earlier serial. A tool whose datagram comes back with a
+ * wrong counter may be gone. */
 static bool hand_in(const uint8_t *frame, size_t size) {
     struct zangjulf_outcome outcomes[ZANGJULF_OUTCOMES];
     struct zangjulf_arrival arrival;
-    bool is_exchanged = false;
     must(zangjulf_arrive(&line, frame, size, outcomes, ZANGJULF_OUTCOMES, &arrival), "a frame can't be read");
-    for (int i = 0; i < arrival.datagrams; i++) {
+    for (int i = 0; i < arrival.datagrams && arrival.kind == ZANGJULF_OF_TASKS; i++) {
         bool is_good = outcomes[i].kind == ZANGJULF_INPUTS;
-        if (arrival.kind != ZANGJULF_OF_TASKS) continue;
-        if (outcomes[i].task == AXES) is_exchanged = is_good;
+        if (outcomes[i].task == AXES) is_exchanged |= is_good;
         if (outcomes[i].task == TOOL) wrong = is_good ? 0 : wrong + 1, counts.exchanges_of_tool += is_good && present;
     }
-    return is_exchanged;
+    return arrival.kind != ZANGJULF_STALE && arrival.serial >= first_serial;
 }
 
 /* Sends a frame of one's own; whether it comes back with working counter 1, in its byte. A frame of the line that comes meanwhile is
@@ -184,6 +194,8 @@ static size_t write_frames(uint8_t *frames, struct zangjulf_frame *table, unsign
     struct zangjulf_writes writes;
     uint8_t ready, tasks[TASKS], count = 0;
     must(zangjulf_ready(&line, &ready), "the ready tasks");
+    must(zangjulf_next_serial(&line, &first_serial), "the serial");
+    is_exchanged = false;
     for (uint8_t task = 0; task < TASKS; task++)
         if (ready >> task & 1 && (task != MACHINE || number % 4 == 0)) tasks[count++] = task;
     must(zangjulf_send(&line, tasks, count, frames, ZANGJULF_FRAMES, table, ZANGJULF_FRAME_COUNT, &sent), "a sending");
@@ -200,20 +212,19 @@ static void cycle(unsigned long number) {
     static uint8_t frames[ZANGJULF_FRAMES + ZANGJULF_FRAME], returned[ZANGJULF_FRAME];
     struct zangjulf_frame table[ZANGJULF_FRAME_COUNT + 1];
     struct zangjulf_taken taken;
-    bool is_exchanged = false;
     long wake = start + (long)number * turn;
     wire_wait(wake);
-    bool is_apart = wire_now() - wake > LATE;
-    if (is_apart) atomic_store(&apart_until, number + 1), counts.apart++;
+    is_late[number] = wire_now() - wake > LATE;
+    counts.apart += is_late[number];
     must(zangjulf_take_posts(&line, &taken), "posts are taken");
     counts.refused += taken.refused >> AXES & 1;
     if (present) post_tool();
     size_t count = write_frames(frames, table, number);
     wire_send(frames, table, count);
-    long until = wire_now() + turn * 6 / 10;
-    for (size_t came; count && (came = wire_receive(returned, until)); count--) is_exchanged |= hand_in(returned, came);
+    long until = wake + turn * 85 / 100;
+    for (size_t came; count && (came = wire_receive(returned, until));) count -= hand_in(returned, came);
     must(zangjulf_show(&line), "images are shown");
-    counts.unexchanged += !is_exchanged && !is_apart;
+    counts.unexchanged += !is_exchanged && !is_late[number];
     counts.cycles++;
 }
 
@@ -339,6 +350,7 @@ static int run(const struct change *change, const char *project) {
     for (unsigned long number = 1; number < change->cycles; number++) cycle(number), change->step(number);
     atomic_store(&is_over, true);
     for (int i = 0; i < 2; i++) pthread_join(threads[i], NULL);
+    count_views(change->cycles);
     wire_close();
     must(zangjulf_close(&line), "the line isn't closed");
     for (int i = 0; i < 2; i++) must(zangjulf_seat_close(&workers[i].seat), "a seat isn't closed");
