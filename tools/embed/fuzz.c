@@ -626,7 +626,10 @@ static void call_once(struct line *line) {
         if (below(folder ? 1500 : 3)) call = "next_write", writing(line, was_open);
         else call = "next_writes", writing_all(line, was_open);
         break;
-    case 4: case 8: call = "send"; sending(line, was_open); break;
+    case 4: case 8:
+        if (below(4)) call = "send", sending(line, was_open);
+        else call = "bits", bits(line, was_open);
+        break;
     case 5: case 6: call = "arrive"; arriving(line, was_open); break;
     case 7: call = "read"; reading(line, was_open); break;
     case 9:
@@ -634,7 +637,6 @@ static void call_once(struct line *line) {
         else if (below(2)) call = "looking", looking(line, was_open);
         else if (below(2)) call = "counting", counting(line, was_open);
         else if (below(2)) call = "waiting", waiting(line, was_open);
-        else if (below(2)) call = "bits", bits(line, was_open);
         else call = "preview", previewing(line, was_open);
         break;
     default:
